@@ -1,0 +1,11 @@
+//! What every layer of the diskette path names: sector keys, codes, statuses, texts, and the outside world
+//! as two traits, a shelf of named files and a sink of printed bytes.
+#![tactic(auto)]
+
+mod answers;
+mod key;
+mod text;
+
+pub use answers::{Code, LoadError, NoMemory, PutError, Rate, Status, StoreError};
+pub use key::{Chrn, sector_size};
+pub use text::{Bytes, Name};
