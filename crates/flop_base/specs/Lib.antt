@@ -1,1 +1,5 @@
+pub mod MemShelf
+pub mod MemSink
 pub mod Numbers
+pub mod Shelf
+pub mod Sink

@@ -1,6 +1,7 @@
 // The answers of the layers: refusals of the driver, statuses of the program, and what can go wrong outside.
 ghost use Rattle.std.specs.Prelude.{◌≡◌};
 ghost use Rattle.flop_base.specs.Numbers.{code_number, status_number};
+ghost use Rattle.flop_base.specs.declared.answers.LoadError.TheVariants as load;
 
 use std::alloc::{AllocError, AllocFailed};
 
@@ -102,6 +103,14 @@ pub enum LoadError {
     TooLong,
     Failed,
     NoMemory,
+}
+
+impl From<AllocError> for LoadError {
+    ghost from_gives = { λ _ error. error ≡ load.NoMemory };
+
+    fn from(_: AllocError) -> Self {
+        LoadError::NoMemory
+    }
 }
 
 /// Why a file wasn't stored.

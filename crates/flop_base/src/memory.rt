@@ -1,0 +1,208 @@
+// A shelf and a sink in memory, whose calls fail where their maker says so.
+ghost use Rattle.std.specs.Prelude.{◌≡◌, ◌≤◌, ◌+◌, ◌++◌, ◌↔◌, [], min, length, Some, Contains, IsTrue, IfOk, OnOk, OnErr, IsErrOf, option_copied};
+ghost use Rattle.std.specs.Bool.{OnTrue, OnFalse};
+ghost use Rattle.flop_base.specs.Shelf.{Loads, Rose, no_files, file_at, stored};
+
+use crate::{LoadError, NoMemory, PutError, Shelf, Sink, StoreError};
+use std::alloc::Global;
+use std::collections::BTreeMap;
+
+/// Files in memory. Its calls of `load` and `store` are numbered from 1.
+#[derive(Drop)]
+pub struct MemShelf {
+    alloc: Global,
+    files: BTreeMap<String, Vec<u8>>,
+    failing: Vec<u64>,
+    calls: u64,
+    faults: u64,
+}
+
+impl MemShelf {
+    ghost use Rattle.flop_base.specs.MemShelf.{files_of, calls_of, failing_of, faults_of};
+
+    /// An empty shelf, whose calls with the numbers in `failing` fail.
+    pub fn new(alloc: Global, failing: Vec<u64>) -> MemShelf
+        ensures empty { files_of result ≡ no_files }
+        ensures failing { failing_of result ≡ failing.items }
+        ensures calls { calls_of result ≡ 0 }
+    {
+        MemShelf {
+            alloc,
+            files: BTreeMap::new(alloc),
+            failing,
+            calls: 0,
+            faults: 0,
+        }
+    }
+
+    /// Places a file. This is no call of `store`.
+    pub fn put_file(&mut self, name: &str, bytes: &[u8]) -> Result<(), NoMemory>
+        ensures ok { OnOk result (Some (files_of self.new)
+            ≡ stored (Some (files_of self.old)) name.now bytes.now) }
+        ensures err { OnErr result (files_of self.new ≡ files_of self.old) }
+        ensures calls { calls_of self.new ≡ calls_of self.old }
+        ensures faults { faults_of self.new ≡ faults_of self.old }
+        ensures failing { failing_of self.new ≡ failing_of self.old }
+    {
+        let kept = Vec::from_slice(self.alloc, bytes)?;
+        let name = String::from_str(self.alloc, name)?;
+        self.files.insert(name, kept)?;
+        Ok(())
+    }
+
+    /// A file's bytes.
+    pub fn file(&self, name: &str) -> Option<&[u8]>
+        ensures { option_copied result ≡ file_at (files_of self.now) name.now }
+    {
+        match self.files.get(name) {
+            Some(bytes) => Some(bytes.as_slice()),
+            None => None,
+        }
+    }
+
+    // Counts a call, and tells whether it is one that fails.
+    fn call_fails(&mut self) -> bool
+        ensures files { files_of self.new ≡ files_of self.old }
+        ensures failing { failing_of self.new ≡ failing_of self.old }
+        ensures calls { calls_of self.new ≡ min (calls_of self.old + 1) 18446744073709551615 }
+        ensures exactly { IsTrue result ↔ Contains (failing_of self.old) (calls_of self.new) }
+        ensures counted { OnTrue result (Rose (faults_of self.old) (faults_of self.new)) }
+        ensures uncounted { OnFalse result (faults_of self.new ≡ faults_of self.old) }
+        ensures never_falls { faults_of self.old ≤ faults_of self.new }
+    {
+        self.calls = self.calls.saturating_add(1);
+        let fails = self.failing.contains(&self.calls);
+        if fails {
+            self.faults = self.faults.saturating_add(1);
+        }
+        fails
+    }
+}
+
+impl Shelf for MemShelf {
+    ghost use Rattle.flop_base.specs.MemShelf.{files_of, calls_of, failing_of, faults_of};
+
+    ghost told = { λ shelf. Some (files_of shelf) };
+
+    ghost fault_count = { λ shelf. faults_of shelf };
+
+    fn load(&mut self, alloc: Global, name: &str, most: usize) -> Result<Vec<u8>, LoadError>
+        ensures gives { Loads (files_of self.old) name.now most result }
+        ensures fits { IfOk result (λ bytes. length bytes.items ≤ most) }
+        ensures stays { files_of self.new ≡ files_of self.old }
+        ensures failed { IsErrOf result LoadError.Failed
+            → Rose (faults_of self.old) (faults_of self.new) }
+        ensures never_falls { faults_of self.old ≤ faults_of self.new }
+
+        ensures failing { failing_of self.new ≡ failing_of self.old }
+        ensures calls { calls_of self.new ≡ min (calls_of self.old + 1) 18446744073709551615 }
+        ensures fails_exactly { IsErrOf result LoadError.Failed
+            ↔ Contains (failing_of self.old) (calls_of self.new) }
+    {
+        if self.call_fails() {
+            return Err(LoadError::Failed);
+        }
+        let Some(bytes) = self.file(name) else {
+            return Err(LoadError::Absent);
+        };
+        if bytes.len() > most {
+            return Err(LoadError::TooLong);
+        }
+        Ok(Vec::from_slice(alloc, bytes)?)
+    }
+
+    fn store(&mut self, name: &str, bytes: &[u8]) -> Result<(), StoreError>
+        ensures ok { OnOk result (Some (files_of self.new)
+            ≡ stored (Some (files_of self.old)) name.now bytes.now) }
+        ensures err { OnErr result (files_of self.new ≡ files_of self.old) }
+        ensures failed { IsErrOf result StoreError.Failed
+            → Rose (faults_of self.old) (faults_of self.new) }
+        ensures never_falls { faults_of self.old ≤ faults_of self.new }
+
+        ensures failing { failing_of self.new ≡ failing_of self.old }
+        ensures calls { calls_of self.new ≡ min (calls_of self.old + 1) 18446744073709551615 }
+        ensures fails_exactly { IsErrOf result StoreError.Failed
+            ↔ Contains (failing_of self.old) (calls_of self.new) }
+    {
+        if self.call_fails() {
+            return Err(StoreError::Failed);
+        }
+        match self.put_file(name, bytes) {
+            Ok(()) => Ok(()),
+            Err(NoMemory) => Err(StoreError::NoMemory),
+        }
+    }
+
+    fn faults(&self) -> u64 {
+        self.faults
+    }
+}
+
+/// Printed bytes in memory. Its calls of `put` are numbered from 1.
+#[derive(Drop)]
+pub struct MemSink {
+    bytes: Vec<u8>,
+    failing: Vec<u64>,
+    calls: u64,
+    faults: u64,
+}
+
+impl MemSink {
+    ghost use Rattle.flop_base.specs.MemSink.{bytes_of, calls_of, failing_of, faults_of};
+
+    /// An empty sink, whose calls with the numbers in `failing` fail and put nothing.
+    pub fn new(alloc: Global, failing: Vec<u64>) -> MemSink
+        ensures empty { bytes_of result ≡ [] }
+        ensures failing { failing_of result ≡ failing.items }
+        ensures calls { calls_of result ≡ 0 }
+    {
+        MemSink {
+            bytes: Vec::new(alloc),
+            failing,
+            calls: 0,
+            faults: 0,
+        }
+    }
+
+    /// The bytes put.
+    pub fn bytes(&self) -> &[u8]
+        ensures { result.now ≡ bytes_of self.now }
+    {
+        self.bytes.as_slice()
+    }
+}
+
+impl Sink for MemSink {
+    ghost use Rattle.flop_base.specs.MemSink.{bytes_of, calls_of, failing_of, faults_of};
+
+    ghost told = { λ sink. Some (bytes_of sink) };
+
+    ghost fault_count = { λ sink. faults_of sink };
+
+    fn put(&mut self, bytes: &[u8]) -> Result<(), PutError>
+        ensures ok { OnOk result (bytes_of self.new ≡ bytes_of self.old ++ bytes.now) }
+        ensures err { OnErr result (bytes_of self.new ≡ bytes_of self.old) }
+        ensures failed { IsErrOf result PutError.Failed
+            → Rose (faults_of self.old) (faults_of self.new) }
+        ensures never_falls { faults_of self.old ≤ faults_of self.new }
+
+        ensures failing { failing_of self.new ≡ failing_of self.old }
+        ensures calls { calls_of self.new ≡ min (calls_of self.old + 1) 18446744073709551615 }
+        ensures fails_exactly { IsErrOf result PutError.Failed
+            ↔ Contains (failing_of self.old) (calls_of self.new) }
+    {
+        self.calls = self.calls.saturating_add(1);
+        if self.failing.contains(&self.calls) {
+            self.faults = self.faults.saturating_add(1);
+            return Err(PutError::Failed);
+        }
+        match self.bytes.extend_from_slice(bytes) {
+            Ok(()) => Ok(()),
+            Err(_) => Err(PutError::NoMemory),
+        }
+    }
+
+    fn faults(&self) -> u64 {
+        self.faults
+    }
+}

@@ -1,0 +1,38 @@
+// Named files, wherever they lie.
+ghost use Rattle.std.specs.Prelude.{◌≡◌, ◌≤◌, ℕ, Option, length, IfSome, IfOk, OnOk, OnErr, IsErrOf};
+ghost use Rattle.flop_base.specs.Shelf.{Files, Loads, Rose, stored};
+
+use crate::{LoadError, StoreError};
+use std::alloc::Global;
+
+/// A set of named files: a folder, or a list in memory.
+///
+/// A shelf may tell its files, and then the clauses on content hold of them. Each fault of the outside is counted.
+pub trait Shelf {
+    /// The files, where the shelf tells them.
+    ghost told: { Self → Option Files };
+
+    /// How many faults there were. It stays at its last value.
+    ghost fault_count: { Self → ℕ };
+
+    /// The bytes of a file of at most `most` bytes.
+    fn load(&mut self, alloc: Global, name: &str, most: usize) -> Result<Vec<u8>, LoadError>
+        ensures gives { IfSome (told self.old) (λ files. Loads files name.now most result) }
+        ensures fits { IfOk result (λ bytes. length bytes.items ≤ most) }
+        ensures stays { told self.new ≡ told self.old }
+        ensures failed { IsErrOf result LoadError.Failed
+            → Rose (fault_count self.old) (fault_count self.new) }
+        ensures never_falls { fault_count self.old ≤ fault_count self.new };
+
+    /// Puts these bytes under the name, in place of a file that is there.
+    fn store(&mut self, name: &str, bytes: &[u8]) -> Result<(), StoreError>
+        ensures ok { OnOk result (told self.new ≡ stored (told self.old) name.now bytes.now) }
+        ensures err { OnErr result (told self.new ≡ told self.old) }
+        ensures failed { IsErrOf result StoreError.Failed
+            → Rose (fault_count self.old) (fault_count self.new) }
+        ensures never_falls { fault_count self.old ≤ fault_count self.new };
+
+    /// The count of faults.
+    fn faults(&self) -> u64
+        ensures { result ≡ fault_count self.now };
+}

@@ -1,0 +1,29 @@
+// Where the program prints.
+ghost use Rattle.std.specs.Prelude.{◌≡◌, ◌≤◌, ℕ, List, Option, OnOk, OnErr, IsErrOf};
+ghost use Rattle.flop_base.specs.Shelf.{Rose};
+ghost use Rattle.flop_base.specs.Sink.{grown, GrowsByPart};
+
+use crate::PutError;
+
+/// What takes printed bytes in order: standard output, or a list in memory.
+///
+/// A sink may tell its bytes, and then the clauses on content hold of them. Each fault of the outside is counted.
+pub trait Sink {
+    /// All bytes put so far, where the sink tells them.
+    ghost told: { Self → Option (List ℕ) };
+
+    /// How many faults there were. It stays at its last value.
+    ghost fault_count: { Self → ℕ };
+
+    /// Prints these bytes behind all earlier ones. After a refusal a first part of them may be printed.
+    fn put(&mut self, bytes: &[u8]) -> Result<(), PutError>
+        ensures ok { OnOk result (told self.new ≡ grown (told self.old) bytes.now) }
+        ensures err { OnErr result (GrowsByPart (told self.old) bytes.now (told self.new)) }
+        ensures failed { IsErrOf result PutError.Failed
+            → Rose (fault_count self.old) (fault_count self.new) }
+        ensures never_falls { fault_count self.old ≤ fault_count self.new };
+
+    /// The count of faults.
+    fn faults(&self) -> u64
+        ensures { result ≡ fault_count self.now };
+}
