@@ -1,0 +1,89 @@
+// A command as it comes, byte after byte.
+ghost use Rattle.std.specs.Prelude.{◌≡◌, ◌≤◌, [], ◌∷◌, ◌++◌, slice_index, IfSome};
+ghost use Rattle.std.specs.Option.{option_map_or};
+ghost use Rattle.fdc_commands.specs.Table.{row_of, answer, kept, size_code, IfReady};
+ghost use Rattle.fdc_commands.specs.Table.{is_sized as is_sized_command, whole as whole_command};
+
+use crate::Command;
+use crate::command::{LONGEST, parameter_count, spell};
+use std::marker::Model;
+
+/// What a byte of a command came to.
+#[derive(Clone, Copy, PartialEq, Eq, Debug)]
+pub enum Accepted {
+    /// The command isn't whole yet.
+    More,
+    /// The command is whole.
+    Ready(Command),
+    /// The code isn't in the table, or the size code of the whole command isn't 1 to 6.
+    Invalid,
+}
+
+/// The bytes so far of a command that has begun, or none.
+#[derive(Drop)]
+pub struct CommandBytes {
+    bytes: [u8; LONGEST],
+    count: usize,
+}
+
+impl Model for CommandBytes {
+    ghost use Rattle.std.specs.Prelude.{List, ℕ, take, ◌≤◌};
+
+    ghost Value = { List ℕ };
+
+    ghost view = { λ command. take command.count command.bytes };
+
+    ghost invariant = { λ command. command.count ≤ 8 };
+}
+
+impl CommandBytes {
+    /// No command has begun.
+    pub fn new() -> CommandBytes
+        ensures { result ≡ [] }
+    {
+        CommandBytes {
+            bytes: [0; LONGEST],
+            count: 0,
+        }
+    }
+
+    /// Takes the next byte of a command. After `Ready` and `Invalid` it stands as new.
+    pub fn accept(&mut self, byte: u8) -> Accepted
+        ensures accepted { result ≡ answer (self.old ++ byte ∷ []) }
+        ensures kept { self.new ≡ kept result (self.old ++ byte ∷ []) }
+        ensures sized { IfReady result (λ command. IfSome (size_code command) (λ n. (1 ≤ n) × (n ≤ 6))) }
+    {
+        self.bytes[self.count] = byte;
+        self.count += 1;
+        match parameter_count(self.bytes[0]) {
+            Some(parameters) if self.count <= parameters => Accepted::More,
+            Some(_) => {
+                self.count = 0;
+                whole(&self.bytes)
+            }
+            None => {
+                self.count = 0;
+                Accepted::Invalid
+            }
+        }
+    }
+}
+
+// What the bytes of a whole command come to.
+fn whole(bytes: &[u8; LONGEST]) -> Accepted
+    ensures accepted { result
+        ≡ option_map_or (λ r. whole_command (r.spells bytes.now)) (row_of (slice_index bytes.now 0)) Accepted.Invalid }
+    ensures sized { IfReady result (λ command. IfSome (size_code command) (λ n. (1 ≤ n) × (n ≤ 6))) }
+{
+    match spell(bytes) {
+        Some(command) if is_sized(command) => Accepted::Ready(command),
+        _ => Accepted::Invalid,
+    }
+}
+
+// Whether the command's size code is 1 to 6, or it has none.
+fn is_sized(command: Command) -> bool
+    ensures { result ≡ is_sized_command command }
+{
+    command.size_code().is_none_or(|n| 1 <= n && n <= 6)
+}

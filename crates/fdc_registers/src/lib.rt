@@ -1,0 +1,13 @@
+//! The registers of the diskette controller in PC/AT mode (Intel 82077AA data sheet) as sets of named bits.
+//! A set is its byte: any byte is a set, bits without a name among them. `specs/` has a word for each bit.
+//! Call `union` and the other methods of `Flags`, whose contracts are exact: the operators, as `|`, have none.
+#![tactic(auto)]
+
+mod drive_lines;
+mod main_status;
+mod results;
+
+pub use bitflags::Flags;
+pub use drive_lines::{Dir, Dor};
+pub use main_status::Msr;
+pub use results::{St0, St1, St2, St3};

@@ -1,0 +1,29 @@
+//! The program: files of the current folder, standard output, the words of the command line.
+#![tactic(auto)]
+
+use flop_base::{FileShelf, Status, StreamSink};
+use floppy_tools::floppy;
+use std::env;
+use std::process::ExitCode;
+use std::rt::{Env, Files};
+
+fn main(rt: HostRuntime) -> ExitCode {
+    ExitCode::from(run(&rt).number())
+}
+
+// Does what the words after the program's name say.
+fn run<R: Files + Env + Print + AllocGlobal>(rt: &R) -> Status {
+    let Ok(words) = env::args(rt) else {
+        return Status::NoMemory;
+    };
+    let words: Vec<String> = match words.skip(1).collect(rt.alloc()) {
+        Ok(words) => words,
+        Err(_) => return Status::NoMemory,
+    };
+    floppy(
+        rt.alloc(),
+        &words,
+        &mut FileShelf::new(rt),
+        &mut StreamSink::new(rt),
+    )
+}

@@ -1,0 +1,10 @@
+use Rattle.std.proofs.Common.{◌≡◌, ◌≤◌, drop}
+use Rattle.floppy_jobs.proofs.NumberLemmas.{read_on}
+use Rattle.floppy_jobs.proofs.numbers.number.Given as goal
+
+-- no greater so far, and the rest decides as the whole does
+abbrev pub invariant-loop-byte : goal.invariant-loop-byte
+invariant-loop-byte l = record {
+  bounded : l.value ≤ l.greatest;
+  same : read_on l.base l.least l.greatest l.value (drop l.byte-index l.word) ≡ read_on l.base l.least l.greatest 0 l.word;
+}

@@ -1,0 +1,113 @@
+// The plain spelling of a request.
+ghost use Rattle.std.specs.Prelude.{◌≡◌, Some, Ok, [], ◌∷◌};
+ghost use Rattle.floppy_jobs.specs.Spelling.{hex2, hex5, rate_text, spelling};
+ghost use Rattle.floppy_jobs.specs.Texts.{job_of};
+ghost use Rattle.floppy_jobs.specs.Valid.{IsRequest};
+ghost use Rattle.floppy_jobs.specs.declared.request.Request.{Request};
+
+use crate::Request;
+use flop_base::{Chrn, Rate};
+use std::fmt;
+
+/// An address, shown in five hexadecimal digits.
+#[derive(Drop)]
+struct Address(u32);
+
+impl fmt::Display for Address {
+    ghost output = { λ address. Some (hex5 address.0) };
+
+    fn fmt<W: fmt::Write>(&self, f: &mut fmt::Formatter<W>) -> fmt::Result {
+        let number = self.0;
+        let first = number / 65_536 % 16;
+        let second = number / 4_096 % 16;
+        let third = number / 256 % 16;
+        let fourth = number / 16 % 16;
+        let fifth = number % 16;
+        write!(f, "{first:X}{second:X}{third:X}{fourth:X}{fifth:X}")
+    }
+}
+
+/// A byte of memory, shown in two hexadecimal digits.
+#[derive(Drop)]
+struct MemoryByte(u8);
+
+impl fmt::Display for MemoryByte {
+    ghost output = { λ byte. Some (hex2 byte.0) };
+
+    fn fmt<W: fmt::Write>(&self, f: &mut fmt::Formatter<W>) -> fmt::Result {
+        let first = self.0 / 16 % 16;
+        let second = self.0 % 16;
+        write!(f, "{first:X}{second:X}")
+    }
+}
+
+/// A rate in kbit/s.
+fn rate_word(rate: Rate) -> &'static str
+    ensures { result.now ≡ rate_text rate }
+{
+    match rate {
+        Rate::R500 => "500",
+        Rate::R250 => "250",
+    }
+}
+
+/// Shows the request as a line of a job in its plain spelling, without the line feed.
+impl fmt::Display for Request {
+    ghost output = { λ request. Some (spelling request) };
+
+    #[tactic(auto, unfolding(crate::specs::Spelling::spelling))]
+    fn fmt<W: fmt::Write>(&self, f: &mut fmt::Formatter<W>) -> fmt::Result {
+        match self {
+            Request::Insert { bay, name } => write!(f, "insert {bay} {}", name.as_str()),
+            Request::Blank {
+                bay,
+                name,
+                cylinders,
+            } => write!(f, "blank {bay} {} {cylinders}", name.as_str()),
+            Request::BlankDd {
+                bay,
+                name,
+                cylinders,
+            } => write!(f, "blankdd {bay} {} {cylinders}", name.as_str()),
+            Request::Eject { bay } => write!(f, "eject {bay}"),
+            Request::Ack { bay } => write!(f, "ack {bay}"),
+            Request::Read { bay, key, address } => {
+                let Chrn { c, h, r, n } = *key;
+                let address = Address(*address);
+                write!(f, "read {bay} {c} {h} {r} {n} {address}")
+            }
+            Request::Write { bay, key, address } => {
+                let Chrn { c, h, r, n } = *key;
+                let address = Address(*address);
+                write!(f, "write {bay} {c} {h} {r} {n} {address}")
+            }
+            Request::WriteDeleted { bay, key, address } => {
+                let Chrn { c, h, r, n } = *key;
+                let address = Address(*address);
+                write!(f, "writedel {bay} {c} {h} {r} {n} {address}")
+            }
+            Request::Format { bay, c, h } => write!(f, "format {bay} {c} {h}"),
+            Request::Fill {
+                address,
+                length,
+                byte,
+            } => {
+                let address = Address(*address);
+                let byte = MemoryByte(*byte);
+                write!(f, "fill {address} {length} {byte}")
+            }
+            Request::Dump { address, length } => {
+                let address = Address(*address);
+                write!(f, "dump {address} {length}")
+            }
+            Request::Unit { bay } => write!(f, "unit {bay}"),
+            Request::SetRate { bay, rate } => write!(f, "rate {bay} {}", rate_word(*rate)),
+            Request::Tries { tries } => write!(f, "tries {tries}"),
+        }
+    }
+}
+
+/// The plain spelling of a request that a job may have is a job of that request alone.
+pub fn spelling_reads_back()
+    ensures { (request : Request) → IsRequest request → job_of (spelling request) ≡ Ok (request ∷ []) }
+{}

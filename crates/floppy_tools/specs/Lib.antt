@@ -1,0 +1,4 @@
+pub mod Endings
+pub mod Served
+pub mod Session
+pub mod Words

@@ -1,0 +1,7 @@
+//! Tests of the machine's parts, as their users call them.
+#![tactic(auto)]
+
+#[cfg(test)]
+mod chips;
+#[cfg(test)]
+mod commands;

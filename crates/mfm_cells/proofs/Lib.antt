@@ -1,0 +1,2 @@
+pub mod CellTables
+pub mod Pairs

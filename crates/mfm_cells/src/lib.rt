@@ -1,0 +1,53 @@
+//! Bytes as the cells of an MFM track, and back.
+//!
+//! A bit is a clock cell and a data cell. The data cell is the bit; the clock cell is 1 exactly where the bit and the
+//! bit before it are both 0. Bits go most significant first, so a byte is a word of sixteen cells, the first cell in
+//! bit 15 (IBM System 34, "Modified Frequency Modulation").
+#![tactic(auto)]
+
+ghost use Rattle.std.specs.Prelude.{◌≡◌, ◌≢◌, ◌+◌, ◌*◌, ◌≤◌, [], ◌∷◌, length};
+ghost use Rattle.track_model.specs.Cells.{cells_at, IsInside};
+ghost use Rattle.track_model.specs.Bytes.{byte_at, legal};
+
+mod tables;
+
+use tables::{CELLS, DATA_CELLS};
+
+/// The cells of `byte` after a bit `last`.
+pub fn encode_byte(last: bool, byte: u8) -> u16
+    ensures { result ∷ [] ≡ legal last (byte ∷ []) }
+{
+    let cells = CELLS[byte as usize];
+    // only the first clock depends on the bit before
+    if last { cells & 0x7FFF } else { cells }
+}
+
+/// The byte whose cells are `word`. Clock cells aren't looked at.
+pub fn decode_word(word: u16) -> u8
+    ensures { result ≡ byte_at (word ∷ []) 0 }
+{
+    let high = DATA_CELLS[(word >> 8) as usize];
+    let low = DATA_CELLS[(word & 0xFF) as usize];
+    high << 4 | low
+}
+
+/// The sixteen cells from cell `p` on, at any phase.
+pub fn cells16(words: &[u16], p: usize) -> u16
+    requires { IsInside words.now p 16 }
+    ensures { result ≡ cells_at words.now p }
+{
+    let first = words[p / 16];
+    let phase = p % 16;
+    if phase == 0 {
+        return first;
+    }
+    let pair = u32::from(first) << 16 | u32::from(words[p / 16 + 1]);
+    (pair >> (16 - phase) & 0xFFFF) as u16
+}
+
+/// No mark A1 stands in the cells of bytes, at any phase: its lost clock doesn't occur there.
+#[tactic(auto, using(track_model::proofs::Legals::no_mark))]
+pub fn legal_has_no_mark(_last: bool, _bytes: &[u8], _p: usize)
+    requires { _p + 16 ≤ 16 * length _bytes.now }
+    ensures { cells_at (legal _last _bytes.now) _p ≢ 0x4489 }
+{}

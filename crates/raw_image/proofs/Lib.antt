@@ -1,0 +1,6 @@
+pub mod Pairs
+pub mod Bodies
+pub mod Feeding
+pub mod Tracks
+pub mod Headers
+pub mod Images

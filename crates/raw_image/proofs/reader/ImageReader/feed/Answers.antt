@@ -1,0 +1,10 @@
+use Rattle.std.proofs.Common.{subst, sym}
+use Rattle.raw_image.specs.declared.stage.Stage.{Stage}
+use Rattle.raw_image.specs.Stage.{progress_of}
+use Rattle.raw_image.specs.Progress.{Progress, IsFed}
+use Rattle.raw_image.proofs.reader.ImageReader.feed.Goals as goal
+
+pub returns-in-Ok-clause-fed : goal.returns-in-Ok-clause-fed
+returns-in-Ok-clause-fed c = λ bytes fed.
+    let stage = subst (λ (p : Progress). IsFed bytes p) (sym c.self.view_is) fed in
+    c.in-Ok.ensures.fed bytes (subst (λ (s : Stage). IsFed bytes (progress_of s)) (sym c.replace-stage.ensures.value) stage)

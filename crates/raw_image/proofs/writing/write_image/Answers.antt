@@ -1,0 +1,16 @@
+use Rattle.std.proofs.Common.{◌≡◌, ◌∙◌, ◌++◌, List, ℕ, [], ap}
+use Rattle.raw_image.specs.declared.header.Version.TheVariants.{Second}
+use Rattle.raw_image.specs.Disk.{Disk}
+use Rattle.raw_image.specs.Words.{bytes_of}
+use Rattle.raw_image.specs.Image.{header_bytes, disk_of, spelling, image_of}
+use Rattle.raw_image.specs.Shape.{header_view}
+use Rattle.raw_image.proofs.Images.{spelling_again}
+use Rattle.raw_image.proofs.writing.write_image.Goals as goal
+
+pub returns-clause-again : goal.returns-clause-again
+returns-clause-again c =
+    let head = header_bytes Second (disk_of (header_view c.shape-shape.result) []) in
+    let spelled : c.push_bytes.new.bytes.items ≡ spelling Second c.args.medium.now =
+    c.in_ok-push_bytes.ensures ∙ ap (λ (bs : List ℕ). bs ++ bytes_of c.all_words.result.now) c.in_ok-push_header.ensures ∙ ap (λ (ws : List ℕ). head ++ bytes_of ws) c.all_words.ensures
+    ∙ ap (λ (d : Disk). spelling Second d) c.shape-shape.ensures.value in
+    ap image_of spelled ∙ spelling_again Second c.args.medium.now c.shape-shape.ensures.valid tt

@@ -1,0 +1,51 @@
+// Why bytes are no image.
+ghost use Rattle.std.specs.Prelude.{◌≡◌};
+ghost use Rattle.raw_image.specs.declared.error.ImageError.TheVariants as cause;
+
+use flop_base::NoMemory;
+use std::alloc::{AllocError, AllocFailed};
+use thiserror::Error;
+
+/// What is wrong with an image file: the first of these that holds, in this order.
+#[derive(Clone, Copy, Debug, PartialEq, Eq, Error)]
+pub enum ImageError {
+    /// The file ends before the header does, or before the words that the header tells of.
+    #[error("too short, {need} needed, {have} there")]
+    TooShort { need: usize, have: usize },
+    /// The file doesn't begin as an image does.
+    #[error("bad magic")]
+    BadMagic,
+    /// The first field of the header with a value that it can't have.
+    #[error("bad field at {offset}")]
+    BadField { offset: usize },
+    /// Bytes follow the last word.
+    #[error("trailing byte at {offset}")]
+    Trailing { offset: usize },
+    /// Memory couldn't be had. This says nothing of the file.
+    #[error("no memory")]
+    NoMemory,
+}
+
+impl From<NoMemory> for ImageError {
+    ghost from_gives = { λ _ e. e ≡ cause.NoMemory };
+
+    fn from(_: NoMemory) -> ImageError {
+        ImageError::NoMemory
+    }
+}
+
+impl From<AllocError> for ImageError {
+    ghost from_gives = { λ _ e. e ≡ cause.NoMemory };
+
+    fn from(_: AllocError) -> ImageError {
+        ImageError::NoMemory
+    }
+}
+
+impl<T: Drop> From<AllocFailed<T>> for ImageError {
+    ghost from_gives = { λ _ e. e ≡ cause.NoMemory };
+
+    fn from(_: AllocFailed<T>) -> ImageError {
+        ImageError::NoMemory
+    }
+}

@@ -1,0 +1,169 @@
+// A medium: the words of its tracks, one after the other.
+ghost use Rattle.std.specs.Prelude.{◌≡◌, ◌↔◌, ◌+◌, ◌*◌, ◌<◌, ◌≤◌, ℕ, length, slice_set, IfSome, IsSome, IfOk};
+
+use crate::shape::Shape;
+use flop_base::{NoMemory, Rate};
+use std::alloc::Global;
+use std::marker::Model;
+
+/// A diskette: 1 to 80 cylinders of 1 or 2 heads, and for each a track of 64 to 16,384 words.
+#[derive(Drop)]
+pub struct Medium {
+    shape: Shape,
+    words: Vec<u16>,
+}
+
+impl Model for Medium {
+    ghost use Rattle.raw_image.specs.Disk.{Disk, IsDisk};
+    ghost use Rattle.raw_image.specs.Image.{disk_of};
+    ghost use Rattle.raw_image.specs.Shape.{header_view};
+
+    ghost Value = { Disk };
+
+    ghost view = { λ m. disk_of (header_view m.shape) m.words.items };
+
+    ghost invariant = { λ m. IsDisk (disk_of (header_view m.shape) m.words.items) };
+}
+
+impl Medium {
+    ghost use Rattle.raw_image.specs.Disk.{IsDisk, HasTrack, track_start, track_of, blank_disk, with_word};
+    ghost use Rattle.flop_base.specs.declared.answers.Rate.TheVariants.{R500};
+    ghost use Rattle.raw_image.specs.Image.{disk_of};
+    ghost use Rattle.raw_image.specs.Shape.{header_view};
+
+    /// An unprotected medium at 500 kbit/s, all words 0000.
+    pub fn blank(alloc: Global, cylinders: u8, heads: u8, words: u16) -> Result<Medium, NoMemory>
+        requires some_cylinders { 1 ≤ cylinders }
+        requires most_cylinders { cylinders ≤ 80 }
+        requires some_heads { 1 ≤ heads }
+        requires most_heads { heads ≤ 2 }
+        requires some_words { 64 ≤ words }
+        requires most_words { words ≤ 16384 }
+        ensures { IfOk result (λ medium. medium ≡ blank_disk cylinders heads words R500) }
+    {
+        Medium::blank_at(alloc, cylinders, heads, words, Rate::R500)
+    }
+
+    /// An unprotected medium, all words 0000.
+    pub fn blank_at(
+        alloc: Global,
+        cylinders: u8,
+        heads: u8,
+        words: u16,
+        rate: Rate,
+    ) -> Result<Medium, NoMemory>
+        requires some_cylinders { 1 ≤ cylinders }
+        requires most_cylinders { cylinders ≤ 80 }
+        requires some_heads { 1 ≤ heads }
+        requires most_heads { heads ≤ 2 }
+        requires some_words { 64 ≤ words }
+        requires most_words { words ≤ 16384 }
+        ensures { IfOk result (λ medium. medium ≡ blank_disk cylinders heads words rate) }
+    {
+        let shape = Shape {
+            protected: false,
+            cylinders,
+            heads,
+            rate,
+            words_per_track: words,
+        };
+        let words = vec![in alloc; 0; shape.count()]?;
+        Ok(Medium { shape, words })
+    }
+
+    /// The medium of this shape with these words.
+    pub(crate) fn from_words(shape: Shape, words: Vec<u16>) -> Medium
+        requires { length words.items ≡ shape.cylinders * shape.heads * shape.words_per_track }
+        ensures value { result ≡ disk_of (header_view shape) words.items }
+        ensures valid { IsDisk result }
+    {
+        Medium { shape, words }
+    }
+
+    pub(crate) fn shape(&self) -> Shape
+        ensures value { disk_of (header_view result) self.now.words ≡ self.now }
+        ensures valid { IsDisk self.now }
+    {
+        self.shape
+    }
+
+    /// The words of all tracks, by cylinder, then head.
+    pub(crate) fn all_words(&self) -> &[u16]
+        ensures { result.now ≡ self.now.words }
+    {
+        self.words.as_slice()
+    }
+
+    /// The write-protect notch is covered.
+    pub fn protected(&self) -> bool
+        ensures { result ≡ self.now.protected }
+    {
+        self.shape.protected
+    }
+
+    pub fn cylinders(&self) -> u8
+        ensures value { result ≡ self.now.cylinders }
+        ensures valid { IsDisk self.now }
+    {
+        self.shape.cylinders
+    }
+
+    pub fn heads(&self) -> u8
+        ensures value { result ≡ self.now.heads }
+        ensures valid { IsDisk self.now }
+    {
+        self.shape.heads
+    }
+
+    /// How many words a track has.
+    pub fn words(&self) -> u16
+        ensures value { result ≡ self.now.words_per_track }
+        ensures valid { IsDisk self.now }
+    {
+        self.shape.words_per_track
+    }
+
+    pub fn rate(&self) -> Rate
+        ensures { result ≡ self.now.rate }
+    {
+        self.shape.rate
+    }
+
+    /// Where a track begins among all words.
+    fn start(&self, c: u8, h: u8) -> usize
+        requires { HasTrack self.now c h }
+        ensures place { result ≡ track_start self.now c h }
+        ensures within { result + self.now.words_per_track ≤ length self.now.words }
+    {
+        (c as usize * self.shape.heads as usize + h as usize) * self.shape.words_per_track as usize
+    }
+
+    /// The track of a cylinder and a head, if the medium has it.
+    pub fn track(&self, c: u8, h: u8) -> Option<&[u16]>
+        ensures found { IsSome result ↔ HasTrack self.now c h }
+        ensures track { IfSome result (λ track. track.now ≡ track_of self.now c h) }
+        ensures length { IfSome result (λ track. length track.now ≡ self.now.words_per_track) }
+        ensures valid { IsDisk self.now }
+    {
+        if c >= self.shape.cylinders || h >= self.shape.heads {
+            return None;
+        }
+        let start = self.start(c, h);
+        Some(&self.words[start..start + self.shape.words_per_track as usize])
+    }
+
+    /// Replaces one word of a track, which is counted from the index on.
+    pub fn set_word(&mut self, c: u8, h: u8, place: u16, word: u16)
+        requires cylinder { c < self.old.cylinders }
+        requires head { h < self.old.heads }
+        requires place { place < self.old.words_per_track }
+        ensures becomes { self.new ≡ with_word self.old c h place word }
+        ensures track { track_of self.new c h ≡ slice_set (track_of self.old c h) place word }
+        ensures others { (b g : ℕ) → HasTrack self.old b g → (b ≡ c → g ≡ h → ⊥)
+            → track_of self.new b g ≡ track_of self.old b g }
+        ensures valid { IsDisk self.new }
+    {
+        let start = self.start(c, h);
+        self.words[start + place as usize] = word;
+    }
+}

@@ -1,0 +1,101 @@
+// Reading an image file, at once or in pieces.
+ghost use Rattle.std.specs.Prelude.{◌≡◌, ℕ, List, [], Ok, IfOk};
+ghost use Rattle.std.specs.List.{flat_map};
+ghost use Rattle.raw_image.specs.Progress.{Progress, IsFed, FeedsAll};
+ghost use Rattle.raw_image.specs.Disk.{Disk};
+ghost use Rattle.raw_image.specs.Image.{image_of, Reads, Spells};
+
+use crate::error::ImageError;
+use crate::medium::Medium;
+use crate::stage::{Front, Stage};
+use std::alloc::Global;
+use std::marker::Model;
+use std::mem;
+
+/// Reads an image file that comes in pieces. It keeps the words, and no byte of the file but the first ones of an
+/// unfinished header and the first half of an unfinished word.
+#[derive(Drop)]
+pub struct ImageReader {
+    alloc: Global,
+    stage: Stage,
+}
+
+impl Model for ImageReader {
+    ghost use Rattle.raw_image.specs.Progress.{Progress};
+
+    ghost Value = { Progress };
+
+    ghost use Rattle.raw_image.specs.Stage.{progress_of};
+
+    ghost view = { λ reader. progress_of reader.stage };
+}
+
+impl ImageReader {
+    ghost use Rattle.std.specs.Prelude.{[], List, ℕ, OnOk, IfOk, IfErr, Err};
+    ghost use Rattle.raw_image.specs.Disk.{IsDisk};
+    ghost use Rattle.raw_image.specs.Progress.{IsFed, Feeds, IsSound};
+    ghost use Rattle.raw_image.specs.Progress.{Failed};
+    ghost use Rattle.raw_image.specs.declared.error.ImageError.{ImageError};
+
+    /// A reader that has no byte yet.
+    pub fn new(alloc: Global) -> ImageReader
+        ensures { IsFed [] result }
+    {
+        ImageReader {
+            alloc,
+            stage: Stage::Begun(Front {
+                bytes: Vec::new(alloc),
+            }),
+        }
+    }
+
+    /// Takes the next piece of the file. After an error this call and `finish` answer the same error for ever.
+    pub fn feed(&mut self, piece: &[u8]) -> Result<(), ImageError>
+        ensures fed { Feeds self.old piece.now self.new }
+        ensures ok { OnOk result (IsSound self.new) }
+        ensures err { IfErr result (λ e. self.new ≡ Failed e) }
+        ensures again { (e : ImageError) → self.old ≡ Failed e → result ≡ Err e }
+    {
+        let stage = mem::replace(&mut self.stage, Stage::Failed(ImageError::NoMemory));
+        match stage.fed(self.alloc, piece) {
+            Ok(next) => {
+                self.stage = next;
+                Ok(())
+            }
+            Err(error) => {
+                self.stage = Stage::Failed(error);
+                Err(error)
+            }
+        }
+    }
+
+    /// The medium that all the pieces together spell.
+    pub fn finish(self) -> Result<Medium, ImageError>
+        ensures read { (bytes : List ℕ) → IsFed bytes self → Reads (image_of bytes) result }
+        ensures valid { IfOk result IsDisk }
+        ensures again { (e : ImageError) → self ≡ Failed e → result ≡ Err e }
+    {
+        self.stage.finish()
+    }
+}
+
+/// The medium that an image file holds, of version 1 or 2.
+pub fn read_image(alloc: Global, bytes: &[u8]) -> Result<Medium, ImageError>
+    // What is read is spelled so.
+    ensures found { IfOk result (Spells bytes.now) }
+    // What is spelled so is read, unless memory runs out.
+    ensures only { (disk : Disk) → Spells bytes.now disk → Reads (Ok disk) result }
+    // What is wrong with all other bytes.
+    ensures exact { Reads (image_of bytes.now) result }
+{
+    let mut reader = ImageReader::new(alloc);
+    reader.feed(bytes)?;
+    reader.finish()
+}
+
+/// However a file is cut into pieces, a reader that took them all has come as far as the whole file says: where it
+/// ends then, `ImageReader::finish` answers what `read_image` answers on the whole.
+pub fn any_pieces()
+    ensures { (pieces : List (List ℕ)) (new last : Progress) → IsFed [] new → FeedsAll new pieces last
+        → IsFed (flat_map (λ piece. piece) pieces) last }
+{}

@@ -1,0 +1,5 @@
+mod CrcTable
+mod Intact
+mod Listed
+mod Looked
+mod Pushed

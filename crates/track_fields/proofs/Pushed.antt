@@ -1,0 +1,37 @@
+-- One byte's cells pushed onto words.
+use Rattle.std.proofs.Common.{◌≡◌, ℕ, ◌/◌, ◌%◌, ◌^◌, ◌<◌, Bool, true, List, [], ◌∷◌, ◌++◌, get_or, sym, ap, ◌∙◌, append_assoc, arith}
+use Rattle.std.specs.Int.{w16, to_be_bytes}
+use Rattle.std.proofs.lemmas.List.{append-nil}
+use Rattle.track_model.specs.Bytes.{last_bit, legal}
+use Rattle.track_model.specs.Writing.{check_bytes}
+use Rattle.track_model.proofs.Legals.{legal-cons, legal-nil}
+
+-- words that a byte goes on from, and then the rest
+pub pushed : (words more : List ℕ) (last : Bool) (byte cells : ℕ) (rest : List ℕ) → more ≡ words ++ cells ∷ [] → cells ∷ [] ≡ legal last (byte ∷ []) → more ++ legal (last_bit byte) rest ≡ words ++ legal last (byte ∷ rest)
+pushed words more last byte cells rest e f =
+    ap (λ ws. ws ++ legal (last_bit byte) rest) e
+    ∙ append_assoc words (cells ∷ []) (legal (last_bit byte) rest)
+    ∙ ap (λ ws. words ++ (ws ++ legal (last_bit byte) rest)) f
+    ∙ ap (λ ws. words ++ ws) (sym (legal-cons last byte rest))
+
+-- words that all bytes were pushed onto
+pub pushed_all : (words more bytes : List ℕ) (last after : Bool) → more ++ legal after [] ≡ words ++ legal last (bytes ++ []) → more ≡ words ++ legal last bytes
+pushed_all words more bytes last after h =
+    sym (append-nil more)
+    ∙ ap (λ ws. more ++ ws) (sym (legal-nil after))
+    ∙ h
+    ∙ ap (λ row. words ++ legal last row) (append-nil bytes)
+
+-- a mark byte, a content and a check, one after the other
+pub pushed_field : (start marked filled whole : List ℕ) (first second third : Bool) (mark : ℕ) (content row : List ℕ) → ((rest : List ℕ) → marked ++ legal first rest ≡ start ++ legal true (mark ∷ rest)) → ((rest : List ℕ) → filled ++ legal second rest ≡ marked ++ legal first (content ++ rest)) → ((rest : List ℕ) → whole ++ legal third rest ≡ filled ++ legal second (row ++ rest)) → whole ≡ start ++ legal true ((mark ∷ content) ++ row)
+pushed_field start marked filled whole first second third mark content row a b c =
+    pushed_all filled whole row second third (c []) ∙ b row ∙ a (content ++ row)
+
+-- a check of sixteen bits as it is written
+pub check_row : (row : List ℕ) (check : ℕ) → check < 2 ^ 16 → row ≡ to_be_bytes w16 check → row ≡ check_bytes check
+check_row row check fits e =
+    let high : check / 256 % 256 ≡ check / 256 = omega arith in
+    e ∙ ap (λ h. h ∷ check % 256 ∷ []) high
+
+pub check_ends : (row : List ℕ) (check : ℕ) → check < 2 ^ 16 → row ≡ to_be_bytes w16 check → get_or row 0 0 ∷ get_or row 1 0 ∷ [] ≡ check_bytes check
+check_ends row check fits e = ap (λ r. get_or r 0 0 ∷ get_or r 1 0 ∷ []) (check_row row check fits e)

@@ -1,0 +1,19 @@
+//! The fields of a raw track: address fields, data marks and the content behind them.
+//!
+//! A track is a list of words of sixteen cells, from the index on. A field may begin at any cell, and none crosses the
+//! index (IBM System 34 format). Words 0000 hold no recording, and no field touches one.
+#![tactic(auto)]
+
+mod bytes;
+mod crc;
+mod fields;
+mod look;
+mod marks;
+mod writing;
+
+pub use bytes::content_byte;
+pub use crc::{crc_step, field_crc, mark_crc};
+pub use fields::list_fields;
+pub use look::{data_at, find_sector, look_at};
+pub use track_model::{Field, Look};
+pub use writing::{address_words, field_words};

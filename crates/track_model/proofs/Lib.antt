@@ -1,0 +1,11 @@
+mod ByteRows
+mod CrcBits
+mod CrcRegister
+mod CrcRows
+pub mod CrcSteps
+pub mod Legals
+pub mod Numbers
+pub mod Places
+pub mod Sizes
+pub mod Unique
+pub mod Written

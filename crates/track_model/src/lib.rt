@@ -1,0 +1,30 @@
+//! What a raw track holds: the definitions that the crates of cells, fields, formats and drives share, with
+//! the two types in which answers about a track are given.
+#![tactic(auto)]
+
+mod laws;
+
+use flop_base::Chrn;
+pub use laws::{key_is_one, look_at_is_one, look_is_one};
+
+/// What a search for a sector's data finds on a track.
+#[derive(Clone, Copy, Debug, PartialEq, Eq)]
+pub enum Look {
+    /// An intact data field. `place` is the first cell of its content, `deleted` says that its mark is F8.
+    Found { deleted: bool, place: usize },
+    /// The track has no address mark.
+    NoMark,
+    /// The track has address marks, but no intact address field of the key.
+    NoSector,
+    /// The address field has no data field inside the track.
+    NoData,
+    /// The data field is there, and its check fails or cells of it weren't recorded.
+    BadCrc,
+}
+
+/// An intact address field: its first cell and its key.
+#[derive(Clone, Copy, Debug, PartialEq, Eq)]
+pub struct Field {
+    pub place: usize,
+    pub key: Chrn,
+}
