@@ -1,5 +1,5 @@
 -- The command table, and what the bytes of a command come to.
-use Rattle.std.specs.Prelude.{◌==◌, ◌&&◌, ℕ, Bool, true, List, [], ◌∷◌, Option, Some, None, if◌then◌else◌, nat_le, slice_index, length, find}
+use Rattle.std.specs.Prelude.{◌≤◌, IfSome, ◌==◌, ◌&&◌, ℕ, Bool, true, List, [], ◌∷◌, Option, Some, None, if◌then◌else◌, nat_le, slice_index, length, find}
 use Rattle.std.specs.Option.{option_map_or}
 use Rattle.flop_base.specs.declared.key.Chrn.{Chrn}
 use Rattle.fdc_commands.specs.declared.command.Command.{Command}
@@ -66,7 +66,7 @@ whole command = if is_sized command then Ready command else Invalid
 abbrev pub answer_by : Row → List ℕ → Accepted
 answer_by r bytes = if nat_le (length bytes) r.count then More else whole (r.spells bytes)
 
--- what the bytes so far come to: more bytes, a command, or invalid where the code or the size code is
+-- what the bytes so far come to: more bytes, a command, or invalid where the code or size code is
 unfoldable pub answer : List ℕ → Accepted
 answer bytes = option_map_or (λ r. answer_by r bytes) (row_of (slice_index bytes 0)) Invalid
 
@@ -74,6 +74,10 @@ answer bytes = option_map_or (λ r. answer_by r bytes) (row_of (slice_index byte
 abbrev pub kept : Accepted → List ℕ → List ℕ
 kept More bytes = bytes
 kept _ bytes = []
+
+-- the command's size code is from 1 to 6, where it has one
+abbrev pub SizeInRange : Command → Type 0
+SizeInRange command = IfSome (size_code command) (λ n. (1 ≤ n) × (n ≤ 6))
 
 -- a fact of the command, where it is ready
 abbrev pub IfReady : Accepted → (Command → Type 0) → Type 0

@@ -1,7 +1,7 @@
 // A command as it comes, byte after byte.
-ghost use Rattle.std.specs.Prelude.{◌≡◌, ◌≤◌, [], ◌∷◌, ◌++◌, slice_index, IfSome};
+ghost use Rattle.std.specs.Prelude.{◌≡◌, [], ◌∷◌, ◌++◌, slice_index};
 ghost use Rattle.std.specs.Option.{option_map_or};
-ghost use Rattle.fdc_commands.specs.Table.{row_of, answer, kept, size_code, IfReady};
+ghost use Rattle.fdc_commands.specs.Table.{row_of, answer, kept, IfReady, SizeInRange};
 ghost use Rattle.fdc_commands.specs.Table.{is_sized as is_sized_command, whole as whole_command};
 
 use crate::Command;
@@ -51,7 +51,7 @@ impl CommandBytes {
     pub fn accept(&mut self, byte: u8) -> Accepted
         ensures accepted { result ≡ answer (self.old ++ byte ∷ []) }
         ensures kept { self.new ≡ kept result (self.old ++ byte ∷ []) }
-        ensures sized { IfReady result (λ command. IfSome (size_code command) (λ n. (1 ≤ n) × (n ≤ 6))) }
+        ensures sized { IfReady result SizeInRange }
     {
         self.bytes[self.count] = byte;
         self.count += 1;
@@ -72,8 +72,9 @@ impl CommandBytes {
 // What the bytes of a whole command come to.
 fn whole(bytes: &[u8; LONGEST]) -> Accepted
     ensures accepted { result
-        ≡ option_map_or (λ r. whole_command (r.spells bytes.now)) (row_of (slice_index bytes.now 0)) Accepted.Invalid }
-    ensures sized { IfReady result (λ command. IfSome (size_code command) (λ n. (1 ≤ n) × (n ≤ 6))) }
+        ≡ option_map_or (λ r. whole_command (r.spells bytes.now))
+        (row_of (slice_index bytes.now 0)) Accepted.Invalid }
+    ensures sized { IfReady result SizeInRange }
 {
     match spell(bytes) {
         Some(command) if is_sized(command) => Accepted::Ready(command),

@@ -4,7 +4,7 @@ ghost use Rattle.fdc_commands.specs.Table.{row_of, size_code};
 
 use flop_base::Chrn;
 
-/// A command, each field as it was sent. `head_drive` has the head in bit 2 and the drive in bits 1 and 0.
+/// A command, each field as it was sent. `head_drive` has the head in bit 2, the drive in bits 1 and 0.
 #[derive(Clone, Copy, PartialEq, Eq, Debug)]
 pub enum Command {
     /// 03: step rate and head times, and in bit 0 of `hlt_nd` the non-DMA mode.

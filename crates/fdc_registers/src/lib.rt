@@ -1,6 +1,7 @@
-//! The registers of the diskette controller in PC/AT mode (Intel 82077AA data sheet) as sets of named bits.
-//! A set is its byte: any byte is a set, bits without a name among them. `specs/` has a word for each bit.
-//! Call `union` and the other methods of `Flags`, whose contracts are exact: the operators, as `|`, have none.
+//! The registers of the diskette controller in PC/AT mode (Intel 82077AA data sheet) as sets of named
+//! bits. A set is its byte: any byte is a set, bits without a name among them. `specs/` has a word for
+//! each bit. Call `union` and the other methods of `Flags`, whose contracts are exact: the operators,
+//! as `|`, have none.
 #![tactic(auto)]
 
 mod drive_lines;

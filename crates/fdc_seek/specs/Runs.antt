@@ -28,8 +28,8 @@ pub record StepsOnly (begun : Seeking) (lines : List Bool) (inward : Bool) : Typ
   pub cylinders : (after_steps begun lines).cylinders ≡ begun.cylinders
   pub pending : (after_steps begun lines).pending ≡ begun.pending
 
--- a SEEK steps toward its target, whatever the track 0 line is, as often as the cylinders are apart;
--- then it ends on the target
+-- a SEEK steps toward its target, whatever the track 0 line is, as often as the cylinders are
+-- apart; then it ends on the target
 abbrev pub SeekLaw : Type 0
 SeekLaw = (old : Seeking) (drive target : ℕ) (lines : List Bool)
     → let from = slice_index old.cylinders drive in
@@ -50,8 +50,8 @@ RecalibrateLaw = (old : Seeking) (drive steps : ℕ)
     × ((track0 : Bool) → IsTrue track0 ⊎ (steps ≡ 79)
     → EndsIn (after_steps begun lines) track0 (ended old drive 0 (recalibrated drive track0)))
 
--- after a poll four SENSE INTERRUPTs give each drive's result with its present cylinder number, in order;
--- then none is pending
+-- after a poll four SENSE INTERRUPTs give each drive's result with its present cylinder number,
+-- in order; then none is pending
 abbrev pub PollLaw : Type 0
 PollLaw = (old : Seeking)
     → let first = with_polls old in

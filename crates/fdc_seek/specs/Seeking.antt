@@ -65,7 +65,7 @@ ended old drive cylinder status = record {
 abbrev pub neighbour : ℕ → ℕ → ℕ
 neighbour cylinder target = if nat_lt cylinder target then cylinder + 1 else cylinder - 1
 
--- the pulse of a device step by the track 0 line, true inward; none where the seek ends or has ended
+-- the pulse of a device step by the track 0 line, true inward; none where the seek ends or ended
 abbrev pub pulse_of : Motion → Bool → Option Bool
 pulse_of (Outward pulses) track0 = if track0 || (pulses == 0) then None else Some false
 pulse_of (Toward cylinder target) track0 = if cylinder == target then None else Some (nat_lt cylinder target)
@@ -101,7 +101,8 @@ first_pending seeking = position is_some seeking.pending
 abbrev pub status_of : Seeking → ℕ → ℕ
 status_of seeking drive = unwrap_or (slice_index_or seeking.pending drive None) 0
 
--- the result that SENSE INTERRUPT takes: ST0 of the lowest drive that has one, and its present cylinder number
+-- the result that SENSE INTERRUPT takes: ST0 of the lowest drive that has one, and its present
+-- cylinder number
 abbrev pub sensed : Seeking → Option (ℕ × ℕ)
 sensed old = option_map (λ drive. (status_of old drive, slice_index old.cylinders drive)) (first_pending old)
 
@@ -110,7 +111,7 @@ abbrev pub has_ended : Motion → Bool
 has_ended Ended = true
 has_ended _ = false
 
--- the seek bit after a result of a drive was taken: that drive's is cleared, unless a seek of it runs
+-- the seek bit after a drive's result was taken: that drive's is cleared, unless a seek of it runs
 abbrev pub released : ℕ → Option Seek → Option Seek
 released drive None = None
 released drive (Some seek) = if (seek.drive == drive) && has_ended seek.motion then None else Some seek

@@ -1,5 +1,5 @@
-//! Seeks of the diskette controller (Intel 82077AA data sheet, in outline): the present cylinder number of
-//! each drive, step pulses, seek bits and the results that SENSE INTERRUPT takes.
+//! Seeks of the diskette controller (Intel 82077AA data sheet, in outline): the present cylinder number
+//! of each drive, step pulses, seek bits and the results that SENSE INTERRUPT takes.
 #![tactic(auto)]
 
 mod laws;

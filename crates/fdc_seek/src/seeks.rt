@@ -1,6 +1,5 @@
 // The seeks of the four drives.
-ghost use Rattle.std.specs.Prelude.{◌≡◌, ◌<◌, ◌↔◌, IsTrue, IsSome, Bool};
-ghost use Rattle.std.specs.Prelude.{slice_index};
+ghost use Rattle.std.specs.Prelude.{◌≡◌, ◌<◌, ◌↔◌, IsTrue, IsSome, slice_index};
 ghost use Rattle.fdc_seek.specs.Seeking.{InRange, at_rest, with_polls, with_motion, ended, pulse_due, stepped};
 ghost use Rattle.fdc_seek.specs.Seeking.{seek_bits, first_pending, sensed, after_sense, released};
 ghost use Rattle.fdc_seek.specs.Seeking.{polled as polled_status, sought as sought_status, recalibrated as recalibrated_status};
@@ -88,7 +87,8 @@ impl Seeks {
         requires drive { drive < 4 }
         requires no_seek { seek_bits self.old ≡ 0 }
         ensures { self.new
-            ≡ with_motion self.old drive (Motion.Toward (slice_index self.old.cylinders drive) target) }
+            ≡ with_motion self.old drive
+            (Motion.Toward (slice_index self.old.cylinders drive) target) }
     {
         let cylinder = self.cylinders[drive as usize];
         self.go_on(drive, Motion::Toward { cylinder, target });
@@ -173,8 +173,8 @@ impl Seeks {
         self.pending.iter().position(|status| status.is_some())
     }
 
-    /// Takes the pending result of the lowest drive: its ST0 and the drive's present cylinder number.
-    /// Clears the drive's seek bit, unless a seek of it runs.
+    /// Takes the pending result of the lowest drive: its ST0 and the drive's present cylinder
+    /// number. Clears the drive's seek bit, unless a seek of it runs.
     pub fn sense(&mut self) -> Option<(u8, u8)>
         ensures sensed { result ≡ sensed self.old }
         ensures state { self.new ≡ after_sense self.old }
@@ -187,7 +187,7 @@ impl Seeks {
     }
 }
 
-// The seek whose bit stays set after a result of the drive was taken: not the drive's that has ended.
+// The seek whose bit stays set after a drive's result was taken: not that drive's, if it has ended.
 fn without_ended(seek: Option<Seek>, drive: usize) -> Option<Seek>
     ensures { result ≡ released drive seek }
 {

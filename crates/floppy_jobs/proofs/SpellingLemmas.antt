@@ -1,23 +1,17 @@
 -- The plain spelling of a request is a job of that request alone.
-use Rattle.std.proofs.Common.{◌≡◌, ℕ, ◌+◌, ◌<◌, ◌≤◌, Bool, true, false, List, [], ◌∷◌, ◌++◌, length, nat_lt, eqb, cond, Option, Some, None, option_map, Result, Ok, Err, refl, sym, ap, ◌∙◌, arith, length-append}
-use Rattle.std.proofs.lemmas.Bool.{ltb-false}
-use Rattle.std.proofs.lemmas.Bool.Decides.{nat_tests}
+use Rattle.std.proofs.Common.{◌≡◌, ℕ, ◌+◌, ◌<◌, ◌≤◌, true, List, [], ◌∷◌, length, Some, Ok, refl, arith, length-append}
 use Rattle.std.specs.Fmt.{decimal}
 use Rattle.std.specs.List.{join_with_byte}
-use Rattle.std.specs.Str.Lines.{strip_carriage_return}
 use Rattle.flop_base.specs.declared.key.Chrn.{Chrn}
-use Rattle.flop_base.specs.declared.answers.Rate.{Rate}
 use Rattle.flop_base.specs.declared.answers.Rate.TheVariants.{R500, R250}
 use Rattle.floppy_jobs.specs.declared.request.Request.{Request}
 use Rattle.floppy_jobs.specs.declared.request.Request.TheVariants.{Insert, Blank, BlankDd, Eject, Ack, Read, Write, WriteDeleted, Format, Fill, Dump, Unit, SetRate, Tries}
-use Rattle.floppy_jobs.specs.Lines.{lines_of, line_of, words_of, text_of}
-use Rattle.floppy_jobs.specs.Names.{name_of}
-use Rattle.floppy_jobs.specs.Numbers.{byte_of, address_of, length_of, hex_byte_of, tries_of}
+use Rattle.floppy_jobs.specs.Lines.{line_of}
 use Rattle.floppy_jobs.specs.Requests.{insert_of, blank_of, blankdd_of, eject_of, ack_of, sector_of, read_of, write_of, writedel_of, format_of, fill_of, dump_of, unit_of, rate_word_of, rate_of, tries_line_of, plain_of, request_of}
-use Rattle.floppy_jobs.specs.Spelling.{hex2, hex5, rate_text, verb_text, sector_texts, field_texts, spelling}
+use Rattle.floppy_jobs.specs.Spelling.{verb_text, sector_texts, field_texts, spelling}
 use Rattle.floppy_jobs.specs.Texts.{job_of}
 use Rattle.floppy_jobs.specs.Valid.{IsRequest, IsSector}
-use Rattle.floppy_jobs.proofs.WordLemmas.{from, is_word, AreWords, byte-decimal, length-decimal, tries-decimal, decimal-word, hex_byte-hex2, address-hex5, hex2-word, hex5-word, length-byte, length-length, length-hex2, length-hex5, name-reads, name-word, name-length, words_of-join, joined, first_ink, no_shorter, line_of-words, text_of-words}
+use Rattle.floppy_jobs.proofs.WordLemmas.{is_word, AreWords, byte-decimal, length-decimal, tries-decimal, decimal-word, hex_byte-hex2, address-hex5, hex2-word, hex5-word, length-byte, length-length, length-hex2, length-hex5, name-reads, name-word, name-length, words_of-join, joined, first_ink, no_shorter, line_of-words, text_of-words}
 
 -- the words of a sector read back
 sector-reads : (bay : ℕ) (key : Chrn) (address : ℕ) → IsSector bay key address → sector_of (sector_texts bay key address) ≡ Some (bay, key, address)

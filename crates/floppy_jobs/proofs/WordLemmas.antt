@@ -1,19 +1,19 @@
 -- Numbers and names read back as what they spell, and joined words as those words.
-use Rattle.std.proofs.Common.{◌≡◌, ℕ, ◌+◌, ◌-◌, ◌*◌, ◌/◌, ◌%◌, ◌^◌, ◌<◌, ◌≤◌, Bool, true, false, ◌&&◌, not, List, [], ◌∷◌, ◌++◌, length, get_or, zero, suc, nat_le, nat_lt, eqb, cond, filter, Option, Some, None, refl, sym, ap, ◌∙◌, arith, lit<, le-leb, lt-ltb, leb-true, ltb-true, length-append, Result, Ok}
+use Rattle.std.proofs.Common.{◌≡◌, ℕ, ◌+◌, ◌-◌, ◌*◌, ◌/◌, ◌%◌, ◌^◌, ◌<◌, ◌≤◌, Bool, true, false, ◌&&◌, not, List, [], ◌∷◌, ◌++◌, length, get_or, zero, suc, nat_le, nat_lt, eqb, filter, Option, Some, refl, ap, ◌∙◌, arith, lit<, le-leb, lt-ltb, leb-true, ltb-true, length-append, Ok}
 use Rattle.std.proofs.lemmas.Bool.{le-ltb}
 use Rattle.std.proofs.lemmas.Bool.Decides.{nat_tests}
 use Rattle.std.proofs.lemmas.Fmt.{decimal_is_IsNumeral, decimal_nonempty, length-decimal-le, hex_one_digit}
 use Rattle.std.proofs.lemmas.List.Elements.{All-from_recursion}
 use Rattle.std.proofs.lemmas.List.Splits.{slice_split_none, slice_split_at}
 use Rattle.std.specs.Prelude.{⊤}
-use Rattle.std.specs.Char.{digit_value, is_ascii_alphanumeric}
+use Rattle.std.specs.Char.{digit_value}
 use Rattle.std.specs.Fmt.{decimal, digit_glyph}
-use Rattle.std.specs.List.{list_all, slice_split, join_with_byte, All, AllByRecursion}
+use Rattle.std.specs.List.{list_all, slice_split, join_with_byte, AllByRecursion}
 use Rattle.std.specs.Str.Lines.{strip_carriage_return}
 use Rattle.std.specs.Str.Parse.{AllDigits, IsNumeral, digits_value}
 use Rattle.floppy_jobs.proofs.NameLemmas.{and_left, and_right}
 use Rattle.floppy_jobs.specs.Lines.{lines_of, words_of, line_of, text_of}
-use Rattle.floppy_jobs.specs.Names.{is_name_byte, is_name_text, name_of, IsName}
+use Rattle.floppy_jobs.specs.Names.{is_name_byte, is_name_text, name_of}
 use Rattle.floppy_jobs.specs.Numbers.{all_digits, number_of, byte_of, address_of, length_of, hex_byte_of, tries_of}
 use Rattle.floppy_jobs.specs.Spelling.{hex_digit, hex2, hex5}
 

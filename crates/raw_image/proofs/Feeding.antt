@@ -139,3 +139,8 @@ pub header_too_long : (bytes front piece header body : List ℕ) (missing : ℕ)
 header_too_long bytes front piece header body missing h e fed filled len tells rest long =
     subst (λ (bs : List ℕ). IsFed bs (Failed e)) (sym (front_piece bytes front piece header missing fed filled ∙ ap (λ (bs : List ℕ). header ++ bs) (sym rest)))
     (too_long_or_no_memory header [] body h e long (begins header h len tells))
+
+-- ---- an error, and what is wrong with the file
+
+pub is_wrong : (bytes more : List ℕ) (e : ImageError) → IsFed bytes (Failed e) → Reads (image_of (bytes ++ more)) (Err e)
+is_wrong bytes more e = or_no_memory_then e (IsWrong bytes e) (image_of (bytes ++ more) ≡ Err e) (λ wrong. wrong more)

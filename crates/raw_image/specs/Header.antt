@@ -63,4 +63,10 @@ header_of bytes = do
   heads ← field 10 (within 1 2 (slice_index bytes 10))
   rate ← field 11 (rate_of version (slice_index bytes 11))
   words_per_track ← field 12 (within 64 16384 (256 * slice_index bytes 12 + slice_index bytes 13))
-  Ok (record { protected = protected; cylinders = cylinders; heads = heads; rate = rate; words_per_track = words_per_track })
+  Ok (record {
+    protected = protected;
+    cylinders = cylinders;
+    heads = heads;
+    rate = rate;
+    words_per_track = words_per_track;
+  })

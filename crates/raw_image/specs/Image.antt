@@ -63,7 +63,8 @@ body_of bytes h =
 -- the medium that bytes spell, or the first thing that is wrong with them
 unfoldable pub image_of : List ℕ → Result Disk ImageError
 image_of bytes =
-    if nat_lt (length bytes) 14 then Err (TooShort 14 (length bytes)) else (header_of (take 14 bytes) >>= body_of bytes)
+    if nat_lt (length bytes) 14 then Err (TooShort 14 (length bytes))
+    else (header_of (take 14 bytes) >>= body_of bytes)
 
 -- the fact holds, unless it was memory that couldn't be had
 abbrev pub OrNoMemory : ImageError → Type 0 → Type 0

@@ -19,7 +19,9 @@ IsWrong bytes e = (more : List ℕ) → image_of (bytes ++ more) ≡ Err e
 -- a reader that was fed these bytes, in whatever pieces, may have come so far
 abbrev pub IsFed : List ℕ → Progress → Type 0
 IsFed bytes (Begun front) = (bytes ≡ front) × (length bytes < 14)
-IsFed bytes (Going h body) = (14 ≤ length bytes) × (header_of (take 14 bytes) ≡ Ok h) × (drop 14 bytes ≡ body) × (length bytes ≤ whole_length h)
+IsFed bytes (Going h body) =
+    (14 ≤ length bytes) × (header_of (take 14 bytes) ≡ Ok h) × (drop 14 bytes ≡ body)
+    × (length bytes ≤ whole_length h)
 IsFed bytes (Failed e) = OrNoMemory e (IsWrong bytes e)
 
 -- whatever was fed before, the piece is fed after it

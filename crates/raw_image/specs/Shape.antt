@@ -4,8 +4,15 @@ use Rattle.raw_image.specs.declared.error.ImageError.{ImageError}
 use Rattle.raw_image.specs.declared.shape.Shape.{Shape}
 use Rattle.raw_image.specs.Header.{Header}
 
+-- the header that tells this shape
 abbrev pub header_view : Shape → Header
-header_view s = record { protected = s.protected; cylinders = s.cylinders; heads = s.heads; rate = s.rate; words_per_track = s.words_per_track }
+header_view s = record {
+  protected = s.protected;
+  cylinders = s.cylinders;
+  heads = s.heads;
+  rate = s.rate;
+  words_per_track = s.words_per_track;
+}
 
 -- what was answered is what the header tells
 abbrev pub Tells : Result Header ImageError → Result Shape ImageError → Type 0

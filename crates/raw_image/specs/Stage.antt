@@ -16,6 +16,7 @@ use Rattle.raw_image.specs.Progress.{Progress, Begun, Going, Failed}
 abbrev pub body_bytes : Body → List ℕ
 body_bytes b = bytes_of b.words.items ++ option_to_list b.high
 
+-- how far a reader in this stage has come
 abbrev pub progress_of : Stage → Progress
 progress_of (stage.Begun front) = Begun front.bytes.items
 progress_of (stage.Going body) = Going (header_view body.shape) (body_bytes body)

@@ -10,7 +10,7 @@ use flop_base::Rate;
 /// How many bytes a header has.
 pub(crate) const HEADER: usize = 14;
 
-/// The first version has no rate but 500 kbit/s.
+/// The versions of the format. The first tells no rate but 500 kbit/s.
 #[derive(Clone, Copy)]
 pub(crate) enum Version {
     First,

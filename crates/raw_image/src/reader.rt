@@ -31,15 +31,15 @@ impl Model for ImageReader {
 }
 
 impl ImageReader {
-    ghost use Rattle.std.specs.Prelude.{[], List, ℕ, OnOk, IfOk, IfErr, Err};
+    ghost use Rattle.std.specs.Prelude.{◌++◌, [], List, ℕ, OnOk, IfOk, IfErr, Err};
     ghost use Rattle.raw_image.specs.Disk.{IsDisk};
-    ghost use Rattle.raw_image.specs.Progress.{IsFed, Feeds, IsSound};
-    ghost use Rattle.raw_image.specs.Progress.{Failed};
+    ghost use Rattle.raw_image.specs.Progress.{IsFed, Feeds, IsSound, Begun, Failed};
     ghost use Rattle.raw_image.specs.declared.error.ImageError.{ImageError};
 
     /// A reader that has no byte yet.
     pub fn new(alloc: Global) -> ImageReader
-        ensures { IsFed [] result }
+        ensures begun { result ≡ Begun [] }
+        ensures fed { IsFed [] result }
     {
         ImageReader {
             alloc,
@@ -54,6 +54,9 @@ impl ImageReader {
         ensures fed { Feeds self.old piece.now self.new }
         ensures ok { OnOk result (IsSound self.new) }
         ensures err { IfErr result (λ e. self.new ≡ Failed e) }
+        // However the file goes on, this is what is wrong with it.
+        ensures wrong { IfErr result (λ e. (bytes more : List ℕ) → IsFed bytes self.old
+            → Reads (image_of ((bytes ++ piece.now) ++ more)) (Err e)) }
         ensures again { (e : ImageError) → self.old ≡ Failed e → result ≡ Err e }
     {
         let stage = mem::replace(&mut self.stage, Stage::Failed(ImageError::NoMemory));

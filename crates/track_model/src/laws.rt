@@ -1,7 +1,10 @@
-// What is found on a track is one.
-ghost use Rattle.std.specs.Prelude.{◌≡◌};
-ghost use Rattle.track_model.specs.Fields.{IsAddressAt};
+// What is found on a track is one, and what it says of sectors.
+ghost use Rattle.std.specs.Prelude.{◌≡◌, ◌+◌, ◌*◌};
+ghost use Rattle.track_model.specs.Cells.{IsInside};
+ghost use Rattle.track_model.specs.Marks.{IsAddressMark};
+ghost use Rattle.track_model.specs.Fields.{IsAddressAt, content_at, content_size};
 ghost use Rattle.track_model.specs.Looks.{LookAt, LookFor};
+ghost use Rattle.track_model.specs.Sectors.{IsClear, IsPlain, IsSector, IsUnder};
 
 use crate::Look;
 use flop_base::Chrn;
@@ -28,4 +31,27 @@ pub fn look_is_one(_words: &[u16], _key: Chrn, _look: Look, _other: Look)
     requires is_look { LookFor _words.now _key _look }
     requires is_other { LookFor _words.now _key _other }
     ensures { _look ≡ _other }
+{}
+
+/// What the look for a key finds is a sector of that key, and its content and check are inside the track.
+#[tactic(auto, using(crate::proofs::Sectored::found_inside, crate::proofs::Sectored::found_sector))]
+pub fn found_is_sector(_words: &[u16], _key: Chrn, _deleted: bool, _place: usize)
+    requires { LookFor _words.now _key (Look.Found _deleted _place) }
+    ensures sector { IsSector _words.now _key _deleted (content_at _words.now _place _key.n) }
+    ensures inside { IsInside _words.now _place (16 * (content_size _key.n + 2)) }
+{}
+
+/// A sector is under its key, by its first data mark.
+#[tactic(auto, using(crate::proofs::Sectored::sector_under))]
+pub fn sector_is_under(_words: &[u16], _key: Chrn, _deleted: bool, _content: &[u8])
+    requires { IsSector _words.now _key _deleted _content.now }
+    ensures { IsUnder _words.now _key _deleted _content.now }
+{}
+
+/// On a Plain track every address mark is Clear.
+#[tactic(auto, using(crate::proofs::Sectored::plain_clear))]
+pub fn plain_is_clear(_words: &[u16], _place: usize)
+    requires plain { IsPlain _words.now }
+    requires mark { IsAddressMark _words.now _place }
+    ensures { IsClear _words.now _place }
 {}

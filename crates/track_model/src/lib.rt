@@ -5,7 +5,9 @@
 mod laws;
 
 use flop_base::Chrn;
-pub use laws::{key_is_one, look_at_is_one, look_is_one};
+pub use laws::{
+    found_is_sector, key_is_one, look_at_is_one, look_is_one, plain_is_clear, sector_is_under,
+};
 
 /// What a search for a sector's data finds on a track.
 #[derive(Clone, Copy, Debug, PartialEq, Eq)]

@@ -1,8 +1,7 @@
-use Rattle.std.proofs.Common.{◌≡◌, ◌∷◌, ◌+◌, sym, ◌∙◌, length, take, drop, ap, arith}
+use Rattle.std.proofs.Common.{sym, ◌∙◌, length, arith}
 use Rattle.std.specs.List.{position_or_len}
 use Rattle.std.proofs.lemmas.Bool.Decides.{nat_tests}
 use Rattle.std.proofs.lemmas.List.{drop-drop}
-use Rattle.floppy_jobs.specs.Lines.{lines_of}
 use Rattle.floppy_jobs.proofs.LineLemmas.{feed, lines_of-first, lines_of-last, none_past, some_at}
 use Rattle.floppy_jobs.proofs.lines.first_line.Goals as goal
 

@@ -1,4 +1,4 @@
-use Rattle.std.proofs.Common.{◌≡◌, sym, ap, ◌∙◌, rules, tests}
+use Rattle.std.proofs.Common.{ap, ◌∙◌, rules, tests}
 use Rattle.std.specs.Option.{option_copied}
 use Rattle.floppy_jobs.proofs.NameLemmas.{name_read}
 use Rattle.floppy_jobs.specs.Names.{name_of}

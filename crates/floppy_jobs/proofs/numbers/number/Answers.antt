@@ -1,4 +1,4 @@
-use Rattle.std.proofs.Common.{◌≡◌, ◌≤◌, ◌<◌, ◌+◌, ◌*◌, sym, ap, ◌∙◌, ℕ, ◌∷◌, arith, drop}
+use Rattle.std.proofs.Common.{◌≤◌, ◌+◌, ◌*◌, sym, ap, ◌∙◌, ℕ, ◌∷◌, arith, drop}
 use Rattle.std.proofs.lemmas.List.{at_drop_more, at_drop_all}
 use Rattle.std.specs.Char.{digit_value}
 use Rattle.floppy_jobs.proofs.NumberLemmas.{read_on, read_on-over, read_on-stop, read_on-digit, read_on-low, read_on-end, not_below, number_of-short, number_of-long, number_of-read}
