@@ -1,5 +1,5 @@
 -- How the loads of a job follow each other.
-use Rattle.std.proofs.Common.{rules, ◌≡◌, ℕ, ◌<◌, Bool, true, List, ◌∷◌, suc, length, drop, get_or, drop-cons, subst, nat_lt, Option, Some, None, Result, Err, refl, ap, ◌∙◌, sym}
+use Rattle.std.proofs.Common.{rules, ◌≡◌, ℕ, ◌<◌, List, ◌∷◌, suc, length, drop, get_or, drop-cons, subst, Option, Some, None, Err, ap, ◌∙◌, sym}
 use Rattle.std.specs.Option.{option_map_or, IfSome, IsSomeAnd}
 use Rattle.flop_base.specs.Shelf.{Files, Loads, file_at}
 use Rattle.flop_base.specs.declared.answers.LoadError.{LoadError}

@@ -1,5 +1,5 @@
 -- Reading an image piece by piece.
-use Rattle.std.proofs.Common.{◌≡◌, ℕ, List, [], ◌++◌, length, take, drop, append_assoc, append-nil, Err, ap, ◌∙◌, sym}
+use Rattle.std.proofs.Common.{◌≡◌, ℕ, List, ◌++◌, length, take, drop, append_assoc, append-nil, Err, ap, ◌∙◌, sym}
 use Rattle.std.proofs.lemmas.List.{take-append-drop, nil_from_length}
 use Rattle.raw_image.specs.declared.error.ImageError.{ImageError}
 use Rattle.raw_image.specs.declared.error.ImageError.TheVariants as cause

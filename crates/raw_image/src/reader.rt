@@ -99,6 +99,6 @@ pub fn read_image(alloc: Global, bytes: &[u8]) -> Result<Medium, ImageError>
 /// However a file is cut into pieces, a reader that took them all has come as far as the whole file says: where it
 /// ends then, `ImageReader::finish` answers what `read_image` answers on the whole.
 pub fn any_pieces()
-    ensures { (pieces : List (List ℕ)) (new last : Progress) → IsFed [] new → FeedsAll new pieces last
-        → IsFed (flat_map (λ piece. piece) pieces) last }
+    ensures { (pieces : List (List ℕ)) (new last : Progress) → IsFed [] new
+        → FeedsAll new pieces last → IsFed (flat_map (λ piece. piece) pieces) last }
 {}

@@ -133,7 +133,8 @@ impl Stage {
 
     /// The medium that all bytes together spell.
     pub fn finish(self) -> Result<Medium, ImageError>
-        ensures read { (bytes : List ℕ) → IsFed bytes (progress_of self) → Reads (image_of bytes) result }
+        ensures read { (bytes : List ℕ) → IsFed bytes (progress_of self)
+            → Reads (image_of bytes) result }
         ensures valid { IfOk result IsDisk }
         ensures again { (e : ImageError) → progress_of self ≡ Failed e → result ≡ Err e }
     {

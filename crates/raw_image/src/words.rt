@@ -7,7 +7,8 @@ use flop_base::NoMemory;
 /// Adds the words that bytes spell, and answers the byte that is left over of an odd number.
 fn push_pairs(words: &mut Vec<u16>, bytes: &[u8]) -> Result<Option<u8>, NoMemory>
     ensures words { OnOk result (words.new.items ≡ words.old.items ++ words_of bytes.now) }
-    ensures left { IfOk result (λ left. option_to_list left ≡ drop (length bytes.now / 2 * 2) bytes.now) }
+    ensures left { IfOk result (λ left. option_to_list left
+        ≡ drop (length bytes.now / 2 * 2) bytes.now) }
 {
     let (pairs, rest) = bytes.as_chunks::<2>();
     for pair in pairs {

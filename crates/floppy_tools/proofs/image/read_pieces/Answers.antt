@@ -1,4 +1,4 @@
-use Rattle.std.proofs.Common.{◌++◌, ap, subst, arith, ◌≡◌, length, ℕ, List, Err}
+use Rattle.std.proofs.Common.{◌++◌, subst, arith, ◌≡◌, length, ℕ, List}
 use Rattle.std.proofs.lemmas.Result.{err_from_is_err_and}
 use Rattle.raw_image.specs.Image.{image_of, Reads}
 use Rattle.raw_image.specs.Progress.{IsFed, Progress}
