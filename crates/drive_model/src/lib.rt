@@ -4,6 +4,7 @@
 //! A word time is the time in which sixteen cells pass under the heads. There is no other clock.
 #![tactic(auto)]
 
+mod boxed;
 mod drive;
 mod fault;
 mod mechanics;
