@@ -9,7 +9,9 @@ mod drive;
 mod fault;
 mod mechanics;
 mod plain;
+mod script;
 
 pub use drive::{Drive, Turn};
 pub use fault::Fault;
 pub use plain::PlainDrive;
+pub use script::ScriptDrive;

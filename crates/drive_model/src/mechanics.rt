@@ -51,8 +51,8 @@ pub(crate) struct Mechanics {
 }
 
 impl Mechanics {
-    ghost use Rattle.drive_model.specs.Drive.{loaded, unloaded, with_motor, with_gate, moved, passed, written};
-    ghost use Rattle.drive_model.specs.Drive.{at_speed, at_index, word_under, words_on, is_protected, rate_of};
+    ghost use Rattle.drive_model.specs.Drive.{loaded, unloaded, with_motor, with_gate, moved, passed, written, cut_off};
+    ghost use Rattle.drive_model.specs.Drive.{at_speed, can_write, at_index, word_under, words_on, is_protected, rate_of};
     ghost use Rattle.drive_model.specs.Mechanics.{state_of, at_rest};
 
     /// Without a medium, at cylinder 0, with the change line set.
@@ -153,6 +153,20 @@ impl Mechanics {
         }
     }
 
+    /// A word passes in the next word time.
+    pub(crate) fn is_at_speed(&self) -> bool
+        ensures { result ≡ at_speed (state_of self.now 0) }
+    {
+        self.motor && self.medium.is_some() && self.spin >= SPIN_UP
+    }
+
+    /// The gate is open and not cut, and a word passes in the next word time.
+    pub(crate) fn can_write(&self) -> bool
+        ensures { result ≡ can_write (state_of self.now 0) }
+    {
+        self.is_at_speed() && self.gate && !self.cut
+    }
+
     /// Lets a word time pass, and gives the place of the word that passed, if the medium is spun up.
     pub(crate) fn advance(&mut self) -> Option<Passing>
         ensures state { state_of self.new 0 ≡ passed (state_of self.old 0) }
@@ -226,7 +240,8 @@ impl Mechanics {
     fn replace(&mut self, head: u8, place: u16, word: u16)
         requires { place < track_words self.old.medium }
         ensures { state_of self.new 0 ≡ record (state_of self.old 0) {
-            medium = rewritten self.old.medium self.old.cylinder head place word } }
+          medium = rewritten self.old.medium self.old.cylinder head place word;
+        } }
     {
         let cylinder = self.cylinder;
         if let Some(medium) = &mut self.medium {
@@ -246,5 +261,15 @@ impl Mechanics {
             self.replace(head, passing.place, word);
         }
         passing.index
+    }
+
+    /// Lets a word time pass, and cuts the gate.
+    pub(crate) fn cut_off(&mut self) -> bool
+        ensures state { state_of self.new 0 ≡ cut_off (state_of self.old 0) }
+        ensures index { result ≡ at_index (state_of self.old 0) }
+    {
+        let index = self.pass();
+        self.cut = true;
+        index
     }
 }
