@@ -1,5 +1,5 @@
 -- Lists of planned faults, by the place of an entry.
-use Rattle.std.proofs.Common.{◌≡◌, ℕ, zero, suc, ◌+◌, ◌<◌, Bool, true, false, List, [], ◌∷◌, length, get_or, refl, ap, sym, ◌∙◌, arith}
+use Rattle.std.proofs.Common.{◌≡◌, ℕ, zero, suc, ◌+◌, ◌<◌, true, false, List, [], ◌∷◌, length, get_or, ap, ◌∙◌, arith}
 use Rattle.std.proofs.Math.ListN.{set}
 use Rattle.std.proofs.lemmas.Bool.{cond-true, cond-false}
 use Rattle.std.proofs.lemmas.Grind.{common_steps}
@@ -7,7 +7,7 @@ use Rattle.std.proofs.lemmas.List.Sums.{sum_by-set}
 use Rattle.drive_model.specs.declared.fault.Fault.{Fault}
 use Rattle.drive_model.specs.declared.fault.Fault.TheVariants.{Dropout, Cut, Lose, Stick}
 use Rattle.drive_model.specs.declared.fault.Event.{Event}
-use Rattle.drive_model.specs.Fault.{is_for, meets, lowered, spent, count_left, total_left}
+use Rattle.drive_model.specs.Fault.{meets, lowered, spent, count_left, total_left}
 
 -- the first entry that meets the event is the one that is lowered
 pub spent-at : (event : Event) (fs : List Fault) (i : ℕ) (d : Fault) → i < length fs → meets event (get_or fs i d) ≡ true → ((k : ℕ) → k < i → meets event (get_or fs k d) ≡ false) → spent fs event ≡ set fs i (lowered (get_or fs i d))

@@ -1,7 +1,7 @@
 -- A protected medium stays as it is.
-use Rattle.std.proofs.Common.{◌≡◌, ℕ, Bool, true, false, not, ◌&&◌, Option, Some, None, refl, ap, ◌∙◌, ◌⊎◌, inl, inr}
+use Rattle.std.proofs.Common.{◌≡◌, ℕ, true, false, not, ◌&&◌, Option, Some, None, refl, ap, ◌∙◌, inl, inr}
 use Rattle.std.proofs.lemmas.Bool.{cond-false, cond_both}
-use Rattle.raw_image.specs.Disk.{Disk, with_word}
+use Rattle.raw_image.specs.Disk.{Disk}
 use Rattle.drive_model.specs.Drive.{DriveState, Writes, is_protected, has_track, rewritten, can_write}
 
 rewritten-protected : (medium : Option Disk) (c h place word : ℕ) → is_protected medium ≡ true → rewritten medium c h place word ≡ medium

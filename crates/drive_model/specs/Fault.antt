@@ -1,5 +1,5 @@
 -- What a list of planned faults says.
-use Rattle.std.specs.Prelude.{◌≡◌, ℕ, ◌+◌, ◌-◌, Bool, true, false, not, ◌&&◌, ◌==◌, nat_lt, if◌then◌else◌, List, [], ◌∷◌, position, is_some, sum_by}
+use Rattle.std.specs.Prelude.{ℕ, ◌-◌, Bool, false, not, ◌&&◌, ◌==◌, nat_lt, if◌then◌else◌, List, [], ◌∷◌, position, is_some, sum_by}
 use Rattle.drive_model.specs.declared.fault.Fault.{Fault}
 use Rattle.drive_model.specs.declared.fault.Fault.TheVariants.{Dropout, Cut, Lose, Stick}
 use Rattle.drive_model.specs.declared.fault.Event.{Event}
