@@ -5,3 +5,5 @@
 mod chips;
 #[cfg(test)]
 mod commands;
+#[cfg(test)]
+mod drives;
