@@ -1,0 +1,6 @@
+//! Faults of a drive.
+#![tactic(auto)]
+
+mod fault;
+
+pub use fault::Fault;
