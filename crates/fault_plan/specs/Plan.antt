@@ -1,5 +1,5 @@
 -- A plan: what its lines say for each drive and for the machine's pace.
-use Rattle.std.specs.Prelude.{◌≡◌, ℕ, List, [], ◌∷◌, ◌++◌, Option, Some, None, Result, Ok, Err, replicate}
+use Rattle.std.specs.Prelude.{◌≡◌, ℕ, List, [], ◌++◌, Option, Some, None, Result, Ok, Err, replicate}
 use Rattle.std.specs.List.{filter_map, flat_map}
 use Rattle.drive_model.specs.declared.fault.Fault.{Fault}
 use Rattle.floppy_jobs.specs.Lines.{text_of}
@@ -65,7 +65,7 @@ plan_for lines = record {
   spare1 = filter_map for_spare1 lines;
   gaps = flat_map gaps_of lines;
   holds = flat_map holds_of lines;
-  strays = flat_map strays_of lines
+  strays = flat_map strays_of lines;
 }
 
 -- one plan's lists, each followed by another's
@@ -77,7 +77,7 @@ joined first second = record {
   spare1 = first.spare1 ++ second.spare1;
   gaps = first.gaps ++ second.gaps;
   holds = first.holds ++ second.holds;
-  strays = first.strays ++ second.strays
+  strays = first.strays ++ second.strays;
 }
 
 -- the plan of lines that are understood
@@ -98,7 +98,7 @@ lists_of plan = record {
   spare1 = plan.spare1.items;
   gaps = plan.pace.gaps.items;
   holds = plan.pace.holds.items;
-  strays = plan.pace.strays.items
+  strays = plan.pace.strays.items;
 }
 
 -- a text was read as the plan that it spells, unless memory ran out

@@ -3,8 +3,8 @@ ghost use Rattle.std.specs.Prelude.{◌≡◌};
 ghost use Rattle.fault_plan.specs.Refusals.{same_refusal};
 ghost use Rattle.fault_plan.specs.declared.error.PlanError.TheVariants.{NoMemory};
 
-use floppy_jobs::JobError;
 use flop_base::NoMemory;
+use floppy_jobs::JobError;
 use thiserror::Error;
 
 /// Why a plan wasn't read.
