@@ -1,0 +1,154 @@
+-- A drive as contracts see it, and what each of its calls may do.
+use Rattle.std.specs.Prelude.{◌≡◌, ◌⊎◌, ℕ, ◌+◌, ◌-◌, ◌<◌, ◌≤◌, min, Bool, true, false, not, ◌&&◌, ◌==◌, nat_lt, nat_le, if◌then◌else◌, List, [], slice_index, Option, Some, None, is_some, IsTrue, IfSome, IsSomeAnd, MatchOption}
+use Rattle.flop_base.specs.declared.answers.Rate.{Rate}
+use Rattle.flop_base.specs.declared.answers.Rate.TheVariants.{R500}
+use Rattle.flop_base.specs.Shelf.{Rose}
+use Rattle.raw_image.specs.Disk.{Disk, IsDisk, track_of, with_word}
+
+-- a drive: the medium in it or none, the cylinder under its heads, the place that passes them next, its motor, for how many word times the medium has spun up, its change line, its write gate, whether the gate was cut, and its count of faults
+pub record DriveState : Type 0 where
+  pub medium : Option Disk
+  pub cylinder : ℕ
+  pub place : ℕ
+  pub motor : Bool
+  pub spin : ℕ
+  pub change : Bool
+  pub gate : Bool
+  pub cut : Bool
+  pub faults : ℕ
+
+-- the count at which faults are no longer counted
+abbrev pub last_count : ℕ
+last_count = 18446744073709551615
+
+-- how many words a track of the medium has; with no medium none
+abbrev pub track_words : Option Disk → ℕ
+track_words None = 0
+track_words (Some d) = d.words_per_track
+
+-- a protected medium is in
+abbrev pub is_protected : Option Disk → Bool
+is_protected None = false
+is_protected (Some d) = d.protected
+
+-- the rate of the medium, R500 where none is in
+abbrev pub rate_of : Option Disk → Rate
+rate_of None = R500
+rate_of (Some d) = d.rate
+
+-- the medium has a track of this cylinder and head
+abbrev pub has_track : Option Disk → ℕ → ℕ → Bool
+has_track None c h = false
+has_track (Some d) c h = nat_lt c d.cylinders && nat_lt h d.heads
+
+-- the words of the track of a cylinder and a head; none where there is no such track
+abbrev pub words_on : Option Disk → ℕ → ℕ → List ℕ
+words_on None c h = []
+words_on (Some d) c h = if has_track (Some d) c h then track_of d c h else []
+
+-- the medium with one word of a track replaced, unless it is protected or lacks the track
+abbrev pub rewritten : Option Disk → ℕ → ℕ → ℕ → ℕ → Option Disk
+rewritten None c h place word = None
+rewritten (Some d) c h place word =
+    if not d.protected && has_track (Some d) c h then Some (with_word d c h place word) else Some d
+
+-- the medium turns
+abbrev pub turns : DriveState → Bool
+turns s = s.motor && is_some s.medium
+
+-- the medium turns and is spun up, so that a word passes in each word time
+abbrev pub at_speed : DriveState → Bool
+at_speed s = turns s && nat_le 6250 s.spin
+
+-- the last word of the track passes next
+abbrev pub at_index : DriveState → Bool
+at_index s = at_speed s && (s.place + 1 == track_words s.medium)
+
+-- one word time later: the medium spins up, or, spun up, its next place comes to the heads
+abbrev pub passed : DriveState → DriveState
+passed s = record s {
+  spin = if turns s && nat_lt s.spin 6250 then s.spin + 1 else s.spin;
+  place = if at_index s then 0 else (if at_speed s then s.place + 1 else s.place);
+}
+
+-- the word that passes under a head, 0000 where none does
+abbrev pub word_under : DriveState → ℕ → ℕ
+word_under s head = if at_speed s then slice_index (words_on s.medium s.cylinder head) s.place else 0
+
+-- with this medium in
+abbrev pub loaded : Disk → DriveState → DriveState
+loaded d s = record s { medium = Some d; spin = 0; place = 0; change = true }
+
+-- with the medium taken out; with none in, as before
+abbrev pub unloaded : DriveState → DriveState
+unloaded s = record s {
+  medium = None;
+  spin = if is_some s.medium then 0 else s.spin;
+  place = if is_some s.medium then 0 else s.place;
+  change = if is_some s.medium then true else s.change;
+}
+
+-- with the motor on or off
+abbrev pub with_motor : Bool → DriveState → DriveState
+with_motor on s = record s { motor = on; spin = if on then s.spin else 0 }
+
+-- with the gate open and not cut, or closed
+abbrev pub with_gate : Bool → DriveState → DriveState
+with_gate on s = record s { gate = on; cut = if on then false else s.cut }
+
+-- a cylinder further in or out, within 0 to 82, and the change line cleared by a medium
+abbrev pub moved : Bool → DriveState → DriveState
+moved inward s = record s {
+  cylinder = if inward then min (s.cylinder + 1) 82 else s.cylinder - 1;
+  change = if is_some s.medium then false else s.change;
+}
+
+-- the gate is open and not cut, and a word passes
+abbrev pub can_write : DriveState → Bool
+can_write s = at_speed s && (s.gate && not s.cut)
+
+-- one word time later, with the word under a head replaced where it can be
+abbrev pub written : ℕ → ℕ → DriveState → DriveState
+written head word s = record (passed s) {
+  medium = if can_write s then rewritten s.medium s.cylinder head s.place word else s.medium;
+}
+
+-- one word time later, with the gate cut
+abbrev pub cut_off : DriveState → DriveState
+cut_off s = record (passed s) { cut = true }
+
+-- the drive is then as this, but for its count of faults, which doesn't fall
+pub record Becomes (old target new : DriveState) : Type 0 where
+  pub becomes : new ≡ record target { faults = new.faults }
+  pub never_falls : old.faults ≤ new.faults
+
+-- a pulse moves the heads, or is lost and counted
+abbrev pub Pulses : DriveState → Bool → DriveState → Type 0
+Pulses old inward new = Becomes old (moved inward old) new ⊎ (Becomes old old new × Rose old.faults new.faults)
+
+-- the word that passed is read, or 0000 in its place, and that is counted
+abbrev pub Reads : DriveState → ℕ → ℕ → DriveState → Type 0
+Reads old head word new = (word ≡ word_under old head) ⊎ ((word ≡ 0) × Rose old.faults new.faults)
+
+-- the word is written where it can be, or its open gate is cut and counted
+abbrev pub Writes : DriveState → ℕ → ℕ → DriveState → Type 0
+Writes old head word new =
+    Becomes old (written head word old) new
+    ⊎ (IsTrue (can_write old) × Becomes old (cut_off old) new × Rose old.faults new.faults)
+
+-- the ranges of a drive
+pub record InRange (s : DriveState) : Type 0 where
+  pub cylinder : s.cylinder ≤ 82
+  pub place : s.place ≤ track_words s.medium - 1
+  pub spin : s.spin ≤ 6250
+  pub medium : IfSome s.medium IsDisk
+  pub faults : s.faults ≤ last_count
+
+-- what is left is told only where the count can't reach its last value by it
+abbrev pub CanTell : DriveState → Option ℕ → Type 0
+CanTell s left = IfSome left (λ n. s.faults + n < last_count)
+
+-- where it is told what is left: the rise and what is left then are at most what was left
+abbrev pub Spends : DriveState → Option ℕ → DriveState → Option ℕ → Type 0
+Spends old None new then_left = Unit {0}
+Spends old (Some n) new then_left = (old.faults + n < last_count) × IsSomeAnd then_left (λ m. new.faults + m ≤ old.faults + n)

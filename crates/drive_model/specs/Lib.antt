@@ -1,0 +1,5 @@
+pub mod Drive
+pub mod Mechanics
+pub mod PlainDrive
+pub mod Fault
+pub mod ScriptDrive

@@ -1,0 +1,107 @@
+// What every drive does.
+ghost use Rattle.std.specs.Prelude.{◌≡◌, ◌↔◌, ℕ, Option, IsTrue, IsErr, IsSome, OnOk, IfErr, is_some};
+ghost use Rattle.drive_model.specs.Drive.{DriveState, Becomes, InRange, Spends, CanTell};
+ghost use Rattle.drive_model.specs.Drive.{loaded, unloaded, with_motor, with_gate, passed, at_index};
+ghost use Rattle.drive_model.specs.Drive.{is_protected, rate_of, Pulses, Reads, Writes};
+
+use flop_base::Rate;
+use raw_image::Medium;
+
+/// What passes under a head in one word time.
+#[derive(Clone, Copy, Debug, PartialEq, Eq)]
+pub struct Turn {
+    /// The sixteen cells, the first in the highest bit.
+    pub word: u16,
+    /// It was the last word of the track.
+    pub index: bool,
+}
+
+/// A diskette drive with one medium at most.
+///
+/// A drive may have faults: a pulse is lost, a word reads as 0000, a write gate is cut. Each is counted in the call
+/// in which it comes. The index and the change line have none.
+pub trait Drive: Drop {
+    /// All that the rules of the calls speak of.
+    ghost state: { Self → DriveState };
+
+    /// The most by which the count of faults can still rise, where the drive tells it.
+    ghost left: { Self → Option ℕ };
+
+    /// Puts a medium in. Where one is in already, the new one is given back.
+    fn insert(&mut self, medium: Medium) -> Result<(), Medium>
+        ensures refused { IsErr result ↔ IsSome (state self.old).medium }
+        ensures ok { OnOk result
+            (Becomes (state self.old) (loaded medium (state self.old)) (state self.new)) }
+        ensures err { IfErr result (λ back. (back ≡ medium)
+            × Becomes (state self.old) (state self.old) (state self.new)) }
+        ensures left { Spends (state self.old) (left self.old) (state self.new) (left self.new) };
+
+    /// Takes the medium out.
+    fn eject(&mut self) -> Option<Medium>
+        ensures medium { result ≡ (state self.old).medium }
+        ensures becomes { Becomes (state self.old) (unloaded (state self.old)) (state self.new) }
+        ensures left { Spends (state self.old) (left self.old) (state self.new) (left self.new) };
+
+    /// Turns the motor on or off.
+    fn motor(&mut self, on: bool)
+        ensures becomes { Becomes (state self.old) (with_motor on (state self.old)) (state self.new) }
+        ensures left { Spends (state self.old) (left self.old) (state self.new) (left self.new) };
+
+    /// A step pulse, to a higher cylinder where `inward`.
+    fn pulse(&mut self, inward: bool)
+        ensures moves { Pulses (state self.old) inward (state self.new) }
+        ensures left { Spends (state self.old) (left self.old) (state self.new) (left self.new) };
+
+    /// The heads stand over cylinder 0.
+    fn track0(&self) -> bool
+        ensures { IsTrue result ↔ ((state self.now).cylinder ≡ 0) };
+
+    /// The change line.
+    fn changed(&self) -> bool
+        ensures { result ≡ (state self.now).change };
+
+    /// A write-protected medium is in.
+    fn protected(&self) -> bool
+        ensures { result ≡ is_protected (state self.now).medium };
+
+    /// The rate of the medium, R500 where none is in.
+    fn rate(&self) -> Rate
+        ensures { result ≡ rate_of (state self.now).medium };
+
+    /// Opens or closes the write gate.
+    fn gate(&mut self, on: bool)
+        ensures becomes { Becomes (state self.old) (with_gate on (state self.old)) (state self.new) }
+        ensures left { Spends (state self.old) (left self.old) (state self.new) (left self.new) };
+
+    /// Lets one word time pass, and tells whether the index came at its end.
+    fn pass(&mut self) -> bool
+        ensures becomes { Becomes (state self.old) (passed (state self.old)) (state self.new) }
+        ensures index { result ≡ at_index (state self.old) }
+        ensures left { Spends (state self.old) (left self.old) (state self.new) (left self.new) }
+        ensures range_before { InRange (state self.old) }
+        ensures range { InRange (state self.new) };
+
+    /// Lets one word time pass, and reads the word under a head.
+    fn read_word(&mut self, head: u8) -> Turn
+        ensures becomes { Becomes (state self.old) (passed (state self.old)) (state self.new) }
+        ensures word { Reads (state self.old) head result.word (state self.new) }
+        ensures index { result.index ≡ at_index (state self.old) }
+        ensures left { Spends (state self.old) (left self.old) (state self.new) (left self.new) }
+        ensures range_before { InRange (state self.old) }
+        ensures range { InRange (state self.new) };
+
+    /// Lets one word time pass, writes the word under a head where the gate is open and not cut, and tells whether
+    /// the index came at its end.
+    fn write_word(&mut self, head: u8, word: u16) -> bool
+        ensures writes { Writes (state self.old) head word (state self.new) }
+        ensures index { result ≡ at_index (state self.old) }
+        ensures left { Spends (state self.old) (left self.old) (state self.new) (left self.new) }
+        ensures range_before { InRange (state self.old) }
+        ensures range { InRange (state self.new) };
+
+    /// The count of faults, which stays at its last value.
+    fn faults(&self) -> u64
+        ensures count { result ≡ (state self.now).faults }
+        ensures range { InRange (state self.now) }
+        ensures left { CanTell (state self.now) (left self.now) };
+}

@@ -1,0 +1,275 @@
+// A drive without its faults: the parts that move, and the lines.
+ghost use Rattle.std.specs.Prelude.{◌≡◌, ◌↔◌, ◌≤◌, ◌<◌, ◌-◌, ℕ, is_some, IsErr, IsSome, OnOk, IfErr, IfSome, MatchOption, slice_index, false, if◌then◌else◌};
+ghost use Rattle.std.specs.Option.{ForSome};
+ghost use Rattle.raw_image.specs.Disk.{IsDisk};
+ghost use Rattle.drive_model.specs.Drive.{track_words, rewritten};
+
+use crate::Turn;
+use flop_base::Rate;
+use raw_image::Medium;
+
+/// The last cylinder that the heads reach.
+const LAST_CYLINDER: u8 = 82;
+
+/// The word times that a medium takes to spin up.
+const SPIN_UP: u16 = 6250;
+
+/// Replaces a word of a medium that has the track and is not protected.
+fn replace_word(medium: &mut Medium, cylinder: u8, head: u8, place: u16, word: u16)
+    requires { place < medium.old.words_per_track }
+    ensures becomes { Some medium.new ≡ rewritten (Some medium.old) cylinder head place word }
+    ensures words { medium.new.words_per_track ≡ medium.old.words_per_track }
+    ensures valid { IsDisk medium.new }
+{
+    let cylinders = medium.cylinders();
+    if !medium.protected() && cylinder < cylinders && head < medium.heads() {
+        medium.set_word(cylinder, head, place, word);
+    }
+}
+
+/// A word that passes under the heads.
+#[derive(Clone, Copy)]
+pub(crate) struct Passing {
+    pub(crate) place: u16,
+    pub(crate) index: bool,
+}
+
+#[derive(Drop)]
+pub(crate) struct Mechanics {
+    pub(crate) medium: Option<Medium>,
+    pub(crate) cylinder: u8,
+    pub(crate) place: u16,
+    pub(crate) motor: bool,
+    pub(crate) spin: u16,
+    pub(crate) change: bool,
+    pub(crate) gate: bool,
+    pub(crate) cut: bool,
+    ghost on_a_cylinder: { cylinder ≤ 82 },
+    ghost on_the_track: { place ≤ track_words medium - 1 },
+    ghost spun_up: { spin ≤ 6250 },
+    ghost a_disk: { ForSome medium IsDisk },
+}
+
+impl Mechanics {
+    ghost use Rattle.drive_model.specs.Drive.{loaded, unloaded, with_motor, with_gate, moved, passed, written, cut_off};
+    ghost use Rattle.drive_model.specs.Drive.{at_speed, can_write, at_index, word_under, words_on, is_protected, rate_of};
+    ghost use Rattle.drive_model.specs.Mechanics.{state_of, at_rest};
+
+    /// Without a medium, at cylinder 0, with the change line set.
+    pub(crate) fn new() -> Mechanics
+        ensures { state_of result 0 ≡ at_rest 0 }
+    {
+        Mechanics {
+            medium: None,
+            cylinder: 0,
+            place: 0,
+            motor: false,
+            spin: 0,
+            change: true,
+            gate: false,
+            cut: false,
+        }
+    }
+
+    /// Puts a medium in where none is.
+    pub(crate) fn insert(&mut self, medium: Medium) -> Result<(), Medium>
+        ensures refused { IsErr result ↔ IsSome self.old.medium }
+        ensures ok { OnOk result
+            (state_of self.new 0 ≡ loaded medium (state_of self.old 0)) }
+        ensures back { IfErr result (λ back. back ≡ medium) }
+        ensures err { IfErr result (λ _. state_of self.new 0 ≡ state_of self.old 0) }
+    {
+        if self.medium.is_some() {
+            return Err(medium);
+        }
+        // Reading its number of words also tells that a medium has its shape.
+        let _words = medium.words();
+        self.medium = Some(medium);
+        self.spin = 0;
+        self.place = 0;
+        self.change = true;
+        Ok(())
+    }
+
+    /// Takes the medium out.
+    pub(crate) fn eject(&mut self) -> Option<Medium>
+        ensures medium { result ≡ self.old.medium }
+        ensures state { state_of self.new 0 ≡ unloaded (state_of self.old 0) }
+    {
+        let medium = self.medium.take()?;
+        self.spin = 0;
+        self.place = 0;
+        self.change = true;
+        Some(medium)
+    }
+
+    pub(crate) fn motor(&mut self, on: bool)
+        ensures { state_of self.new 0 ≡ with_motor on (state_of self.old 0) }
+    {
+        self.motor = on;
+        if !on {
+            self.spin = 0;
+        }
+    }
+
+    /// A pulse that isn't lost.
+    pub(crate) fn pulse(&mut self, inward: bool)
+        ensures { state_of self.new 0 ≡ moved inward (state_of self.old 0) }
+    {
+        if !inward {
+            self.cylinder = self.cylinder.saturating_sub(1);
+        } else if self.cylinder < LAST_CYLINDER {
+            self.cylinder += 1;
+        }
+        if self.medium.is_some() {
+            self.change = false;
+        }
+    }
+
+    pub(crate) fn protected(&self) -> bool
+        ensures { result ≡ is_protected self.now.medium }
+    {
+        match &self.medium {
+            Some(medium) => medium.protected(),
+            None => false,
+        }
+    }
+
+    pub(crate) fn rate(&self) -> Rate
+        ensures { result ≡ rate_of self.now.medium }
+    {
+        match &self.medium {
+            Some(medium) => medium.rate(),
+            None => Rate::R500,
+        }
+    }
+
+    pub(crate) fn gate(&mut self, on: bool)
+        ensures { state_of self.new 0 ≡ with_gate on (state_of self.old 0) }
+    {
+        self.gate = on;
+        if on {
+            self.cut = false;
+        }
+    }
+
+    /// A word passes in the next word time.
+    pub(crate) fn is_at_speed(&self) -> bool
+        ensures { result ≡ at_speed (state_of self.now 0) }
+    {
+        self.motor && self.medium.is_some() && self.spin >= SPIN_UP
+    }
+
+    /// The gate is open and not cut, and a word passes in the next word time.
+    pub(crate) fn can_write(&self) -> bool
+        ensures { result ≡ can_write (state_of self.now 0) }
+    {
+        self.is_at_speed() && self.gate && !self.cut
+    }
+
+    /// Lets a word time pass, and gives the place of the word that passed, if the medium is spun up.
+    pub(crate) fn advance(&mut self) -> Option<Passing>
+        ensures state { state_of self.new 0 ≡ passed (state_of self.old 0) }
+        ensures passing { is_some result ≡ at_speed (state_of self.old 0) }
+        ensures place { IfSome result (λ word. word.place ≡ self.old.place) }
+        ensures within { IfSome result (λ word. word.place < track_words self.old.medium) }
+        ensures index { MatchOption result (at_index (state_of self.old 0) ≡ false)
+            (λ word. word.index ≡ at_index (state_of self.old 0)) }
+    {
+        let Some(medium) = &self.medium else {
+            return None;
+        };
+        if !self.motor {
+            return None;
+        }
+        if self.spin < SPIN_UP {
+            self.spin += 1;
+            return None;
+        }
+        let words = medium.words();
+        let place = self.place;
+        let index = place + 1 == words;
+        self.place = if index { 0 } else { place + 1 };
+        Some(Passing { place, index })
+    }
+
+    /// Lets a word time pass, and tells whether the index came.
+    pub(crate) fn pass(&mut self) -> bool
+        ensures state { state_of self.new 0 ≡ passed (state_of self.old 0) }
+        ensures index { result ≡ at_index (state_of self.old 0) }
+    {
+        match self.advance() {
+            Some(passing) => passing.index,
+            None => false,
+        }
+    }
+
+    /// The word at a place under a head.
+    fn word_at(&self, head: u8, place: u16) -> u16
+        requires { place < track_words self.now.medium }
+        ensures { result ≡ slice_index (words_on self.now.medium self.now.cylinder head) place }
+    {
+        let Some(medium) = &self.medium else {
+            return 0;
+        };
+        match medium.track(self.cylinder, head) {
+            Some(track) => track[place as usize],
+            None => 0,
+        }
+    }
+
+    /// Lets a word time pass, and reads the word that passes under a head.
+    pub(crate) fn read(&mut self, head: u8) -> Turn
+        ensures state { state_of self.new 0 ≡ passed (state_of self.old 0) }
+        ensures word { result.word ≡ word_under (state_of self.old 0) head }
+        ensures index { result.index ≡ at_index (state_of self.old 0) }
+    {
+        match self.advance() {
+            Some(passing) => Turn {
+                word: self.word_at(head, passing.place),
+                index: passing.index,
+            },
+            None => Turn {
+                word: 0,
+                index: false,
+            },
+        }
+    }
+
+    /// Replaces the word at a place under a head, where it can be.
+    fn replace(&mut self, head: u8, place: u16, word: u16)
+        requires { place < track_words self.old.medium }
+        ensures { state_of self.new 0 ≡ record (state_of self.old 0) {
+          medium = rewritten self.old.medium self.old.cylinder head place word;
+        } }
+    {
+        let cylinder = self.cylinder;
+        if let Some(medium) = &mut self.medium {
+            replace_word(medium, cylinder, head, place, word);
+        }
+    }
+
+    /// Lets a word time pass, and writes the word that passes under a head, where the gate is open and not cut.
+    pub(crate) fn write(&mut self, head: u8, word: u16) -> bool
+        ensures state { state_of self.new 0 ≡ written head word (state_of self.old 0) }
+        ensures index { result ≡ at_index (state_of self.old 0) }
+    {
+        let Some(passing) = self.advance() else {
+            return false;
+        };
+        if self.gate && !self.cut {
+            self.replace(head, passing.place, word);
+        }
+        passing.index
+    }
+
+    /// Lets a word time pass, and cuts the gate.
+    pub(crate) fn cut_off(&mut self) -> bool
+        ensures state { state_of self.new 0 ≡ cut_off (state_of self.old 0) }
+        ensures index { result ≡ at_index (state_of self.old 0) }
+    {
+        let index = self.pass();
+        self.cut = true;
+        index
+    }
+}

@@ -1,0 +1,270 @@
+// A drive whose faults are planned.
+ghost use Rattle.std.specs.Prelude.{◌≡◌, ◌≤◌, ◌↔◌, IsErr, IsSome, OnOk, IfErr};
+ghost use Rattle.std.specs.Bool.{OnTrue, OnFalse};
+ghost use Rattle.flop_base.specs.Shelf.{Rose};
+ghost use Rattle.drive_model.specs.Drive.{last_count, Becomes, InRange, Spends};
+ghost use Rattle.drive_model.specs.Drive.{loaded, unloaded, with_motor, with_gate, moved, passed, written, cut_off};
+ghost use Rattle.drive_model.specs.Fault.{comes};
+ghost use Rattle.drive_model.specs.Drive.{at_index, word_under, Pulses, Reads, Writes};
+
+use crate::fault::{Event, take_fault};
+use crate::mechanics::Mechanics;
+use crate::{Drive, Fault, Turn};
+use flop_base::Rate;
+use raw_image::Medium;
+
+/// A drive that has the faults of a list, and no others. Of the faults that meet an event, the first in the list
+/// comes.
+#[derive(Drop)]
+pub struct ScriptDrive {
+    mechanics: Mechanics,
+    script: Vec<Fault>,
+    faults: u64,
+    ghost counted: { faults ≤ last_count },
+}
+
+impl ScriptDrive {
+    ghost use Rattle.drive_model.specs.Mechanics.{at_rest, state_of};
+    ghost use Rattle.drive_model.specs.ScriptDrive.{script_state, script_left, script_of, Accounts};
+    ghost use Rattle.drive_model.specs.ScriptDrive.{loses, drops, cuts, pulse_of, read_of, write_of};
+
+    /// A drive with no medium, at cylinder 0, its motor off, its change line set.
+    pub fn new(faults: Vec<Fault>) -> ScriptDrive
+        ensures state { script_state result ≡ at_rest 0 }
+        ensures script { script_of result ≡ faults.items }
+    {
+        ScriptDrive {
+            mechanics: Mechanics::new(),
+            script: faults,
+            faults: 0,
+        }
+    }
+
+    /// Takes a fault off the list, if one is planned for this event, and counts it.
+    fn fails(&mut self, event: Event) -> bool
+        ensures comes { result ≡ comes (script_of self.old) event }
+        ensures accounts { Accounts result event self.old self.new }
+        ensures rose { OnTrue result
+            (Rose (script_state self.old).faults (script_state self.new).faults) }
+        ensures parts { state_of self.new.mechanics 0 ≡ state_of self.old.mechanics 0 }
+        ensures left { Spends (script_state self.old) (script_left self.old)
+            (script_state self.new) (script_left self.new) }
+    {
+        let comes = take_fault(&mut self.script, event);
+        if comes {
+            self.faults = self.faults.saturating_add(1);
+        }
+        comes
+    }
+
+    /// The pulse is lost.
+    fn loses(&mut self, inward: bool) -> bool
+        ensures loses { result ≡ loses self.old inward }
+        ensures accounts { Accounts result
+            (pulse_of (script_state self.old) inward) self.old self.new }
+        ensures rose { OnTrue result
+            (Rose (script_state self.old).faults (script_state self.new).faults) }
+        ensures never_falls { (script_state self.old).faults ≤ (script_state self.new).faults }
+        ensures parts { state_of self.new.mechanics 0 ≡ state_of self.old.mechanics 0 }
+        ensures left { Spends (script_state self.old) (script_left self.old)
+            (script_state self.new) (script_left self.new) }
+    {
+        let c = self.mechanics.cylinder;
+        self.fails(Event::Pulse { c, inward })
+    }
+
+    /// The word that passes drops out.
+    fn drops(&mut self, head: u8) -> bool
+        ensures drops { result ≡ drops self.old head }
+        ensures accounts { Accounts result
+            (read_of (script_state self.old) head) self.old self.new }
+        ensures rose { OnTrue result
+            (Rose (script_state self.old).faults (script_state self.new).faults) }
+        ensures never_falls { (script_state self.old).faults ≤ (script_state self.new).faults }
+        ensures parts { state_of self.new.mechanics 0 ≡ state_of self.old.mechanics 0 }
+        ensures left { Spends (script_state self.old) (script_left self.old)
+            (script_state self.new) (script_left self.new) }
+    {
+        let event = Event::Read {
+            c: self.mechanics.cylinder,
+            h: head,
+            word: self.mechanics.place,
+        };
+        self.mechanics.is_at_speed() && self.fails(event)
+    }
+
+    /// The open gate is cut at the word that passes.
+    fn cuts(&mut self, head: u8) -> bool
+        ensures cuts { result ≡ cuts self.old head }
+        ensures accounts { Accounts result
+            (write_of (script_state self.old) head) self.old self.new }
+        ensures rose { OnTrue result
+            (Rose (script_state self.old).faults (script_state self.new).faults) }
+        ensures never_falls { (script_state self.old).faults ≤ (script_state self.new).faults }
+        ensures parts { state_of self.new.mechanics 0 ≡ state_of self.old.mechanics 0 }
+        ensures left { Spends (script_state self.old) (script_left self.old)
+            (script_state self.new) (script_left self.new) }
+    {
+        let event = Event::Write {
+            c: self.mechanics.cylinder,
+            h: head,
+            word: self.mechanics.place,
+        };
+        self.mechanics.can_write() && self.fails(event)
+    }
+}
+
+impl Drive for ScriptDrive {
+    ghost use Rattle.drive_model.specs.ScriptDrive.{script_state, script_left, script_of, Accounts, NoFault};
+    ghost use Rattle.drive_model.specs.ScriptDrive.{loses, drops, cuts, pulse_of, read_of, write_of};
+
+    ghost state = { script_state };
+
+    ghost left = { script_left };
+
+    fn insert(&mut self, medium: Medium) -> Result<(), Medium>
+        ensures refused { IsErr result ↔ IsSome (script_state self.old).medium }
+        ensures ok { OnOk result
+            (Becomes (script_state self.old)
+            (loaded medium (script_state self.old)) (script_state self.new)) }
+        ensures err { IfErr result (λ back. (back ≡ medium)
+            × Becomes (script_state self.old) (script_state self.old) (script_state self.new)) }
+        ensures left { Spends (script_state self.old) (script_left self.old)
+            (script_state self.new) (script_left self.new) }
+        ensures no_fault { NoFault self.old self.new }
+    {
+        self.mechanics.insert(medium)
+    }
+
+    fn eject(&mut self) -> Option<Medium>
+        ensures medium { result ≡ (script_state self.old).medium }
+        ensures becomes { Becomes (script_state self.old)
+            (unloaded (script_state self.old)) (script_state self.new) }
+        ensures left { Spends (script_state self.old) (script_left self.old)
+            (script_state self.new) (script_left self.new) }
+        ensures no_fault { NoFault self.old self.new }
+    {
+        self.mechanics.eject()
+    }
+
+    fn motor(&mut self, on: bool)
+        ensures becomes { Becomes (script_state self.old)
+            (with_motor on (script_state self.old)) (script_state self.new) }
+        ensures left { Spends (script_state self.old) (script_left self.old)
+            (script_state self.new) (script_left self.new) }
+        ensures no_fault { NoFault self.old self.new }
+    {
+        self.mechanics.motor(on);
+    }
+
+    fn pulse(&mut self, inward: bool)
+        ensures moves { Pulses (script_state self.old) inward (script_state self.new) }
+        ensures left { Spends (script_state self.old) (script_left self.old)
+            (script_state self.new) (script_left self.new) }
+
+        ensures lost { OnTrue (loses self.old inward)
+            (Becomes (script_state self.old) (script_state self.old) (script_state self.new)) }
+        ensures moved { OnFalse (loses self.old inward)
+            (Becomes (script_state self.old)
+            (moved inward (script_state self.old)) (script_state self.new)) }
+        ensures accounts { Accounts (loses self.old inward)
+            (pulse_of (script_state self.old) inward) self.old self.new }
+    {
+        let lost = self.loses(inward);
+        if !lost {
+            self.mechanics.pulse(inward);
+        }
+    }
+
+    fn track0(&self) -> bool {
+        self.mechanics.cylinder == 0
+    }
+
+    fn changed(&self) -> bool {
+        self.mechanics.change
+    }
+
+    fn protected(&self) -> bool {
+        self.mechanics.protected()
+    }
+
+    fn rate(&self) -> Rate {
+        self.mechanics.rate()
+    }
+
+    fn gate(&mut self, on: bool)
+        ensures becomes { Becomes (script_state self.old)
+            (with_gate on (script_state self.old)) (script_state self.new) }
+        ensures left { Spends (script_state self.old) (script_left self.old)
+            (script_state self.new) (script_left self.new) }
+        ensures no_fault { NoFault self.old self.new }
+    {
+        self.mechanics.gate(on);
+    }
+
+    fn pass(&mut self) -> bool
+        ensures becomes { Becomes (script_state self.old)
+            (passed (script_state self.old)) (script_state self.new) }
+        ensures index { result ≡ at_index (script_state self.old) }
+        ensures left { Spends (script_state self.old) (script_left self.old)
+            (script_state self.new) (script_left self.new) }
+        ensures range_before { InRange (script_state self.old) }
+        ensures range { InRange (script_state self.new) }
+        ensures no_fault { NoFault self.old self.new }
+    {
+        self.mechanics.pass()
+    }
+
+    fn read_word(&mut self, head: u8) -> Turn
+        ensures becomes { Becomes (script_state self.old)
+            (passed (script_state self.old)) (script_state self.new) }
+        ensures word { Reads (script_state self.old) head result.word (script_state self.new) }
+        ensures index { result.index ≡ at_index (script_state self.old) }
+        ensures left { Spends (script_state self.old) (script_left self.old)
+            (script_state self.new) (script_left self.new) }
+        ensures range_before { InRange (script_state self.old) }
+        ensures range { InRange (script_state self.new) }
+
+        ensures dropped { OnTrue (drops self.old head) (result.word ≡ 0) }
+        ensures read { OnFalse (drops self.old head)
+            (result.word ≡ word_under (script_state self.old) head) }
+        ensures accounts { Accounts (drops self.old head)
+            (read_of (script_state self.old) head) self.old self.new }
+    {
+        let drops = self.drops(head);
+        let turn = self.mechanics.read(head);
+        if drops {
+            Turn { word: 0, ..turn }
+        } else {
+            turn
+        }
+    }
+
+    fn write_word(&mut self, head: u8, word: u16) -> bool
+        ensures writes { Writes (script_state self.old) head word (script_state self.new) }
+        ensures index { result ≡ at_index (script_state self.old) }
+        ensures left { Spends (script_state self.old) (script_left self.old)
+            (script_state self.new) (script_left self.new) }
+        ensures range_before { InRange (script_state self.old) }
+        ensures range { InRange (script_state self.new) }
+
+        ensures cut { OnTrue (cuts self.old head)
+            (Becomes (script_state self.old)
+            (cut_off (script_state self.old)) (script_state self.new)) }
+        ensures written { OnFalse (cuts self.old head)
+            (Becomes (script_state self.old)
+            (written head word (script_state self.old)) (script_state self.new)) }
+        ensures accounts { Accounts (cuts self.old head)
+            (write_of (script_state self.old) head) self.old self.new }
+    {
+        if self.cuts(head) {
+            self.mechanics.cut_off()
+        } else {
+            self.mechanics.write(head, word)
+        }
+    }
+
+    fn faults(&self) -> u64 {
+        self.faults
+    }
+}
