@@ -1,9 +1,11 @@
-//! Tests of cells, fields, images and texts, as their users call them.
+//! Tests of cells, fields, images, texts and plans, as their users call them.
 #![tactic(auto)]
 
 #[cfg(test)]
 mod fields;
 #[cfg(test)]
 mod images;
+#[cfg(test)]
+mod plans;
 #[cfg(test)]
 mod texts;

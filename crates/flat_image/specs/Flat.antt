@@ -1,0 +1,29 @@
+-- Flat files: 80 cylinders, 2 heads, 9 or 18 sectors of 512 bytes on each track.
+use Rattle.std.specs.Prelude.{◌≡◌, ℕ, ◌+◌, ◌-◌, ◌*◌, ◌<◌, ◌≤◌, ◌⊎◌, List, replicate}
+
+-- the sectors on each track are 9 or 18
+abbrev pub IsDensity : ℕ → Type 0
+IsDensity sectors = (sectors ≡ 9) ⊎ (sectors ≡ 18)
+
+-- a file with so many sectors on each track has this one
+pub record IsSector (sectors c h r : ℕ) : Type 0 where
+  pub cylinder : c < 80
+  pub head : h < 2
+  pub from_first : 1 ≤ r
+  pub to_last : r ≤ sectors
+
+-- the bytes of such a file
+abbrev pub flat_length : ℕ → ℕ
+flat_length sectors = 80 * 2 * sectors * 512
+
+-- where a sector begins: cylinder by cylinder, head by head, record by record
+abbrev pub sector_place : ℕ → ℕ → ℕ → ℕ → ℕ
+sector_place sectors c h r = ((c * 2 + h) * sectors + r - 1) * 512
+
+-- the sectors that begin at p and q have no byte in common
+abbrev pub AreApart : ℕ → ℕ → Type 0
+AreApart p q = (p + 512 ≤ q) ⊎ (q + 512 ≤ p)
+
+-- so many bytes 00
+unfoldable pub zeroes : ℕ → List ℕ
+zeroes n = replicate n 0
