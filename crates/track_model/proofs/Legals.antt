@@ -1,13 +1,13 @@
 -- The words of legal cells.
-use Rattle.std.proofs.Common.{◌≡◌, ℕ, zero, suc, ◌+◌, ◌-◌, ◌*◌, ◌/◌, ◌%◌, ◌<◌, ◌≤◌, Bool, true, false, cond, eqb, List, [], ◌∷◌, ◌++◌, length, get_or, refl, sym, ap, ◌∙◌, lit<, arith, inl, inr}
+use Rattle.std.proofs.Common.{◌≡◌, ℕ, zero, suc, ◌+◌, ◌-◌, ◌*◌, ◌/◌, ◌%◌, ◌^◌, ◌<◌, ◌≤◌, Bool, true, false, cond, eqb, List, [], ◌∷◌, ◌++◌, length, get_or, append_assoc, refl, sym, ap, ◌∙◌, lit<, arith, inl, inr}
 use Rattle.std.proofs.lemmas.Bool.{eq-eqb, ne_eqb, cond-true, cond-false, cases_eq}
 use Rattle.std.proofs.lemmas.List.{ext_get_or, get_or_append_left, get_or-append_right, length-append}
 use Rattle.std.proofs.lemmas.List.FromFn.{length-map-range_with_len, get_or-map-range_with_len}
 use Rattle.std.proofs.lemmas.Nat.Bits.{bit_at-lt, bit_at_lowest}
 use Rattle.std.specs.Int.{bit_at}
 use Rattle.track_model.specs.Cells.{cell, cells_at, number}
-use Rattle.track_model.specs.Bytes.{bit_of, bit_before, last_bit, clock_between, legal_cell, legal}
-use Rattle.track_model.proofs.Numbers.{number_ext, bit_at-number}
+use Rattle.track_model.specs.Bytes.{byte_at, bit_of, bit_before, last_bit, clock_between, legal_cell, legal}
+use Rattle.track_model.proofs.Numbers.{number_ext, number_from_bits, bit_at-number}
 use Rattle.track_model.proofs.Places.{cell_in, bit_at-cells_at}
 
 pub length-legal : (last : Bool) (bytes : List ℕ) → length (legal last bytes) ≡ length bytes
@@ -193,3 +193,30 @@ legal-cons last byte rest =
 pub legal-nil : (last : Bool) → legal last [] ≡ []
 unfolding legal
 legal-nil last = refl
+
+-- a byte's cells have its bits
+pub byte_at-legal : (last : Bool) (bytes : List ℕ) (p k : ℕ) → p ≡ 16 * k → k < length bytes → get_or bytes k 0 < 2 ^ 8 → byte_at (legal last bytes) p ≡ get_or bytes k 0
+byte_at-legal last bytes p k e h fits =
+    number_from_bits (λ i. cell (legal last bytes) (p + (2 * i + 1))) 8 (get_or bytes k 0) fits
+    (λ i l.
+    let word : (8 * k + i) / 8 ≡ k = omega arith in
+    let place : (8 * k + i) % 8 ≡ i = omega arith in
+    cell-legal last bytes (p + (2 * i + 1)) (omega arith)
+    ∙ legal_cell-data last bytes (p + (2 * i + 1)) (8 * k + i) (omega arith)
+    ∙ ap (λ w. bit_at (get_or bytes w 0) (7 - (8 * k + i) % 8)) word
+    ∙ ap (λ j. bit_at (get_or bytes k 0) (7 - j)) place)
+
+-- the last bit of bytes, or the bit before them where there are none
+pub last_of : Bool → List ℕ → Bool
+last_of last [] = last
+last_of last (byte ∷ rest) = last_of (last_bit byte) rest
+
+-- the words of two rows of bytes are those of the first, and those of the second after its last bit
+pub legal-append : (last : Bool) (bytes rest : List ℕ) → legal last (bytes ++ rest) ≡ legal last bytes ++ legal (last_of last bytes) rest
+unfolding last_of
+legal-append last [] rest = ap (λ words. words ++ legal last rest) (sym (legal-nil last))
+legal-append last (byte ∷ bytes) rest =
+    legal-cons last byte (bytes ++ rest)
+    ∙ ap (λ words. legal last (byte ∷ []) ++ words) (legal-append (last_bit byte) bytes rest)
+    ∙ sym (append_assoc (legal last (byte ∷ [])) (legal (last_bit byte) bytes) (legal (last_of (last_bit byte) bytes) rest))
+    ∙ ap (λ words. words ++ legal (last_of (last_bit byte) bytes) rest) (sym (legal-cons last byte bytes))

@@ -3,9 +3,13 @@ mod CrcBits
 mod CrcRegister
 mod CrcRows
 pub mod CrcSteps
+pub mod Frames
 pub mod Legals
 pub mod Numbers
 pub mod Places
+pub mod Sectored
 pub mod Sizes
+pub mod Spans
+pub mod Splices
 pub mod Unique
 pub mod Written
