@@ -12,4 +12,5 @@ pub mod Sizes
 pub mod Spans
 pub mod Splices
 pub mod Unique
+pub mod WindowMarks
 pub mod Written
