@@ -3,6 +3,7 @@ mod CrcBits
 mod CrcRegister
 mod CrcRows
 pub mod CrcSteps
+pub mod Cuts
 pub mod Frames
 pub mod Legals
 pub mod Numbers

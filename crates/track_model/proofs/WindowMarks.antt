@@ -33,6 +33,10 @@ module _ (words more : List ℕ) where
   cells_at-right p q e =
       number_ext (λ i. cell (words ++ more) (p + i)) (λ i. cell more (q + i)) 16 (λ i l. cell-right (p + i) (q + i) (omega arith))
 
+  pub byte_at-left : (p : ℕ) → p + 16 ≤ 16 * length words → byte_at (words ++ more) p ≡ byte_at words p
+  byte_at-left p h =
+      number_ext (λ i. cell (words ++ more) (p + (2 * i + 1))) (λ i. cell words (p + (2 * i + 1))) 8 (λ i l. cell-left (p + (2 * i + 1)) (omega arith))
+
   pub byte_at-right : (p q : ℕ) → p ≡ 16 * length words + q → byte_at (words ++ more) p ≡ byte_at more q
   byte_at-right p q e =
       number_ext (λ i. cell (words ++ more) (p + (2 * i + 1))) (λ i. cell more (q + (2 * i + 1))) 8
