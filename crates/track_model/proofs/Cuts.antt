@@ -61,7 +61,7 @@ module _ (track : List ℕ) (p : ℕ) (key : Chrn) (words : List ℕ) (k : ℕ) 
   same_behind q m h = Splices.same_behind track (window_word p) (take k words) fits q m (omega (arith, long_cut))
 
   -- a mark that stands within the words put in stands in the window
-  mark_in : (q : ℕ) → window_place p ≤ q → q + 16 ≤ window_place p + 16 * k → cells_at (cut_of track p k words) q ≡ 0x4489 → (window_place p + 192 ≤ q) × (q ≤ window_place p + 224)
+  pub mark_in : (q : ℕ) → window_place p ≤ q → q + 16 ≤ window_place p + 16 * k → cells_at (cut_of track p k words) q ≡ 0x4489 → (window_place p + 192 ≤ q) × (q ≤ window_place p + 224)
   mark_in q low high mark =
       let i = q - window_place p in
       let place : q ≡ 16 * window_word p + i = omega arith in
@@ -74,7 +74,7 @@ module _ (track : List ℕ) (p : ℕ) (key : Chrn) (words : List ℕ) (k : ℕ) 
       (omega arith, omega arith)
 
   -- none stands between the field and the window
-  no_mark_before : (q : ℕ) → p + 160 ≤ q → q + 16 ≤ window_place p → cells_at (cut_of track p k words) q ≡ 0x4489 → ⊥
+  pub no_mark_before : (q : ℕ) → p + 160 ≤ q → q + 16 ≤ window_place p → cells_at (cut_of track p k words) q ≡ 0x4489 → ⊥
   no_mark_before q low high mark =
       spaced.gaps p q key here low high
       (same_cells_at track (cut_of track p k words) q 16 q (same_before q 16 high) (omega arith) (omega arith) ∙ mark)

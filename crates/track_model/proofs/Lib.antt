@@ -7,6 +7,7 @@ pub mod Cuts
 pub mod Frames
 pub mod Legals
 pub mod Numbers
+pub mod OwnField
 pub mod Places
 pub mod Sectored
 pub mod Sizes

@@ -82,7 +82,7 @@ module _ (deleted : Bool) (rest : List ℕ) where
   unfolding legal number
   word_11 = refl
 
-  word_12 : get_or (marked (data_byte deleted ∷ rest)) 12 0 ≡ 0x4489
+  pub word_12 : get_or (marked (data_byte deleted ∷ rest)) 12 0 ≡ 0x4489
   unfolding legal number
   word_12 = refl
 
