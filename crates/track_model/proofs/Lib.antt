@@ -8,6 +8,7 @@ pub mod Frames
 pub mod Legals
 pub mod Numbers
 pub mod OwnField
+pub mod OwnLooks
 pub mod Places
 pub mod Sectored
 pub mod Sizes

@@ -101,7 +101,7 @@ module _ (track : List ℕ) (p : ℕ) (key : Chrn) (k : ℕ) (deleted : Bool) (r
         third = own_cells (window_place p + 192 + 32) 224 (omega arith) (omega (arith, own_long)) ∙ run.2;
       }
 
-  own_mark : byte_at (cut_of track p k (marked (data_byte deleted ∷ rest))) (window_place p + 192 + 48) ≡ data_byte deleted
+  pub own_mark : byte_at (cut_of track p k (marked (data_byte deleted ∷ rest))) (window_place p + 192 + 48) ≡ data_byte deleted
   own_mark = own_byte (window_place p + 192 + 48) 240 (omega arith) (omega (arith, own_long)) ∙ byte_behind deleted rest
 
   own_inside : window_end p key.n ≤ 16 * length (cut_of track p k (marked (data_byte deleted ∷ rest)))
@@ -109,7 +109,7 @@ module _ (track : List ℕ) (p : ℕ) (key : Chrn) (k : ℕ) (deleted : Bool) (r
       let inside = spaced.spans.inside p key here in
       omega (arith, Splices.length-with_words track (window_word p) (take k (marked (data_byte deleted ∷ rest))) own_fits)
 
-  own_sound : (m : ℕ) → window_place p + 192 + m ≤ window_end p key.n → IsSound (cut_of track p k (marked (data_byte deleted ∷ rest))) (window_place p + 192) m
+  pub own_sound : (m : ℕ) → window_place p + 192 + m ≤ window_end p key.n → IsSound (cut_of track p k (marked (data_byte deleted ∷ rest))) (window_place p + 192) m
   own_sound m h = record {
     inside = omega (arith, own_inside);
     no_zero = λ q low high zero.

@@ -1,9 +1,12 @@
 -- Windows: the words that are written over a data field, at their place on the track, and writes that stop before the end.
-use Rattle.std.specs.Prelude.{◌≡◌, ℕ, ◌+◌, ◌*◌, ◌/◌, ◌≤◌, Bool, List, ◌++◌, length, take, drop}
+use Rattle.std.specs.Prelude.{◌≡◌, ℕ, ◌+◌, ◌*◌, ◌/◌, ◌≤◌, Bool, true, List, ◌∷◌, ◌++◌, length, take, drop, replicate}
+use Rattle.std.specs.Int.Bits.{bit_xor}
 use Rattle.flop_base.specs.declared.key.Chrn.{Chrn}
-use Rattle.track_model.specs.Marks.{IsAddressMark}
-use Rattle.track_model.specs.Fields.{IsAddressAt, content_size}
-use Rattle.track_model.specs.Writing.{window}
+use Rattle.track_model.specs.Bytes.{legal}
+use Rattle.track_model.specs.Crc.{crc}
+use Rattle.track_model.specs.Marks.{data_byte, IsAddressMark}
+use Rattle.track_model.specs.Fields.{after_marks, IsAddressAt, content_size}
+use Rattle.track_model.specs.Writing.{sync_and_marks, check_bytes, window}
 
 -- the word at which the window of the address field at p begins: the first that begins 352 cells or more behind the field's end
 abbrev pub window_word : ℕ → ℕ
@@ -16,6 +19,16 @@ window_place p = 16 * window_word p
 -- how many words a window for sectors of size code n has
 abbrev pub window_words : ℕ → ℕ
 window_words n = 18 + content_size n
+
+-- a window whose check is wrong: its last bit is inverted before the bytes are recorded
+abbrev pub damaged_window : Bool → List ℕ → List ℕ
+damaged_window deleted content =
+    sync_and_marks
+    ++ legal true ((data_byte deleted ∷ content) ++ check_bytes (bit_xor (crc (after_marks (data_byte deleted ∷ content))) 1))
+
+-- a window without a data field: bytes 4E alone
+abbrev pub empty_window : ℕ → List ℕ
+empty_window n = replicate (window_words n) 0x9254
 
 -- the first cell behind that window
 abbrev pub window_end : ℕ → ℕ → ℕ
