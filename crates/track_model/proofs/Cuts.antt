@@ -5,16 +5,17 @@ use Rattle.std.proofs.Math.Seq.{take-length}
 use Rattle.std.proofs.lemmas.List.{length-take, take-append-drop}
 use Rattle.flop_base.specs.declared.key.Chrn.{Chrn}
 use Rattle.track_model.specs.declared.Look.{Look}
+use Rattle.track_model.specs.declared.Look.TheVariants.{Found}
 use Rattle.track_model.specs.Cells.{cells_at}
 use Rattle.track_model.specs.Bytes.{byte_at}
 use Rattle.track_model.specs.Marks.{IsRun, IsAddressMark}
-use Rattle.track_model.specs.Fields.{IsAddressAt, content_size}
+use Rattle.track_model.specs.Fields.{IsAddressAt, content_size, content_at}
 use Rattle.track_model.specs.Looks.{LookAt}
 use Rattle.track_model.specs.Sectors.{IsPlain}
 use Rattle.track_model.specs.Windows.{window_word, window_place, window_words, window_end, cut_of}
 use Rattle.track_model.specs.Regular.{span_cells, HasSizes, HasKeys, HasSpans, HasCleanGaps, HasCleanEnds, IsSpaced, IsRegular}
 use Rattle.track_model.proofs.Unique.{one_key}
-use Rattle.track_model.proofs.Frames.{AreSame, same_back, same_within, same_cells_at, same_byte_at, same_run, same_address_mark, same_address_at}
+use Rattle.track_model.proofs.Frames.{AreSame, same_back, same_within, same_cells_at, same_byte_at, same_bytes_at, same_run, same_address_mark, same_address_at}
 use Rattle.track_model.proofs.Spans.{same_look}
 use Rattle.track_model.proofs.Splices
 use Rattle.track_model.proofs.WindowMarks.{cells_at-left, byte_at-left}
@@ -60,15 +61,17 @@ module _ (track : List ℕ) (p : ℕ) (key : Chrn) (words : List ℕ) (k : ℕ) 
   same_behind : (q m : ℕ) → window_place p + 16 * k ≤ q → AreSame track (cut_of track p k words) q m
   same_behind q m h = Splices.same_behind track (window_word p) (take k words) fits q m (omega (arith, long_cut))
 
+  -- the cells put in are the window's
+  pub cells_put : (q i : ℕ) → q ≡ 16 * window_word p + i → i + 16 ≤ 16 * k → cells_at (cut_of track p k words) q ≡ cells_at words i
+  cells_put q i place h =
+      Splices.cells_of track (window_word p) (take k words) fits q i place (omega (arith, long_cut)) ∙ cells_of_first words k i most h
+
   -- a mark that stands within the words put in stands in the window
   pub mark_in : (q : ℕ) → window_place p ≤ q → q + 16 ≤ window_place p + 16 * k → cells_at (cut_of track p k words) q ≡ 0x4489 → (window_place p + 192 ≤ q) × (q ≤ window_place p + 224)
   mark_in q low high mark =
       let i = q - window_place p in
       let place : q ≡ 16 * window_word p + i = omega arith in
-      let inside : i + 16 ≤ 16 * length (take k words) = omega (arith, long_cut) in
-      let cells = Splices.cells_of track (window_word p) (take k words) fits q i place inside in
-      let own = cells_of_first words k i most (omega arith) in
-      let found = over.marks i (omega arith) (sym own ∙ sym cells ∙ mark) in
+      let found = over.marks i (omega arith) (sym (cells_put q i place (omega arith)) ∙ mark) in
       let low_i = found.0 in
       let high_i = found.1 in
       (omega arith, omega arith)
@@ -276,3 +279,11 @@ module _ (track : List ℕ) (p : ℕ) (key : Chrn) (words : List ℕ) (k : ℕ) 
       let after = cut_of track p k words in
       let same = other_span q other not field in
       (same_look track after q other.n look same, same_look after track q other.n look (same_back track after q (span_cells other.n) same))
+
+  -- and its content
+  pub kept_content : (q : ℕ) (other : Chrn) (deleted : Bool) (place : ℕ) → (q ≡ p → ⊥) → IsAddressAt track q other → LookAt track q other.n (Found deleted place) → content_at track place other.n ≡ content_at (cut_of track p k words) place other.n
+  kept_content q other deleted place not field look =
+      let at_place = look.2 in
+      let from = look.1.first.mark.after in
+      let near = look.1.first.mark.near in
+      same_bytes_at track (cut_of track p k words) q (span_cells other.n) place (content_size other.n) (other_span q other not field) (omega arith) (omega arith)

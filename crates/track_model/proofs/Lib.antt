@@ -4,7 +4,9 @@ mod CrcRegister
 mod CrcRows
 pub mod CrcSteps
 pub mod Cuts
+pub mod EmptyWindow
 pub mod Frames
+pub mod Kept
 pub mod Legals
 pub mod Numbers
 pub mod OwnField

@@ -8,3 +8,4 @@ pub mod Sectors
 pub mod Writing
 pub mod Windows
 pub mod Regular
+pub mod Kept
