@@ -57,6 +57,10 @@ pub record IsFieldFor (track : List ℕ) (p : ℕ) (key : Chrn) (content : List 
   pub address : IsAddressAt track p key
   pub size : length content ≡ content_size key.n
 
+-- the content has the size of the address field at p
+abbrev pub HasFieldFor : List ℕ → ℕ → List ℕ → Type 0
+HasFieldFor track p content = (key : Chrn) × IsFieldFor track p key content
+
 -- Tidy: however short the write stops, no address mark comes up that wasn't there
 abbrev pub IsTidy : List ℕ → ℕ → Bool → List ℕ → Type 0
 IsTidy track p deleted content =
