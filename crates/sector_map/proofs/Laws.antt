@@ -1,11 +1,11 @@
 -- The laws on windows, for whichever key the address field has.
-use Rattle.std.proofs.Common.{◌≡◌, ℕ, ◌+◌, ◌^◌, ◌<◌, ◌≤◌, ◌⊎◌, Bool, List, length, get_or, max, sym, ap, subst, ◌∙◌, arith}
+use Rattle.std.proofs.Common.{◌≡◌, ℕ, ◌+◌, ◌^◌, ◌<◌, ◌≤◌, ◌⊎◌, Bool, List, length, get_or, max, subst}
 use Rattle.flop_base.specs.declared.key.Chrn.{Chrn}
-use Rattle.track_model.specs.declared.Look.TheVariants.{Found, NoData, BadCrc}
-use Rattle.track_model.specs.Fields.{IsAddressAt, content_size, content_at}
+use Rattle.track_model.specs.declared.Look.TheVariants.{Found, BadCrc}
+use Rattle.track_model.specs.Fields.{IsAddressAt, content_at}
 use Rattle.track_model.specs.Looks.{LookAt}
 use Rattle.track_model.specs.Writing.{window}
-use Rattle.track_model.specs.Windows.{window_place, window_words, cut_of, HasFieldFor, IsTidy, damaged_window, empty_window}
+use Rattle.track_model.specs.Windows.{window_place, cut_of, HasFieldFor, IsTidy, damaged_window}
 use Rattle.track_model.specs.Regular.{IsSpaced}
 use Rattle.track_model.specs.Kept.{KeepsOthers}
 use Rattle.track_model.proofs.Unique.{one_key}

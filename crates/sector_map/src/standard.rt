@@ -25,11 +25,7 @@ fn sectors_at(rate: Rate) -> u8
 }
 
 /// Adds the key with its look, unless it was found.
-fn push_unless_found(
-    failed: &mut Vec<(Chrn, Look)>,
-    key: Chrn,
-    look: Look,
-) -> Result<(), NoMemory>
+fn push_unless_found(failed: &mut Vec<(Chrn, Look)>, key: Chrn, look: Look) -> Result<(), NoMemory>
     ensures { OnOk result (failed.new.items ≡ failed.old.items ++ unless_found key look) }
 {
     match look {

@@ -39,14 +39,14 @@ pub fn cut_keeps(_words: &[u16], _place: usize, _deleted: bool, _content: &[u8],
     ensures found { _cut ≡ length (window _deleted _content.now)
         → (key : Chrn) → IsAddressAt _words.now _place key
         → LookAt (cut_of _words.now _place _cut (window _deleted _content.now)) _place key.n
-            (Found _deleted (window_place _place + 256)) }
+        (Found _deleted (window_place _place + 256)) }
     ensures content { _cut ≡ length (window _deleted _content.now)
         → (key : Chrn) → IsAddressAt _words.now _place key
         → _content.now ≡ content_at (cut_of _words.now _place _cut (window _deleted _content.now))
-            (window_place _place + 256) key.n }
+        (window_place _place + 256) key.n }
     ensures cuts { (k : ℕ) → k ≤ length (window _deleted _content.now)
         → cut_of (cut_of _words.now _place k (window _deleted _content.now)) _place _cut
-            (window _deleted _content.now)
+        (window _deleted _content.now)
         ≡ cut_of _words.now _place (max k _cut) (window _deleted _content.now) }
 {}
 
@@ -59,7 +59,7 @@ pub fn damaged_keeps(_words: &[u16], _place: usize, _deleted: bool, _content: &[
         _place }
     ensures bad { (key : Chrn) → IsAddressAt _words.now _place key
         → LookAt (cut_of _words.now _place (18 + length _content.now)
-            (damaged_window _deleted _content.now)) _place key.n BadCrc }
+        (damaged_window _deleted _content.now)) _place key.n BadCrc }
 {}
 
 /// The same law for words of the byte 4E alone in a window's place: no data field is found.

@@ -1,5 +1,5 @@
 -- Cuts of the three kinds of windows, on a Spaced track.
-use Rattle.std.proofs.Common.{◌≡◌, ◌≢◌, ℕ, suc, ◌+◌, ◌-◌, ◌*◌, ◌/◌, ◌%◌, ◌^◌, ◌<◌, ◌≤◌, ◌⊎◌, Bool, true, false, List, [], ◌∷◌, ◌++◌, length, get_or, take, max, refl, sym, ap, subst, ◌∙◌, lit<, arith, inl, inr}
+use Rattle.std.proofs.Common.{◌≡◌, ℕ, ◌+◌, ◌^◌, ◌<◌, ◌≤◌, ◌⊎◌, Bool, List, ◌∷◌, ◌++◌, length, get_or, max, refl, ap, lit<, arith, inl, inr}
 use Rattle.std.specs.Int.Bits.{bit_xor}
 use Rattle.std.proofs.lemmas.Nat.{xor_of_16}
 use Rattle.std.proofs.lemmas.Nat.Bits.{bit_at_xor, bit_at-lt}
@@ -9,10 +9,10 @@ use Rattle.flop_base.specs.declared.key.Chrn.{Chrn}
 use Rattle.track_model.specs.declared.Look.TheVariants.{Found, NoData, BadCrc}
 use Rattle.track_model.specs.Crc.{crc}
 use Rattle.track_model.specs.Marks.{data_byte, IsAddressMark}
-use Rattle.track_model.specs.Fields.{after_marks, IsAddressAt, content_size, content_at}
+use Rattle.track_model.specs.Fields.{after_marks, IsAddressAt, content_at}
 use Rattle.track_model.specs.Looks.{LookAt}
 use Rattle.track_model.specs.Writing.{check_bytes, window}
-use Rattle.track_model.specs.Windows.{window_word, window_place, window_words, IsCuttable, IsTidy, cut_of, damaged_window, empty_window, IsFieldFor}
+use Rattle.track_model.specs.Windows.{window_word, window_place, window_words, IsTidy, cut_of, damaged_window, empty_window, IsFieldFor}
 use Rattle.track_model.specs.Regular.{IsSpaced}
 use Rattle.track_model.specs.Kept.{KeepsOthers}
 use Rattle.track_model.proofs.CrcSteps.{crc_below}

@@ -1,15 +1,14 @@
 -- What a look finds behind a whole window.
-use Rattle.std.proofs.Common.{◌≡◌, ℕ, suc, ◌+◌, ◌-◌, ◌*◌, ◌/◌, ◌%◌, ◌^◌, ◌<◌, ◌≤◌, Bool, true, false, List, [], ◌∷◌, ◌++◌, length, get_or, take, refl, sym, ap, subst, ◌∙◌, lit<, arith, inl, inr}
-use Rattle.std.proofs.lemmas.Bool.{cases_lt, cases_eq}
+use Rattle.std.proofs.Common.{◌≡◌, ℕ, ◌+◌, ◌*◌, ◌/◌, ◌%◌, ◌^◌, ◌<◌, Bool, List, ◌∷◌, ◌++◌, length, get_or, refl, sym, ap, ◌∙◌, arith}
 use Rattle.std.proofs.lemmas.List.{get_or_append_left, get_or-append-add, length-append}
 use Rattle.std.proofs.lemmas.List.FromFn.{fill_by_all}
 use Rattle.flop_base.specs.declared.key.Chrn.{Chrn}
-use Rattle.track_model.specs.declared.Look.TheVariants.{Found, NoData, BadCrc}
+use Rattle.track_model.specs.declared.Look.TheVariants.{Found, BadCrc}
 use Rattle.track_model.specs.Bytes.{byte_at}
 use Rattle.track_model.specs.Crc.{crc}
 use Rattle.track_model.specs.Marks.{data_byte}
-use Rattle.track_model.specs.Fields.{HasCheck, after_marks, IsAddressAt, content_size, data_cells, content_at}
-use Rattle.track_model.specs.Looks.{HasDataField, IsIntact, LookAt}
+use Rattle.track_model.specs.Fields.{after_marks, IsAddressAt, content_size, data_cells, content_at}
+use Rattle.track_model.specs.Looks.{HasDataField, LookAt}
 use Rattle.track_model.specs.Writing.{check_bytes}
 use Rattle.track_model.specs.Windows.{window_place, cut_of}
 use Rattle.track_model.specs.Regular.{IsSpaced}

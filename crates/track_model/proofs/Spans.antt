@@ -1,8 +1,8 @@
 -- The look at an address field is settled within its span.
-use Rattle.std.proofs.Common.{◌≡◌, ℕ, ◌+◌, ◌*◌, ◌^◌, ◌<◌, ◌≤◌, Bool, List, length, refl, sym, ap, subst, ◌∙◌, arith}
+use Rattle.std.proofs.Common.{ℕ, ◌+◌, Bool, List, subst, arith}
 use Rattle.track_model.specs.declared.Look.{Look}
 use Rattle.track_model.specs.declared.Look.TheVariants.{Found, NoMark, NoSector, NoData, BadCrc}
-use Rattle.track_model.specs.Fields.{IsDataMark, content_size, data_cells, content_at, IsWhole}
+use Rattle.track_model.specs.Fields.{IsDataMark, data_cells, content_at, IsWhole}
 use Rattle.track_model.specs.Looks.{IsFirstDataMark, HasDataField, IsIntact, LookAt}
 use Rattle.track_model.specs.Regular.{span_cells}
 use Rattle.track_model.proofs.Frames.{AreSame, same_back, same_within, same_data_mark, same_whole}

@@ -1,5 +1,5 @@
 -- A track with some of its words replaced.
-use Rattle.std.proofs.Common.{◌≡◌, ℕ, ◌+◌, ◌-◌, ◌*◌, ◌/◌, ◌%◌, ◌<◌, ◌≤◌, ◌⊎◌, List, [], ◌∷◌, ◌++◌, length, get_or, take, drop, min, max, refl, sym, ap, ◌∙◌, arith, inl, inr}
+use Rattle.std.proofs.Common.{◌≡◌, ℕ, ◌+◌, ◌-◌, ◌*◌, ◌/◌, ◌%◌, ◌<◌, ◌≤◌, List, ◌++◌, length, get_or, take, drop, max, sym, ap, ◌∙◌, arith, inl, inr}
 use Rattle.std.proofs.lemmas.Bool.{cases_lt}
 use Rattle.std.proofs.lemmas.List.{ext_get_or, get_or_append_left, get_or-append-add, length-append, length-take, length-drop, get_or-take, get_or-drop}
 use Rattle.std.specs.Int.{bit_at}
@@ -79,7 +79,6 @@ module _ (track : List ℕ) (start : ℕ) (words : List ℕ) (fits : start + len
 
 -- two cuts of the same words at one place are one, the longer
 module _ (track : List ℕ) (start : ℕ) (words : List ℕ) (j k : ℕ) (less : j ≤ length words) (most : k ≤ length words) (fits : start + max j k ≤ length track) where
-
   long_j : length (take j words) ≡ j
   long_j = omega (arith, length-take j words)
 

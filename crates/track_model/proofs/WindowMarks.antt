@@ -1,6 +1,6 @@
 -- Where marks A1 stand in the words of a field: in the three words of its run, and nowhere between or beside them.
-use Rattle.std.proofs.Common.{◌≡◌, ℕ, ◌+◌, ◌-◌, ◌*◌, ◌/◌, ◌%◌, ◌^◌, ◌<◌, ◌≤◌, ◌⊎◌, Bool, true, false, eqb, List, [], ◌∷◌, ◌++◌, length, get_or, replicate, refl, sym, ap, subst, ◌∙◌, lit<, arith, inl, inr}
-use Rattle.std.proofs.lemmas.Bool.{cases_lt, cases_eq, agree_below_at, eq-eqb, false≢true}
+use Rattle.std.proofs.Common.{◌≡◌, ℕ, ◌+◌, ◌-◌, ◌*◌, ◌/◌, ◌%◌, ◌^◌, ◌<◌, ◌≤◌, Bool, true, false, eqb, List, [], ◌∷◌, ◌++◌, length, get_or, replicate, refl, sym, ap, ◌∙◌, lit<, arith, inl, inr}
+use Rattle.std.proofs.lemmas.Bool.{cases_lt, agree_below_at, eq-eqb, false≢true}
 use Rattle.std.proofs.lemmas.List.{get_or_append_left, get_or-append-add, length-append}
 use Rattle.std.specs.Int.{bit_at}
 use Rattle.track_model.specs.Cells.{cell, cells_at, number}
@@ -65,10 +65,10 @@ unfolding leans
 no_lean words a b p k o first second fits e h none mark =
     let pair = cells_at-pair words p k (o + 1) e (omega arith) (omega (arith, second)) in
     let value : (a * 2 ^ 16 + b) / 2 ^ (16 - (o + 1)) % 2 ^ 16 ≡ 0x4489 =
-        ap (λ w. (w * 2 ^ 16 + b) / 2 ^ (16 - (o + 1)) % 2 ^ 16) (sym first)
-        ∙ ap (λ w. (get_or words k 0 * 2 ^ 16 + w) / 2 ^ (16 - (o + 1)) % 2 ^ 16) (sym second)
-        ∙ pair
-        ∙ mark in
+    ap (λ w. (w * 2 ^ 16 + b) / 2 ^ (16 - (o + 1)) % 2 ^ 16) (sym first)
+    ∙ ap (λ w. (get_or words k 0 * 2 ^ 16 + w) / 2 ^ (16 - (o + 1)) % 2 ^ 16) (sym second)
+    ∙ pair
+    ∙ mark in
     absurd (false≢true (sym none ∙ eq-eqb ((a * 2 ^ 16 + b) / 2 ^ (16 - (o + 1)) % 2 ^ 16) 0x4489 value))
 
 -- ---- the words of a data field
@@ -180,8 +180,7 @@ run_in deleted rest =
     let words : List ℕ = marked (data_byte deleted ∷ rest) in
     let a = word_12 deleted rest in
     let b = word_13 deleted rest in
-    let c = word_14 deleted rest in
-    (
+    let c = word_14 deleted rest in (
       cells_at-word words 192 12 refl (omega (arith, a)) ∙ a,
       cells_at-word words 208 13 refl (omega (arith, b)) ∙ b,
       cells_at-word words 224 14 refl (omega (arith, c)) ∙ c,

@@ -13,6 +13,6 @@ pub record KeepsOthers (track after : List ℕ) (p : ℕ) : Type 0 where
   pub regular : (c h : ℕ) → IsRegular track c h → IsRegular after c h
   pub addresses : (q : ℕ) (key : Chrn) → IsAddressAt track q key ↔ IsAddressAt after q key
   pub looks : (q : ℕ) (key : Chrn) (look : Look) → q ≢ p → IsAddressAt track q key
-    → LookAt track q key.n look ↔ LookAt after q key.n look
+      → LookAt track q key.n look ↔ LookAt after q key.n look
   pub contents : (q : ℕ) (key : Chrn) (deleted : Bool) (place : ℕ) → q ≢ p → IsAddressAt track q key
-    → LookAt track q key.n (Found deleted place) → content_at track place key.n ≡ content_at after place key.n
+      → LookAt track q key.n (Found deleted place) → content_at track place key.n ≡ content_at after place key.n

@@ -25,7 +25,7 @@ pub record HasKeys (track : List ℕ) (c h : ℕ) : Type 0 where
 pub record HasSpans (track : List ℕ) : Type 0 where
   pub inside : (p : ℕ) (key : Chrn) → IsAddressAt track p key → IsInside track p (span_cells key.n)
   pub apart : (p q : ℕ) (key other : Chrn) → IsAddressAt track p key → IsAddressAt track q other
-    → p < q → p + span_cells key.n ≤ q
+      → p < q → p + span_cells key.n ≤ q
 
 -- no mark A1 stands between an intact address field and its window
 abbrev pub HasCleanGaps : List ℕ → Type 0

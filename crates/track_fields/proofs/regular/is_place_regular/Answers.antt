@@ -1,4 +1,4 @@
-use Rattle.std.proofs.Common.{refl, arith}
+use Rattle.std.proofs.Common.{refl}
 use Rattle.track_fields.proofs.RegularPlaces.{place_by_field, place_without}
 use Rattle.track_fields.proofs.regular.is_place_regular.Goals as goal
 
