@@ -3,3 +3,4 @@ mod Intact
 mod Listed
 mod Looked
 mod Pushed
+mod RegularPlaces

@@ -7,13 +7,16 @@ use crate::bytes::byte_at_cell;
 use mfm_cells::cells16;
 
 /// A1 with a lost clock, as no byte is recorded.
-const MARK: u16 = 0x4489;
+pub(crate) const MARK: u16 = 0x4489;
+
+/// The cells of a run.
+pub(crate) const RUN_CELLS: usize = 48;
 
 /// The cells of a run and the byte after it.
 pub(crate) const MARK_CELLS: usize = 64;
 
 /// Whether three marks stand one after the other from cell `p` on.
-fn is_run(words: &[u16], p: usize) -> bool
+pub(crate) fn is_run(words: &[u16], p: usize) -> bool
     requires sized { IsTrackSized words.now }
     requires inside { IsInside words.now p 48 }
     ensures { IsTrue result ↔ IsRun words.now p }

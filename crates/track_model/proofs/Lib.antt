@@ -3,11 +3,19 @@ mod CrcBits
 mod CrcRegister
 mod CrcRows
 pub mod CrcSteps
+pub mod Cuts
+pub mod EmptyWindow
 pub mod Frames
+pub mod Kept
 pub mod Legals
 pub mod Numbers
+pub mod OwnField
+pub mod OwnLooks
 pub mod Places
 pub mod Sectored
 pub mod Sizes
+pub mod Spans
+pub mod Splices
 pub mod Unique
+pub mod WindowMarks
 pub mod Written

@@ -1,0 +1,4 @@
+mod Laws
+mod Listed
+mod Placed
+mod Tracks

@@ -1,0 +1,8 @@
+use Rattle.std.proofs.Common.{ℕ, ◌<◌}
+use Rattle.raw_image.specs.Disk.{HasTrack, track_of}
+use Rattle.track_model.specs.Regular.{IsRegular}
+use Rattle.sector_map.proofs.disks.is_regular_disk.Given as goal
+
+-- the tracks of the cylinders so far are regular
+abbrev pub invariant-loop-c : goal.invariant-loop-c
+invariant-loop-c l = (c : ℕ) → c < l.c → (h : ℕ) → HasTrack l.medium c h → IsRegular (track_of l.medium c h) c h

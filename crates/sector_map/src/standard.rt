@@ -1,0 +1,90 @@
+// The keys of a standard format that aren't found on a medium.
+ghost use Rattle.std.specs.Prelude.{◌≡◌, ◌++◌, ◌<◌, ◌≤◌, List, OnOk, IfOk};
+ghost use Rattle.flop_base.specs.declared.key.Chrn.{Chrn};
+ghost use Rattle.track_model.specs.declared.Look.{Look};
+ghost use Rattle.sector_map.specs.Failing.{sectors_at, unless_found, track_keys, cylinder_keys, standard_keys, AreFailing};
+
+use crate::disks::look;
+use flop_base::{Chrn, NoMemory, Rate};
+use raw_image::Medium;
+use std::alloc::Global;
+use track_fields::Look;
+
+/// The size code of sectors of 512 bytes.
+const SIZE_CODE: u8 = 2;
+
+/// How many sectors a track has at a rate, in the formats of 1.44 MB and 720 KB.
+fn sectors_at(rate: Rate) -> u8
+    ensures value { result ≡ sectors_at rate }
+    ensures most { result ≤ 18 }
+{
+    match rate {
+        Rate::R500 => 18,
+        Rate::R250 => 9,
+    }
+}
+
+/// Adds the key with its look, unless it was found.
+fn push_unless_found(failed: &mut Vec<(Chrn, Look)>, key: Chrn, look: Look) -> Result<(), NoMemory>
+    ensures { OnOk result (failed.new.items ≡ failed.old.items ++ unless_found key look) }
+{
+    match look {
+        Look::Found { .. } => {}
+        Look::NoMark | Look::NoSector | Look::NoData | Look::BadCrc => failed.push((key, look))?,
+    }
+    Ok(())
+}
+
+/// Adds those keys of a track that aren't found.
+fn push_track(
+    failed: &mut Vec<(Chrn, Look)>,
+    medium: &Medium,
+    sectors: u8,
+    c: u8,
+    h: u8,
+) -> Result<(), NoMemory>
+    requires { sectors ≤ 18 }
+    ensures { OnOk result ((more : List (Chrn × Look)) × (failed.new.items ≡ failed.old.items ++ more)
+        × AreFailing medium.now (track_keys sectors c h) more) }
+{
+    for r in 1..sectors + 1 {
+        let key = Chrn {
+            c,
+            h,
+            r,
+            n: SIZE_CODE,
+        };
+        push_unless_found(failed, key, look(medium, key))?;
+    }
+    Ok(())
+}
+
+/// Adds those keys of a cylinder that aren't found, by head.
+fn push_cylinder(
+    failed: &mut Vec<(Chrn, Look)>,
+    medium: &Medium,
+    sectors: u8,
+    c: u8,
+) -> Result<(), NoMemory>
+    requires { sectors ≤ 18 }
+    ensures { OnOk result ((more : List (Chrn × Look)) × (failed.new.items ≡ failed.old.items ++ more)
+        × AreFailing medium.now (cylinder_keys sectors medium.now.heads c) more) }
+{
+    for h in 0..medium.heads() {
+        push_track(failed, medium, sectors, c, h)?;
+    }
+    Ok(())
+}
+
+/// The keys of the standard format of the medium's rate whose look isn't `Found`, each with its look, by cylinder,
+/// head and record: 18 sectors of 512 bytes a track at 500 kbit/s, 9 at 250 kbit/s.
+pub fn failing(alloc: Global, medium: &Medium) -> Result<Vec<(Chrn, Look)>, NoMemory>
+    ensures { IfOk result (λ failed. AreFailing medium.now (standard_keys medium.now) failed.items) }
+{
+    let mut failed = Vec::new(alloc);
+    let sectors = sectors_at(medium.rate());
+    for c in 0..medium.cylinders() {
+        push_cylinder(&mut failed, medium, sectors, c)?;
+    }
+    Ok(failed)
+}
