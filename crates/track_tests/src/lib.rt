@@ -1,4 +1,4 @@
-//! Tests of cells, fields, images, texts and plans, as their users call them.
+//! Tests of cells, fields, disks, images, texts and plans, as their users call them.
 #![tactic(auto)]
 
 #[cfg(test)]
@@ -7,5 +7,7 @@ mod fields;
 mod images;
 #[cfg(test)]
 mod plans;
+#[cfg(test)]
+mod regular;
 #[cfg(test)]
 mod texts;
