@@ -6,3 +6,6 @@ pub mod Fields
 pub mod Looks
 pub mod Sectors
 pub mod Writing
+pub mod Windows
+pub mod Regular
+pub mod Layouts

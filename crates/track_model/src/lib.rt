@@ -3,9 +3,11 @@
 #![tactic(auto)]
 
 mod laws;
+mod symbol;
 
 use flop_base::Chrn;
 pub use laws::{key_is_one, look_at_is_one, look_is_one};
+pub use symbol::Symbol;
 
 /// What a search for a sector's data finds on a track.
 #[derive(Clone, Copy, Debug, PartialEq, Eq)]

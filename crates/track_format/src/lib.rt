@@ -1,0 +1,11 @@
+//! The layout of a formatted track, whole or word by word (IBM System 34 format).
+#![tactic(auto)]
+
+mod gap;
+mod stream;
+mod symbols;
+mod whole;
+
+pub use gap::choose_gap;
+pub use stream::FormatStream;
+pub use whole::{LayoutError, layout};

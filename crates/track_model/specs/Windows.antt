@@ -1,0 +1,51 @@
+-- Windows: the words that are written over a data field, at their place on the track, and writes that stop before the end.
+use Rattle.std.specs.Prelude.{◌≡◌, ℕ, ◌+◌, ◌*◌, ◌/◌, ◌≤◌, Bool, List, ◌++◌, length, take, drop}
+use Rattle.flop_base.specs.declared.key.Chrn.{Chrn}
+use Rattle.track_model.specs.Marks.{IsAddressMark}
+use Rattle.track_model.specs.Fields.{IsAddressAt, content_size}
+use Rattle.track_model.specs.Writing.{window}
+
+-- the word at which the window of the address field at p begins: the first that begins 352 cells or more behind the field's end
+abbrev pub window_word : ℕ → ℕ
+window_word p = (p + 160 + 352 + 15) / 16
+
+-- the first cell of that window
+abbrev pub window_place : ℕ → ℕ
+window_place p = 16 * window_word p
+
+-- how many words a window for sectors of size code n has
+abbrev pub window_words : ℕ → ℕ
+window_words n = 18 + content_size n
+
+-- the first cell behind that window
+abbrev pub window_end : ℕ → ℕ → ℕ
+window_end p n = window_place p + 16 * window_words n
+
+-- the track with these words from word `start` on, in place of as many of its own
+unfoldable pub with_words : List ℕ → ℕ → List ℕ → List ℕ
+with_words track start words = take start track ++ (words ++ drop (start + length words) track)
+
+-- Cut: the track with the first k of these words at the window's place of the address field at p
+abbrev pub cut_of : List ℕ → ℕ → ℕ → List ℕ → List ℕ
+cut_of track p k words = with_words track (window_word p) (take k words)
+
+-- the window has k words, and so many are inside the track
+pub record IsCuttable (track : List ℕ) (p k : ℕ) (words : List ℕ) : Type 0 where
+  pub most : k ≤ length words
+  pub inside : window_word p + k ≤ length track
+
+-- `after` is the track with a cut of this window at the place of the address field at p
+pub record IsCut (track after : List ℕ) (p k : ℕ) (words : List ℕ) : Type 0 where
+  pub cuttable : IsCuttable track p k words
+  pub is : after ≡ cut_of track p k words
+
+-- an address field at p, for which the content has its size
+pub record IsFieldFor (track : List ℕ) (p : ℕ) (key : Chrn) (content : List ℕ) : Type 0 where
+  pub address : IsAddressAt track p key
+  pub size : length content ≡ content_size key.n
+
+-- Tidy: however short the write stops, no address mark comes up that wasn't there
+abbrev pub IsTidy : List ℕ → ℕ → Bool → List ℕ → Type 0
+IsTidy track p deleted content =
+    (k q : ℕ) → IsCuttable track p k (window deleted content)
+    → IsAddressMark (cut_of track p k (window deleted content)) q → IsAddressMark track q
