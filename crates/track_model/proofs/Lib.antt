@@ -7,6 +7,7 @@ pub mod Frames
 pub mod Legals
 pub mod Numbers
 pub mod Places
+pub mod Recorded
 pub mod Sectored
 pub mod Sizes
 pub mod Unique

@@ -6,4 +6,6 @@ mod fields;
 #[cfg(test)]
 mod images;
 #[cfg(test)]
+mod layouts;
+#[cfg(test)]
 mod texts;
