@@ -2,10 +2,12 @@
 #![tactic(auto)]
 
 mod gap;
+mod laws;
 mod stream;
 mod symbols;
 mod whole;
 
 pub use gap::choose_gap;
+pub use laws::lay_reads;
 pub use stream::FormatStream;
 pub use whole::{LayoutError, layout};

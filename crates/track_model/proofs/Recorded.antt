@@ -386,3 +386,19 @@ pub word_some : (last : Bool) (symbol : Symbol) → ((cells : ℕ) → symbol �
 word_some last (Byte byte) marks e = byte_word_some last byte e
 word_some last (Key byte) marks e = byte_word_some last byte e
 word_some last (Mark cells) marks e = elim (marks cells refl) [ inl f ↦ (let g : 0 ≡ 0x4489 = sym e ∙ f in omega (arith, g)) | inr f ↦ (let g : 0 ≡ 0x5224 = sym e ∙ f in omega (arith, g)) ]
+
+-- no mark A1 stands where only bytes are recorded
+pub no_mark_in_bytes : (first : Bool) (symbols : List Symbol) (q : ℕ) → ((k : ℕ) → q / 16 ≤ k → k ≤ (q + 15) / 16 → (byte : ℕ) × (k < length symbols) × (get_or symbols k (Byte 0) ≡ Byte byte)) → cells_at (recorded first symbols) q ≡ 0x4489 → ⊥
+no_mark_in_bytes first symbols q bytes mark =
+    let track = recorded first symbols in
+    let clean = λ (e : ℕ) (low : q ≤ e) (high : e ≤ q + 15) (lost : IsLost track e).
+        let k = e / 16 in
+        let c = e % 16 in
+        let place : e ≡ 16 * k + c = omega arith in
+        let symbol = bytes k (omega arith) (omega arith) in
+        let is = get_or-recorded first symbols k symbol.1 ∙ ap (word_after (symbol_behind first symbols k)) symbol.2 ∙ ap (λ b. byte_word b symbol.0) (sym (bit_behind-recorded first symbols k symbol.1)) in
+        not_lost_in_byte track e k c symbol.0 (bit_behind first track k) place (omega arith) is (λ none before. behind_zero first track e k (omega arith) lost.later before) lost in
+    elim (cases_eq (q % 2) 0) [
+      | inl even ↦ clean (q + 10) (omega arith) (omega arith) (lost_even track q (q + 10) even refl mark)
+      | inr odd ↦ clean (q + 3) (omega arith) (omega arith) (lost_odd track q (q + 3) (omega arith) refl mark)
+    ]

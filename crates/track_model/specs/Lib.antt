@@ -9,3 +9,4 @@ pub mod Writing
 pub mod Windows
 pub mod Regular
 pub mod Layouts
+pub mod LaidFields
