@@ -12,6 +12,7 @@ pub mod Numbers
 pub mod OwnField
 pub mod OwnLooks
 pub mod Places
+pub mod Recorded
 pub mod Sectored
 pub mod Sizes
 pub mod Spans

@@ -9,3 +9,5 @@ pub mod Writing
 pub mod Windows
 pub mod Regular
 pub mod Kept
+pub mod Layouts
+pub mod LaidFields

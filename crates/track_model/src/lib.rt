@@ -3,11 +3,13 @@
 #![tactic(auto)]
 
 mod laws;
+mod symbol;
 
 use flop_base::Chrn;
 pub use laws::{
     found_is_sector, key_is_one, look_at_is_one, look_is_one, plain_is_clear, sector_is_under,
 };
+pub use symbol::Symbol;
 
 /// What a search for a sector's data finds on a track.
 #[derive(Clone, Copy, Debug, PartialEq, Eq)]

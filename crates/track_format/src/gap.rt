@@ -1,0 +1,67 @@
+// Whether sectors fit on a track, and the gap behind them.
+ghost use Rattle.std.specs.Prelude.{◌≤◌, ◌↔◌, ℕ, IsTrue, MatchOption};
+ghost use Rattle.track_model.specs.Layouts.{laid_words};
+ghost use Rattle.track_format.specs.Gaps.{Suits, IsLargestGap, most_gap, rate_words};
+
+use flop_base::{Rate, sector_size};
+
+/// The words before the first sector: gap 4a, the index mark and gap 1.
+pub(crate) const START_WORDS: usize = 146;
+
+/// The words of a sector without its content and gap 3.
+const SECTOR_WORDS: usize = 62;
+
+/// The least gap 3.
+const LEAST_GAP: u8 = 16;
+
+/// The words that gap 3 and gap 4b must have together.
+const LEAST_END: usize = 27;
+
+/// Whether so many sectors of size code `n` fit on a track of `words` words.
+pub(crate) fn fits(sectors: usize, n: u8, gap3: u8, words: usize) -> bool
+    requires at_least { 1 ≤ n }
+    requires at_most { n ≤ 6 }
+    ensures { IsTrue result ↔ laid_words sectors n gap3 ≤ words }
+{
+    let sector = SECTOR_WORDS + sector_size(n) + usize::from(gap3);
+    START_WORDS <= words && sectors <= (words - START_WORDS) / sector
+}
+
+/// Whether so many sectors fit, and a data field that is written over has room behind the last of them.
+fn suits(n: u8, sectors: u8, words: usize, gap3: u8) -> bool
+    requires at_least { 1 ≤ n }
+    requires at_most { n ≤ 6 }
+    requires short { words ≤ 16384 }
+    ensures { IsTrue result ↔ Suits n sectors words gap3 }
+{
+    let count = usize::from(sectors);
+    if !fits(count, n, gap3, words) {
+        return false;
+    }
+    let gap = usize::from(gap3);
+    let laid = START_WORDS + count * (SECTOR_WORDS + sector_size(n) + gap);
+    gap + (words - laid) >= LEAST_END
+}
+
+/// The largest gap 3 with which a track of so many sectors of size code `n` can be formatted, so that each can be
+/// written over.
+pub fn choose_gap(n: u8, sectors: u8, rate: Rate) -> Option<u8>
+    requires at_least { 1 ≤ n }
+    requires at_most { n ≤ 6 }
+    ensures { MatchOption result
+        ((gap : ℕ) → 16 ≤ gap → gap ≤ most_gap rate → Suits n sectors (rate_words rate) gap → ⊥)
+        (λ gap. IsLargestGap n sectors rate gap) }
+{
+    let (words, most) = match rate {
+        Rate::R500 => (12_500, 0x6C),
+        Rate::R250 => (6_250, 0x50),
+    };
+    let mut gap: u8 = most;
+    while gap >= LEAST_GAP {
+        if suits(n, sectors, words, gap) {
+            return Some(gap);
+        }
+        gap -= 1;
+    }
+    None
+}

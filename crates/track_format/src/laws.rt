@@ -1,0 +1,27 @@
+// What is read on a formatted track.
+ghost use Rattle.std.specs.Prelude.{◌≡◌, ◌≢◌, ◌≤◌, ℕ, length, All, AllPairs};
+ghost use Rattle.track_model.specs.Layouts.{lay, Fits};
+ghost use Rattle.track_model.specs.LaidFields.{HasLaidFields, IsKey, HasEndRoom};
+ghost use Rattle.track_model.specs.Regular.{IsSpaced, IsRegular};
+ghost use Rattle.track_model.specs.Sectors.{IsPlain};
+
+use flop_base::Chrn;
+
+/// A formatted track has exactly the asked sectors, each at its place and whole. Where its end has room for a write
+/// over the last data field, the sectors keep their distance, and where the keys are distinct too and of one cylinder
+/// and head, the track is regular.
+pub fn lay_reads(_keys: &[Chrn], _n: u8, _gap3: u8, _fill: u8, _words: usize)
+    requires at_least { 1 ≤ _n }
+    requires at_most { _n ≤ 6 }
+    requires wide { 16 ≤ _gap3 }
+    requires fits { Fits _keys.now _n _gap3 _words }
+    requires bytes { All (λ key. IsKey key) _keys.now }
+    requires asked { All (λ key. key.n ≡ _n) _keys.now }
+    ensures plain { IsPlain (lay _keys.now _n _gap3 _fill _words) }
+    ensures fields { HasLaidFields (lay _keys.now _n _gap3 _fill _words) _keys.now _n _gap3 _fill }
+    ensures spaced { HasEndRoom (length _keys.now) _n _gap3 _words
+        → IsSpaced (lay _keys.now _n _gap3 _fill _words) }
+    ensures regular { (c h : ℕ) → HasEndRoom (length _keys.now) _n _gap3 _words
+        → AllPairs (λ a b. a ≢ b) _keys.now → All (λ key. (key.c ≡ c) × (key.h ≡ h)) _keys.now
+        → IsRegular (lay _keys.now _n _gap3 _fill _words) c h }
+{}

@@ -1,0 +1,13 @@
+//! The layout of a formatted track, whole or word by word (IBM System 34 format).
+#![tactic(auto)]
+
+mod gap;
+mod laws;
+mod stream;
+mod symbols;
+mod whole;
+
+pub use gap::choose_gap;
+pub use laws::lay_reads;
+pub use stream::FormatStream;
+pub use whole::{LayoutError, layout};

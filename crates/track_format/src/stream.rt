@@ -1,0 +1,205 @@
+// A formatted track word by word.
+ghost use Rattle.std.specs.Prelude.{◌≡◌, ℕ, ◌+◌, ◌*◌, ◌<◌, ◌≤◌, ◌↔◌, Bool, false, List, [], IsTrue, length, drop};
+ghost use Rattle.flop_base.specs.declared.key.Chrn.{Chrn};
+ghost use Rattle.track_model.specs.declared.symbol.Symbol.{Symbol};
+ghost use Rattle.track_model.specs.declared.symbol.Symbol.TheVariants.{Key};
+ghost use Rattle.track_model.specs.Layouts.{word_after, symbol_bit, next_symbol, track_symbols};
+ghost use Rattle.track_format.specs.Streams.{Gives, AsksKey, KeyIs, HasSectors, IsInPart, words_of_part};
+
+use crate::gap::START_WORDS;
+use crate::symbols::{
+    FIELD_START, GAP, check_behind, field_symbol, last_bit_of, start_symbol, word_of,
+};
+use flop_base::sector_size;
+use track_model::Symbol;
+
+/// The words of an address field and gap 2.
+const ADDRESS_WORDS: usize = 44;
+
+/// The words of a data field without its content and gap 3.
+const DATA_WORDS: usize = 18;
+
+/// The bytes of an address field before its check: its mark byte and the key.
+const ADDRESS_BYTES: usize = 5;
+
+/// The parts of a track.
+#[derive(Clone, Copy)]
+enum Part {
+    /// Before the first sector.
+    Start,
+    /// An address field and gap 2.
+    Address,
+    /// A data field and gap 3.
+    Data,
+    /// Gap 4b.
+    End,
+}
+
+/// The words of a formatted track one by one, and then the word of 4E for ever.
+///
+/// The keys of the address fields are handed in byte by byte, where they are asked for.
+#[derive(Clone, Copy)]
+pub struct FormatStream {
+    size: u16,
+    gap3: u8,
+    fill: u8,
+    // the sectors that are not begun
+    sectors: usize,
+    part: Part,
+    // the words of the part that were given
+    place: usize,
+    // the check of the field so far
+    check: u16,
+    last: bool,
+}
+
+impl FormatStream {
+    /// The track of so many sectors of size code `n`, whose content is `fill` bytes, with `gap3` bytes behind each.
+    pub fn new(n: u8, sectors: u8, gap3: u8, fill: u8) -> FormatStream
+        requires at_least { 1 ≤ n }
+        requires at_most { n ≤ 6 }
+        ensures { (keys : List Chrn) → length keys ≡ sectors
+            → Gives result false (track_symbols keys n gap3 fill) }
+    {
+        FormatStream::of_sectors(n, usize::from(sectors), gap3, fill)
+    }
+
+    /// The same for any number of sectors.
+    pub(crate) fn of_sectors(n: u8, sectors: usize, gap3: u8, fill: u8) -> FormatStream
+        requires at_least { 1 ≤ n }
+        requires at_most { n ≤ 6 }
+        ensures { (keys : List Chrn) → length keys ≡ sectors
+            → Gives result false (track_symbols keys n gap3 fill) }
+    {
+        FormatStream {
+            size: sector_size(n) as u16,
+            gap3,
+            fill,
+            sectors,
+            part: Part::Start,
+            place: 0,
+            check: 0,
+            last: false,
+        }
+    }
+
+    /// Whether the next word is a byte of the key of an address field, which `next` is to be handed.
+    pub fn needs_byte(&self) -> bool
+        ensures { (last : Bool) (left : List Symbol) → Gives self.now last left
+            → IsTrue result ↔ AsksKey left }
+    {
+        match self.part {
+            Part::Address => {
+                FIELD_START < self.place && self.place < FIELD_START + ADDRESS_BYTES
+            }
+            _ => false,
+        }
+    }
+
+    /// Whether all words up to the end of the last sector's gap 3 were given.
+    pub fn is_whole(&self) -> bool
+        ensures { (last : Bool) (left : List Symbol) → Gives self.now last left
+            → IsTrue result ↔ left ≡ [] }
+    {
+        matches!(self.part, Part::End)
+    }
+
+    /// The next word. Where `needs_byte` says so, `byte` is the byte that it records; elsewhere it isn't used.
+    pub fn next(&mut self, byte: u8) -> u16
+        ensures { (last : Bool) (left : List Symbol) → Gives self.old last left → KeyIs left byte
+            → (result ≡ word_after last (next_symbol left))
+            × Gives self.new (symbol_bit (next_symbol left)) (drop 1 left) }
+    {
+        let symbol = self.symbol(byte);
+        let word = word_of(self.last, symbol);
+        self.last = last_bit_of(symbol);
+        self.check = self.next_check(symbol);
+        self.advance();
+        word
+    }
+
+    // What the next word records.
+    fn symbol(&self, byte: u8) -> Symbol
+        ensures { (last : Bool) (left : List Symbol) → Gives self.now last left → KeyIs left byte
+            → result ≡ next_symbol left }
+    {
+        let is_first = self.place == FIELD_START;
+        match self.part {
+            Part::Start => start_symbol(self.place),
+            Part::Address => {
+                let inner = if is_first {
+                    Symbol::Byte(0xFE)
+                } else {
+                    Symbol::Key(byte)
+                };
+                field_symbol(self.place, ADDRESS_BYTES, inner, self.check)
+            }
+            Part::Data => {
+                let inner = Symbol::Byte(if is_first { 0xFB } else { self.fill });
+                field_symbol(self.place, usize::from(self.size) + 1, inner, self.check)
+            }
+            Part::End => GAP,
+        }
+    }
+
+    // The check behind the next symbol.
+    fn next_check(&self, symbol: Symbol) -> u16
+        ensures { (last : Bool) (left : List Symbol) → Gives self.now last left
+            → symbol ≡ next_symbol left
+            → IsInPart self.now.part self.now.sectors self.now.size self.now.gap3 self.now.fill
+            (self.now.place + 1) result (drop 1 left) }
+    {
+        match self.part {
+            Part::Address => check_behind(self.place, ADDRESS_BYTES, symbol, self.check),
+            Part::Data => check_behind(self.place, usize::from(self.size) + 1, symbol, self.check),
+            Part::Start | Part::End => self.check,
+        }
+    }
+
+    // How many words the part has.
+    fn part_words(&self) -> usize
+        ensures counted { result ≡ words_of_part self.now.part self.now.size self.now.gap3 }
+        ensures some { 1 ≤ result }
+    {
+        match self.part {
+            Part::Start => START_WORDS,
+            Part::Address => ADDRESS_WORDS,
+            Part::Data => DATA_WORDS + usize::from(self.size) + usize::from(self.gap3),
+            Part::End => 1,
+        }
+    }
+
+    // Goes on to the next word, and behind the last word of a part to the next part.
+    fn advance(&mut self)
+        ensures { (left : List Symbol)
+            → self.old.place < words_of_part self.old.part self.old.size self.old.gap3
+            → IsInPart self.old.part self.old.sectors self.old.size self.old.gap3 self.old.fill
+            (self.old.place + 1) self.old.check left
+            → Gives self.new self.old.last left }
+    {
+        if self.place < self.part_words() - 1 {
+            self.place += 1;
+            return;
+        }
+        self.place = 0;
+        match self.part {
+            Part::Address => self.part = Part::Data,
+            Part::Start | Part::Data => self.begin_sector(),
+            Part::End => {}
+        }
+    }
+
+    // Goes on to the address field of the next sector, or to gap 4b.
+    fn begin_sector(&mut self)
+        ensures { (left : List Symbol) → self.old.place ≡ 0
+            → HasSectors self.old.sectors self.old.size self.old.gap3 self.old.fill left
+            → Gives self.new self.old.last left }
+    {
+        if self.sectors == 0 {
+            self.part = Part::End;
+        } else {
+            self.sectors -= 1;
+            self.part = Part::Address;
+        }
+    }
+}

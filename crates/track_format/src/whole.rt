@@ -1,0 +1,86 @@
+// A whole formatted track.
+ghost use Rattle.std.specs.Prelude.{◌≡◌, ◌≤◌, ◌↔◌, IfOk, slice_index};
+ghost use Rattle.std.specs.List.{flat_map};
+ghost use Rattle.track_model.specs.Layouts.{lay, Fits};
+ghost use Rattle.track_format.specs.Keys.{key_bytes};
+ghost use Rattle.track_format.specs.declared.whole.LayoutError.TheVariants as cause;
+
+use crate::gap::fits;
+use crate::stream::FormatStream;
+use flop_base::Chrn;
+use std::alloc::{AllocError, AllocFailed, Global};
+use thiserror::Error;
+
+/// Why a track wasn't laid out.
+#[derive(Clone, Copy, Debug, PartialEq, Eq, Error)]
+pub enum LayoutError {
+    /// The sectors and what stands before them are longer than the track.
+    #[error("the sectors don't fit on the track")]
+    DoesNotFit,
+    /// Memory couldn't be had.
+    #[error("no memory")]
+    NoMemory,
+}
+
+impl From<AllocError> for LayoutError {
+    ghost from_gives = { λ _ e. e ≡ cause.NoMemory };
+
+    fn from(_: AllocError) -> LayoutError {
+        LayoutError::NoMemory
+    }
+}
+
+impl<T: Drop> From<AllocFailed<T>> for LayoutError {
+    ghost from_gives = { λ _ e. e ≡ cause.NoMemory };
+
+    fn from(_: AllocFailed<T>) -> LayoutError {
+        LayoutError::NoMemory
+    }
+}
+
+/// The words of a formatted track, with a sector of size code `n` for each key.
+pub fn layout(
+    alloc: Global,
+    keys: &[Chrn],
+    n: u8,
+    gap3: u8,
+    fill: u8,
+    words: usize,
+) -> Result<Vec<u16>, LayoutError>
+    requires at_least { 1 ≤ n }
+    requires at_most { n ≤ 6 }
+    ensures laid { IfOk result (λ track. track.items ≡ lay keys.now n gap3 fill words) }
+    ensures refused { result ≡ Err cause.DoesNotFit ↔ (Fits keys.now n gap3 words → ⊥) }
+{
+    if !fits(keys.len(), n, gap3, words) {
+        return Err(LayoutError::DoesNotFit);
+    }
+    let mut stream = FormatStream::of_sectors(n, keys.len(), gap3, fill);
+    let mut track = Vec::with_capacity(alloc, words)?;
+    let mut asked = 0;
+    while track.len() < words {
+        let mut byte = 0;
+        if stream.needs_byte() {
+            byte = key_byte(keys, asked);
+            asked += 1;
+        }
+        track.push(stream.next(byte))?;
+    }
+    Ok(track)
+}
+
+/// Byte `i` of the keys one after the other, 0 behind the last.
+fn key_byte(keys: &[Chrn], i: usize) -> u8
+    ensures { result ≡ slice_index (flat_map key_bytes keys.now) i }
+{
+    if i / 4 >= keys.len() {
+        return 0;
+    }
+    let key = keys[i / 4];
+    match i % 4 {
+        0 => key.c,
+        1 => key.h,
+        2 => key.r,
+        _ => key.n,
+    }
+}
