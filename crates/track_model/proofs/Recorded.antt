@@ -87,7 +87,7 @@ not_lost_in_byte track e k c byte last place small is before lost =
     let bytes = byte ∷ [] in
     let words = legal last bytes in
     let here = λ (i : ℕ) (j : ℕ) (f : i ≡ 16 * k + j) (h : j < 16).
-        cell_in track i k j f h ∙ ap (λ w. bit_at w (15 - j)) is ∙ sym (cell_in words j 0 j (omega arith) h) in
+    cell_in track i k j f h ∙ ap (λ w. bit_at w (15 - j)) is ∙ sym (cell_in words j 0 j (omega arith) h) in
     let even = lost.even in
     let high : e + 1 ≡ 16 * k + (c + 1) = omega arith in
     let at = sym (here e c place small) ∙ lost.here in
@@ -392,12 +392,12 @@ pub no_mark_in_bytes : (first : Bool) (symbols : List Symbol) (q : ℕ) → ((k 
 no_mark_in_bytes first symbols q bytes mark =
     let track = recorded first symbols in
     let clean = λ (e : ℕ) (low : q ≤ e) (high : e ≤ q + 15) (lost : IsLost track e).
-        let k = e / 16 in
-        let c = e % 16 in
-        let place : e ≡ 16 * k + c = omega arith in
-        let symbol = bytes k (omega arith) (omega arith) in
-        let is = get_or-recorded first symbols k symbol.1 ∙ ap (word_after (symbol_behind first symbols k)) symbol.2 ∙ ap (λ b. byte_word b symbol.0) (sym (bit_behind-recorded first symbols k symbol.1)) in
-        not_lost_in_byte track e k c symbol.0 (bit_behind first track k) place (omega arith) is (λ none before. behind_zero first track e k (omega arith) lost.later before) lost in
+    let k = e / 16 in
+    let c = e % 16 in
+    let place : e ≡ 16 * k + c = omega arith in
+    let symbol = bytes k (omega arith) (omega arith) in
+    let is = get_or-recorded first symbols k symbol.1 ∙ ap (word_after (symbol_behind first symbols k)) symbol.2 ∙ ap (λ b. byte_word b symbol.0) (sym (bit_behind-recorded first symbols k symbol.1)) in
+    not_lost_in_byte track e k c symbol.0 (bit_behind first track k) place (omega arith) is (λ none before. behind_zero first track e k (omega arith) lost.later before) lost in
     elim (cases_eq (q % 2) 0) [
       | inl even ↦ clean (q + 10) (omega arith) (omega arith) (lost_even track q (q + 10) even refl mark)
       | inr odd ↦ clean (q + 3) (omega arith) (omega arith) (lost_odd track q (q + 3) (omega arith) refl mark)

@@ -75,10 +75,16 @@ fn sums(rt: HostRuntime) -> Result<(), Fail> {
         layout(rt.alloc(), high, 2, 115, 0xF6, 12_500).err(),
         Some(LayoutError::DoesNotFit)
     );
-    assert_eq!(rt; layout(rt.alloc(), high, 2, 112, 0xF6, 12_500)?.len(), 12_500);
+    assert_eq!(rt;
+        layout(rt.alloc(), high, 2, 112, 0xF6, 12_500)?.len(),
+        12_500
+    );
     let double = keys(rt.alloc(), 9)?;
     let double = double.as_slice();
-    assert_eq!(rt; layout(rt.alloc(), double, 2, 104, 0xF6, 6_250)?.len(), 6_250);
+    assert_eq!(rt;
+        layout(rt.alloc(), double, 2, 104, 0xF6, 6_250)?.len(),
+        6_250
+    );
     assert_eq!(rt;
         layout(rt.alloc(), double, 2, 105, 0xF6, 6_250).err(),
         Some(LayoutError::DoesNotFit)
