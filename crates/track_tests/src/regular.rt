@@ -1,5 +1,5 @@
 // Tracks laid down from the table of a System 34 track, and whether they are regular.
-ghost use Rattle.std.specs.Prelude.{◌≤◌};
+ghost use Rattle.std.specs.Prelude.{◌≡◌};
 
 use flop_base::Chrn;
 use raw_image::Medium;
@@ -18,7 +18,9 @@ const MARK: u16 = 0x4489;
 // The first word behind the window of the first sector, whose content begins at word 206.
 const BEHIND: usize = 720;
 
-fn key(c: u8, h: u8, r: u8) -> Chrn {
+fn key(c: u8, h: u8, r: u8) -> Chrn
+    ensures { result.n ≡ 2 }
+{
     Chrn { c, h, r, n: 2 }
 }
 
