@@ -137,8 +137,8 @@ module _ (n gap3 fill : ℕ) (keys : List Chrn) (d : Chrn) (words : ℕ) (fits :
             0x4E,
             within,
             get_or_default (cells n gap3 fill keys d words fits) k (Byte 0) filler within
-            ∙ at_address n gap3 fill keys d words fits i j k at.1 (omega arith) (omega arith)
-            ∙ in_gap (address_content (key i)) 22 j (omega arith),
+                ∙ at_address n gap3 fill keys d words fits i j k at.1 (omega arith) (omega arith)
+                ∙ in_gap (address_content (key i)) 22 j (omega arith),
           ))
           mark
 
@@ -156,8 +156,8 @@ module _ (n gap3 fill : ℕ) (keys : List Chrn) (d : Chrn) (words : ℕ) (fits :
             0x4E,
             within,
             get_or_default (cells n gap3 fill keys d words fits) k (Byte 0) filler within
-            ∙ at_data n gap3 fill keys d words fits i j k at.1 (omega arith) (omega arith)
-            ∙ in_gap (data_content (content_size n) fill) gap3 j (omega (arith, length-data_content (content_size n) fill)),
+                ∙ at_data n gap3 fill keys d words fits i j k at.1 (omega arith) (omega arith)
+                ∙ in_gap (data_content (content_size n) fill) gap3 j (omega (arith, length-data_content (content_size n) fill)),
           ))
           mark
 

@@ -106,7 +106,7 @@ module _ (n gap3 fill : ℕ) (keys : List Chrn) (d : Chrn) (words : ℕ) (fits :
   address_run : (i : ℕ) → i < length keys → IsRun laid (address_place i)
   address_run i h =
       let mark = λ (j : ℕ) (k : ℕ) (e : k ≡ begin i + j) (low : 12 ≤ j) (high : j < 15).
-          at_address i j k h (omega arith) e ∙ in_marks (address_content (nth i)) 22 j low high in
+      at_address i j k h (omega arith) e ∙ in_marks (address_content (nth i)) 22 j low high in
       let room = inside_of i 14 h (omega arith) in
       run_is (address_place i) (begin i + 12) refl (omega arith)
       (mark 12 (begin i + 12) refl (omega arith) (omega arith))
@@ -131,9 +131,9 @@ module _ (n gap3 fill : ℕ) (keys : List Chrn) (d : Chrn) (words : ℕ) (fits :
       let below = crc_below (address_bytes (nth i)) in
       let room = inside_of i 21 h (omega arith) in
       let high = byte_is (address_place i + 128) (begin i + 20) (Byte (check / 256)) (omega arith) (omega arith)
-          (at_address i 20 (begin i + 20) h (lit< tt) refl ∙ in_high (address_content (nth i)) 22 20 refl) (omega arith) in
+      (at_address i 20 (begin i + 20) h (lit< tt) refl ∙ in_high (address_content (nth i)) 22 20 refl) (omega arith) in
       let low = byte_is (address_place i + 128 + 16) (begin i + 21) (Byte (check % 256)) (omega arith) (omega arith)
-          (at_address i 21 (begin i + 21) h (lit< tt) refl ∙ in_low (address_content (nth i)) 22 21 refl) (omega arith) in
+      (at_address i 21 (begin i + 21) h (lit< tt) refl ∙ in_low (address_content (nth i)) 22 21 refl) (omega arith) in
       ap (λ b. 256 * b + byte_at laid (address_place i + 128 + 16)) high ∙ ap (λ b. 256 * (check / 256) + b) low ∙ check_again check
 
   address_mark : (i : ℕ) → i < length keys → IsAddressMark laid (address_place i)
@@ -164,7 +164,7 @@ module _ (n gap3 fill : ℕ) (keys : List Chrn) (d : Chrn) (words : ℕ) (fits :
   data_run i h =
       let content = data_content (content_size n) fill in
       let mark = λ (j : ℕ) (k : ℕ) (e : k ≡ begin i + 44 + j) (low : 12 ≤ j) (high : j < 15).
-          at_data i j k h (omega arith) e ∙ in_marks content gap3 j low high in
+      at_data i j k h (omega arith) e ∙ in_marks content gap3 j low high in
       let room = inside_of i 58 h (omega arith) in
       run_is (data_place i) (begin i + 56) refl (omega arith)
       (mark 12 (begin i + 56) (omega arith) (omega arith) (omega arith))
@@ -205,9 +205,9 @@ module _ (n gap3 fill : ℕ) (keys : List Chrn) (d : Chrn) (words : ℕ) (fits :
       let room = inside_of i (61 + size) h (omega arith) in
       let q = data_place i + 64 + 16 * size in
       let high = byte_is q (begin i + 60 + size) (Byte (check / 256)) (omega arith) (omega arith)
-          (at_data i (16 + size) (begin i + 60 + size) h (omega arith) (omega arith) ∙ in_high content gap3 (16 + size) (omega arith) ∙ ap (λ c. Byte (c / 256)) same) (omega arith) in
+      (at_data i (16 + size) (begin i + 60 + size) h (omega arith) (omega arith) ∙ in_high content gap3 (16 + size) (omega arith) ∙ ap (λ c. Byte (c / 256)) same) (omega arith) in
       let low = byte_is (q + 16) (begin i + 61 + size) (Byte (check % 256)) (omega arith) (omega arith)
-          (at_data i (17 + size) (begin i + 61 + size) h (omega arith) (omega arith) ∙ in_low content gap3 (17 + size) (omega arith) ∙ ap (λ c. Byte (c % 256)) same) (omega arith) in
+      (at_data i (17 + size) (begin i + 61 + size) h (omega arith) (omega arith) ∙ in_low content gap3 (17 + size) (omega arith) ∙ ap (λ c. Byte (c % 256)) same) (omega arith) in
       ap (λ b. 256 * b + byte_at laid (q + 16)) high
       ∙ ap (λ b. 256 * (check / 256) + b) low
       ∙ check_again check
