@@ -1,18 +1,18 @@
 -- On a recorded track, every run of marks A1 is three words 4489 at word boundaries.
-use Rattle.std.proofs.Common.{◌≡◌, ◌≢◌, ℕ, zero, suc, ◌+◌, ◌-◌, ◌*◌, ◌/◌, ◌%◌, ◌^◌, ◌<◌, ◌≤◌, Bool, true, false, cond, eqb, List, [], ◌∷◌, length, get_or, refl, sym, ap, subst, ◌∙◌, ◌⊎◌, lit<, lit≤, arith, inl, inr}
-use Rattle.std.proofs.lemmas.Bool.{agree_below_at, eq-eqb, eqb-true, ne_eqb, cond-true, cond-false, cases_eq, cases_lt}
+use Rattle.std.proofs.Common.{◌≡◌, ℕ, zero, suc, ◌+◌, ◌-◌, ◌*◌, ◌/◌, ◌%◌, ◌^◌, ◌<◌, ◌≤◌, Bool, true, false, cond, eqb, List, [], ◌∷◌, length, get_or, refl, sym, ap, ◌∙◌, ◌⊎◌, lit<, lit≤, arith, inl, inr}
+use Rattle.std.proofs.lemmas.Bool.{agree_below_at, eq-eqb, eqb-true, ne_eqb, cond-true, cases_eq, cases_lt}
 use Rattle.std.proofs.lemmas.List.{get_or_past}
 use Rattle.std.proofs.lemmas.Nat.Bits.{bit_at_lowest, bit_at-zero}
 use Rattle.std.specs.Int.{bit_at}
 use Rattle.track_model.specs.declared.symbol.Symbol.{Symbol}
 use Rattle.track_model.specs.declared.symbol.Symbol.TheVariants.{Byte, Key, Mark}
 use Rattle.track_model.specs.Cells.{cell, cells_at}
-use Rattle.track_model.specs.Bytes.{byte_at, bit_of, bit_before, last_bit, clock_between, legal_cell, legal}
+use Rattle.track_model.specs.Bytes.{byte_at, bit_before, last_bit, legal}
 use Rattle.track_model.specs.Marks.{IsRun}
 use Rattle.track_model.specs.Layouts.{word_after, symbol_bit, symbol_byte, recorded}
 use Rattle.track_model.proofs.Numbers.{number_ext, number_from_bits}
 use Rattle.track_model.proofs.Places.{cell_in, cells_at-word, bit_at-cells_at}
-use Rattle.track_model.proofs.Legals.{length-legal, cell-legal, legal_cell-data, legal_cell-clock, no_gap, no_mark}
+use Rattle.track_model.proofs.Legals.{cell-legal, legal_cell-data, legal_cell-clock, no_gap, no_mark}
 
 -- the word of a byte after a bit
 abbrev pub byte_word : Bool → ℕ → ℕ
@@ -87,7 +87,7 @@ not_lost_in_byte track e k c byte last place small is before lost =
     let bytes = byte ∷ [] in
     let words = legal last bytes in
     let here = λ (i : ℕ) (j : ℕ) (f : i ≡ 16 * k + j) (h : j < 16).
-        cell_in track i k j f h ∙ ap (λ w. bit_at w (15 - j)) is ∙ sym (cell_in words j 0 j (omega arith) h) in
+    cell_in track i k j f h ∙ ap (λ w. bit_at w (15 - j)) is ∙ sym (cell_in words j 0 j (omega arith) h) in
     let even = lost.even in
     let high : e + 1 ≡ 16 * k + (c + 1) = omega arith in
     let at = sym (here e c place small) ∙ lost.here in
@@ -392,12 +392,12 @@ pub no_mark_in_bytes : (first : Bool) (symbols : List Symbol) (q : ℕ) → ((k 
 no_mark_in_bytes first symbols q bytes mark =
     let track = recorded first symbols in
     let clean = λ (e : ℕ) (low : q ≤ e) (high : e ≤ q + 15) (lost : IsLost track e).
-        let k = e / 16 in
-        let c = e % 16 in
-        let place : e ≡ 16 * k + c = omega arith in
-        let symbol = bytes k (omega arith) (omega arith) in
-        let is = get_or-recorded first symbols k symbol.1 ∙ ap (word_after (symbol_behind first symbols k)) symbol.2 ∙ ap (λ b. byte_word b symbol.0) (sym (bit_behind-recorded first symbols k symbol.1)) in
-        not_lost_in_byte track e k c symbol.0 (bit_behind first track k) place (omega arith) is (λ none before. behind_zero first track e k (omega arith) lost.later before) lost in
+    let k = e / 16 in
+    let c = e % 16 in
+    let place : e ≡ 16 * k + c = omega arith in
+    let symbol = bytes k (omega arith) (omega arith) in
+    let is = get_or-recorded first symbols k symbol.1 ∙ ap (word_after (symbol_behind first symbols k)) symbol.2 ∙ ap (λ b. byte_word b symbol.0) (sym (bit_behind-recorded first symbols k symbol.1)) in
+    not_lost_in_byte track e k c symbol.0 (bit_behind first track k) place (omega arith) is (λ none before. behind_zero first track e k (omega arith) lost.later before) lost in
     elim (cases_eq (q % 2) 0) [
       | inl even ↦ clean (q + 10) (omega arith) (omega arith) (lost_even track q (q + 10) even refl mark)
       | inr odd ↦ clean (q + 3) (omega arith) (omega arith) (lost_odd track q (q + 3) (omega arith) refl mark)
