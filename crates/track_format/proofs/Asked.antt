@@ -1,15 +1,14 @@
 -- The bytes of keys that a track asks for, one after the other.
-use Rattle.std.proofs.Common.{◌≡◌, ℕ, zero, suc, ◌+◌, ◌-◌, ◌*◌, ◌/◌, ◌%◌, ◌<◌, ◌≤◌, Bool, true, false, List, [], ◌∷◌, ◌++◌, length, get_or, map, drop, take, replicate, refl, sym, ap, ◌∙◌, append_assoc, arith, inl, inr}
+use Rattle.std.proofs.Common.{◌≡◌, ℕ, zero, suc, ◌+◌, ◌-◌, ◌*◌, ◌/◌, ◌<◌, ◌≤◌, Bool, false, List, [], ◌∷◌, ◌++◌, length, get_or, drop, take, replicate, refl, sym, ap, ◌∙◌, append_assoc, arith}
 use Rattle.std.proofs.lemmas.List.{length-append, get_or_append_left, get_or-append_right, get_or_past, get_or-drop, drop-drop, append-nil}
-use Rattle.std.proofs.lemmas.Bool.{cases_lt}
 use Rattle.std.specs.List.{flat_map}
 use Rattle.flop_base.specs.declared.key.Chrn.{Chrn}
 use Rattle.track_model.specs.declared.symbol.Symbol.{Symbol}
 use Rattle.track_model.specs.declared.symbol.Symbol.TheVariants.{Byte, Key, Mark}
-use Rattle.track_model.specs.Layouts.{gap, sync, marks, check_symbols, word_after, symbol_bit, recorded, field_symbols, before_sectors, address_content, data_content, sector_symbols, sectors_symbols, track_symbols, next_symbol, lay}
+use Rattle.track_model.specs.Layouts.{gap, check_symbols, word_after, symbol_bit, recorded, field_symbols, before_sectors, address_content, data_content, sector_symbols, sectors_symbols, track_symbols, next_symbol, lay}
 use Rattle.track_model.specs.Fields.{content_size}
 use Rattle.track_format.specs.Keys.{key_bytes}
-use Rattle.track_format.specs.Streams.{AsksKey, KeyIs}
+use Rattle.track_format.specs.Streams.{AsksKey}
 use Rattle.track_format.proofs.Parts.{filler}
 
 pub length-key_bytes : (keys : List Chrn) → length (flat_map key_bytes keys) ≡ 4 * length keys

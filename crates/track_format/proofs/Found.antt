@@ -1,19 +1,16 @@
 -- The fields of a formatted track, and what a look at each finds.
-use Rattle.std.proofs.Common.{◌≡◌, ℕ, zero, suc, ◌+◌, ◌-◌, ◌*◌, ◌/◌, ◌%◌, ◌^◌, ◌<◌, ◌≤◌, Bool, true, false, List, [], ◌∷◌, length, get_or, replicate, refl, sym, ap, subst, ◌∙◌, ◌⊎◌, lit<, arith, inl, inr}
+use Rattle.std.proofs.Common.{◌≡◌, ℕ, suc, ◌+◌, ◌-◌, ◌*◌, ◌<◌, ◌≤◌, false, List, length, get_or, refl, sym, ap, subst, ◌∙◌, arith, inl, inr}
 use Rattle.std.proofs.lemmas.List.{get_or_default}
-use Rattle.std.proofs.lemmas.Bool.{cases_lt, cases_eq, cases_order}
+use Rattle.std.proofs.lemmas.Bool.{cases_lt, cases_order}
 use Rattle.flop_base.specs.declared.key.Chrn.{Chrn}
-use Rattle.track_model.specs.declared.symbol.Symbol.{Symbol}
 use Rattle.track_model.specs.declared.symbol.Symbol.TheVariants.{Byte}
 use Rattle.track_model.specs.declared.Look.TheVariants.{Found}
-use Rattle.track_model.specs.Cells.{cells_at}
 use Rattle.track_model.specs.Bytes.{byte_at}
 use Rattle.track_model.specs.Marks.{IsRun, IsAddressMark}
-use Rattle.track_model.specs.Fields.{IsAddressAt, IsDataMark, IsSizeCode, content_size, data_cells, content_at}
-use Rattle.track_model.specs.Looks.{IsFirstDataMark, HasDataField, LookAt, IsIntact}
+use Rattle.track_model.specs.Fields.{IsAddressAt, IsSizeCode, content_size, data_cells}
+use Rattle.track_model.specs.Looks.{LookAt}
 use Rattle.track_model.specs.Sectors.{IsPlain}
-use Rattle.track_model.specs.Windows.{window_word, window_place, window_end}
-use Rattle.track_model.specs.Regular.{span_cells, HasSizes, HasKeys, HasSpans, HasCleanGaps, HasCleanEnds, IsSpaced, IsRegular}
+use Rattle.track_model.specs.Regular.{HasSizes, HasSpans, HasCleanGaps, HasCleanEnds, IsSpaced, IsRegular}
 use Rattle.track_model.specs.LaidFields.{IsKey}
 use Rattle.track_model.specs.Layouts.{data_content, address_content}
 use Rattle.track_model.proofs.Unique.{one_key}
@@ -22,7 +19,7 @@ use Rattle.track_format.proofs.Parts.{filler, in_gap}
 use Rattle.track_format.proofs.Steps.{length-data_content}
 use Rattle.track_format.proofs.Tracked.{sector_words, sector_ends, sectors_apart}
 use Rattle.track_format.proofs.Runs.{run_place}
-use Rattle.track_format.proofs.Placed.{cells, laid, begin, nth, length-laid, length-cells, inside_of, sound, address_place, data_place, at_address, at_data, address_is, data_run, first_byte, content_is, data_check}
+use Rattle.track_format.proofs.Placed.{cells, laid, length-laid, length-cells, inside_of, sound, at_address, at_data, address_is, data_run, first_byte, data_check}
 
 module _ (n gap3 fill : ℕ) (keys : List Chrn) (d : Chrn) (words : ℕ) (fits : 146 + length keys * sector_words (content_size n) gap3 ≤ words) where
   abbrev it : List ℕ

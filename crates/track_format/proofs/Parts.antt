@@ -1,8 +1,8 @@
 -- The symbols of a field by their place.
-use Rattle.std.proofs.Common.{◌≡◌, ℕ, zero, suc, ◌+◌, ◌-◌, ◌/◌, ◌%◌, ◌^◌, ◌<◌, ◌≤◌, List, [], ◌∷◌, ◌++◌, length, get_or, map, drop, replicate, refl, sym, ap, ◌∙◌, arith}
-use Rattle.std.proofs.lemmas.List.{length-append, length-replicate, get_or_append_left, get_or-append_right, get_or-replicate, get_or-map, get_or_past, drop_more, drop_all, length-map}
+use Rattle.std.proofs.Common.{◌≡◌, ℕ, zero, suc, ◌+◌, ◌-◌, ◌/◌, ◌%◌, ◌^◌, ◌<◌, ◌≤◌, List, ◌∷◌, ◌++◌, length, get_or, map, drop, refl, sym, ap, ◌∙◌, arith}
+use Rattle.std.proofs.lemmas.List.{length-append, length-replicate, get_or_append_left, get_or-append_right, get_or-replicate, get_or-map, drop_more, drop_all, length-map}
 use Rattle.track_model.specs.declared.symbol.Symbol.{Symbol}
-use Rattle.track_model.specs.declared.symbol.Symbol.TheVariants.{Byte, Key, Mark}
+use Rattle.track_model.specs.declared.symbol.Symbol.TheVariants.{Byte, Mark}
 use Rattle.track_model.specs.Crc.{crc, crc_from}
 use Rattle.track_model.specs.Fields.{after_marks}
 use Rattle.track_model.specs.Layouts.{gap, sync, marks, symbol_byte, check_symbols, field_symbols, before_sectors}

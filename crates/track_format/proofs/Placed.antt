@@ -1,29 +1,23 @@
 -- What is read on a formatted track.
-use Rattle.std.proofs.Common.{◌≡◌, ℕ, zero, suc, ◌+◌, ◌-◌, ◌*◌, ◌/◌, ◌%◌, ◌^◌, ◌<◌, ◌≤◌, Bool, true, false, List, [], ◌∷◌, ◌++◌, length, get_or, map, replicate, refl, sym, ap, subst, ◌∙◌, ◌⊎◌, lit<, arith, inl, inr}
+use Rattle.std.proofs.Common.{◌≡◌, ℕ, zero, suc, ◌+◌, ◌-◌, ◌*◌, ◌/◌, ◌%◌, ◌<◌, ◌≤◌, false, List, ◌∷◌, length, get_or, map, replicate, refl, sym, ap, subst, ◌∙◌, lit<, arith}
 use Rattle.std.proofs.lemmas.List.{get_or_default, get_or-replicate, length-replicate}
 use Rattle.std.proofs.lemmas.List.FromFn.{fill_by_all}
-use Rattle.std.proofs.lemmas.Bool.{cases_lt, cases_eq, cases_order}
 use Rattle.flop_base.specs.declared.key.Chrn.{Chrn}
 use Rattle.track_model.specs.declared.symbol.Symbol.{Symbol}
 use Rattle.track_model.specs.declared.symbol.Symbol.TheVariants.{Byte, Key, Mark}
-use Rattle.track_model.specs.declared.Look.TheVariants.{Found}
-use Rattle.track_model.specs.Cells.{cells_at}
 use Rattle.track_model.specs.Bytes.{byte_at}
 use Rattle.track_model.specs.Crc.{crc}
-use Rattle.track_model.specs.Marks.{TouchesNoZero, IsSound, IsRun, IsAddressMark, IsDataRun}
-use Rattle.track_model.specs.Fields.{HasCheck, after_marks, address_bytes, IsAddressAt, IsDataMark, IsSizeCode, content_size, data_cells, content_at, IsWhole}
-use Rattle.track_model.specs.Looks.{IsFirstDataMark, HasDataField, LookAt, IsIntact}
-use Rattle.track_model.specs.Sectors.{IsPlain}
+use Rattle.track_model.specs.Marks.{IsSound, IsRun, IsAddressMark}
+use Rattle.track_model.specs.Fields.{HasCheck, after_marks, address_bytes, IsAddressAt, content_size, content_at}
 use Rattle.track_model.specs.LaidFields.{IsKey}
 use Rattle.track_model.specs.Layouts.{word_after, symbol_byte, field_symbols, address_content, data_content}
 use Rattle.track_model.proofs.CrcSteps.{crc_below}
 use Rattle.track_model.proofs.Places.{cells_at-word}
-use Rattle.track_model.proofs.Unique.{one_key}
-use Rattle.track_model.proofs.Recorded.{length-recorded, get_or-recorded, symbol_behind, byte_at-recorded, word_some}
+use Rattle.track_model.proofs.Recorded.{get_or-recorded, symbol_behind, byte_at-recorded, word_some}
 use Rattle.track_format.proofs.Parts.{filler, in_marks, in_symbols, in_high, in_low, check_of}
-use Rattle.track_format.proofs.Steps.{key_at, length-data_content}
-use Rattle.track_format.proofs.Tracked.{sector_words, length-all, sector_ends, sectors_apart}
-use Rattle.track_format.proofs.Runs.{symbols, track, are_marks, length-track, start, key_of, address_symbol, data_symbol, run_place}
+use Rattle.track_format.proofs.Steps.{length-data_content}
+use Rattle.track_format.proofs.Tracked.{sector_words, length-all, sector_ends}
+use Rattle.track_format.proofs.Runs.{symbols, track, are_marks, length-track, address_symbol, data_symbol}
 
 symbol_bytes : (size fill : ℕ) → map symbol_byte (replicate size (Byte fill)) ≡ replicate size fill
 symbol_bytes zero fill = refl

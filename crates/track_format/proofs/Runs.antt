@@ -1,6 +1,6 @@
 -- Where the runs of a formatted track are.
-use Rattle.std.proofs.Common.{◌≡◌, ℕ, zero, suc, ◌+◌, ◌-◌, ◌*◌, ◌/◌, ◌%◌, ◌^◌, ◌<◌, ◌≤◌, Bool, true, false, cond, eqb, List, [], ◌∷◌, ◌++◌, length, get_or, map, take, drop, replicate, refl, sym, ap, subst, ◌∙◌, ◌⊎◌, append_assoc, arith, inl, inr}
-use Rattle.std.proofs.lemmas.List.{get_or-take, get_or_past, get_or_default}
+use Rattle.std.proofs.Common.{◌≡◌, ℕ, zero, suc, ◌+◌, ◌-◌, ◌*◌, ◌/◌, ◌%◌, ◌<◌, ◌≤◌, Bool, true, false, cond, eqb, List, [], ◌∷◌, ◌++◌, length, get_or, take, replicate, refl, sym, ap, ◌∙◌, ◌⊎◌, arith, inl, inr}
+use Rattle.std.proofs.lemmas.List.{get_or_past, get_or_default}
 use Rattle.std.proofs.lemmas.Bool.{cases_lt, cases_eq, ne_eqb, cond-false, false≢true}
 use Rattle.std.proofs.Math.Nat.{mul-le-mul_right}
 use Rattle.std.specs.List.{flat_map}
@@ -9,9 +9,9 @@ use Rattle.track_model.specs.declared.symbol.Symbol.{Symbol}
 use Rattle.track_model.specs.declared.symbol.Symbol.TheVariants.{Byte, Key, Mark}
 use Rattle.track_model.specs.Marks.{IsRun}
 use Rattle.track_model.specs.Layouts.{gap, sync, marks, check_symbols, recorded, field_symbols, before_sectors, address_content, data_content, sector_symbols, sectors_symbols}
-use Rattle.track_model.proofs.Recorded.{AreMarks, AreWords, IsRunAtWord, run_at_word, recorded_words, length-recorded, get_or-recorded, symbol_behind, mark_symbol}
-use Rattle.track_format.proofs.Parts.{filler, gap_is, in_sync, in_marks, in_symbols, in_high, in_low, in_gap, start_gap_4a, start_sync, start_marks, start_byte, start_gap_1}
-use Rattle.track_format.proofs.Tracked.{sector_words, all_symbols, address_start, length-all, at_start, at_end_gap, sector_ends, at_address, at_data}
+use Rattle.track_model.proofs.Recorded.{AreMarks, AreWords, run_at_word, recorded_words, length-recorded, get_or-recorded, symbol_behind, mark_symbol}
+use Rattle.track_format.proofs.Parts.{filler, in_sync, in_symbols, in_high, in_low, in_gap, start_gap_4a, start_sync, start_marks, start_byte, start_gap_1}
+use Rattle.track_format.proofs.Tracked.{sector_words, all_symbols, length-all, at_start, at_end_gap, at_address, at_data}
 
 -- ---- marks of a field
 

@@ -1,7 +1,7 @@
 -- One word more of a part of the track.
-use Rattle.std.proofs.Common.{◌≡◌, ℕ, zero, suc, ◌+◌, ◌-◌, ◌*◌, ◌/◌, ◌%◌, ◌^◌, ◌<◌, ◌≤◌, Bool, true, false, IsTrue, ltb, ◌↔◌, List, [], ◌∷◌, ◌++◌, length, get_or, map, drop, replicate, refl, sym, ap, subst, ◌∙◌, append_assoc, ◌⊎◌, arith, inl, inr}
+use Rattle.std.proofs.Common.{◌≡◌, ℕ, zero, suc, ◌+◌, ◌-◌, ◌/◌, ◌%◌, ◌<◌, ◌≤◌, Bool, true, false, IsTrue, ◌↔◌, List, [], ◌∷◌, ◌++◌, length, get_or, drop, replicate, refl, sym, ap, ◌∙◌, append_assoc, ◌⊎◌, arith, inl, inr}
 use Rattle.std.proofs.lemmas.List.{length-replicate, get_or-replicate, drop_more, drop_all}
-use Rattle.std.proofs.lemmas.Bool.{cases_lt, cases_eq, lt-ltb, ltb-true, false≢true}
+use Rattle.std.proofs.lemmas.Bool.{cases_lt, cases_eq, false≢true}
 use Rattle.std.specs.List.{flat_map}
 use Rattle.flop_base.specs.declared.key.Chrn.{Chrn}
 use Rattle.track_model.specs.declared.symbol.Symbol.{Symbol}
@@ -366,18 +366,22 @@ behind_start_or_data part sectors size gap3 fill place check left is all h =
     (λ e. elim is [ inl f ↦ let g = sym f ∙ e in cc g | inr f ↦ let g = sym f ∙ e in cc g ])
     all h
 
-pub needs_in_address : (part : Part) (sectors size gap3 fill place check : ℕ) (left : List Symbol) → part ≡ Address → 15 < place → place < words_of_part part size gap3 → IsInPart part sectors size gap3 fill place check left → IsTrue (ltb place 20) ↔ AsksKey left
-needs_in_address part sectors size gap3 fill place check left is low within h = (
-  λ e. asked part sectors size gap3 fill place check left is low (ltb-true place 20 e) h,
+pub needs_in_address : (test : Bool) (part : Part) (sectors size gap3 fill place check : ℕ) (left : List Symbol) → part ≡ Address → (IsTrue test ↔ (15 < place) × (place < 20)) → place < words_of_part part size gap3 → IsInPart part sectors size gap3 fill place check left → IsTrue test ↔ AsksKey left
+needs_in_address test part sectors size gap3 fill place check left is says within h = (
+  λ e. asked part sectors size gap3 fill place check left is (says.0 e).0 (says.0 e).1 h,
   λ asks.
-      elim (cases_lt place 20) [
-        | inl short ↦ lt-ltb place 20 short
-        | inr long ↦ absurd (only_asked part sectors size gap3 fill place check left (λ address above below. omega arith) within h asks)
+      elim (cases_lt 15 place) [
+        | inl low ↦
+            elim (cases_lt place 20) [
+              | inl high ↦ says.1 (low, high)
+              | inr over ↦ absurd (only_asked part sectors size gap3 fill place check left (λ address above below. omega arith) within h asks)
+            ]
+        | inr under ↦ absurd (only_asked part sectors size gap3 fill place check left (λ address above below. omega arith) within h asks)
       ],
 )
 
-pub needs_not : (test : Bool) (part : Part) (sectors size gap3 fill place check : ℕ) (left : List Symbol) → test ≡ false → (part ≡ Address → 15 < place → ⊥) → place < words_of_part part size gap3 → IsInPart part sectors size gap3 fill place check left → IsTrue test ↔ AsksKey left
-needs_not test part sectors size gap3 fill place check left is other within h = (
-  λ e. absurd (false≢true (sym is ∙ e)),
-  λ asks. absurd (only_asked part sectors size gap3 fill place check left (λ address above below. other address above) within h asks),
+pub needs_not : (part : Part) (sectors size gap3 fill place check : ℕ) (left : List Symbol) → (part ≡ Address → ⊥) → place < words_of_part part size gap3 → IsInPart part sectors size gap3 fill place check left → IsTrue false ↔ AsksKey left
+needs_not part sectors size gap3 fill place check left other within h = (
+  λ e. absurd (false≢true e),
+  λ asks. absurd (only_asked part sectors size gap3 fill place check left (λ address above below. other address) within h asks),
 )

@@ -1,15 +1,14 @@
 -- The symbols of a whole track by their place.
-use Rattle.std.proofs.Common.{◌≡◌, ℕ, zero, suc, ◌+◌, ◌-◌, ◌*◌, ◌/◌, ◌%◌, ◌^◌, ◌<◌, ◌≤◌, Bool, true, false, cond, eqb, List, [], ◌∷◌, ◌++◌, length, get_or, map, take, drop, replicate, refl, sym, ap, subst, ◌∙◌, ◌⊎◌, append_assoc, arith, inl, inr}
-use Rattle.std.proofs.lemmas.List.{length-append, length-replicate, length-take, get_or-take, get_or_append_left, get_or-append_right, get_or-replicate, get_or_past, get_or_default}
-use Rattle.std.proofs.lemmas.Bool.{cases_lt, cases_eq, false≢true}
+use Rattle.std.proofs.Common.{◌≡◌, ℕ, zero, suc, ◌+◌, ◌-◌, ◌*◌, ◌<◌, ◌≤◌, List, [], ◌∷◌, ◌++◌, length, get_or, take, ap, ◌∙◌, arith, inl, inr}
+use Rattle.std.proofs.lemmas.List.{length-append, length-replicate, length-take, get_or-take, get_or_append_left, get_or-append_right, get_or_past}
+use Rattle.std.proofs.lemmas.Bool.{cases_lt}
 use Rattle.std.proofs.Math.Nat.{mul-le-mul_right}
 use Rattle.std.specs.List.{flat_map}
 use Rattle.flop_base.specs.declared.key.Chrn.{Chrn}
 use Rattle.track_model.specs.declared.symbol.Symbol.{Symbol}
-use Rattle.track_model.specs.declared.symbol.Symbol.TheVariants.{Byte, Key, Mark}
-use Rattle.track_model.specs.Layouts.{gap, sync, marks, check_symbols, field_symbols, before_sectors, address_content, data_content, sector_symbols, sectors_symbols}
-use Rattle.track_format.proofs.Parts.{filler, gap_is, length-field, in_sync, in_marks, in_symbols, in_high, in_low, in_gap, start_gap_4a, start_sync, start_marks, start_byte, start_gap_1}
-use Rattle.track_format.proofs.Steps.{length-start, length-address, length-data, length-data_content}
+use Rattle.track_model.specs.Layouts.{gap, field_symbols, before_sectors, address_content, data_content, sector_symbols, sectors_symbols}
+use Rattle.track_format.proofs.Parts.{filler, gap_is}
+use Rattle.track_format.proofs.Steps.{length-start, length-address, length-data}
 
 -- the words of a sector
 abbrev pub sector_words : ℕ → ℕ → ℕ

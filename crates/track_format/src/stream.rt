@@ -89,9 +89,7 @@ impl FormatStream {
             → IsTrue result ↔ AsksKey left }
     {
         match self.part {
-            Part::Address => {
-                FIELD_START < self.place && self.place < FIELD_START + ADDRESS_BYTES
-            }
+            Part::Address => is_key_place(self.place),
             _ => false,
         }
     }
@@ -202,4 +200,11 @@ impl FormatStream {
             self.part = Part::Address;
         }
     }
+}
+
+/// Whether a byte of the key stands at a place of an address field.
+fn is_key_place(place: usize) -> bool
+    ensures { IsTrue result ↔ (15 < place) × (place < 20) }
+{
+    FIELD_START < place && place < FIELD_START + ADDRESS_BYTES
 }

@@ -1,4 +1,4 @@
-use Rattle.std.proofs.Common.{◌∷◌, refl, sym, ap, ◌∙◌, arith, map, drop, ◌+◌, ◌-◌, ◌≡◌}
+use Rattle.std.proofs.Common.{◌∷◌, sym, ap, ◌∙◌, arith, map, drop, ◌+◌, ◌-◌, ◌≡◌}
 use Rattle.track_model.specs.Crc.{crc_from}
 use Rattle.track_model.specs.Layouts.{symbol_byte}
 use Rattle.track_model.proofs.CrcSteps.{crc-marks}

@@ -1,4 +1,4 @@
-use Rattle.std.proofs.Common.{◌/◌, ◌%◌, ◌≡◌, ap, sym, ◌∙◌, arith}
+use Rattle.std.proofs.Common.{◌/◌, ◌%◌, ap, sym, ◌∙◌, arith}
 use Rattle.track_model.specs.declared.symbol.Symbol.TheVariants.{Byte}
 use Rattle.track_format.proofs.Parts.{in_sync, in_marks, in_symbols, in_high, in_low, in_gap, check_is}
 use Rattle.track_format.proofs.symbols.field_symbol.Goals as goal

@@ -1,10 +1,10 @@
-use Rattle.std.proofs.Common.{◌≡◌, ◌+◌, ◌<◌, ◌≤◌, false, length, drop, List, [], ◌∷◌, refl, sym, ap, ◌∙◌, arith, length-append}
+use Rattle.std.proofs.Common.{◌≡◌, ◌+◌, ◌<◌, false, length, drop, [], ◌∷◌, refl, sym, ap, ◌∙◌, arith, length-append}
 use Rattle.std.proofs.lemmas.Bool.{false≢true}
 use Rattle.std.specs.List.{flat_map}
 use Rattle.track_model.specs.Layouts.{lay, symbol_bit, next_symbol, track_symbols}
 use Rattle.track_format.specs.Keys.{key_bytes}
 use Rattle.track_format.specs.Streams.{KeyIs}
-use Rattle.track_format.proofs.Asked.{asked_in, asked-track, asked_same, laid_start, laid_more, laid_all, asked_byte, asked_more}
+use Rattle.track_format.proofs.Asked.{asked-track, asked_same, laid_start, laid_more, laid_all, asked_byte, asked_more}
 use Rattle.track_format.proofs.whole.layout.Goals as goal
 use Rattle.track_format.proofs.whole.layout.Goals.{then-needs_byte, else-needs_byte}
 

@@ -1,5 +1,5 @@
-use Rattle.std.proofs.Common.{◌≡◌, ◌<◌, refl, sym, ◌∙◌, arith}
-use Rattle.track_format.proofs.Steps.{behind_address, behind_start_or_data, at_end}
+use Rattle.std.proofs.Common.{refl, arith}
+use Rattle.track_format.proofs.Steps.{behind_address, behind_start_or_data}
 use Rattle.track_format.proofs.stream.FormatStream.advance.Goals as goal
 
 pub returns-in-Address : goal.returns-in-Address

@@ -1,5 +1,4 @@
-use Rattle.std.proofs.Common.{◌≡◌, ◌+◌, ◌⊎◌, inl, inr, ap, ◌∙◌, arith, eqb, true}
-use Rattle.track_model.specs.declared.symbol.Symbol.TheVariants.{Byte, Key}
+use Rattle.std.proofs.Common.{◌+◌, inl, inr, ap}
 use Rattle.track_format.proofs.Steps.{symbol_in_start, symbol_in_address, symbol_in_data}
 use Rattle.track_format.proofs.stream.FormatStream.symbol.Goals as goal
 use Rattle.track_format.proofs.stream.FormatStream.symbol.Goals.{then-is_first, else-is_first, then-is_first-2, else-is_first-2}
