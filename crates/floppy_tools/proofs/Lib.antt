@@ -1,2 +1,2 @@
-pub mod Courses
-pub mod Pieces
+pub mod DumpLines
+pub mod Turned

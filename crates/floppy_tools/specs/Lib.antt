@@ -1,4 +1,3 @@
-pub mod Endings
-pub mod Served
-pub mod Session
+pub mod Programs
+pub mod Turns
 pub mod Words

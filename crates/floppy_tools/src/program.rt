@@ -1,40 +1,72 @@
 // The top call.
-ghost use Rattle.std.specs.Prelude.{◌≡◌, None, IfSome, map, string_bytes};
+ghost use Rattle.std.specs.Prelude.{◌≡◌, ℕ, List, Option, None, map, string_bytes};
 ghost use Rattle.flop_base.specs.Shelf.{Rose};
-ghost use Rattle.floppy_tools.specs.Endings.{Fits, ending_of, IsBadWordsOr};
+ghost use Rattle.sector_model.specs.Bays.{Two};
+ghost use Rattle.sector_model.specs.Stations.{IsFresh};
+ghost use Rattle.sector_model.specs.States.{start_of};
+ghost use Rattle.floppy_session.specs.Session.{state_of, IsRunning};
+ghost use Rattle.floppy_tools.specs.Turns.{world};
 ghost use Rattle.floppy_tools.specs.Words.{job_of};
+ghost use Rattle.floppy_tools.specs.Programs.{Programs};
 
 use crate::play::play;
-use crate::report::put;
+use crate::report::put_last_bad_words;
 use crate::words::job_named;
 use flop_base::{Shelf, Sink, Status};
+use floppy_session::Session;
+use sector_model::Station;
 use std::alloc::Global;
 
-/// Does what the words after the program's name say: `play JOB` runs a job. It prints a report to the sink,
-/// and the status says how it ended.
-pub fn floppy<S: Shelf, K: Sink>(
+/// Does what the words after the program's name say, on a station that is as it comes: `play JOB` runs a job. It prints
+/// a report to the sink, and the status says how it ended. The station comes back in every case.
+pub fn floppy<S: Shelf, K: Sink, D: Station>(
     alloc: Global,
     words: &[String],
     shelf: &mut S,
     out: &mut K,
-) -> Status
-    // Where the shelf tells its files: 2 to 5 exactly where their causes stand.
-    ensures ends { IfSome (S.told shelf.old)
-        (λ files. Fits (ending_of files (map string_bytes words.now)) result) }
+    station: D,
+) -> (Status, D)
+    requires fresh { IsFresh (D.shown station) }
+    requires ready { D.is_ready station }
+    // The headline: what is printed and stored is a run of the sector model, with the counts of the station that comes back.
+    ensures runs { (names : Two (Option (List ℕ))) × Programs (map string_bytes words.now)
+        (world (start_of (D.shown station)) (S.told shelf.old) (K.told out.old))
+        (world (record { station = D.shown result.1; names = names }) (S.told shelf.new) (K.told out.new))
+        result.0 }
     // 2 exactly where the words are no form, also where nothing is told.
+    ensures bad_words { result.0 ≡ Status.BadWords → job_of (map string_bytes words.now) ≡ None }
+    ensures ready { D.is_ready result.1 }
+    ensures shelf_fault { result.0 ≡ Status.FileFault
+        → Rose (S.fault_count shelf.old) (S.fault_count shelf.new) }
+    ensures sink_fault { result.0 ≡ Status.SinkFault
+        → Rose (K.fault_count out.old) (K.fault_count out.new) }
+{
+    let mut session = Session::new(alloc, station);
+    let status = perform(alloc, &mut session, words, shelf, out);
+    (status, session.into_station())
+}
+
+/// Does what the words say.
+fn perform<S: Shelf, K: Sink, D: Station>(
+    alloc: Global,
+    session: &mut Session<D>,
+    words: &[String],
+    shelf: &mut S,
+    out: &mut K,
+) -> Status
+    requires running { IsRunning D.shown D.is_ready session.old }
+    ensures runs { Programs (map string_bytes words.now)
+        (world (state_of D.shown session.old) (S.told shelf.old) (K.told out.old))
+        (world (state_of D.shown session.new) (S.told shelf.new) (K.told out.new)) result }
     ensures bad_words { result ≡ Status.BadWords → job_of (map string_bytes words.now) ≡ None }
-    ensures no_form { job_of (map string_bytes words.now) ≡ None → IsBadWordsOr result }
-    ensures files { S.told shelf.new ≡ S.told shelf.old }
+    ensures running { IsRunning D.shown D.is_ready session.new }
     ensures shelf_fault { result ≡ Status.FileFault
         → Rose (S.fault_count shelf.old) (S.fault_count shelf.new) }
     ensures sink_fault { result ≡ Status.SinkFault
         → Rose (K.fault_count out.old) (K.fault_count out.new) }
 {
     match job_named(words) {
-        Some(job) => play(alloc, job, shelf, out),
-        None => match put(out, "words not understood\n") {
-            Ok(()) => Status::BadWords,
-            Err(failed) => failed,
-        },
+        Some(job) => play(alloc, session, job, shelf, out),
+        None => put_last_bad_words(out),
     }
 }

@@ -1,7 +1,11 @@
-use Rattle.floppy_tools.specs.Session.{bays_of}
-use Rattle.floppy_tools.proofs.Courses.{stops_whatever}
+use Rattle.floppy_tools.specs.Turns.{AtStop, AtPut}
 use Rattle.floppy_tools.proofs.play.run_one.Goals as goal
 
-pub returns-in-Err-clause-loads : goal.returns-in-Err-clause-loads
-returns-in-Err-clause-loads g c =
-    stops_whatever (g.S.Shelf.told c.args.shelf.now) (bays_of c.args.session.now) c.args.request.now _ _ c.in-Err.ensures.loads (λ ending h. c.after.ensures.fits ending (c.stop_status.ensures.fits ending h))
+pub returns-in-Ok-clause-breaks : goal.returns-in-Ok-clause-breaks
+returns-in-Ok-clause-breaks g c = AtPut c.in-Ok.reply c.in-Ok.ensures.step c.in-Err-put_reply.ensures.err c.in-Err-put_reply.ensures.only
+
+pub returns-clause-breaks : goal.returns-clause-breaks
+returns-clause-breaks g c = AtStop c.in-Err.stop c.in-Err.ensures.stop c.put_last.ensures.prints
+
+pub run-requires-clause-stub : goal.run-requires-clause-stub
+run-requires-clause-stub g c = ?
