@@ -1,0 +1,51 @@
+-- How a request or a run stops.
+use Rattle.std.proofs.Common.{rules, ◌≡◌, ℕ, ◌≤◌, List, Option, Some, None, Result, Ok, Err, OnOk, OnErr, IfErr, false, refl, arith, subst, sym}
+use Rattle.flop_base.specs.Shelf.{Files, stored}
+use Rattle.raw_image.specs.Disk.{Disk}
+use Rattle.raw_image.specs.Image.{file_of}
+use Rattle.floppy_jobs.specs.declared.request.Request.{Request}
+use Rattle.floppy_jobs.specs.declared.request.Request.TheVariants as request
+use Rattle.sector_model.specs.declared.reply.Reply.{Reply}
+use Rattle.sector_model.specs.declared.reply.Stop.{Stop}
+use Rattle.sector_model.specs.Bays.{in_bay}
+use Rattle.sector_model.specs.Stations.{bay_of}
+use Rattle.sector_model.specs.States.{State, IsSame, ChangesMedium}
+use Rattle.sector_model.specs.Steps.{Step, StopsAt, StopCause, StoresMedium, refusal_of, is_loaded}
+use Rattle.sector_model.specs.Runs.{EndsBay, EndStopsAt, AtSecond, IsEndStop}
+use Rattle.floppy_session.proofs.Counts.{goes_on_still}
+
+-- the step of the request that was asked
+pub step_at : (old new : State) (told : Option Files) (asked named : Request) (answer : Reply) → asked ≡ named → Step old told named answer new told → Step old told asked answer new told
+step_at old new told asked named answer same step = subst (λ (r : Request). Step old told r answer new told) (sym same) step
+
+-- a state is the same as itself
+pub same_still : (state : State) → IsSame state state
+same_still state = record {
+  names = refl;
+  stays = refl;
+  idle = record { accesses = omega arith; no_commands = refl };
+  counts = goes_on_still state.station.counters;
+}
+
+insert_taken : (state : State) (bay : ℕ) (name : List ℕ) → bay ≤ 1 → is_loaded state bay ≡ false → refusal_of state (request.Insert bay name) ≡ None
+insert_taken state bay name low empty = grind (arith, rules)
+
+-- an insert that got no image stops, and the state is as it was
+pub stops_loading : (state : State) (told told_after : Option Files) (bay : ℕ) (name : List ℕ) (ended : Stop) → bay ≤ 1 → is_loaded state bay ≡ false → ((bay : ℕ) → StopCause told (request.Insert bay name) ended) → told_after ≡ told → StopsAt state told (request.Insert bay name) ended state told_after
+stops_loading state told told_after bay name ended low empty cause files = record {
+  taken = insert_taken state bay name low empty;
+  cause = cause bay;
+  after = same_still state;
+  files = files;
+}
+
+-- a medium that was taken out, with its name, and was stored where the store went well
+pub stores_out : (result : Result (Unit {0}) Stop) (old new : State) (told told_after : Option Files) (bay : ℕ) (disk : Disk) (name : List ℕ) → (bay_of old.station bay).medium ≡ Some disk → in_bay old.names bay ≡ Some name → ChangesMedium old bay None None new → OnOk result (told_after ≡ stored told name (file_of disk)) → OnOk result (StoresMedium old told bay new told_after)
+stores_out (Ok u) old new told told_after bay disk name medium named changes kept = (disk, name, medium, named, changes, kept)
+stores_out (Err e) old new told told_after bay disk name medium named changes kept = tt
+
+-- the end of bay 1 stops the end of a run, or doesn't
+pub second_stops : (result : Result (Unit {0}) Stop) (old mid new : State) (told told_mid told_after : Option Files) → EndsBay old told 0 mid told_mid → IfErr result IsEndStop → OnErr result (ChangesMedium mid 1 None None new) → OnErr result (told_after ≡ told_mid) → IfErr result (λ stop. IsEndStop stop × EndStopsAt old told new told_after)
+second_stops (Ok u) old mid new told told_mid told_after first cause dropped files = tt
+second_stops (Err stop) old mid new told told_mid told_after first cause dropped files =
+    (cause, AtSecond mid (subst (λ (t : Option Files). EndsBay old told 0 mid t) (sym files) first) dropped)

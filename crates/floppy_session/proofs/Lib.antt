@@ -1,0 +1,5 @@
+pub mod Counts
+pub mod Endings
+pub mod Memories
+pub mod Named
+pub mod Pieces

@@ -1,0 +1,4 @@
+pub mod Blanks
+pub mod Loads
+pub mod Session
+pub mod Tries

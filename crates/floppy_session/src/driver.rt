@@ -1,0 +1,122 @@
+// The requests that are calls of the driver.
+ghost use Rattle.std.specs.Prelude.{◌≡◌, ◌≤◌, Option};
+ghost use Rattle.flop_base.specs.Shelf.{Files};
+ghost use Rattle.sector_model.specs.Stations.{bay_of};
+ghost use Rattle.sector_model.specs.Steps.{Step, reply_of, read_reply, standard_gap as standard_gap_of};
+
+use crate::session::Session;
+use flop_base::{Chrn, Code, Rate};
+use floppy_jobs::Request;
+use sector_model::{Reason, Reply, Station};
+
+/// The fill byte of the standard format.
+const FILL: u8 = 0xF6;
+
+impl<D: Station> Session<D> {
+    ghost use Rattle.floppy_session.specs.Session.{state_of, IsRunning};
+
+    /// Acknowledges a change of the medium.
+    pub(crate) fn ack(&mut self, bay: u8) -> Reply
+        requires { IsRunning D.shown D.is_ready self.old }
+        ensures step { (told : Option Files)
+            → Step (state_of D.shown self.old) told (Request.Ack bay) result (state_of D.shown self.new) told }
+        ensures running { IsRunning D.shown D.is_ready self.new }
+    {
+        reply(self.station.ack(bay))
+    }
+
+    /// Reads the record with this key to memory.
+    pub(crate) fn read(&mut self, bay: u8, key: Chrn, address: u32) -> Reply
+        requires { IsRunning D.shown D.is_ready self.old }
+        ensures step { (told : Option Files) → Step (state_of D.shown self.old) told (Request.Read bay key address)
+            result (state_of D.shown self.new) told }
+        ensures running { IsRunning D.shown D.is_ready self.new }
+    {
+        reply_to_read(self.station.read(bay, key, address))
+    }
+
+    /// Writes memory to the record with this key.
+    pub(crate) fn write(&mut self, bay: u8, key: Chrn, address: u32) -> Reply
+        requires { IsRunning D.shown D.is_ready self.old }
+        ensures step { (told : Option Files) → Step (state_of D.shown self.old) told (Request.Write bay key address)
+            result (state_of D.shown self.new) told }
+        ensures running { IsRunning D.shown D.is_ready self.new }
+    {
+        reply(self.station.write(bay, key, address, false))
+    }
+
+    /// Writes memory to the record with this key and marks it deleted.
+    pub(crate) fn write_deleted(&mut self, bay: u8, key: Chrn, address: u32) -> Reply
+        requires { IsRunning D.shown D.is_ready self.old }
+        ensures step { (told : Option Files) → Step (state_of D.shown self.old) told
+            (Request.WriteDeleted bay key address) result (state_of D.shown self.new) told }
+        ensures running { IsRunning D.shown D.is_ready self.new }
+    {
+        reply(self.station.write(bay, key, address, true))
+    }
+
+    /// Formats the track of this cylinder and head in the standard layout of the bay's rate.
+    pub(crate) fn format(&mut self, bay: u8, c: u8, h: u8) -> Reply
+        requires { IsRunning D.shown D.is_ready self.old }
+        ensures step { (told : Option Files) → Step (state_of D.shown self.old) told (Request.Format bay c h)
+            result (state_of D.shown self.new) told }
+        ensures running { IsRunning D.shown D.is_ready self.new }
+    {
+        let gap3 = self.standard_gap(bay);
+        reply(self.station.format(bay, c, h, gap3, FILL))
+    }
+
+    /// The gap 3 of the standard format at the rate of the bay.
+    fn standard_gap(&self, bay: u8) -> u8
+        ensures { result ≡ standard_gap_of (bay_of (state_of D.shown self.now).station bay).rate }
+    {
+        match self.station.rate(bay.min(1)) {
+            Rate::R500 => 0x6C,
+            Rate::R250 => 0x50,
+        }
+    }
+
+    /// Sets the data rate of the bay.
+    pub(crate) fn set_rate(&mut self, bay: u8, rate: Rate) -> Reply
+        requires { IsRunning D.shown D.is_ready self.old }
+        ensures step { (told : Option Files) → Step (state_of D.shown self.old) told (Request.SetRate bay rate)
+            result (state_of D.shown self.new) told }
+        ensures running { IsRunning D.shown D.is_ready self.new }
+    {
+        reply(self.station.set_rate(bay, rate))
+    }
+
+    /// Sets the number of attempts of the requests after it.
+    pub(crate) fn set_tries(&mut self, tries: u8) -> Reply
+        requires running { IsRunning D.shown D.is_ready self.old }
+        requires least { 1 ≤ tries }
+        requires most { tries ≤ 10 }
+        ensures step { (told : Option Files)
+            → Step (state_of D.shown self.old) told (Request.Tries tries) result (state_of D.shown self.new) told }
+        ensures running { IsRunning D.shown D.is_ready self.new }
+    {
+        self.station.set_tries(tries);
+        Reply::Done
+    }
+}
+
+/// The reply to a call of the driver.
+fn reply(called: Result<(), Code>) -> Reply
+    ensures { result ≡ reply_of called }
+{
+    match called {
+        Ok(()) => Reply::Done,
+        Err(code) => Reply::Refused(Reason::Driver(code)),
+    }
+}
+
+/// The reply to a read.
+fn reply_to_read(called: Result<bool, Code>) -> Reply
+    ensures { result ≡ read_reply called }
+{
+    match called {
+        Ok(true) => Reply::DoneDeleted,
+        Ok(false) => Reply::Done,
+        Err(code) => Reply::Refused(Reason::Driver(code)),
+    }
+}

@@ -1,0 +1,10 @@
+//! A session over a station: it runs the requests of a job, which move media between the bays and a shelf of images.
+#![tactic(auto)]
+
+mod driver;
+mod loading;
+mod media;
+mod memory;
+mod session;
+
+pub use session::Session;

@@ -1,0 +1,222 @@
+// The requests that exchange media and drives.
+ghost use Rattle.std.specs.Prelude.{◌≡◌, ◌≤◌, Option, false, true, IfOk, IfErr, OnOk, OnErr, IsErrOf, IsOkUnless};
+ghost use Rattle.flop_base.specs.Shelf.{Files, Rose};
+ghost use Rattle.sector_model.specs.Bays.{in_bay, with_bay};
+ghost use Rattle.sector_model.specs.States.{ChangesMedium};
+ghost use Rattle.sector_model.specs.Steps.{Step, StopsAt, StoresMedium, is_loaded, is_blank_request as is_blank_request_of, blank_of};
+ghost use Rattle.sector_model.specs.Runs.{EndsBay, IsEndStop};
+ghost use Rattle.floppy_session.specs.Blanks.{blank_request};
+
+use crate::loading::{load_medium, store_medium};
+use crate::session::{Session, bad_request};
+use flop_base::{Name, NoMemory, Rate, Shelf};
+use floppy_jobs::Request;
+use raw_image::Medium;
+use sector_model::{Reason, Reply, Station, Stop};
+use std::alloc::Global;
+
+impl<D: Station> Session<D> {
+    ghost use Rattle.floppy_session.specs.Session.{state_of, IsRunning};
+
+    /// Loads the image of this name and puts its medium in.
+    pub(crate) fn insert<S: Shelf>(
+        &mut self,
+        shelf: &mut S,
+        bay: u8,
+        name: &Name,
+    ) -> Result<Reply, Stop>
+        requires { IsRunning D.shown D.is_ready self.old }
+        ensures step { IfOk result (λ reply. Step (state_of D.shown self.old) (S.told shelf.old)
+            (Request.Insert bay name.now) reply (state_of D.shown self.new) (S.told shelf.new)) }
+        ensures stop { IfErr result (λ stop. StopsAt (state_of D.shown self.old) (S.told shelf.old)
+            (Request.Insert bay name.now) stop (state_of D.shown self.new) (S.told shelf.new)) }
+        ensures running { IsRunning D.shown D.is_ready self.new }
+        ensures fault { IsErrOf result Stop.FileFault
+            → Rose (S.fault_count shelf.old) (S.fault_count shelf.new) }
+        ensures never_falls { S.fault_count shelf.old ≤ S.fault_count shelf.new }
+    {
+        if bay > 1 {
+            return Ok(bad_request());
+        }
+        if self.station.is_loaded(bay) {
+            return Ok(Reply::Refused(Reason::Busy));
+        }
+        let medium = load_medium(self.alloc, shelf, name)?;
+        let name = Name::copy(self.alloc, name.as_str())?;
+        self.put_in(bay, name, medium);
+        Ok(Reply::Done)
+    }
+
+    /// Puts in a blank medium of this rate, to be stored under this name.
+    pub(crate) fn blank(
+        &mut self,
+        bay: u8,
+        name: &Name,
+        cylinders: u8,
+        rate: Rate,
+    ) -> Result<Reply, Stop>
+        requires { IsRunning D.shown D.is_ready self.old }
+        ensures step { IfOk result (λ reply. (told : Option Files) → Step (state_of D.shown self.old) told
+            (blank_request bay name.now cylinders rate) reply (state_of D.shown self.new) told) }
+        ensures stop { IfErr result (λ stop. (told : Option Files) → StopsAt (state_of D.shown self.old) told
+            (blank_request bay name.now cylinders rate) stop (state_of D.shown self.new) told) }
+        ensures memory { IsOkUnless result Stop.NoMemory }
+        ensures running { IsRunning D.shown D.is_ready self.new }
+    {
+        if !is_blank_request(bay, cylinders) {
+            return Ok(bad_request());
+        }
+        if self.station.is_loaded(bay) {
+            return Ok(Reply::Refused(Reason::Busy));
+        }
+        let medium = blank_medium(self.alloc, cylinders, rate)?;
+        let name = Name::copy(self.alloc, name.as_str())?;
+        self.put_in(bay, name, medium);
+        Ok(Reply::Done)
+    }
+
+    /// Puts a medium into an empty bay, to be stored under this name.
+    fn put_in(&mut self, bay: u8, name: Name, medium: Medium)
+        requires running { IsRunning D.shown D.is_ready self.old }
+        requires bay { bay ≤ 1 }
+        requires empty { is_loaded (state_of D.shown self.old) bay ≡ false }
+        ensures changes { ChangesMedium (state_of D.shown self.old) bay (Some name) (Some medium)
+            (state_of D.shown self.new) }
+        ensures running { IsRunning D.shown D.is_ready self.new }
+    {
+        match self.station.insert(bay, medium) {
+            Ok(()) => self.set_name(bay, name),
+            Err(_) => unreachable!(),
+        }
+    }
+
+    fn set_name(&mut self, bay: u8, name: Name)
+        ensures names { (state_of D.shown self.new).names
+            ≡ with_bay (state_of D.shown self.old).names bay (Some name) }
+        ensures station { self.new.station ≡ self.old.station }
+    {
+        if bay == 0 {
+            self.name0 = Some(name);
+        } else {
+            self.name1 = Some(name);
+        }
+    }
+
+    /// Takes the medium out and stores its image under its name.
+    pub(crate) fn eject<S: Shelf>(&mut self, shelf: &mut S, bay: u8) -> Result<Reply, Stop>
+        requires { IsRunning D.shown D.is_ready self.old }
+        ensures step { IfOk result (λ reply. Step (state_of D.shown self.old) (S.told shelf.old)
+            (Request.Eject bay) reply (state_of D.shown self.new) (S.told shelf.new)) }
+        ensures stop { IfErr result (λ stop. StopsAt (state_of D.shown self.old) (S.told shelf.old)
+            (Request.Eject bay) stop (state_of D.shown self.new) (S.told shelf.new)) }
+        ensures running { IsRunning D.shown D.is_ready self.new }
+        ensures fault { IsErrOf result Stop.FileFault
+            → Rose (S.fault_count shelf.old) (S.fault_count shelf.new) }
+        ensures never_falls { S.fault_count shelf.old ≤ S.fault_count shelf.new }
+    {
+        if bay > 1 {
+            return Ok(bad_request());
+        }
+        if !self.station.is_loaded(bay) {
+            return Ok(Reply::Refused(Reason::Empty));
+        }
+        self.take_out(shelf, bay)?;
+        Ok(Reply::Done)
+    }
+
+    /// Takes the medium out of a loaded bay and stores its image under its name. After a stop the medium is dropped.
+    fn take_out<S: Shelf>(&mut self, shelf: &mut S, bay: u8) -> Result<(), Stop>
+        requires running { IsRunning D.shown D.is_ready self.old }
+        requires bay { bay ≤ 1 }
+        requires loaded { is_loaded (state_of D.shown self.old) bay ≡ true }
+        ensures ok { OnOk result (StoresMedium (state_of D.shown self.old) (S.told shelf.old) bay
+            (state_of D.shown self.new) (S.told shelf.new)) }
+        ensures cause { IfErr result IsEndStop }
+        ensures dropped { OnErr result (ChangesMedium (state_of D.shown self.old) bay None None
+            (state_of D.shown self.new)) }
+        ensures err { OnErr result (S.told shelf.new ≡ S.told shelf.old) }
+        ensures ready { D.is_ready self.new.station }
+        ensures fault { IsErrOf result Stop.FileFault
+            → Rose (S.fault_count shelf.old) (S.fault_count shelf.new) }
+        ensures never_falls { S.fault_count shelf.old ≤ S.fault_count shelf.new }
+    {
+        let name = self.take_name(bay).unwrap();
+        let medium = self.station.eject(bay).unwrap();
+        store_medium(self.alloc, shelf, &name, &medium)
+    }
+
+    fn take_name(&mut self, bay: u8) -> Option<Name>
+        ensures name { result ≡ in_bay (state_of D.shown self.old).names bay }
+        ensures names { (state_of D.shown self.new).names
+            ≡ with_bay (state_of D.shown self.old).names bay None }
+        ensures station { self.new.station ≡ self.old.station }
+    {
+        if bay == 0 {
+            self.name0.take()
+        } else {
+            self.name1.take()
+        }
+    }
+
+    /// Takes the medium out of a bay, if one is in, and stores its image under its name.
+    pub(crate) fn end_bay<S: Shelf>(&mut self, shelf: &mut S, bay: u8) -> Result<(), Stop>
+        requires running { IsRunning D.shown D.is_ready self.old }
+        requires bay { bay ≤ 1 }
+        ensures ok { OnOk result (EndsBay (state_of D.shown self.old) (S.told shelf.old) bay
+            (state_of D.shown self.new) (S.told shelf.new)) }
+        ensures cause { IfErr result IsEndStop }
+        ensures dropped { OnErr result (ChangesMedium (state_of D.shown self.old) bay None None
+            (state_of D.shown self.new)) }
+        ensures err { OnErr result (S.told shelf.new ≡ S.told shelf.old) }
+        ensures running { IsRunning D.shown D.is_ready self.new }
+        ensures fault { IsErrOf result Stop.FileFault
+            → Rose (S.fault_count shelf.old) (S.fault_count shelf.new) }
+        ensures never_falls { S.fault_count shelf.old ≤ S.fault_count shelf.new }
+    {
+        if self.station.is_loaded(bay) {
+            self.take_out(shelf, bay)
+        } else {
+            Ok(())
+        }
+    }
+
+    /// Takes the next spare drive into the bay.
+    pub(crate) fn take_unit(&mut self, bay: u8) -> Reply
+        requires { IsRunning D.shown D.is_ready self.old }
+        ensures step { (told : Option Files)
+            → Step (state_of D.shown self.old) told (Request.Unit bay) result (state_of D.shown self.new) told }
+        ensures running { IsRunning D.shown D.is_ready self.new }
+    {
+        if bay > 1 {
+            return bad_request();
+        }
+        if self.station.is_loaded(bay) {
+            return Reply::Refused(Reason::Busy);
+        }
+        if self.station.take_unit(bay) {
+            Reply::Done
+        } else {
+            Reply::Refused(Reason::NoSpare)
+        }
+    }
+}
+
+/// Whether a blank medium of so many cylinders can be asked for in this bay.
+fn is_blank_request(bay: u8, cylinders: u8) -> bool
+    ensures { result ≡ is_blank_request_of bay cylinders }
+{
+    bay <= 1 && 1 <= cylinders && cylinders <= 80
+}
+
+/// A blank medium of two heads.
+fn blank_medium(alloc: Global, cylinders: u8, rate: Rate) -> Result<Medium, NoMemory>
+    requires least { 1 ≤ cylinders }
+    requires most { cylinders ≤ 80 }
+    ensures { IfOk result (λ medium. medium ≡ blank_of cylinders rate) }
+{
+    let words = match rate {
+        Rate::R500 => 12_500,
+        Rate::R250 => 6_250,
+    };
+    Medium::blank_at(alloc, cylinders, 2, words, rate)
+}

@@ -1,0 +1,75 @@
+// The requests on user memory.
+ghost use Rattle.std.specs.Prelude.{◌≡◌, ◌+◌, ◌≤◌, Option, IfOk, IfErr, IsOkUnless, nat_le};
+ghost use Rattle.flop_base.specs.Shelf.{Files};
+ghost use Rattle.sector_model.specs.Stations.{bytes_from};
+ghost use Rattle.sector_model.specs.Steps.{Step, StopsAt, Fills};
+
+use crate::session::{Session, bad_request};
+use flop_base::{Bytes, NoMemory};
+use floppy_jobs::Request;
+use sector_model::{Reply, Station, Stop};
+
+/// The bytes of user memory.
+const USER_BYTES: u32 = 983_040;
+
+impl<D: Station> Session<D> {
+    ghost use Rattle.floppy_session.specs.Session.{state_of, IsRunning};
+
+    /// Sets bytes of memory.
+    pub(crate) fn fill(&mut self, address: u32, length: u32, byte: u8) -> Reply
+        requires { IsRunning D.shown D.is_ready self.old }
+        ensures step { (told : Option Files) → Step (state_of D.shown self.old) told
+            (Request.Fill address length byte) result (state_of D.shown self.new) told }
+        ensures running { IsRunning D.shown D.is_ready self.new }
+    {
+        if !is_range(address, length) {
+            return bad_request();
+        }
+        self.fill_range(address, length, byte);
+        Reply::Done
+    }
+
+    fn fill_range(&mut self, address: u32, length: u32, byte: u8)
+        requires ready { D.is_ready self.old.station }
+        requires range { address + length ≤ 983040 }
+        ensures fills { Fills (state_of D.shown self.old) address length byte (state_of D.shown self.new) }
+        ensures ready { D.is_ready self.new.station }
+    {
+        for i in 0..length {
+            self.station.set_memory(address + i, byte);
+        }
+    }
+
+    /// The bytes of memory from the address on.
+    pub(crate) fn dump(&self, address: u32, length: u32) -> Result<Reply, Stop>
+        ensures step { IfOk result (λ reply. (told : Option Files) → Step (state_of D.shown self.now) told
+            (Request.Dump address length) reply (state_of D.shown self.now) told) }
+        ensures stop { IfErr result (λ stop. (told : Option Files) → StopsAt (state_of D.shown self.now) told
+            (Request.Dump address length) stop (state_of D.shown self.now) told) }
+        ensures memory { IsOkUnless result Stop.NoMemory }
+    {
+        if !is_range(address, length) {
+            return Ok(bad_request());
+        }
+        let content = self.bytes_from(address, length)?;
+        Ok(Reply::Bytes { address, content })
+    }
+
+    fn bytes_from(&self, address: u32, length: u32) -> Result<Bytes, NoMemory>
+        requires { address + length ≤ 983040 }
+        ensures { IfOk result (λ content. content ≡ bytes_from (state_of D.shown self.now).station.memory address length) }
+    {
+        let mut content = Vec::with_capacity(self.alloc, length as usize)?;
+        for i in 0..length {
+            content.push(self.station.memory(address + i))?;
+        }
+        Bytes::copy(self.alloc, &content)
+    }
+}
+
+/// Whether so many bytes from the address on lie in user memory.
+fn is_range(address: u32, length: u32) -> bool
+    ensures { result ≡ nat_le (address + length) 983040 }
+{
+    length <= USER_BYTES && address <= USER_BYTES - length
+}

@@ -1,0 +1,126 @@
+// A session: a station, and the names under which the media in its bays are stored.
+ghost use Rattle.std.specs.Prelude.{◌≡◌, ◌≤◌, IfOk, IfErr, OnOk, IsErrOf};
+ghost use Rattle.flop_base.specs.Shelf.{Rose};
+ghost use Rattle.sector_model.specs.Stations.{IsFresh};
+ghost use Rattle.sector_model.specs.States.{start_of};
+ghost use Rattle.sector_model.specs.Steps.{Step, StopsAt};
+ghost use Rattle.sector_model.specs.Runs.{Ends, EndStopsAt, IsEndStop};
+ghost use Rattle.floppy_session.specs.Tries.{HasTries};
+
+use flop_base::{Code, Name, Rate, Shelf};
+use floppy_jobs::Request;
+use sector_model::{Reason, Reply, Station, Stop};
+use std::alloc::Global;
+
+/// A session over a station, which runs requests one after the other.
+#[derive(Drop)]
+pub struct Session<D> {
+    pub(crate) alloc: Global,
+    pub(crate) station: D,
+    /// The name of the medium in bay 0.
+    pub(crate) name0: Option<Name>,
+    /// The name of the medium in bay 1.
+    pub(crate) name1: Option<Name>,
+}
+
+impl<D: Station> Session<D> {
+    ghost use Rattle.floppy_session.specs.Session.{state_of, IsRunning};
+
+    /// A session over a station that is as it comes.
+    pub fn new(alloc: Global, station: D) -> Session<D>
+        requires fresh { IsFresh (D.shown station) }
+        requires ready { D.is_ready station }
+        ensures start { state_of D.shown result ≡ start_of (D.shown station) }
+        ensures running { IsRunning D.shown D.is_ready result }
+    {
+        Session {
+            alloc,
+            station,
+            name0: None,
+            name1: None,
+        }
+    }
+
+    pub fn station(&self) -> &D
+        ensures { D.shown result.now ≡ (state_of D.shown self.now).station }
+    {
+        &self.station
+    }
+
+    /// The station alone. The names are dropped.
+    pub fn into_station(self) -> D
+        ensures shown { D.shown result ≡ (state_of D.shown self).station }
+        ensures ready { IsRunning D.shown D.is_ready self → D.is_ready result }
+    {
+        let Session { station, .. } = self;
+        station
+    }
+
+    /// Runs one request.
+    pub fn run<S: Shelf>(&mut self, shelf: &mut S, request: &Request) -> Result<Reply, Stop>
+        requires running { IsRunning D.shown D.is_ready self.old }
+        requires tries { HasTries request.now }
+        ensures step { IfOk result (λ reply. Step (state_of D.shown self.old) (S.told shelf.old) request.now reply
+            (state_of D.shown self.new) (S.told shelf.new)) }
+        ensures stop { IfErr result (λ stop. StopsAt (state_of D.shown self.old) (S.told shelf.old) request.now stop
+            (state_of D.shown self.new) (S.told shelf.new)) }
+        ensures running { IsRunning D.shown D.is_ready self.new }
+        ensures fault { IsErrOf result Stop.FileFault
+            → Rose (S.fault_count shelf.old) (S.fault_count shelf.new) }
+        ensures never_falls { S.fault_count shelf.old ≤ S.fault_count shelf.new }
+    {
+        match request {
+            Request::Insert { bay, name } => self.insert(shelf, *bay, name),
+            Request::Blank {
+                bay,
+                name,
+                cylinders,
+            } => self.blank(*bay, name, *cylinders, Rate::R500),
+            Request::BlankDd {
+                bay,
+                name,
+                cylinders,
+            } => self.blank(*bay, name, *cylinders, Rate::R250),
+            Request::Eject { bay } => self.eject(shelf, *bay),
+            Request::Ack { bay } => Ok(self.ack(*bay)),
+            Request::Read { bay, key, address } => Ok(self.read(*bay, *key, *address)),
+            Request::Write { bay, key, address } => Ok(self.write(*bay, *key, *address)),
+            Request::WriteDeleted { bay, key, address } => {
+                Ok(self.write_deleted(*bay, *key, *address))
+            }
+            Request::Format { bay, c, h } => Ok(self.format(*bay, *c, *h)),
+            Request::Fill {
+                address,
+                length,
+                byte,
+            } => Ok(self.fill(*address, *length, *byte)),
+            Request::Dump { address, length } => self.dump(*address, *length),
+            Request::Unit { bay } => Ok(self.take_unit(*bay)),
+            Request::SetRate { bay, rate } => Ok(self.set_rate(*bay, *rate)),
+            Request::Tries { tries } => Ok(self.set_tries(*tries)),
+        }
+    }
+
+    /// Ends a run: the medium of bay 0, and then that of bay 1, is taken out and stored under its name.
+    pub fn end<S: Shelf>(&mut self, shelf: &mut S) -> Result<(), Stop>
+        requires { IsRunning D.shown D.is_ready self.old }
+        ensures ends { OnOk result (Ends (state_of D.shown self.old) (S.told shelf.old) (state_of D.shown self.new)
+            (S.told shelf.new)) }
+        ensures stop { IfErr result (λ stop. IsEndStop stop × EndStopsAt (state_of D.shown self.old) (S.told shelf.old)
+            (state_of D.shown self.new) (S.told shelf.new)) }
+        ensures running { IsRunning D.shown D.is_ready self.new }
+        ensures fault { IsErrOf result Stop.FileFault
+            → Rose (S.fault_count shelf.old) (S.fault_count shelf.new) }
+        ensures never_falls { S.fault_count shelf.old ≤ S.fault_count shelf.new }
+    {
+        self.end_bay(shelf, 0)?;
+        self.end_bay(shelf, 1)
+    }
+}
+
+/// The refusal of a request that can't be asked for.
+pub(crate) fn bad_request() -> Reply
+    ensures { result ≡ Reply.Refused (Reason.Driver Code.BadRequest) }
+{
+    Reply::Refused(Reason::Driver(Code::BadRequest))
+}
