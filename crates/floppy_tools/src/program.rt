@@ -1,7 +1,9 @@
 // The top call.
-ghost use Rattle.std.specs.Prelude.{◌≡◌, ℕ, List, Option, None, map, string_bytes};
+ghost use Rattle.std.specs.Prelude.{◌≡◌, ◌≤◌, ◌+◌, ℕ, List, Option, Some, None, map, string_bytes};
 ghost use Rattle.flop_base.specs.Shelf.{Rose};
+ghost use Rattle.floppy_jobs.specs.declared.request.Request.{Request};
 ghost use Rattle.sector_model.specs.Bays.{Two};
+ghost use Rattle.sector_model.specs.Ties.{TiesCounts, IsJob, accesses_of_job};
 ghost use Rattle.sector_model.specs.Stations.{IsFresh};
 ghost use Rattle.sector_model.specs.States.{start_of};
 ghost use Rattle.floppy_session.specs.Session.{state_of, IsRunning};
@@ -33,6 +35,12 @@ pub fn floppy<S: Shelf, K: Sink, D: Station>(
         (world (start_of (D.shown station)) (S.told shelf.old) (K.told out.old))
         (world (record { station = D.shown result.1; names = names }) (S.told shelf.new) (K.told out.new))
         result.0 }
+    // The counts of the run are those that the station shows.
+    ensures counts { TiesCounts (D.shown station).counters (D.shown result.1).counters }
+    ensures accesses { (job : List ℕ) (requests : List Request)
+        → job_of (map string_bytes words.now) ≡ Some job → IsJob (S.told shelf.old) job requests
+        → (D.shown result.1).counters.direct
+        ≤ (D.shown station).counters.direct + accesses_of_job requests }
     // 2 exactly where the words are no form, also where nothing is told.
     ensures bad_words { result.0 ≡ Status.BadWords → job_of (map string_bytes words.now) ≡ None }
     ensures ready { D.is_ready result.1 }
@@ -58,6 +66,12 @@ fn perform<S: Shelf, K: Sink, D: Station>(
     ensures runs { Programs (map string_bytes words.now)
         (world (state_of D.shown session.old) (S.told shelf.old) (K.told out.old))
         (world (state_of D.shown session.new) (S.told shelf.new) (K.told out.new)) result }
+    ensures counts { TiesCounts (state_of D.shown session.old).station.counters
+        (state_of D.shown session.new).station.counters }
+    ensures accesses { (job : List ℕ) (requests : List Request)
+        → job_of (map string_bytes words.now) ≡ Some job → IsJob (S.told shelf.old) job requests
+        → (state_of D.shown session.new).station.counters.direct
+        ≤ (state_of D.shown session.old).station.counters.direct + accesses_of_job requests }
     ensures bad_words { result ≡ Status.BadWords → job_of (map string_bytes words.now) ≡ None }
     ensures running { IsRunning D.shown D.is_ready session.new }
     ensures shelf_fault { result ≡ Status.FileFault

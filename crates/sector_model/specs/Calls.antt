@@ -1,5 +1,5 @@
 -- The other calls of a station: acknowledgement, rate, attempts, media, drives, memory.
-use Rattle.std.specs.Prelude.{◌≡◌, ℕ, ◌-◌, ◌≤◌, List, ◌∷◌, length, slice_set, Option, Some, None, IsSome, Result, Ok, Err, IsOk, IsErr, IfErr, MatchOption, MatchBool, IfSome, drop, Bool, true, false, if◌then◌else◌, not, ◌⊎◌}
+use Rattle.std.specs.Prelude.{◌≡◌, ℕ, ◌+◌, ◌-◌, ◌<◌, ◌≤◌, List, ◌∷◌, length, slice_set, Option, Some, None, IsSome, Result, Ok, Err, IsOk, IsErr, IfErr, MatchOption, MatchBool, IfSome, drop, Bool, true, false, if◌then◌else◌, not, ◌⊎◌}
 use Rattle.flop_base.specs.declared.answers.Rate.{Rate}
 use Rattle.flop_base.specs.declared.answers.Rate.TheVariants.{R500, R250}
 use Rattle.flop_base.specs.declared.answers.Code.{Code}
@@ -8,7 +8,7 @@ use Rattle.raw_image.specs.Disk.{Disk, track_of}
 use Rattle.track_model.specs.Fields.{IsAddress}
 use Rattle.track_model.specs.Sectors.{IsClear}
 use Rattle.sector_model.specs.Bays.{in_bay}
-use Rattle.sector_model.specs.Counters.{Counters, FaultsRoseBy, FaultsRoseLess, IsDriven, IsPastDriver, GoesOn}
+use Rattle.sector_model.specs.Counters.{Counters, last_count, FaultsRoseBy, FaultsRoseLess, IsDriven, IsPastDriver, GoesOn}
 use Rattle.sector_model.specs.Stations.{StationState, Bay, Becomes, Stays, bay_of, set_bay, fresh_bay}
 use Rattle.sector_model.specs.Orders.{is_bay, rate_refusal, IsRefusedAtOnce}
 
@@ -93,7 +93,8 @@ pub record TakesSpare (old : Counters) (bay : ℕ) (new : Counters) : Type 0 whe
   pub other : in_bay new.faults (1 - bay) ≡ in_bay old.faults (1 - bay)
   pub other_left : in_bay new.left (1 - bay) ≡ in_bay old.left (1 - bay)
   pub spares : (left : Option ℕ) × (old.spares_left ≡ left ∷ new.spares_left)
-      × MatchOption left (in_bay new.left bay ≡ None) (λ most. (rest : ℕ) × (in_bay new.left bay ≡ Some rest) × (rest ≤ most))
+      × MatchOption left (in_bay new.left bay ≡ None) (λ most. (rest : ℕ) × (in_bay new.left bay ≡ Some rest) × (rest ≤ most)
+      × (in_bay new.faults bay + rest < last_count))
   pub stalls : new.stalls ≡ old.stalls
   pub stalls_left : new.stalls_left ≡ old.stalls_left
   pub taken : new.taken ≡ old.taken

@@ -1,5 +1,5 @@
 -- What the counters of a station show, and how far they rise in a call.
-use Rattle.std.specs.Prelude.{◌≡◌, ℕ, ◌+◌, ◌-◌, ◌<◌, ◌≤◌, min, List, [], ◌∷◌, Option, Some, None}
+use Rattle.std.specs.Prelude.{◌≡◌, ℕ, ◌+◌, ◌-◌, ◌<◌, ◌≤◌, min, List, [], ◌∷◌, Option, Some, None, IfSome}
 use Rattle.sector_model.specs.Bays.{Two, in_bay}
 
 pub record Counters : Type 0 where
@@ -74,6 +74,16 @@ pub record SpendsLeft (old new : Counters) : Type 0 where
   pub second : Spends old.faults.second old.left.second new.faults.second new.left.second
   pub spares : new.spares_left ≡ old.spares_left
   pub stalls : new.stalls + new.stalls_left ≤ old.stalls + old.stalls_left
+
+-- what is left of a count is told only where the count can't reach its last value
+abbrev pub CanTell : ℕ → Option ℕ → Type 0
+CanTell count left = IfSome left (λ most. count + most < last_count)
+
+-- so it is with all counts that tell what is left
+pub record TellsLeft (counters : Counters) : Type 0 where
+  pub first : CanTell counters.faults.first counters.left.first
+  pub second : CanTell counters.faults.second counters.left.second
+  pub stalls : counters.stalls + counters.stalls_left < last_count
 
 -- how counts go on in a call that exchanges no drive
 pub record GoesOn (old new : Counters) : Type 0 where

@@ -5,7 +5,7 @@ use Rattle.flop_base.specs.declared.answers.Rate.{Rate}
 use Rattle.flop_base.specs.declared.answers.Rate.TheVariants.{R500, R250}
 use Rattle.raw_image.specs.Disk.{Disk, track_of}
 use Rattle.sector_model.specs.Bays.{Two, both, in_bay, with_bay}
-use Rattle.sector_model.specs.Counters.{Counters, last_count}
+use Rattle.sector_model.specs.Counters.{Counters, TellsLeft, last_count}
 
 pub record Bay : Type 0 where
   pub medium : Option Disk
@@ -55,6 +55,7 @@ pub record IsFresh (station : StationState) : Type 0 where
   pub memory : station.memory ≡ zeroes user_bytes
   pub tries : station.tries ≡ 3
   pub spares : length station.counters.spares_left ≡ station.spares
+  pub tells : TellsLeft station.counters
 
 -- the bytes of memory from an address on
 abbrev pub bytes_from : List ℕ → ℕ → ℕ → List ℕ

@@ -6,6 +6,3 @@ returns-in-Ok-clause-breaks g c = AtPut c.in-Ok.reply c.in-Ok.ensures.step c.in-
 
 pub returns-clause-breaks : goal.returns-clause-breaks
 returns-clause-breaks g c = AtStop c.in-Err.stop c.in-Err.ensures.stop c.put_last.ensures.prints
-
-pub run-requires-clause-stub : goal.run-requires-clause-stub
-run-requires-clause-stub g c = ?

@@ -1,0 +1,2 @@
+pub mod PlayTies
+pub mod Ties
