@@ -21,6 +21,8 @@ use Rattle.sector_model.specs.Texts.{reply_text, stop_text, stop_status, is_refu
 use Rattle.sector_model.specs.Runs.{Run}
 use Rattle.sector_model.specs.Plays.{World, PlaysRequests, Played, Stopped, CutOff, EndStopped, Prints, IsText, Plays, There, Missing, TooLong, Faulty, Starved}
 use Rattle.floppy_tools.specs.Turns.{world, IsTurn, HasRun, Breaks, AtStop, AtPut, EndsAs, InWhole, AtStore, PlaysOrStarves, AsParsed, Starving, Misses}
+use Rattle.sector_model.specs.Ties.{IsJob, accesses_of_job}
+use Rattle.sector_model.proofs.PlayTies.{play_accesses}
 use Rattle.floppy_tools.proofs.DumpLines.{grown-twice, grown-nothing}
 
 or-false : (b : Bool) → (b || false) ≡ (false || b)
@@ -157,3 +159,9 @@ as_missed None state report after job load.TooLong ended loads missed = TooLong 
 as_missed (Some files) state report after job load.TooLong ended loads missed = TooLong loads (record { state = refl; files = refl; prints = missed })
 as_missed told state report after job load.Failed ended loads missed = Faulty (record { same = ap (world state told) missed.0; status = missed.1 })
 as_missed told state report after job load.NoMemory ended loads missed = Starved (record { same = ap (world state told) missed.0; status = missed.1 })
+
+-- the accesses of a play, by the requests of the job that the words name
+pub named_accesses : (old new : World) (named : Option (List ℕ)) (job other : List ℕ) (ended : Status) (requests : List Request) → named ≡ Some job → named ≡ Some other → Plays old job new ended → IsJob old.files other requests → new.state.station.counters.direct ≤ old.state.station.counters.direct + accesses_of_job requests
+named_accesses old new named job other ended requests is too plays spells =
+    let same : job ≡ other = cc in
+    (play_accesses old new other ended requests (subst (λ (j : List ℕ). Plays old j new ended) same plays) spells).accesses
