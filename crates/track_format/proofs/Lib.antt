@@ -1,5 +1,6 @@
 mod Asked
 mod Found
+mod Laid
 mod Parts
 mod Placed
 mod Read

@@ -11,7 +11,7 @@ use Rattle.track_model.specs.LaidFields.{HasLaidFields, IsKey, HasEndRoom}
 use Rattle.track_format.proofs.Placed.{address_is, content_is}
 use Rattle.track_format.proofs.Found.{plain, look, only, spaced, regular}
 
-no_key : Chrn
+pub no_key : Chrn
 no_key = record { c = 0; h = 0; r = 0; n = 0 }
 
 module _ (keys : List Chrn) (n gap3 fill words : ℕ) (fits : Fits keys n gap3 words) where

@@ -9,7 +9,7 @@ use Rattle.track_model.specs.declared.symbol.Symbol.{Symbol}
 use Rattle.track_model.specs.declared.symbol.Symbol.TheVariants.{Byte, Key, Mark}
 use Rattle.track_model.specs.Marks.{IsRun}
 use Rattle.track_model.specs.Layouts.{gap, sync, marks, check_symbols, recorded, field_symbols, before_sectors, address_content, data_content, sector_symbols, sectors_symbols}
-use Rattle.track_model.proofs.Recorded.{AreMarks, AreWords, run_at_word, recorded_words, length-recorded, get_or-recorded, symbol_behind, mark_symbol}
+use Rattle.track_model.proofs.Recorded.{AreMarks, AreWords, Nowhere, run_at_word, recorded_words, length-recorded, get_or-recorded, symbol_behind, mark_symbol}
 use Rattle.track_format.proofs.Parts.{filler, in_sync, in_symbols, in_high, in_low, in_gap, start_gap_4a, start_sync, start_marks, start_byte, start_gap_1}
 use Rattle.track_format.proofs.Tracked.{sector_words, all_symbols, length-all, at_start, at_end_gap, at_address, at_data}
 
@@ -219,8 +219,8 @@ module _ (size gap3 fill : ℕ) (keys : List Chrn) (d : Chrn) (words : ℕ) (fit
       (others-append before_sectors (sectors_symbols size gap3 fill keys) others-start (others-sectors size gap3 fill keys))
       (others-replicate words filler others-filler)))
 
-  pub are_words : AreWords false track
-  are_words = recorded_words false symbols are_marks
+  pub are_words : (Seam : ℕ → Type 0) → AreWords Seam false track
+  are_words Seam = recorded_words Seam false symbols are_marks
 
   pub length-track : length track ≡ words
   length-track = length-recorded false symbols ∙ length-all size gap3 fill keys d words fits
@@ -295,7 +295,7 @@ module _ (size gap3 fill : ℕ) (keys : List Chrn) (d : Chrn) (words : ℕ) (fit
   -- every run is in front of an address field's bytes or a data field's
   pub run_place : (p : ℕ) → IsRun track p → (k i : ℕ) × (p ≡ 16 * k) × (i < length keys) × ((k ≡ start i + 12) ⊎ (k ≡ start i + 56))
   run_place p run =
-      let found = run_at_word false track p are_words run in
+      let found = run_at_word Nowhere false track (are_words Nowhere) (λ k one two three. one) p run in
       let k = found.0 in
       let here = found.1 in
       let last_inside = word_inside (k + 2) here.third in

@@ -1,7 +1,11 @@
-// What is read on a formatted track.
-ghost use Rattle.std.specs.Prelude.{◌≡◌, ◌≢◌, ◌≤◌, ℕ, length, All, AllPairs};
+// What is read on a formatted track, and what a torn write leaves of one.
+ghost use Rattle.std.specs.Prelude.{◌≡◌, ◌≢◌, ◌≤◌, ◌↔◌, ℕ, length, All, AllPairs};
+ghost use Rattle.flop_base.specs.declared.key.Chrn.{Chrn};
+ghost use Rattle.track_model.specs.Fields.{IsAddressAt};
 ghost use Rattle.track_model.specs.Layouts.{lay, Fits};
 ghost use Rattle.track_model.specs.LaidFields.{HasLaidFields, IsKey, HasEndRoom};
+ghost use Rattle.track_model.specs.Windows.{HasFieldFor, IsTidy};
+ghost use Rattle.track_model.specs.Laid.{IsLaid};
 ghost use Rattle.track_model.specs.Regular.{IsSpaced, IsRegular};
 ghost use Rattle.track_model.specs.Sectors.{IsPlain};
 
@@ -24,4 +28,23 @@ pub fn lay_reads(_keys: &[Chrn], _n: u8, _gap3: u8, _fill: u8, _words: usize)
     ensures regular { (c h : ℕ) → HasEndRoom (length _keys.now) _n _gap3 _words
         → AllPairs (λ a b. a ≢ b) _keys.now → All (λ key. (key.c ≡ c) × (key.h ≡ h)) _keys.now
         → IsRegular (lay _keys.now _n _gap3 _fill _words) c h }
+{}
+
+/// On a Laid track, a regular formatted track or what comes from one by whole windows, no write at the place of an
+/// address field brings up an address mark, however short it stops.
+#[tactic(auto, using(crate::proofs::Laid::laid_tidy))]
+pub fn laid_is_tidy(_words: &[u16], _place: usize, _deleted: bool, _content: &[u8])
+    requires laid { IsLaid _words.now }
+    requires field { HasFieldFor _words.now _place _content.now }
+    ensures { IsTidy _words.now _place _deleted _content.now }
+{}
+
+/// A Laid track keeps the distances of its sectors and is regular, for the cylinder and head of its keys. Its address
+/// fields are those of the formatted track that it comes from.
+pub fn laid_is_regular(_words: &[u16])
+    requires { IsLaid _words.now }
+    ensures spaced { IsSpaced _words.now }
+    ensures regular { (c h : ℕ) × IsRegular _words.now c h }
+    ensures addresses { (laid : IsLaid _words.now) (q : ℕ) (key : Chrn)
+        → IsAddressAt laid.formatted q key ↔ IsAddressAt _words.now q key }
 {}

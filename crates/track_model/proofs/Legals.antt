@@ -207,7 +207,7 @@ byte_at-legal last bytes p k e h fits =
     ∙ ap (λ j. bit_at (get_or bytes k 0) (7 - j)) place)
 
 -- the last bit of bytes, or the bit before them where there are none
-pub last_of : Bool → List ℕ → Bool
+unfoldable pub last_of : Bool → List ℕ → Bool
 last_of last [] = last
 last_of last (byte ∷ rest) = last_of (last_bit byte) rest
 

@@ -1,3 +1,4 @@
+pub mod Aligned
 mod ByteRows
 mod CrcBits
 mod CrcRegister
@@ -7,6 +8,7 @@ pub mod Cuts
 pub mod EmptyWindow
 pub mod Frames
 pub mod Kept
+pub mod Laid
 pub mod Legals
 pub mod Numbers
 pub mod OwnField
@@ -19,4 +21,5 @@ pub mod Spans
 pub mod Splices
 pub mod Unique
 pub mod WindowMarks
+pub mod WindowWords
 pub mod Written

@@ -1,4 +1,5 @@
 -- On a recorded track, every run of marks A1 is three words 4489 at word boundaries.
+-- A word may be a seam: its byte was recorded after another bit than the one that now stands before it.
 use Rattle.std.proofs.Common.{◌≡◌, ℕ, zero, suc, ◌+◌, ◌-◌, ◌*◌, ◌/◌, ◌%◌, ◌^◌, ◌<◌, ◌≤◌, Bool, true, false, cond, eqb, List, [], ◌∷◌, length, get_or, refl, sym, ap, ◌∙◌, ◌⊎◌, lit<, lit≤, arith, inl, inr}
 use Rattle.std.proofs.lemmas.Bool.{agree_below_at, eq-eqb, eqb-true, ne_eqb, cond-true, cases_eq, cases_lt}
 use Rattle.std.proofs.lemmas.List.{get_or_past}
@@ -19,17 +20,31 @@ abbrev pub byte_word : Bool → ℕ → ℕ
 byte_word last byte = get_or (legal last (byte ∷ [])) 0 0
 
 -- the last bit before word k, `first` before the first
-pub bit_behind : Bool → List ℕ → ℕ → Bool
+unfoldable pub bit_behind : Bool → List ℕ → ℕ → Bool
 bit_behind first track zero = first
 bit_behind first track (suc k) = eqb (get_or track k 0 % 2) 1
 
--- a word of a recorded track: a mark, or a byte after the last bit of the word before
-abbrev pub IsWord : Bool → List ℕ → ℕ → Type 0
-IsWord first track k =
-    (get_or track k 0 ≡ 0x4489) ⊎ ((get_or track k 0 ≡ 0x5224) ⊎ ((byte : ℕ) × (get_or track k 0 ≡ byte_word (bit_behind first track k) byte)))
+-- the word of a byte after the last bit of the word before, at a seam after any bit
+pub record IsByteWord (Seam : ℕ → Type 0) (first : Bool) (track : List ℕ) (k : ℕ) : Type 0 where
+  pub last : Bool
+  pub byte : ℕ
+  pub is : get_or track k 0 ≡ byte_word last byte
+  pub in_line : (last ≡ bit_behind first track k) ⊎ Seam k
 
-abbrev pub AreWords : Bool → List ℕ → Type 0
-AreWords first track = (k : ℕ) → k < length track → IsWord first track k
+-- a word of a recorded track: a mark or a byte
+abbrev pub IsWord : (ℕ → Type 0) → Bool → List ℕ → ℕ → Type 0
+IsWord Seam first track k = (get_or track k 0 ≡ 0x4489) ⊎ ((get_or track k 0 ≡ 0x5224) ⊎ IsByteWord Seam first track k)
+
+abbrev pub AreWords : (ℕ → Type 0) → Bool → List ℕ → Type 0
+AreWords Seam first track = (k : ℕ) → k < length track → IsWord Seam first track k
+
+-- no word is a seam
+abbrev pub Nowhere : ℕ → Type 0
+Nowhere k = ⊥
+
+-- of three words one after the other some word is no seam
+abbrev pub AreSparse : (ℕ → Type 0) → Type 0
+AreSparse Seam = (k : ℕ) → Seam k → Seam (k + 1) → Seam (k + 2) → ⊥
 
 -- ---- three cells 0 about a clock cell
 
@@ -116,9 +131,9 @@ behind_zero first track e (suc j) place later before =
     let bit = sym (cell_in track (e - 1) j 15 low (lit< tt) ∙ bit_at_lowest (get_or track j 0)) ∙ before in
     ne_eqb (get_or track j 0 % 2) 1 (λ z. omega (arith, bit, z))
 
--- so a lost clock tells the mark that it stands in
-pub lost_mark : (first : Bool) (track : List ℕ) (e k c : ℕ) → AreWords first track → k < length track → e ≡ 16 * k + c → c < 16 → IsLost track e → ((c ≡ 10) × (get_or track k 0 ≡ 0x4489)) ⊎ ((c ≡ 8) × (get_or track k 0 ≡ 0x5224))
-lost_mark first track e k c words within place small lost =
+-- so a lost clock tells the mark that it stands in, or is the first cell of a seam
+pub lost_mark : (Seam : ℕ → Type 0) (first : Bool) (track : List ℕ) (e k c : ℕ) → AreWords Seam first track → k < length track → e ≡ 16 * k + c → c < 16 → IsLost track e → ((c ≡ 10) × (get_or track k 0 ≡ 0x4489)) ⊎ (((c ≡ 8) × (get_or track k 0 ≡ 0x5224)) ⊎ ((c ≡ 0) × Seam k))
+lost_mark Seam first track e k c words within place small lost =
     elim (words k within) [
       | inl mark ↦
           elim (cases_eq c 0) [
@@ -136,10 +151,19 @@ lost_mark first track e k c words within place small lost =
                 let zero_bit = lost.after in absurd (omega arith)
             | inr some ↦
                 let found = sym (lost_in_C2 c small) ∙ ap (λ w. is_lost w c) (sym mark) ∙ lost_within track e k c place small (omega arith) lost in
-                inr (eqb-true c 8 found, mark)
+                inr (inl (eqb-true c 8 found, mark))
           ]
-      | inr (inr (byte, is)) ↦
-          absurd (not_lost_in_byte track e k c byte (bit_behind first track k) place small is (λ none before. behind_zero first track e k (omega arith) lost.later before) lost)
+      | inr (inr word) ↦
+          elim word.in_line [
+            | inl same ↦
+                absurd (not_lost_in_byte track e k c word.byte word.last place small word.is (λ none before. same ∙ behind_zero first track e k (omega arith) lost.later before) lost)
+            | inr seam ↦
+                elim (cases_eq c 0) [
+                  | inl none ↦ inr (inr (none, seam))
+                  | inr some ↦
+                      absurd (not_lost_in_byte track e k c word.byte word.last place small word.is (λ none before. absurd (some none)) lost)
+                ]
+          ]
     ]
 
 -- ---- runs
@@ -191,74 +215,107 @@ pub record IsRunAtWord (track : List ℕ) (p k : ℕ) : Type 0 where
   pub second : get_or track (k + 1) 0 ≡ 0x4489
   pub third : get_or track (k + 2) 0 ≡ 0x4489
 
-the_mark : (first : Bool) (track : List ℕ) (e k : ℕ) → AreWords first track → k < length track → e ≡ 16 * k + 10 → IsLost track e → get_or track k 0 ≡ 0x4489
-the_mark first track e k words within place lost =
-    elim (lost_mark first track e k 10 words within place (lit< tt) lost) [ inl found ↦ found.1 | inr found ↦ absurd (let f = found.0 in omega (arith, f)) ]
+module _ (Seam : ℕ → Type 0) (first : Bool) (track : List ℕ) (words : AreWords Seam first track) where
+  the_mark : (e k : ℕ) → k < length track → e ≡ 16 * k + 10 → IsLost track e → get_or track k 0 ≡ 0x4489
+  the_mark e k within place lost =
+      elim (lost_mark Seam first track e k 10 words within place (lit< tt) lost) [
+        | inl found ↦ found.1
+        | inr (inl found) ↦ absurd (let f = found.0 in omega (arith, f))
+        | inr (inr found) ↦ absurd (let f = found.0 in omega (arith, f))
+      ]
 
-even_run : (first : Bool) (track : List ℕ) (p : ℕ) → AreWords first track → IsRun track p → p % 2 ≡ 0 → (k : ℕ) × IsRunAtWord track p k
-even_run first track p words run even =
-    let k = (p + 10) / 16 in
-    let c = (p + 10) % 16 in
-    let inside = run_inside track p run in
-    let place : p + 10 ≡ 16 * k + c = omega arith in
-    elim (lost_mark first track (p + 10) k c words (omega arith) place (omega arith) (lost_even track p (p + 10) even refl run.first)) [
-      | inl found ↦
-          let at_ten = found.0 in
-          let start : p ≡ 16 * k = omega (arith, at_ten) in
-          let two : p + 26 ≡ 16 * (k + 1) + 10 = omega arith in
-          let three : p + 42 ≡ 16 * (k + 2) + 10 = omega arith in (
-            k,
-            record {
-              place = start;
-              first = found.1;
-              second = the_mark first track (p + 26) (k + 1) words (omega arith) two (lost_even track (p + 16) (p + 26) (omega arith) (omega arith) run.second);
-              third = the_mark first track (p + 42) (k + 2) words (omega arith) three (lost_even track (p + 32) (p + 42) (omega arith) (omega arith) run.third);
-            },
-          )
-      | inr found ↦
-          let at_eight = found.0 in
-          let here : p + 3 ≡ 16 * k + 1 = omega (arith, at_eight) in
-          let one = cell_in track (p + 3) k 1 here (lit< tt) ∙ ap (λ w. bit_at w 14) found.1 in
-          let none = mark_cell track p 3 run.first (lit< tt) in
-          absurd (let f : 0 ≡ 1 = sym none ∙ one in omega (arith, f))
-    ]
+  the_seam : (e k : ℕ) → k < length track → e ≡ 16 * k → IsLost track e → Seam k
+  the_seam e k within place lost =
+      elim (lost_mark Seam first track e k 0 words within (omega arith) (lit< tt) lost) [
+        | inl found ↦ absurd (let f = found.0 in omega (arith, f))
+        | inr (inl found) ↦ absurd (let f = found.0 in omega (arith, f))
+        | inr (inr found) ↦ found.1
+      ]
 
-odd_run : (first : Bool) (track : List ℕ) (p : ℕ) → AreWords first track → IsRun track p → p % 2 ≡ 1 → ⊥
-odd_run first track p words run odd =
-    let k = (p + 3) / 16 in
-    let c = (p + 3) % 16 in
-    let inside = run_inside track p run in
-    let place : p + 3 ≡ 16 * k + c = omega arith in
-    let next = lost_odd track (p + 16) (p + 19) (omega arith) (omega arith) run.second in
-    elim (lost_mark first track (p + 3) k c words (omega arith) place (omega arith) (lost_odd track p (p + 3) odd refl run.first)) [
-      | inl found ↦
-          let at_ten = found.0 in
-          let two : p + 19 ≡ 16 * (k + 1) + 10 = omega (arith, at_ten) in
-          let mark = the_mark first track (p + 19) (k + 1) words (omega arith) two next in
-          let here : p + 10 ≡ 16 * (k + 1) + 1 = omega arith in
-          let one = cell_in track (p + 10) (k + 1) 1 here (lit< tt) ∙ ap (λ w. bit_at w 14) mark in
-          let none = mark_cell track p 10 run.first (lit< tt) in
-          let f : 0 ≡ 1 = sym none ∙ one in omega (arith, f)
-      | inr found ↦
-          let at_eight = found.0 in
-          let two : p + 19 ≡ 16 * (k + 1) + 8 = omega (arith, at_eight) in
-          elim (lost_mark first track (p + 19) (k + 1) 8 words (omega arith) two (lit< tt) next) [
-            | inl other ↦ let f = other.0 in omega (arith, f)
-            | inr other ↦
-                let here : p + 15 ≡ 16 * (k + 1) + 4 = omega arith in
-                let none = cell_in track (p + 15) (k + 1) 4 here (lit< tt) ∙ ap (λ w. bit_at w 11) other.1 in
-                let one = mark_cell track p 15 run.first (lit< tt) in
-                let f : 1 ≡ 0 = sym one ∙ none in omega (arith, f)
-          ]
-    ]
+  module _ (sparse : AreSparse Seam) where
+    -- no run has its lost clocks in seams
+    no_seams : (e k : ℕ) → k + 2 < length track → e ≡ 16 * k → IsLost track e → IsLost track (e + 16) → IsLost track (e + 32) → ⊥
+    no_seams e k within place one two three =
+        sparse k (the_seam e k (omega arith) place one) (the_seam (e + 16) (k + 1) (omega arith) (omega arith) two) (the_seam (e + 32) (k + 2) within (omega arith) three)
 
--- every run on a recorded track is three marks at a word boundary
-pub run_at_word : (first : Bool) (track : List ℕ) (p : ℕ) → AreWords first track → IsRun track p → (k : ℕ) × IsRunAtWord track p k
-run_at_word first track p words run =
-    elim (cases_eq (p % 2) 0) [
-      | inl even ↦ even_run first track p words run even
-      | inr odd ↦ absurd (odd_run first track p words run (omega arith))
-    ]
+    even_run : (p : ℕ) → IsRun track p → p % 2 ≡ 0 → (k : ℕ) × IsRunAtWord track p k
+    even_run p run even =
+        let k = (p + 10) / 16 in
+        let c = (p + 10) % 16 in
+        let inside = run_inside track p run in
+        let place : p + 10 ≡ 16 * k + c = omega arith in
+        let one = lost_even track p (p + 10) even refl run.first in
+        let two = lost_even track (p + 16) (p + 10 + 16) (omega arith) (omega arith) run.second in
+        let three = lost_even track (p + 32) (p + 10 + 32) (omega arith) (omega arith) run.third in
+        elim (lost_mark Seam first track (p + 10) k c words (omega arith) place (omega arith) one) [
+          | inl found ↦
+              let at_ten = found.0 in
+              let start : p ≡ 16 * k = omega (arith, at_ten) in
+              let to : p + 10 + 16 ≡ 16 * (k + 1) + 10 = omega arith in
+              let further : p + 10 + 32 ≡ 16 * (k + 2) + 10 = omega arith in (
+                k,
+                record {
+                  place = start;
+                  first = found.1;
+                  second = the_mark (p + 10 + 16) (k + 1) (omega arith) to two;
+                  third = the_mark (p + 10 + 32) (k + 2) (omega arith) further three;
+                },
+              )
+          | inr (inl found) ↦
+              let at_eight = found.0 in
+              let here : p + 3 ≡ 16 * k + 1 = omega (arith, at_eight) in
+              let bit = cell_in track (p + 3) k 1 here (lit< tt) ∙ ap (λ w. bit_at w 14) found.1 in
+              let none = mark_cell track p 3 run.first (lit< tt) in
+              absurd (let f : 0 ≡ 1 = sym none ∙ bit in omega (arith, f))
+          | inr (inr found) ↦
+              let at_zero = found.0 in
+              let start : p + 10 ≡ 16 * k = omega (arith, at_zero) in
+              absurd (no_seams (p + 10) k (omega arith) start one two three)
+        ]
+
+    odd_run : (p : ℕ) → IsRun track p → p % 2 ≡ 1 → ⊥
+    odd_run p run odd =
+        let k = (p + 3) / 16 in
+        let c = (p + 3) % 16 in
+        let inside = run_inside track p run in
+        let place : p + 3 ≡ 16 * k + c = omega arith in
+        let one = lost_odd track p (p + 3) odd refl run.first in
+        let two = lost_odd track (p + 16) (p + 3 + 16) (omega arith) (omega arith) run.second in
+        let three = lost_odd track (p + 32) (p + 3 + 32) (omega arith) (omega arith) run.third in
+        elim (lost_mark Seam first track (p + 3) k c words (omega arith) place (omega arith) one) [
+          | inl found ↦
+              let at_ten = found.0 in
+              let to : p + 3 + 16 ≡ 16 * (k + 1) + 10 = omega (arith, at_ten) in
+              let mark = the_mark (p + 3 + 16) (k + 1) (omega arith) to two in
+              let here : p + 10 ≡ 16 * (k + 1) + 1 = omega arith in
+              let bit = cell_in track (p + 10) (k + 1) 1 here (lit< tt) ∙ ap (λ w. bit_at w 14) mark in
+              let none = mark_cell track p 10 run.first (lit< tt) in
+              let f : 0 ≡ 1 = sym none ∙ bit in omega (arith, f)
+          | inr (inl found) ↦
+              let at_eight = found.0 in
+              let to : p + 3 + 16 ≡ 16 * (k + 1) + 8 = omega (arith, at_eight) in
+              elim (lost_mark Seam first track (p + 3 + 16) (k + 1) 8 words (omega arith) to (lit< tt) two) [
+                | inl other ↦ let f = other.0 in omega (arith, f)
+                | inr (inl other) ↦
+                    let here : p + 15 ≡ 16 * (k + 1) + 4 = omega arith in
+                    let none = cell_in track (p + 15) (k + 1) 4 here (lit< tt) ∙ ap (λ w. bit_at w 11) other.1 in
+                    let bit = mark_cell track p 15 run.first (lit< tt) in
+                    let f : 1 ≡ 0 = sym bit ∙ none in omega (arith, f)
+                | inr (inr other) ↦ let f = other.0 in omega (arith, f)
+              ]
+          | inr (inr found) ↦
+              let at_zero = found.0 in
+              let start : p + 3 ≡ 16 * k = omega (arith, at_zero) in
+              no_seams (p + 3) k (omega arith) start one two three
+        ]
+
+    -- every run on a recorded track is three marks at a word boundary
+    pub run_at_word : (p : ℕ) → IsRun track p → (k : ℕ) × IsRunAtWord track p k
+    run_at_word p run =
+        elim (cases_eq (p % 2) 0) [
+          | inl even ↦ even_run p run even
+          | inr odd ↦ absurd (odd_run p run (omega arith))
+        ]
 
 -- ---- the words of symbols
 
@@ -284,7 +341,7 @@ get_or-recorded first (symbol ∷ rest) (suc zero) h = get_or-recorded (symbol_b
 get_or-recorded first (symbol ∷ rest) (suc (suc k)) h = get_or-recorded (symbol_bit symbol) rest (suc k) (omega arith)
 
 -- the last bit of a word is that of its symbol
-byte_word_bit : (last : Bool) (byte : ℕ) → eqb (byte_word last byte % 2) 1 ≡ last_bit byte
+pub byte_word_bit : (last : Bool) (byte : ℕ) → eqb (byte_word last byte % 2) 1 ≡ last_bit byte
 byte_word_bit last byte =
     let bytes = byte ∷ [] in
     let words = legal last bytes in
@@ -308,15 +365,21 @@ symbol_word last (Byte byte) marks = inr (inr (byte, refl))
 symbol_word last (Key byte) marks = inr (inr (byte, refl))
 symbol_word last (Mark cells) marks = elim (marks cells refl) [ inl e ↦ inl e | inr e ↦ inr (inl e) ]
 
-pub recorded_words : (first : Bool) (symbols : List Symbol) → AreMarks symbols → AreWords first (recorded first symbols)
-recorded_words first symbols marks k h =
+pub recorded_words : (Seam : ℕ → Type 0) (first : Bool) (symbols : List Symbol) → AreMarks symbols → AreWords Seam first (recorded first symbols)
+recorded_words Seam first symbols marks k h =
     let within : k < length symbols = omega (arith, length-recorded first symbols) in
     let last = symbol_behind first symbols k in
     let is = get_or-recorded first symbols k within in
     elim (symbol_word last (get_or symbols k (Byte 0)) (marks k)) [
       | inl e ↦ inl (is ∙ e)
       | inr (inl e) ↦ inr (inl (is ∙ e))
-      | inr (inr (byte, e)) ↦ inr (inr (byte, is ∙ e ∙ ap (λ b. byte_word b byte) (sym (bit_behind-recorded first symbols k within))))
+      | inr (inr (byte, e)) ↦
+          inr (inr (record {
+            last = last;
+            byte = byte;
+            is = is ∙ e;
+            in_line = inl (sym (bit_behind-recorded first symbols k within));
+          }))
     ]
 
 -- the byte of a symbol's word
@@ -346,7 +409,7 @@ word_byte last (Key byte) small = byte_word_byte last byte small
 word_byte last (Mark cells) small = refl
 
 -- the byte at a word boundary
-byte_at_word : (track : List ℕ) (p k : ℕ) → p ≡ 16 * k → byte_at track p ≡ byte_at (get_or track k 0 ∷ []) 0
+pub byte_at_word : (track : List ℕ) (p k : ℕ) → p ≡ 16 * k → byte_at track p ≡ byte_at (get_or track k 0 ∷ []) 0
 byte_at_word track p k e =
     number_ext (λ i. cell track (p + (2 * i + 1))) (λ i. cell (get_or track k 0 ∷ []) (0 + (2 * i + 1))) 8
     (λ i l.

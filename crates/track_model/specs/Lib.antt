@@ -11,3 +11,4 @@ pub mod Regular
 pub mod Kept
 pub mod Layouts
 pub mod LaidFields
+pub mod Laid

@@ -4,6 +4,8 @@ ghost use Rattle.track_model.specs.Cells.{IsInside};
 ghost use Rattle.track_model.specs.Marks.{IsAddressMark};
 ghost use Rattle.track_model.specs.Fields.{IsAddressAt, content_at, content_size};
 ghost use Rattle.track_model.specs.Looks.{LookAt, LookFor};
+ghost use Rattle.track_model.specs.Windows.{HasFieldFor};
+ghost use Rattle.track_model.specs.Laid.{IsRegularLay, with_window, IsLaid};
 ghost use Rattle.track_model.specs.Sectors.{IsClear, IsPlain, IsSector, IsUnder};
 
 use crate::Look;
@@ -54,4 +56,19 @@ pub fn plain_is_clear(_words: &[u16], _place: usize)
     requires plain { IsPlain _words.now }
     requires mark { IsAddressMark _words.now _place }
     ensures { IsClear _words.now _place }
+{}
+
+/// A regular formatted track is Laid.
+#[tactic(auto, using(crate::proofs::Laid::lay_laid))]
+pub fn lay_is_laid(_words: &[u16], _keys: &[Chrn], _n: u8, _gap3: u8, _fill: u8, _count: usize)
+    requires { IsRegularLay _words.now _keys.now _n _gap3 _fill _count }
+    ensures { IsLaid _words.now }
+{}
+
+/// A Laid track stays Laid where a whole window is put at the place of an address field, whose size its content has.
+#[tactic(auto, using(crate::proofs::Laid::written_laid))]
+pub fn written_is_laid(_words: &[u16], _place: usize, _deleted: bool, _content: &[u8])
+    requires laid { IsLaid _words.now }
+    requires field { HasFieldFor _words.now _place _content.now }
+    ensures { IsLaid (with_window _words.now _place _deleted _content.now) }
 {}

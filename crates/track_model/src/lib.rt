@@ -7,7 +7,8 @@ mod symbol;
 
 use flop_base::Chrn;
 pub use laws::{
-    found_is_sector, key_is_one, look_at_is_one, look_is_one, plain_is_clear, sector_is_under,
+    found_is_sector, key_is_one, lay_is_laid, look_at_is_one, look_is_one, plain_is_clear,
+    sector_is_under, written_is_laid,
 };
 pub use symbol::Symbol;
 
