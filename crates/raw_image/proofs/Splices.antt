@@ -148,7 +148,7 @@ module _ (d : Disk) (c h start : ℕ) (words : List ℕ) (valid : IsDisk d) (eac
     heads = refl;
     rate = refl;
     words_per_track = refl;
-    track = part_of-spliced d.words (track_start d c h) d.words_per_track start words within inside;
+    has = part_of-spliced d.words (track_start d c h) d.words_per_track start words within inside;
     others = others_kept;
   }
 

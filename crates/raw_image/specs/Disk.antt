@@ -46,13 +46,13 @@ blank_disk cylinders heads words rate = record {
 abbrev pub with_word : Disk → ℕ → ℕ → ℕ → ℕ → Disk
 with_word d c h place word = record d { words = slice_set d.words (track_start d c h + place) word }
 
--- the medium after the track of a cylinder and a head became these words, and nothing else changed
-pub record IsWithTrack (d : Disk) (c h : ℕ) (words : List ℕ) (after : Disk) : Type 0 where
+-- `after` is the disk with these words as its track of a cylinder and head, and otherwise as it was
+pub record IsWithTrack (d : Disk) (c h : ℕ) (track : List ℕ) (after : Disk) : Type 0 where
   pub valid : IsDisk after
   pub protected : after.protected ≡ d.protected
   pub cylinders : after.cylinders ≡ d.cylinders
   pub heads : after.heads ≡ d.heads
   pub rate : after.rate ≡ d.rate
   pub words_per_track : after.words_per_track ≡ d.words_per_track
-  pub track : track_of after c h ≡ words
+  pub has : track_of after c h ≡ track
   pub others : (b g : ℕ) → HasTrack d b g → (b ≡ c → g ≡ h → ⊥) → track_of after b g ≡ track_of d b g

@@ -1,0 +1,122 @@
+-- The other calls of a station: acknowledgement, rate, attempts, media, drives, memory.
+use Rattle.std.specs.Prelude.{◌≡◌, ℕ, ◌-◌, ◌≤◌, List, ◌∷◌, length, slice_set, Option, Some, None, IsSome, Result, Ok, Err, IsOk, IsErr, IfErr, MatchOption, MatchBool, IfSome, drop, Bool, true, false, if◌then◌else◌, not, ◌⊎◌}
+use Rattle.flop_base.specs.declared.answers.Rate.{Rate}
+use Rattle.flop_base.specs.declared.answers.Rate.TheVariants.{R500, R250}
+use Rattle.flop_base.specs.declared.answers.Code.{Code}
+use Rattle.flop_base.specs.declared.answers.Code.TheVariants.{BadRequest, NotReady}
+use Rattle.raw_image.specs.Disk.{Disk, track_of}
+use Rattle.track_model.specs.Fields.{IsAddress}
+use Rattle.track_model.specs.Sectors.{IsClear}
+use Rattle.sector_model.specs.Bays.{in_bay}
+use Rattle.sector_model.specs.Counters.{Counters, FaultsRoseBy, FaultsRoseLess, IsDriven, IsPastDriver, GoesOn}
+use Rattle.sector_model.specs.Stations.{StationState, Bay, Becomes, Stays, bay_of, set_bay, fresh_bay}
+use Rattle.sector_model.specs.Orders.{is_bay, rate_refusal, IsRefusedAtOnce}
+
+-- the track of cylinder 0 and head 0 has a Clear address field
+abbrev pub HasClearStart : Disk → Type 0
+HasClearStart disk = (p : ℕ) × IsClear (track_of disk 0 0) p × IsAddress (track_of disk 0 0) p
+
+-- that track has no address field
+abbrev pub HasNoStart : Disk → Type 0
+HasNoStart disk = (p : ℕ) → IsAddress (track_of disk 0 0) p → ⊥
+
+-- a bay was acknowledged: its drive's count is kept, and its rate comes from the track of cylinder 0 and head 0
+pub record IsAcknowledged (old : StationState) (bay : ℕ) (new : StationState) : Type 0 where
+  pub disk : Disk
+  pub rate : Rate
+  pub medium : (bay_of old bay).medium ≡ Some disk
+  pub becomes : Becomes (set_bay old bay (record {
+    medium = Some disk;
+    acknowledged = Some (in_bay new.counters.faults bay);
+    rate = rate;
+  })) new
+  pub double : rate ≡ R250 → disk.rate ≡ R250
+  pub told : FaultsRoseLess 3 bay old.counters new.counters → HasClearStart disk → rate ≡ disk.rate
+  pub untold : FaultsRoseLess 3 bay old.counters new.counters → HasNoStart disk → rate ≡ R500
+
+-- a bay could not be acknowledged: no medium is in, or its drive lost pulse after pulse
+pub record IsUnready (old : StationState) (bay : ℕ) (code : Code) (new : StationState) : Type 0 where
+  pub unready : code ≡ NotReady
+  pub cause : ((bay_of old bay).medium ≡ None) ⊎ FaultsRoseBy 3 bay old.counters new.counters
+  pub becomes : Becomes (set_bay old bay (fresh_bay (bay_of old bay).medium)) new
+
+-- an acknowledgement that reached the drive
+pub record AcksDrive (old : StationState) (bay : ℕ) (answer : Result (Unit {0}) Code) (new : StationState) : Type 0 where
+  pub done : IsOk answer → IsAcknowledged old bay new
+  pub refused : IfErr answer (λ code. IsUnready old bay code new)
+  pub driven : IsDriven 6 old.counters new.counters
+
+-- the step of an acknowledgement
+abbrev pub Acks : StationState → ℕ → Result (Unit {0}) Code → StationState → Type 0
+Acks old bay answer new =
+    MatchBool (is_bay bay) (AcksDrive old bay answer new) (IsRefusedAtOnce old BadRequest answer new)
+
+-- the rate of a bay was set
+pub record SetsRate (old : StationState) (bay : ℕ) (rate : Rate) (answer : Result (Unit {0}) Code) (new : StationState) : Type 0 where
+  pub done : IsOk answer
+  pub becomes : Becomes (set_bay old bay (record (bay_of old bay) { rate = rate })) new
+  pub idle : IsDriven 0 old.counters new.counters
+
+-- the step of a change of the rate
+abbrev pub RatesTo : StationState → ℕ → Rate → Result (Unit {0}) Code → StationState → Type 0
+RatesTo old bay rate answer new =
+    MatchOption (rate_refusal old bay) (SetsRate old bay rate answer new) (λ code. IsRefusedAtOnce old code answer new)
+
+-- the number of attempts was set
+pub record SetsTries (old : StationState) (tries : ℕ) (new : StationState) : Type 0 where
+  pub becomes : Becomes (record old { tries = tries }) new
+  pub idle : IsDriven 0 old.counters new.counters
+
+-- a call past the driver that changed nothing
+pub record IsUnmoved (old new : StationState) : Type 0 where
+  pub stays : Stays old new
+  pub access : IsPastDriver 1 old.counters new.counters
+
+-- a medium was put in, or taken out
+pub record Exchanges (old : StationState) (bay : ℕ) (medium : Option Disk) (new : StationState) : Type 0 where
+  pub becomes : Becomes (set_bay old bay (fresh_bay medium)) new
+  pub access : IsPastDriver 1 old.counters new.counters
+
+-- a medium is put in where none is; else it is given back
+abbrev pub Inserts : StationState → ℕ → Disk → Result (Unit {0}) Disk → StationState → Type 0
+Inserts old bay disk (Ok _) new = ((bay_of old bay).medium ≡ None) × Exchanges old bay (Some disk) new
+Inserts old bay disk (Err back) new = IsSome (bay_of old bay).medium × (back ≡ disk) × IsUnmoved old new
+
+-- the medium is taken out, if one is in
+pub record Ejects (old : StationState) (bay : ℕ) (answer : Option Disk) (new : StationState) : Type 0 where
+  pub medium : answer ≡ (bay_of old bay).medium
+  pub exchanged : IsSome answer → Exchanges old bay None new
+  pub unmoved : answer ≡ None → IsUnmoved old new
+
+-- how counters go on where the drive of a bay is exchanged for the next spare
+pub record TakesSpare (old : Counters) (bay : ℕ) (new : Counters) : Type 0 where
+  pub other : in_bay new.faults (1 - bay) ≡ in_bay old.faults (1 - bay)
+  pub other_left : in_bay new.left (1 - bay) ≡ in_bay old.left (1 - bay)
+  pub spares : (left : Option ℕ) × (old.spares_left ≡ left ∷ new.spares_left)
+      × MatchOption left (in_bay new.left bay ≡ None) (λ most. (rest : ℕ) × (in_bay new.left bay ≡ Some rest) × (rest ≤ most))
+  pub stalls : new.stalls ≡ old.stalls
+  pub stalls_left : new.stalls_left ≡ old.stalls_left
+  pub taken : new.taken ≡ old.taken
+
+-- the drive of a bay was exchanged for the next spare; the old one is dropped, with the medium in it
+pub record IsExchanged (old : StationState) (bay : ℕ) (new : StationState) : Type 0 where
+  pub becomes : Becomes (record (set_bay old bay (fresh_bay None)) { spares = old.spares - 1 }) new
+  pub some : 1 ≤ old.spares
+  pub counts : TakesSpare old.counters bay new.counters
+  pub access : IsPastDriver 1 old.counters new.counters
+
+-- no spare is left
+pub record HasNoSpare (old new : StationState) : Type 0 where
+  pub none : old.spares ≡ 0
+  pub stays : Stays old new
+  pub access : IsPastDriver 0 old.counters new.counters
+  pub counts : GoesOn old.counters new.counters
+
+-- the next spare takes a drive's place, if one is left
+abbrev pub TakesUnit : StationState → ℕ → Bool → StationState → Type 0
+TakesUnit old bay taken new = MatchBool taken (IsExchanged old bay new) (HasNoSpare old new)
+
+-- a byte of user memory was set
+pub record SetsMemory (old : StationState) (address byte : ℕ) (new : StationState) : Type 0 where
+  pub becomes : Becomes (record old { memory = slice_set old.memory address byte }) new
+  pub access : IsPastDriver 1 old.counters new.counters

@@ -1,0 +1,110 @@
+-- A format of a track.
+use Rattle.std.specs.Prelude.{◌≡◌, ◌↔◌, ℕ, ◌+◌, ◌*◌, ◌≤◌, List, [], ◌∷◌, length, take, All, Option, Some, None, Result, IsOk, IfErr, MatchOption}
+use Rattle.flop_base.specs.declared.key.Chrn.{Chrn}
+use Rattle.flop_base.specs.declared.answers.Rate.{Rate}
+use Rattle.flop_base.specs.declared.answers.Code.{Code}
+use Rattle.flop_base.specs.declared.answers.Code.TheVariants.{NoMark, NotFound, Overrun, BadCrc, Seek}
+use Rattle.raw_image.specs.Disk.{Disk, HasTrack, track_of, IsWithTrack}
+use Rattle.track_model.specs.Layouts.{lay, Fits}
+use Rattle.track_model.specs.Windows.{with_words}
+use Rattle.sector_map.specs.Failing.{sectors_at, track_keys}
+use Rattle.sector_model.specs.Counters.{RoseBy, IsFaultless, IsUndisturbed, DisturbedLess, FaultsRoseBy, IsDriven}
+use Rattle.sector_model.specs.Stations.{StationState, Becomes, bay_of, set_bay}
+use Rattle.sector_model.specs.Orders.{format_refusal, IsRefusedAtOnce, IsDeviceRefusal}
+use Rattle.sector_model.specs.Reads.{spoilable}
+
+-- what is asked of a format: records from 1 on of 512 bytes, as many as the rate has, for a cylinder and a head
+pub record Format : Type 0 where
+  pub c : ℕ
+  pub h : ℕ
+  pub rate : Rate
+  pub gap3 : ℕ
+  pub fill : ℕ
+
+-- its keys
+abbrev pub format_keys : Format → List Chrn
+format_keys format = track_keys (sectors_at format.rate) format.c format.h
+
+-- the formatted track of so many words, or its beginning where the sectors don't fit
+abbrev pub formatted : Format → ℕ → List ℕ
+formatted format words = lay (format_keys format) 2 format.gap3 format.fill words
+
+-- a format of a track: of which cylinder, and how many of its first words stand
+pub record Laying : Type 0 where
+  pub cylinder : ℕ
+  pub words : ℕ
+
+-- the disk `after` comes from a laying: a track of the head with the first words of the layout
+pub record IsLaying (format : Format) (disk : Disk) (laying : Laying) (after : Disk) : Type 0 where
+  pub track : HasTrack disk laying.cylinder format.h
+  pub most : laying.words ≤ disk.words_per_track
+  pub laid : IsWithTrack disk laying.cylinder format.h
+      (with_words (track_of disk laying.cylinder format.h) 0 (take laying.words (formatted format disk.words_per_track))) after
+
+-- one after the other
+abbrev pub LaysDisk : Format → Disk → List Laying → Disk → Type 0
+LaysDisk format disk [] after = after ≡ disk
+LaysDisk format disk (laying ∷ later) after =
+    (next : Disk) × IsLaying format disk laying next × LaysDisk format next later after
+
+-- what formats may have made of the medium in a bay
+abbrev pub Lays : Format → Option Disk → List Laying → Option Disk → Type 0
+Lays format (Some disk) layings (Some after) = LaysDisk format disk layings after
+Lays format (Some disk) layings None = ⊥
+Lays format None layings medium = (layings ≡ []) × (medium ≡ None)
+
+-- the medium has the track, at the rate of the bay, and the sectors fit on it
+pub record CanFormat (format : Format) (disk : Disk) : Type 0 where
+  pub track : HasTrack disk format.c format.h
+  pub rate : disk.rate ≡ format.rate
+  pub fits : Fits (format_keys format) 2 format.gap3 disk.words_per_track
+
+-- the medium in the bay can be formatted so
+abbrev pub IsFormattable : Format → Option Disk → Type 0
+IsFormattable format medium = (disk : Disk) × (medium ≡ Some disk) × CanFormat format disk
+
+-- the track after a format at the rate of the medium: the layout, or its beginning where it doesn't fit
+abbrev pub IsFormatted : Format → Option Disk → Option Disk → Type 0
+IsFormatted format before after =
+    (disk : Disk) → before ≡ Some disk → HasTrack disk format.c format.h → disk.rate ≡ format.rate
+    → (formatted_disk : Disk) × (after ≡ Some formatted_disk)
+    × (track_of formatted_disk format.c format.h ≡ formatted format disk.words_per_track)
+
+-- a format that met no such track, or one of another rate, changed nothing
+abbrev pub IsUnformatted : Format → Option Disk → Option Disk → Type 0
+IsUnformatted format before after =
+    ((disk : Disk) → before ≡ Some disk → HasTrack disk format.c format.h → disk.rate ≡ format.rate → ⊥) → after ≡ before
+
+-- why a format was refused by the drive
+pub record IsFormatCause (format : Format) (medium : Option Disk) (bay : ℕ) (code : Code) (old new : StationState) : Type 0 where
+  pub device : IsDeviceRefusal code
+  pub undisturbed : IsUndisturbed bay old.counters new.counters → code ≡ NoMark
+  pub overrun : code ≡ Overrun → RoseBy 1 old.counters.stalls new.counters.stalls
+  pub lost : code ≡ Seek → FaultsRoseBy 77 bay old.counters new.counters
+  pub never : IsFormattable format medium → DisturbedLess (spoilable old.tries) bay old.counters new.counters → ⊥
+
+-- a format that reached the drive: all that it changes is the medium in the bay, by a few layouts from the index on
+pub record FormatsDrive (format : Format) (bay : ℕ) (answer : Result (Unit {0}) Code) (old new : StationState) : Type 0 where
+  pub layings : List Laying
+  pub few : length layings ≤ old.tries
+  pub lays : Lays format (bay_of old bay).medium layings (bay_of new bay).medium
+  pub only : IsFaultless bay old.counters new.counters → All (λ laying. laying.cylinder ≡ format.c) layings
+  pub becomes : Becomes (set_bay old bay (record (bay_of old bay) { medium = (bay_of new bay).medium })) new
+  pub exactly : IsUndisturbed bay old.counters new.counters
+      → IsOk answer ↔ IsFormattable format (bay_of old bay).medium
+  pub begun : IsUndisturbed bay old.counters new.counters
+      → IsFormatted format (bay_of old bay).medium (bay_of new bay).medium
+  pub untouched : IsUndisturbed bay old.counters new.counters
+      → IsUnformatted format (bay_of old bay).medium (bay_of new bay).medium
+  pub commands : IsOk answer → RoseBy (1 + sectors_at format.rate) old.counters.data_commands new.counters.data_commands
+  pub formatted_track : IsOk answer → IsFaultless bay old.counters new.counters
+      → IsFormattable format (bay_of old bay).medium × IsFormatted format (bay_of old bay).medium (bay_of new bay).medium
+  pub refused : IfErr answer (λ code. IsFormatCause format (bay_of old bay).medium bay code old new)
+  pub driven : IsDriven (old.tries * (1 + sectors_at format.rate)) old.counters new.counters
+
+-- the step of a format
+abbrev pub FormatsTo : StationState → ℕ → ℕ → ℕ → ℕ → ℕ → Result (Unit {0}) Code → StationState → Type 0
+FormatsTo old bay c h gap3 fill answer new =
+    MatchOption (format_refusal old bay c h gap3)
+    (FormatsDrive (record { c = c; h = h; rate = (bay_of old bay).rate; gap3 = gap3; fill = fill }) bay answer old new)
+    (λ code. IsRefusedAtOnce old code answer new)

@@ -1,0 +1,13 @@
+pub mod Bays
+pub mod Counters
+pub mod Stations
+pub mod Orders
+pub mod Reads
+pub mod Writes
+pub mod Formats
+pub mod Calls
+pub mod States
+pub mod Steps
+pub mod Texts
+pub mod Runs
+pub mod Plays

@@ -1,0 +1,137 @@
+-- Plays: a job is read, run and told, up to its end or to what stops it, with the status of the run.
+use Rattle.std.specs.Prelude.{◌≡◌, ◌<◌, ◌≤◌, ℕ, Bool, List, ◌∷◌, ◌++◌, length, Option, None, Result, Ok, Err, IfSome, IsSomeAnd, if◌then◌else◌, ◌⊎◌}
+use Rattle.flop_base.specs.Shelf.{Files, file_at}
+use Rattle.flop_base.specs.Sink.{grown, GrowsByPart}
+use Rattle.flop_base.specs.declared.answers.Status.{Status}
+use Rattle.flop_base.specs.declared.answers.Status.TheVariants as status
+use Rattle.floppy_jobs.specs.Texts.{job_of}
+use Rattle.floppy_jobs.specs.declared.request.Request.{Request}
+use Rattle.sector_model.specs.declared.reply.Reply.{Reply}
+use Rattle.sector_model.specs.declared.reply.Stop.{Stop}
+use Rattle.sector_model.specs.States.{State}
+use Rattle.sector_model.specs.Steps.{Step, StopsAt, IsAbsent, IsLonger}
+use Rattle.sector_model.specs.Texts.{reply_text, stop_text, stop_status, bad_line_text, absent_text}
+use Rattle.sector_model.specs.Runs.{Run, Ends, EndStopsAt, IsEndStop}
+
+-- all that a play may change: the state of its session, the told files, and the told report
+pub record World : Type 0 where
+  pub state : State
+  pub files : Option Files
+  pub report : Option (List ℕ)
+
+-- the statuses of a put that failed
+abbrev pub IsPutFault : Status → Type 0
+IsPutFault status.NoMemory = Unit {0}
+IsPutFault status.SinkFault = Unit {0}
+IsPutFault _ = ⊥
+
+-- a last line was put, and the status is the wanted one; or it couldn't be put whole
+pub data Prints (report : Option (List ℕ)) (line : List ℕ) (wanted : Status) (after : Option (List ℕ)) (ended : Status) : Type 0 where
+  Whole : after ≡ grown report line → ended ≡ wanted → Prints report line wanted after ended
+  Part : GrowsByPart report line after → IsPutFault ended → Prints report line wanted after ended
+
+-- nothing was done but to print a line
+pub record Tells (old : World) (line : List ℕ) (wanted : Status) (new : World) (ended : Status) : Type 0 where
+  pub state : new.state ≡ old.state
+  pub files : new.files ≡ old.files
+  pub prints : Prints old.report line wanted new.report ended
+
+-- nothing was done
+pub record IsIdle (old new : World) (cause ended : Status) : Type 0 where
+  pub same : new ≡ old
+  pub status : ended ≡ cause
+
+-- the status of a run to the end
+abbrev pub whole_status : Bool → Status
+whole_status refused = if refused then status.SomeRefused else status.AllOk
+
+-- all requests were run and told, and the media that were left in were stored
+pub record IsPlayed (old : World) (requests : List Request) (new : World) (ended : Status) : Type 0 where
+  pub text : List ℕ
+  pub refused : Bool
+  pub mid : State
+  pub files : Option Files
+  pub run : Run old.state old.files requests text refused mid files
+  pub stored : Ends mid files new.state new.files
+  pub report : new.report ≡ grown old.report text
+  pub status : ended ≡ whole_status refused
+
+-- a request stopped the run, after all before it were run and told
+pub record IsStopped (old : World) (requests : List Request) (new : World) (ended : Status) : Type 0 where
+  pub before : List Request
+  pub asked : Request
+  pub later : List Request
+  pub all : requests ≡ before ++ asked ∷ later
+  pub text : List ℕ
+  pub refused : Bool
+  pub mid : State
+  pub files : Option Files
+  pub cause : Stop
+  pub run : Run old.state old.files before text refused mid files
+  pub stops : StopsAt mid files asked cause new.state new.files
+  pub prints : Prints (grown old.report text) (stop_text cause) (stop_status cause) new.report ended
+
+-- a request was run, after all before it were run and told, and its answer couldn't be told whole
+pub record IsCutOff (old : World) (requests : List Request) (new : World) (ended : Status) : Type 0 where
+  pub before : List Request
+  pub asked : Request
+  pub later : List Request
+  pub all : requests ≡ before ++ asked ∷ later
+  pub text : List ℕ
+  pub refused : Bool
+  pub mid : State
+  pub files : Option Files
+  pub answer : Reply
+  pub run : Run old.state old.files before text refused mid files
+  pub step : Step mid files asked answer new.state new.files
+  pub part : GrowsByPart (grown old.report text) (reply_text asked answer) new.report
+  pub fault : IsPutFault ended
+
+-- all requests were run and told, and the end couldn't store what was left in
+pub record IsEndStopped (old : World) (requests : List Request) (new : World) (ended : Status) : Type 0 where
+  pub text : List ℕ
+  pub refused : Bool
+  pub mid : State
+  pub files : Option Files
+  pub cause : Stop
+  pub run : Run old.state old.files requests text refused mid files
+  pub only : IsEndStop cause
+  pub stops : EndStopsAt mid files new.state new.files
+  pub report : new.report ≡ grown old.report text
+  pub status : ended ≡ stop_status cause
+
+-- how the requests of a job are played
+pub data PlaysRequests (old : World) (requests : List Request) (new : World) (ended : Status) : Type 0 where
+  Played : IsPlayed old requests new ended → PlaysRequests old requests new ended
+  Stopped : IsStopped old requests new ended → PlaysRequests old requests new ended
+  CutOff : IsCutOff old requests new ended → PlaysRequests old requests new ended
+  EndStopped : IsEndStopped old requests new ended → PlaysRequests old requests new ended
+
+-- a text in the grammar of jobs has requests, and any other a first bad line
+abbrev pub PlaysParsed : World → Result (List Request) ℕ → World → Status → Type 0
+PlaysParsed old (Ok requests) new ended = PlaysRequests old requests new ended
+PlaysParsed old (Err line) new ended = Tells old (bad_line_text line) status.BadJob new ended
+
+-- the most bytes of a job's text
+abbrev pub most_job_bytes : ℕ
+most_job_bytes = 4194304
+
+-- the told file of this name has this text
+abbrev pub IsText : Option Files → List ℕ → List ℕ → Type 0
+IsText told name text =
+    IfSome told (λ files. IsSomeAnd (file_at files name) (λ bytes. (bytes ≡ text) × (length bytes ≤ most_job_bytes)))
+
+-- a job's text is there, and is played as it is parsed
+pub record PlaysText (old : World) (job : List ℕ) (new : World) (ended : Status) : Type 0 where
+  pub text : List ℕ
+  pub told : IsText old.files job text
+  pub plays : PlaysParsed old (job_of text) new ended
+
+-- how a job is played: its text is there; no file has its name; the file is too long; the shelf failed; or memory
+-- couldn't be had before the first request
+pub data Plays (old : World) (job : List ℕ) (new : World) (ended : Status) : Type 0 where
+  There : PlaysText old job new ended → Plays old job new ended
+  Missing : IsAbsent old.files job → Tells old (absent_text job) status.Absent new ended → Plays old job new ended
+  TooLong : IsLonger old.files job most_job_bytes → Tells old (bad_line_text 0) status.BadJob new ended → Plays old job new ended
+  Faulty : IsIdle old new status.FileFault ended → Plays old job new ended
+  Starved : IsIdle old new status.NoMemory ended → Plays old job new ended

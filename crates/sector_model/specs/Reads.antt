@@ -1,0 +1,90 @@
+-- A read of a sector to memory.
+use Rattle.std.specs.Prelude.{◌≡◌, ℕ, ◌-◌, Bool, List, max, Option, Some, Result, IfOk, IfErr, MatchOption, ◌⊎◌}
+use Rattle.flop_base.specs.declared.key.Chrn.{Chrn}
+use Rattle.flop_base.specs.declared.answers.Code.{Code}
+use Rattle.flop_base.specs.declared.answers.Code.TheVariants.{NoMark, NotFound, Overrun, BadCrc, Seek}
+use Rattle.raw_image.specs.Disk.{Disk, HasTrack, track_of}
+use Rattle.track_model.specs.declared.Look.{Look}
+use Rattle.track_model.specs.declared.Look.TheVariants as look
+use Rattle.track_model.specs.Fields.{IsAddressAt, IsDataMark, IsWhole, content_size}
+use Rattle.track_model.specs.Looks.{LookAt, HasAddressMark}
+use Rattle.track_model.specs.Sectors.{IsClear, IsSector, IsLone}
+use Rattle.sector_model.specs.Counters.{RoseBy, IsFaultless, IsUndisturbed, DisturbedLess, FaultsRoseBy, IsDriven}
+use Rattle.sector_model.specs.Stations.{StationState, Becomes, bay_of, met, with_bytes, SameOutside, IsSteady}
+use Rattle.sector_model.specs.Orders.{read_refusal, IsRefusedAtOnce, IsDeviceRefusal}
+
+-- no address mark of the track is Clear
+abbrev pub HasNoClearMark : List ℕ → Type 0
+HasNoClearMark track = (p : ℕ) → IsClear track p → ⊥
+
+-- a Clear address field of the key is at p
+pub record IsClearAddress (track : List ℕ) (key : Chrn) (p : ℕ) : Type 0 where
+  pub clear : IsClear track p
+  pub address : IsAddressAt track p key
+
+-- the track has a Clear address field of the key
+abbrev pub HasClearAddress : List ℕ → Chrn → Type 0
+HasClearAddress track key = (p : ℕ) × IsClearAddress track key p
+
+-- the look at some address field of the key has this answer
+abbrev pub HasLook : List ℕ → Chrn → Look → Type 0
+HasLook track key answer = (p : ℕ) × IsAddressAt track p key × LookAt track p key.n answer
+
+-- the look at each address field of the key finds its data
+abbrev pub AllFound : List ℕ → Chrn → Type 0
+AllFound track key =
+    (p : ℕ) → IsAddressAt track p key → (deleted : Bool) × (place : ℕ) × LookAt track p key.n (look.Found deleted place)
+
+-- with so many attempts, all is well in one of them where faults and stalls rose by less than this
+abbrev pub spoilable : ℕ → ℕ
+spoilable tries = max 1 (tries - 1)
+
+-- a field of the key was read: where it is, and what is known of it
+pub record IsRead (old : StationState) (bay : ℕ) (key : Chrn) (address : ℕ) (deleted : Bool) (new : StationState) : Type 0 where
+  pub disk : Disk
+  pub cylinder : ℕ
+  pub place : ℕ
+  pub mark : ℕ
+  pub content : List ℕ
+  pub medium : (bay_of old bay).medium ≡ Some disk
+  pub same_rate : disk.rate ≡ (bay_of old bay).rate
+  pub track : HasTrack disk cylinder key.h
+  pub address_field : IsAddressAt (track_of disk cylinder key.h) place key
+  pub data_mark : IsDataMark (track_of disk cylinder key.h) place mark deleted
+  pub whole : IsWhole (track_of disk cylinder key.h) mark key.n content
+  pub steady : IsSteady old bay new → cylinder ≡ key.c
+  pub sector : (IsFaultless bay old.counters new.counters ⊎ IsLone (track_of disk cylinder key.h) place)
+      → IsSector (track_of disk cylinder key.h) key deleted content
+  pub becomes : Becomes (record old { memory = with_bytes old.memory address content }) new
+  pub commands : RoseBy 1 old.counters.data_commands new.counters.data_commands
+
+-- why a read of what is met on the track was refused
+pub record IsReadCause (track : List ℕ) (key : Chrn) (tries bay : ℕ) (code : Code) (old new : StationState) : Type 0 where
+  pub device : IsDeviceRefusal code
+  pub no_mark : code ≡ NoMark → IsUndisturbed bay old.counters new.counters
+      → (HasNoClearMark track ⊎ HasLook track key look.NoData)
+  pub not_found : code ≡ NotFound → IsUndisturbed bay old.counters new.counters
+      → HasAddressMark track × (HasClearAddress track key → ⊥)
+  pub bad_data : code ≡ BadCrc → IsUndisturbed bay old.counters new.counters → HasLook track key look.BadCrc
+  pub overrun : code ≡ Overrun → RoseBy 1 old.counters.stalls new.counters.stalls
+  pub lost : code ≡ Seek → FaultsRoseBy 77 bay old.counters new.counters
+  pub never : HasClearAddress track key → AllFound track key
+      → DisturbedLess (spoilable tries) bay old.counters new.counters → ⊥
+
+-- a read was refused by the drive: its range of memory may hold anything
+pub record IsReadRefused (old : StationState) (bay : ℕ) (key : Chrn) (address : ℕ) (code : Code) (new : StationState) : Type 0 where
+  pub cause : IsReadCause (met (bay_of old bay) key.c key.h) key old.tries bay code old new
+  pub memory : SameOutside old.memory address (content_size key.n) new.memory
+  pub becomes : Becomes (record old { memory = new.memory }) new
+
+-- a read that reached the drive
+pub record ReadsDrive (old : StationState) (bay : ℕ) (key : Chrn) (address : ℕ) (answer : Result Bool Code) (new : StationState) : Type 0 where
+  pub found : IfOk answer (λ deleted. IsRead old bay key address deleted new)
+  pub refused : IfErr answer (λ code. IsReadRefused old bay key address code new)
+  pub driven : IsDriven old.tries old.counters new.counters
+
+-- the step of a read; the answer says whether the field is marked deleted
+abbrev pub Reads : StationState → ℕ → Chrn → ℕ → Result Bool Code → StationState → Type 0
+Reads old bay key address answer new =
+    MatchOption (read_refusal old bay key address) (ReadsDrive old bay key address answer new)
+    (λ code. IsRefusedAtOnce old code answer new)

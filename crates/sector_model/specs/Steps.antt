@@ -1,0 +1,229 @@
+-- The step of each request: from a state and the told files to an answer, a state and files.
+use Rattle.std.specs.Prelude.{◌≡◌, ℕ, ◌+◌, ◌<◌, ◌≤◌, ◌==◌, ◌&&◌, Bool, true, false, not, nat_le, List, length, replicate, is_some, Option, Some, None, Result, Ok, Err, IfSome, IsSomeAnd, MatchOption, if◌then◌else◌}
+use Rattle.flop_base.specs.Shelf.{Files, file_at, stored}
+use Rattle.flop_base.specs.declared.answers.Rate.{Rate}
+use Rattle.flop_base.specs.declared.answers.Rate.TheVariants.{R500, R250}
+use Rattle.flop_base.specs.declared.answers.Code.{Code}
+use Rattle.flop_base.specs.declared.answers.Code.TheVariants.{BadRequest}
+use Rattle.raw_image.specs.Disk.{Disk, blank_disk}
+use Rattle.raw_image.specs.Image.{image_of, file_of}
+use Rattle.raw_image.specs.declared.error.ImageError.{ImageError}
+use Rattle.floppy_jobs.specs.declared.request.Request.{Request}
+use Rattle.floppy_jobs.specs.declared.request.Request.TheVariants as request
+use Rattle.sector_model.specs.declared.reply.Reply.{Reply}
+use Rattle.sector_model.specs.declared.reply.Reply.TheVariants as reply
+use Rattle.sector_model.specs.declared.reply.Reason.{Reason}
+use Rattle.sector_model.specs.declared.reply.Reason.TheVariants as reason
+use Rattle.sector_model.specs.declared.reply.Stop.{Stop}
+use Rattle.sector_model.specs.declared.reply.Stop.TheVariants as stop
+use Rattle.sector_model.specs.Bays.{in_bay}
+use Rattle.sector_model.specs.Counters.{GoesOn, IsPastDriver}
+use Rattle.sector_model.specs.Stations.{StationState, Becomes, bay_of, user_bytes, bytes_from, with_bytes}
+use Rattle.sector_model.specs.Orders.{is_bay}
+use Rattle.sector_model.specs.Reads.{Reads}
+use Rattle.sector_model.specs.Writes.{WritesTo}
+use Rattle.sector_model.specs.Formats.{FormatsTo}
+use Rattle.sector_model.specs.Calls.{Acks, RatesTo, SetsTries, IsExchanged}
+use Rattle.sector_model.specs.States.{State, IsSame, ChangesMedium}
+
+-- a bay has a medium
+abbrev pub is_loaded : State → ℕ → Bool
+is_loaded state bay = is_some (bay_of state.station bay).medium
+
+-- why a medium isn't put into a bay
+abbrev pub busy_refusal : State → ℕ → Option Reason
+busy_refusal state bay = if is_loaded state bay then Some reason.Busy else None
+
+-- a bad request, unless the test holds; else what comes next
+abbrev pub unless_bad : Bool → Option Reason → Option Reason
+unless_bad good next = if good then next else Some (reason.Driver BadRequest)
+
+-- a blank medium has from 1 to 80 cylinders
+abbrev pub is_blank_request : ℕ → ℕ → Bool
+is_blank_request bay cylinders = is_bay bay && nat_le 1 cylinders && nat_le cylinders 80
+
+-- no spare drive is left
+abbrev pub spare_refusal : State → Option Reason
+spare_refusal state = if state.station.spares == 0 then Some reason.NoSpare else None
+
+-- the refusals of a session's own; those of the driver are in its calls
+abbrev pub refusal_of : State → Request → Option Reason
+refusal_of state (request.Insert bay name) = unless_bad (is_bay bay) (busy_refusal state bay)
+refusal_of state (request.Blank bay name cylinders) = unless_bad (is_blank_request bay cylinders) (busy_refusal state bay)
+refusal_of state (request.BlankDd bay name cylinders) = unless_bad (is_blank_request bay cylinders) (busy_refusal state bay)
+refusal_of state (request.Eject bay) =
+    unless_bad (is_bay bay) (if is_loaded state bay then None else Some reason.Empty)
+refusal_of state (request.Fill address length byte) = unless_bad (nat_le (address + length) user_bytes) None
+refusal_of state (request.Dump address length) = unless_bad (nat_le (address + length) user_bytes) None
+refusal_of state (request.Unit bay) =
+    unless_bad (is_bay bay) (if is_loaded state bay then Some reason.Busy else spare_refusal state)
+refusal_of state (request.Ack bay) = None
+refusal_of state (request.Read bay key address) = None
+refusal_of state (request.Write bay key address) = None
+refusal_of state (request.WriteDeleted bay key address) = None
+refusal_of state (request.Format bay c h) = None
+refusal_of state (request.SetRate bay rate) = None
+refusal_of state (request.Tries tries) = None
+
+-- the most bytes of an image file
+abbrev pub most_image_bytes : ℕ
+most_image_bytes = 5242894
+
+-- the told file of this name is the image of a disk
+abbrev pub IsImageOf : Option Files → List ℕ → Disk → Type 0
+IsImageOf told name disk =
+    IfSome told (λ files. IsSomeAnd (file_at files name)
+    (λ bytes. (length bytes ≤ most_image_bytes) × (image_of bytes ≡ Ok disk)))
+
+-- the words of a track, by the rate
+abbrev pub blank_words : Rate → ℕ
+blank_words R500 = 12500
+blank_words R250 = 6250
+
+-- a blank disk of two heads
+abbrev pub blank_of : ℕ → Rate → Disk
+blank_of cylinders rate = blank_disk cylinders 2 (blank_words rate) rate
+
+-- the gap 3 of the standard format
+abbrev pub standard_gap : Rate → ℕ
+standard_gap R500 = 0x6C
+standard_gap R250 = 0x50
+
+-- the fill byte of the standard format
+abbrev pub standard_fill : ℕ
+standard_fill = 0xF6
+
+-- the reply to a call of the driver
+abbrev pub reply_of : Result (Unit {0}) Code → Reply
+reply_of (Ok _) = reply.Done
+reply_of (Err code) = reply.Refused (reason.Driver code)
+
+-- the reply to a read
+abbrev pub read_reply : Result Bool Code → Reply
+read_reply (Ok true) = reply.DoneDeleted
+read_reply (Ok false) = reply.Done
+read_reply (Err code) = reply.Refused (reason.Driver code)
+
+-- a call of the driver leaves names and files as they are
+pub record IsDriverCall (old : State) (told : Option Files) (new : State) (told_after : Option Files) : Type 0 where
+  pub names : new.names ≡ old.names
+  pub files : told_after ≡ told
+  pub counts : GoesOn old.station.counters new.station.counters
+
+-- the file of a medium was stored under its name, and the medium is out
+abbrev pub StoresMedium : State → Option Files → ℕ → State → Option Files → Type 0
+StoresMedium old told bay new told_after =
+    (disk : Disk) × (name : List ℕ) × ((bay_of old.station bay).medium ≡ Some disk) × (in_bay old.names bay ≡ Some name)
+    × ChangesMedium old bay None None new × (told_after ≡ stored told name (file_of disk))
+
+-- memory was filled
+pub record Fills (old : State) (address count byte : ℕ) (new : State) : Type 0 where
+  pub names : new.names ≡ old.names
+  pub becomes : Becomes (record old.station { memory = with_bytes old.station.memory address (replicate count byte) }) new.station
+  pub access : IsPastDriver count old.station.counters new.station.counters
+  pub counts : GoesOn old.station.counters new.station.counters
+
+-- what a request that the session doesn't refuse does
+abbrev pub Does : State → Option Files → Request → Reply → State → Option Files → Type 0
+Does old told (request.Insert bay name) answer new told_after =
+    (answer ≡ reply.Done) × (told_after ≡ told)
+    × ((disk : Disk) × IsImageOf told name disk × ChangesMedium old bay (Some name) (Some disk) new)
+Does old told (request.Blank bay name cylinders) answer new told_after =
+    (answer ≡ reply.Done) × (told_after ≡ told)
+    × ChangesMedium old bay (Some name) (Some (blank_of cylinders R500)) new
+Does old told (request.BlankDd bay name cylinders) answer new told_after =
+    (answer ≡ reply.Done) × (told_after ≡ told)
+    × ChangesMedium old bay (Some name) (Some (blank_of cylinders R250)) new
+Does old told (request.Eject bay) answer new told_after =
+    (answer ≡ reply.Done) × StoresMedium old told bay new told_after
+Does old told (request.Ack bay) answer new told_after =
+    IsDriverCall old told new told_after
+    × ((called : Result (Unit {0}) Code) × (answer ≡ reply_of called) × Acks old.station bay called new.station)
+Does old told (request.Read bay key address) answer new told_after =
+    IsDriverCall old told new told_after
+    × ((called : Result Bool Code) × (answer ≡ read_reply called) × Reads old.station bay key address called new.station)
+Does old told (request.Write bay key address) answer new told_after =
+    IsDriverCall old told new told_after
+    × ((called : Result (Unit {0}) Code) × (answer ≡ reply_of called)
+    × WritesTo old.station bay key address false called new.station)
+Does old told (request.WriteDeleted bay key address) answer new told_after =
+    IsDriverCall old told new told_after
+    × ((called : Result (Unit {0}) Code) × (answer ≡ reply_of called)
+    × WritesTo old.station bay key address true called new.station)
+Does old told (request.Format bay c h) answer new told_after =
+    IsDriverCall old told new told_after
+    × ((called : Result (Unit {0}) Code) × (answer ≡ reply_of called)
+    × FormatsTo old.station bay c h (standard_gap (bay_of old.station bay).rate) standard_fill called new.station)
+Does old told (request.Fill address count byte) answer new told_after =
+    (answer ≡ reply.Done) × (told_after ≡ told) × Fills old address count byte new
+Does old told (request.Dump address count) answer new told_after =
+    (answer ≡ reply.Bytes address (bytes_from old.station.memory address count)) × (told_after ≡ told) × IsSame old new
+Does old told (request.Unit bay) answer new told_after =
+    (answer ≡ reply.Done) × (told_after ≡ told) × (new.names ≡ old.names) × IsExchanged old.station bay new.station
+Does old told (request.SetRate bay rate) answer new told_after =
+    IsDriverCall old told new told_after
+    × ((called : Result (Unit {0}) Code) × (answer ≡ reply_of called) × RatesTo old.station bay rate called new.station)
+Does old told (request.Tries tries) answer new told_after =
+    IsDriverCall old told new told_after × (answer ≡ reply.Done) × SetsTries old.station tries new.station
+
+-- a request that the session refused
+pub record IsRefused (old : State) (told : Option Files) (cause : Reason) (answer : Reply) (new : State) (told_after : Option Files) : Type 0 where
+  pub answered : answer ≡ reply.Refused cause
+  pub same : IsSame old new
+  pub files : told_after ≡ told
+
+-- the step of a request
+abbrev pub Step : State → Option Files → Request → Reply → State → Option Files → Type 0
+Step old told asked answer new told_after =
+    MatchOption (refusal_of old asked) (Does old told asked answer new told_after)
+    (λ cause. IsRefused old told cause answer new told_after)
+
+-- the request loads or stores a file
+abbrev pub uses_files : Request → Bool
+uses_files (request.Insert bay name) = true
+uses_files (request.Eject bay) = true
+uses_files _ = false
+
+-- the request takes memory
+abbrev pub takes_memory : Request → Bool
+takes_memory (request.Insert bay name) = true
+takes_memory (request.Blank bay name cylinders) = true
+takes_memory (request.BlankDd bay name cylinders) = true
+takes_memory (request.Eject bay) = true
+takes_memory (request.Dump address length) = true
+takes_memory _ = false
+
+-- the told file of this name is no image, for this reason
+abbrev pub IsBadImage : Option Files → List ℕ → ImageError → Type 0
+IsBadImage told name error =
+    IfSome told (λ files. IsSomeAnd (file_at files name)
+    (λ bytes. (length bytes ≤ most_image_bytes) × (image_of bytes ≡ Err error)))
+
+-- the told file of this name is longer than that
+abbrev pub IsLonger : Option Files → List ℕ → ℕ → Type 0
+IsLonger told name most = IfSome told (λ files. IsSomeAnd (file_at files name) (λ bytes. most < length bytes))
+
+-- no told file has this name
+abbrev pub IsAbsent : Option Files → List ℕ → Type 0
+IsAbsent told name = IfSome told (λ files. file_at files name ≡ None)
+
+-- why a request stopped the run
+abbrev pub StopCause : Option Files → Request → Stop → Type 0
+StopCause told asked (stop.BadImage name error) = ((bay : ℕ) × (asked ≡ request.Insert bay name)) × IsBadImage told name error
+StopCause told asked (stop.TooLong name most) =
+    ((bay : ℕ) × (asked ≡ request.Insert bay name)) × (most ≡ most_image_bytes) × IsLonger told name most
+StopCause told asked (stop.Absent name) = ((bay : ℕ) × (asked ≡ request.Insert bay name)) × IsAbsent told name
+StopCause told asked stop.FileFault = uses_files asked ≡ true
+StopCause told asked stop.NoMemory = takes_memory asked ≡ true
+
+-- what stands after a stop: an eject dropped the medium, and all else is as it was
+abbrev pub AfterStop : State → Request → State → Type 0
+AfterStop old (request.Eject bay) new = ChangesMedium old bay None None new
+AfterStop old _ new = IsSame old new
+
+-- a request that the session didn't refuse stopped the run
+pub record StopsAt (old : State) (told : Option Files) (asked : Request) (ended : Stop) (new : State) (told_after : Option Files) : Type 0 where
+  pub taken : refusal_of old asked ≡ None
+  pub cause : StopCause told asked ended
+  pub after : AfterStop old asked new
+  pub files : told_after ≡ told

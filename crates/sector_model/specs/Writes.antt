@@ -1,0 +1,164 @@
+-- A write of memory to a sector.
+use Rattle.std.specs.Prelude.{◌≡◌, ◌≢◌, ◌↔◌, ℕ, ◌+◌, ◌*◌, ◌≤◌, Bool, List, [], ◌∷◌, ◌++◌, length, All, Option, Some, None, Result, IsOk, IfErr, MatchOption, ◌⊎◌}
+use Rattle.flop_base.specs.declared.key.Chrn.{Chrn}
+use Rattle.flop_base.specs.declared.answers.Code.{Code}
+use Rattle.flop_base.specs.declared.answers.Code.TheVariants.{NoMark, NotFound, Overrun, BadCrc, Seek}
+use Rattle.raw_image.specs.Disk.{Disk, HasTrack, track_of, IsWithTrack}
+use Rattle.track_model.specs.declared.Look.TheVariants as look
+use Rattle.track_model.specs.Fields.{IsAddressAt, content_size, content_at}
+use Rattle.track_model.specs.Looks.{LookAt, HasAddressMark}
+use Rattle.track_model.specs.Sectors.{IsSector, IsUnder, IsLone}
+use Rattle.track_model.specs.Writing.{window}
+use Rattle.track_model.specs.Windows.{window_word, window_words, cut_of, IsCuttable, IsTidy}
+use Rattle.track_model.specs.Regular.{IsRegular}
+use Rattle.sector_map.specs.Disks.{IsRegularDisk, Entry, IsOnMap}
+use Rattle.sector_model.specs.Counters.{RoseBy, IsFaultless, FaultsRoseLess, IsUndisturbed, DisturbedLess, FaultsRoseBy, IsDriven}
+use Rattle.sector_model.specs.Stations.{StationState, Becomes, bay_of, set_bay, met, bytes_from, IsSteady}
+use Rattle.sector_model.specs.Orders.{write_refusal, IsRefusedAtOnce, IsDeviceRefusal}
+use Rattle.sector_model.specs.Reads.{HasNoClearMark, HasClearAddress, HasLook, spoilable}
+
+-- a write behind an address field: on which cylinder, where the address field is, and how many words of the window stand
+pub record Change : Type 0 where
+  pub cylinder : ℕ
+  pub place : ℕ
+  pub words : ℕ
+
+-- what is written under a key
+pub record Written : Type 0 where
+  pub key : Chrn
+  pub deleted : Bool
+  pub content : List ℕ
+
+-- the words of its window
+abbrev pub window_of : Written → List ℕ
+window_of written = window written.deleted written.content
+
+-- the disk `after` comes from a change: a track of the key's head with a cut of the window at an address field of the key
+pub record IsChange (written : Written) (disk : Disk) (change : Change) (after : Disk) : Type 0 where
+  pub track : HasTrack disk change.cylinder written.key.h
+  pub address : IsAddressAt (track_of disk change.cylinder written.key.h) change.place written.key
+  pub cuttable : IsCuttable (track_of disk change.cylinder written.key.h) change.place change.words (window_of written)
+  pub cut : IsWithTrack disk change.cylinder written.key.h
+      (cut_of (track_of disk change.cylinder written.key.h) change.place change.words (window_of written)) after
+
+-- changes one after the other
+abbrev pub ChangesDisk : Written → Disk → List Change → Disk → Type 0
+ChangesDisk written disk [] after = after ≡ disk
+ChangesDisk written disk (change ∷ later) after =
+    (next : Disk) × IsChange written disk change next × ChangesDisk written next later after
+
+-- Reach: what writes may have made of the medium in a bay
+abbrev pub Reaches : Written → Option Disk → List Change → Option Disk → Type 0
+Reaches written (Some disk) changes (Some after) = ChangesDisk written disk changes after
+Reaches written (Some disk) changes None = ⊥
+Reaches written None changes medium = (changes ≡ []) × (medium ≡ None)
+
+-- the last change wrote the whole window
+abbrev pub IsLastWhole : Written → List Change → Type 0
+IsLastWhole written changes =
+    (earlier : List Change) × (last : Change) × (changes ≡ earlier ++ last ∷ []) × (last.words ≡ length (window_of written))
+
+-- the last change wrote the whole window, and the track that it changed has the sector
+abbrev pub IsLastRead : Written → Disk → List Change → Type 0
+IsLastRead written disk changes =
+    (earlier : List Change) × (last : Change) × (changes ≡ earlier ++ last ∷ []) × (last.words ≡ length (window_of written))
+    × IsSector (track_of disk last.cylinder written.key.h) written.key written.deleted written.content
+
+-- a write was done: what is known of the disk
+pub record IsWritten (written : Written) (bay : ℕ) (changes : List Change) (old new : StationState) : Type 0 where
+  pub disk : Disk
+  pub medium : (bay_of new bay).medium ≡ Some disk
+  pub same_rate : disk.rate ≡ (bay_of old bay).rate
+  pub under : (c : ℕ) × HasTrack disk c written.key.h
+      × IsUnder (track_of disk c written.key.h) written.key written.deleted written.content
+  pub last : IsFaultless bay old.counters new.counters → IsLastRead written disk changes
+  pub commands : RoseBy 2 old.counters.data_commands new.counters.data_commands
+
+-- on the track as it is after the write some address field of the key has a window that isn't inside
+abbrev pub HasWindowCut : List ℕ → Chrn → Type 0
+HasWindowCut track key =
+    (p : ℕ) × IsAddressAt track p key × (window_word p + window_words key.n ≤ length track → ⊥)
+
+-- some address field of the key is found with another mark or another content
+abbrev pub HasOtherContent : List ℕ → Written → Type 0
+HasOtherContent track written =
+    (p : ℕ) × (deleted : Bool) × (place : ℕ) × IsAddressAt track p written.key
+    × LookAt track p written.key.n (look.Found deleted place)
+    × ((deleted ≡ written.deleted) × (content_at track place written.key.n ≡ written.content) → ⊥)
+
+-- why a write was refused, by what is met on the track before and after it
+pub record IsWriteCause (written : Written) (before track : List ℕ) (changes : List Change) (bay : ℕ) (code : Code) (old new : StationState) : Type 0 where
+  pub device : IsDeviceRefusal code
+  pub no_mark : code ≡ NoMark → IsUndisturbed bay old.counters new.counters
+      → (HasNoClearMark track ⊎ HasWindowCut track written.key
+      ⊎ (IsLastWhole written changes × HasLook track written.key look.NoData))
+  pub not_found : code ≡ NotFound → IsUndisturbed bay old.counters new.counters
+      → HasAddressMark track × (HasClearAddress track written.key → ⊥)
+  pub bad_data : code ≡ BadCrc → IsUndisturbed bay old.counters new.counters
+      → IsLastWhole written changes × (HasLook track written.key look.BadCrc ⊎ HasOtherContent track written)
+  pub overrun : code ≡ Overrun → RoseBy 1 old.counters.stalls new.counters.stalls
+  pub lost : code ≡ Seek → FaultsRoseBy 77 bay old.counters new.counters
+  pub never : IsRegular before written.key.c written.key.h
+      → (p : ℕ) → IsAddressAt before p written.key
+      → (IsTidy before p written.deleted written.content ⊎ IsUndisturbed bay old.counters new.counters)
+      → DisturbedLess (spoilable old.tries) bay old.counters new.counters → ⊥
+
+-- the entry of a sector on the map
+abbrev pub entry_of : Written → ℕ → Entry
+entry_of written place = record {
+  cylinder = written.key.c;
+  head = written.key.h;
+  place = place;
+  key = written.key;
+  deleted = written.deleted;
+  content = written.content;
+}
+
+-- a regular disk after a write behind the one address field of the key, at p: that field alone changed
+pub record ChangesAlone (written : Written) (bay p : ℕ) (disk : Disk) (answer : Result (Unit {0}) Code) (old new : StationState) : Type 0 where
+  pub after : Disk
+  pub words : ℕ
+  pub medium : (bay_of new bay).medium ≡ Some after
+  pub cuttable : IsCuttable (track_of disk written.key.c written.key.h) p words (window_of written)
+  pub cut : IsWithTrack disk written.key.c written.key.h
+      (cut_of (track_of disk written.key.c written.key.h) p words (window_of written)) after
+  pub regular : IsRegularDisk after
+  pub others : (entry : Entry) → entry.key ≢ written.key → IsOnMap disk entry ↔ IsOnMap after entry
+  pub entry : IsOk answer
+      → (FaultsRoseLess 2 bay old.counters new.counters ⊎ IsLone (track_of after written.key.c written.key.h) p)
+      → IsOnMap after (entry_of written p)
+
+-- what a write does to a regular disk
+pub record KeepsRegular (written : Written) (bay : ℕ) (disk : Disk) (answer : Result (Unit {0}) Code) (old new : StationState) : Type 0 where
+  pub none : ((p : ℕ) → IsAddressAt (met (bay_of old bay) written.key.c written.key.h) p written.key → ⊥)
+      → (bay_of new bay).medium ≡ Some disk
+  pub one : (p : ℕ) → IsAddressAt (met (bay_of old bay) written.key.c written.key.h) p written.key
+      → (IsTidy (met (bay_of old bay) written.key.c written.key.h) p written.deleted written.content
+      ⊎ IsUndisturbed bay old.counters new.counters)
+      → ChangesAlone written bay p disk answer old new
+
+-- a write that reached the drive: all that it changes is the medium in the bay, by a few cuts
+pub record WritesDrive (written : Written) (bay : ℕ) (answer : Result (Unit {0}) Code) (old new : StationState) : Type 0 where
+  pub changes : List Change
+  pub few : length changes ≤ old.tries
+  pub reach : Reaches written (bay_of old bay).medium changes (bay_of new bay).medium
+  pub becomes : Becomes (set_bay old bay (record (bay_of old bay) { medium = (bay_of new bay).medium })) new
+  pub steady : IsOk answer → IsSteady old bay new → All (λ change. change.cylinder ≡ written.key.c) changes
+  pub done : IsOk answer → IsWritten written bay changes old new
+  pub refused : IfErr answer (λ code. IsWriteCause written (met (bay_of old bay) written.key.c written.key.h)
+      (met (bay_of new bay) written.key.c written.key.h) changes bay code old new)
+  pub regular : (disk : Disk) → (bay_of old bay).medium ≡ Some disk → IsRegularDisk disk
+      → KeepsRegular written bay disk answer old new
+  pub driven : IsDriven (2 * old.tries) old.counters new.counters
+
+-- what a write from this address writes
+abbrev pub written_from : StationState → Chrn → ℕ → Bool → Written
+written_from station key address deleted =
+    record { key = key; deleted = deleted; content = bytes_from station.memory address (content_size key.n) }
+
+-- the step of a write
+abbrev pub WritesTo : StationState → ℕ → Chrn → ℕ → Bool → Result (Unit {0}) Code → StationState → Type 0
+WritesTo old bay key address deleted answer new =
+    MatchOption (write_refusal old bay key address)
+    (WritesDrive (written_from old key address deleted) bay answer old new)
+    (λ code. IsRefusedAtOnce old code answer new)

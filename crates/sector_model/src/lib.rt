@@ -1,0 +1,10 @@
+//! The sector model: what a station with two diskette bays does, call by call, and what a session and a job make of it,
+//! said of sectors on disks and of bytes in memory. The crate has definitions, the types of a session's answers, and the
+//! trait of stations; no controller, no register and no cell buffer is in it.
+#![tactic(auto)]
+
+mod reply;
+mod station;
+
+pub use reply::{Reason, Reply, Stop};
+pub use station::Station;

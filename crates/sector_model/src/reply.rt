@@ -1,0 +1,53 @@
+// What the session answers to a request.
+ghost use Rattle.std.specs.Prelude.{◌≡◌};
+ghost use Rattle.sector_model.specs.declared.reply.Stop.TheVariants as stop;
+
+use flop_base::{Bytes, Code, Name, NoMemory};
+use raw_image::ImageError;
+
+/// The answer to a request that was run.
+#[derive(Drop)]
+pub enum Reply {
+    Done,
+    /// A field was read, and its mark says that it is deleted.
+    DoneDeleted,
+    /// The bytes of memory from the address on.
+    Bytes { address: u32, content: Bytes },
+    Refused(Reason),
+}
+
+/// Why a request was refused. A refused request changes nothing but what it says.
+#[derive(Clone, Copy, Debug, PartialEq, Eq)]
+pub enum Reason {
+    /// The driver refused it.
+    Driver(Code),
+    /// The bay is loaded.
+    Busy,
+    /// The bay isn't loaded.
+    Empty,
+    /// No spare drive is left.
+    NoSpare,
+}
+
+/// What stops a run.
+#[derive(Drop)]
+pub enum Stop {
+    /// The file is no image.
+    BadImage { name: Name, error: ImageError },
+    /// The file has more than `most` bytes.
+    TooLong { name: Name, most: usize },
+    /// There is no file of this name.
+    Absent { name: Name },
+    /// The shelf failed.
+    FileFault,
+    /// Memory couldn't be had.
+    NoMemory,
+}
+
+impl From<NoMemory> for Stop {
+    ghost from_gives = { λ _ stopped. stopped ≡ stop.NoMemory };
+
+    fn from(_: NoMemory) -> Self {
+        Stop::NoMemory
+    }
+}

@@ -1,0 +1,138 @@
+// What a session stands on.
+ghost use Rattle.std.specs.Prelude.{◌≡◌, ◌≤◌, ◌<◌, ◌↔◌, ◌⊎◌, length, slice_index, is_some, IsTrue};
+ghost use Rattle.sector_model.specs.Bays.{in_bay};
+ghost use Rattle.sector_model.specs.Counters.{GoesOn};
+ghost use Rattle.sector_model.specs.Stations.{StationState, bay_of, user_bytes};
+ghost use Rattle.sector_model.specs.Reads.{Reads};
+ghost use Rattle.sector_model.specs.Writes.{WritesTo};
+ghost use Rattle.sector_model.specs.Formats.{FormatsTo};
+ghost use Rattle.sector_model.specs.Calls.{Acks, RatesTo, SetsTries, Inserts, Ejects, TakesUnit, SetsMemory};
+
+use flop_base::{Chrn, Code, Rate};
+use raw_image::Medium;
+
+/// A station with two diskette bays, 0 and 1, and 983,040 bytes of user memory, as a session sees it: a PC/AT with its
+/// driver, or media in memory that behave as such.
+///
+/// Each call is a step of the sector model. Only `new` of a station takes memory. `is_ready` is what a station needs of
+/// itself between calls; its maker gives it, and each call keeps it.
+pub trait Station: Drop {
+    /// All that the steps speak of.
+    ghost shown: { Self → StationState };
+
+    /// The station is as its calls need it.
+    ghost is_ready: { Self → Type 0 };
+
+    /// Puts a medium in. Where one is in already, the new one is given back.
+    fn insert(&mut self, bay: u8, medium: Medium) -> Result<(), Medium>
+        requires ready { is_ready self.old }
+        requires bay { bay ≤ 1 }
+        ensures step { Inserts (shown self.old) bay medium result (shown self.new) }
+        ensures counts { GoesOn (shown self.old).counters (shown self.new).counters }
+        ensures ready { is_ready self.new };
+
+    /// Takes the medium out.
+    fn eject(&mut self, bay: u8) -> Option<Medium>
+        requires ready { is_ready self.old }
+        requires bay { bay ≤ 1 }
+        ensures step { Ejects (shown self.old) bay result (shown self.new) }
+        ensures counts { GoesOn (shown self.old).counters (shown self.new).counters }
+        ensures ready { is_ready self.new };
+
+    /// Takes the next spare drive into the bay and drops the old one; false where no spare is left.
+    fn take_unit(&mut self, bay: u8) -> bool
+        requires ready { is_ready self.old }
+        requires bay { bay ≤ 1 }
+        ensures step { TakesUnit (shown self.old) bay result (shown self.new) }
+        ensures ready { is_ready self.new };
+
+    /// Whether a medium is in.
+    fn is_loaded(&self, bay: u8) -> bool
+        requires bay { bay ≤ 1 }
+        ensures { result ≡ is_some (bay_of (shown self.now) bay).medium };
+
+    /// The rate of the bay, R500 where it isn't acknowledged.
+    fn rate(&self, bay: u8) -> Rate
+        requires bay { bay ≤ 1 }
+        ensures { result ≡ (bay_of (shown self.now) bay).rate };
+
+    /// A byte of user memory.
+    fn memory(&self, address: u32) -> u8
+        requires address { address < 983040 }
+        ensures byte { result ≡ slice_index (shown self.now).memory address }
+        ensures size { length (shown self.now).memory ≡ user_bytes };
+
+    /// Sets a byte of user memory.
+    fn set_memory(&mut self, address: u32, byte: u8)
+        requires ready { is_ready self.old }
+        requires address { address < 983040 }
+        ensures step { SetsMemory (shown self.old) address byte (shown self.new) }
+        ensures size { length (shown self.old).memory ≡ user_bytes }
+        ensures counts { GoesOn (shown self.old).counters (shown self.new).counters }
+        ensures ready { is_ready self.new };
+
+    /// Acknowledges a change of the medium, and finds the medium's rate.
+    fn ack(&mut self, bay: u8) -> Result<(), Code>
+        requires ready { is_ready self.old }
+        ensures step { Acks (shown self.old) bay result (shown self.new) }
+        ensures counts { GoesOn (shown self.old).counters (shown self.new).counters }
+        ensures ready { is_ready self.new };
+
+    /// Reads the sector of this key to memory from the address on; true where it is marked deleted.
+    fn read(&mut self, bay: u8, key: Chrn, address: u32) -> Result<bool, Code>
+        requires ready { is_ready self.old }
+        ensures step { Reads (shown self.old) bay key address result (shown self.new) }
+        ensures counts { GoesOn (shown self.old).counters (shown self.new).counters }
+        ensures ready { is_ready self.new };
+
+    /// Writes memory from the address on to the sector of this key, marked deleted or not.
+    fn write(&mut self, bay: u8, key: Chrn, address: u32, deleted: bool) -> Result<(), Code>
+        requires ready { is_ready self.old }
+        ensures step { WritesTo (shown self.old) bay key address deleted result (shown self.new) }
+        ensures counts { GoesOn (shown self.old).counters (shown self.new).counters }
+        ensures ready { is_ready self.new };
+
+    /// Formats the track of a cylinder and head with records of 512 bytes `fill`: 18 at 500 kbit/s, 9 at 250 kbit/s.
+    fn format(&mut self, bay: u8, c: u8, h: u8, gap3: u8, fill: u8) -> Result<(), Code>
+        requires ready { is_ready self.old }
+        ensures step { FormatsTo (shown self.old) bay c h gap3 fill result (shown self.new) }
+        ensures counts { GoesOn (shown self.old).counters (shown self.new).counters }
+        ensures ready { is_ready self.new };
+
+    /// Sets the rate of an acknowledged bay.
+    fn set_rate(&mut self, bay: u8, rate: Rate) -> Result<(), Code>
+        requires ready { is_ready self.old }
+        ensures step { RatesTo (shown self.old) bay rate result (shown self.new) }
+        ensures counts { GoesOn (shown self.old).counters (shown self.new).counters }
+        ensures ready { is_ready self.new };
+
+    /// Sets the number of attempts of the calls after it.
+    fn set_tries(&mut self, tries: u8)
+        requires ready { is_ready self.old }
+        requires least { 1 ≤ tries }
+        requires most { tries ≤ 10 }
+        ensures step { SetsTries (shown self.old) tries (shown self.new) }
+        ensures counts { GoesOn (shown self.old).counters (shown self.new).counters }
+        ensures ready { is_ready self.new };
+
+    /// The count of faults of the drive in the bay. Each of these counts stays at its last value.
+    fn faults(&self, bay: u8) -> u64
+        requires bay { bay ≤ 1 }
+        ensures { result ≡ in_bay (shown self.now).counters.faults bay };
+
+    /// The DMA requests that waited too long.
+    fn stalls(&self) -> u64
+        ensures { result ≡ (shown self.now).counters.stalls };
+
+    /// The data commands that began.
+    fn data_commands(&self) -> u64
+        ensures { result ≡ (shown self.now).counters.data_commands };
+
+    /// The interrupts that were taken.
+    fn taken(&self) -> u64
+        ensures { result ≡ (shown self.now).counters.taken };
+
+    /// The accesses to user memory, media and drives past the driver.
+    fn direct(&self) -> u64
+        ensures { result ≡ (shown self.now).counters.direct };
+}
