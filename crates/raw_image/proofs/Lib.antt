@@ -4,3 +4,4 @@ pub mod Feeding
 pub mod Tracks
 pub mod Headers
 pub mod Images
+mod Splices

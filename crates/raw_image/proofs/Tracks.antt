@@ -8,7 +8,7 @@ use Rattle.std.proofs.lemmas.Nat.{mul-add-lt}
 use Rattle.raw_image.specs.Disk.{Disk, HasTrack, track_start, track_of, with_word}
 
 -- a track that lies before another ends before it, at any number of words per track
-rows_apart : (r s w : ℕ) → r < s → r * w + w ≤ s * w
+pub rows_apart : (r s w : ℕ) → r < s → r * w + w ≤ s * w
 rows_apart r s w lt =
     let more : r + 1 ≤ s = omega arith in
     omega (arith, mul-le-mul_left w more)
@@ -17,7 +17,7 @@ rows_apart r s w lt =
 row_below : (b c g h heads : ℕ) → g < heads → b < c → b * heads + g < c * heads + h
 row_below b c g h heads g_in lt = omega (arith, mul-add-lt b heads g c lt g_in)
 
-apart : (b g c h heads : ℕ) → g < heads → h < heads → (b ≡ c → g ≡ h → ⊥) → (b * heads + g < c * heads + h) ⊎ (c * heads + h < b * heads + g)
+pub apart : (b g c h heads : ℕ) → g < heads → h < heads → (b ≡ c → g ≡ h → ⊥) → (b * heads + g < c * heads + h) ⊎ (c * heads + h < b * heads + g)
 apart b g c h heads g_in h_in other =
     elim (cases_lt b c) [
       | inl lt ↦ inl (row_below b c g h heads g_in lt)

@@ -1,5 +1,5 @@
 // A medium: the words of its tracks, one after the other.
-ghost use Rattle.std.specs.Prelude.{◌≡◌, ◌↔◌, ◌+◌, ◌*◌, ◌<◌, ◌≤◌, ℕ, length, slice_set, IfSome, IsSome, IfOk};
+ghost use Rattle.std.specs.Prelude.{◌≡◌, ◌↔◌, ◌+◌, ◌*◌, ◌<◌, ◌≤◌, ℕ, ◌++◌, length, take, drop, slice_set, IfSome, IsSome, IfOk};
 
 use crate::shape::Shape;
 use flop_base::{NoMemory, Rate};
@@ -26,7 +26,7 @@ impl Model for Medium {
 }
 
 impl Medium {
-    ghost use Rattle.raw_image.specs.Disk.{IsDisk, HasTrack, track_start, track_of, blank_disk, with_word};
+    ghost use Rattle.raw_image.specs.Disk.{IsDisk, HasTrack, IsWithTrack, track_start, track_of, blank_disk, with_word};
     ghost use Rattle.flop_base.specs.declared.answers.Rate.TheVariants.{R500};
     ghost use Rattle.raw_image.specs.Image.{disk_of};
     ghost use Rattle.raw_image.specs.Shape.{header_view};
@@ -165,5 +165,18 @@ impl Medium {
     {
         let start = self.start(c, h);
         self.words[start + place as usize] = word;
+    }
+
+    /// Replaces the words of a track from word `start` on, which is counted from the index on.
+    pub fn set_words(&mut self, c: u8, h: u8, start: u16, words: &[u16])
+        requires track { HasTrack self.old c h }
+        requires within { start + length words.now ≤ self.old.words_per_track }
+        ensures becomes { IsWithTrack self.old c h
+            (take start (track_of self.old c h)
+            ++ (words.now ++ drop (start + length words.now) (track_of self.old c h)))
+            self.new }
+    {
+        let from = self.start(c, h) + start as usize;
+        self.words[from..from + words.len()].copy_from_slice(words);
     }
 }

@@ -1,6 +1,7 @@
 -- Steps of the searches for a data mark and for an address field.
-use Rattle.std.proofs.Common.{◌≡◌, ℕ, ◌+◌, ◌-◌, ◌*◌, ◌<◌, ◌≤◌, Bool, List, length, min, subst, arith, inl, inr}
+use Rattle.std.proofs.Common.{◌≡◌, ℕ, ◌+◌, ◌-◌, ◌*◌, ◌<◌, ◌≤◌, Bool, false, Option, None, Some, is_some, MatchOption, List, length, min, subst, arith, inl, inr}
 use Rattle.std.proofs.lemmas.Bool.{cases_lt}
+use Rattle.flop_base.specs.declared.key.Chrn.{Chrn}
 use Rattle.track_model.specs.Fields.{IsDataMark, data_cells}
 use Rattle.track_model.specs.Looks.{IsFirstDataMark, HasDataField}
 use Rattle.track_model.proofs.Unique.{one_first}
@@ -26,3 +27,8 @@ field_outside track p n q deleted first outside k other field =
     let same = one_first track p k q other deleted field.first first in
     let inside = field.inside in
     absurd (omega arith)
+
+-- what no key was given for has no key
+pub none_given : (given : Option Chrn) (P : Chrn → Type 0) → is_some given ≡ false → MatchOption given ((key : Chrn) → P key → ⊥) P → (key : Chrn) → P key → ⊥
+none_given None P e none = none
+none_given (Some found) P e is = cc

@@ -1,7 +1,10 @@
 -- One byte's cells pushed onto words.
-use Rattle.std.proofs.Common.{◌≡◌, ℕ, ◌/◌, ◌%◌, ◌^◌, ◌<◌, Bool, true, List, [], ◌∷◌, ◌++◌, get_or, sym, ap, ◌∙◌, append_assoc, arith}
+use Rattle.std.proofs.Common.{◌≡◌, ℕ, ◌+◌, ◌/◌, ◌%◌, ◌^◌, ◌<◌, ◌≤◌, Bool, true, false, List, [], ◌∷◌, ◌++◌, length, get_or, take, sym, ap, ◌∙◌, append_assoc, arith}
+use Rattle.std.proofs.Math.ListN.{set}
 use Rattle.std.specs.Int.{w16, to_be_bytes}
-use Rattle.std.proofs.lemmas.List.{append-nil}
+use Rattle.std.proofs.lemmas.List.{append-nil, take_all, take_more_set}
+use Rattle.std.proofs.lemmas.Slice.{take-put_mid}
+use borrow.Rule.Slice.PartMut.{put_mid}
 use Rattle.track_model.specs.Bytes.{last_bit, legal}
 use Rattle.track_model.specs.Writing.{check_bytes}
 use Rattle.track_model.proofs.Legals.{legal-cons, legal-nil}
@@ -35,3 +38,18 @@ check_row row check fits e =
 
 pub check_ends : (row : List ℕ) (check : ℕ) → check < 2 ^ 16 → row ≡ to_be_bytes w16 check → get_or row 0 0 ∷ get_or row 1 0 ∷ [] ≡ check_bytes check
 check_ends row check fits e = ap (λ r. get_or r 0 0 ∷ get_or r 1 0 ∷ []) (check_row row check fits e)
+
+-- one word more of a list is filled
+pub filled_more : (words : List ℕ) (start i word : ℕ) → start + i < length words → take (start + (i + 1)) (set words (start + i) word) ≡ take (start + i) words ++ word ∷ []
+filled_more words start i word h =
+    let next : start + (i + 1) ≡ start + i + 1 = omega arith in
+    ap (λ n. take n (set words (start + i) word)) next ∙ take_more_set words (start + i) word h
+
+-- sync, from the first word on, and then the marks
+pub begun : (filled words bytes marks : List ℕ) (after : Bool) → 12 ≤ length filled → length marks ≡ 3 → take 12 filled ++ legal after [] ≡ take 0 words ++ legal false (bytes ++ []) → take 15 (put_mid 12 3 filled marks) ≡ legal false bytes ++ marks
+begun filled words bytes marks after long three h =
+    take-put_mid 12 3 filled marks 15 (omega arith) long ∙ ap (λ row. row ++ marks) (pushed_all [] (take 12 filled) bytes false after h)
+
+-- a list that is filled up to its end
+pub filled_all : (words filled : List ℕ) (n : ℕ) → length words ≡ n → take n words ≡ filled → words ≡ filled
+filled_all words filled n long h = sym (take_all n words (omega arith)) ∙ h

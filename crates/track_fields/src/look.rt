@@ -1,8 +1,8 @@
 // The look for a sector's data.
 ghost use Rattle.std.specs.Prelude.{◌≡◌, ℕ, ◌+◌, ◌≤◌, ◌↔◌, Bool, IsTrue, MatchOption};
 ghost use Rattle.track_model.specs.Cells.{IsTrackSized, IsInside};
-ghost use Rattle.track_model.specs.Fields.{IsAddress, IsDataMark, IsSizeCode, data_cells};
-ghost use Rattle.track_model.specs.Looks.{IsFirstDataMark, IsIntact, LookAt, LookFor};
+ghost use Rattle.track_model.specs.Fields.{IsAddress, IsAddressAt, IsDataMark, IsSizeCode, data_cells};
+ghost use Rattle.track_model.specs.Looks.{IsFirstAddress, IsFirstDataMark, IsIntact, LookAt, LookFor};
 
 use crate::bytes::is_checked;
 use crate::fields::{ADDRESS_CELLS, address_at};
@@ -110,4 +110,33 @@ pub fn find_sector(words: &[u16], key: Chrn) -> Look
     } else {
         Look::NoMark
     }
+}
+
+/// The place of the first intact address field of the key.
+pub fn find_address(words: &[u16], key: Chrn) -> Option<usize>
+    requires { IsTrackSized words.now }
+    ensures { MatchOption result ((p : ℕ) → IsAddressAt words.now p key → ⊥)
+        (λ p. IsFirstAddress words.now key p) }
+{
+    for p in 0..16 * words.len() - (MARK_CELLS - 1) {
+        if let Some(found) = address_at(words, p)
+            && found == key
+        {
+            return Some(p);
+        }
+    }
+    None
+}
+
+/// Whether the track has an intact address field.
+pub fn has_address(words: &[u16]) -> bool
+    requires { IsTrackSized words.now }
+    ensures { IsTrue result ↔ ((p : ℕ) × IsAddress words.now p) }
+{
+    for p in 0..16 * words.len() - (MARK_CELLS - 1) {
+        if address_at(words, p).is_some() {
+            return true;
+        }
+    }
+    false
 }
