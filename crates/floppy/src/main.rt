@@ -3,9 +3,13 @@
 
 use flop_base::{FileShelf, Status, StreamSink};
 use floppy_tools::floppy;
+use memory_station::MemoryStation;
 use std::env;
 use std::process::ExitCode;
 use std::rt::{Env, Files};
+
+/// The spare drives that jobs can take.
+const SPARE_DRIVES: usize = 2;
 
 fn main(rt: HostRuntime) -> ExitCode {
     ExitCode::from(run(&rt).number())
@@ -20,10 +24,15 @@ fn run<R: Files + Env + Print + AllocGlobal>(rt: &R) -> Status {
         Ok(words) => words,
         Err(_) => return Status::NoMemory,
     };
-    floppy(
+    let Ok(station) = MemoryStation::new(rt.alloc(), SPARE_DRIVES) else {
+        return Status::NoMemory;
+    };
+    let (status, _station) = floppy(
         rt.alloc(),
         &words,
         &mut FileShelf::new(rt),
         &mut StreamSink::new(rt),
-    )
+        station,
+    );
+    status
 }

@@ -18,5 +18,5 @@ pub use lines::JobError;
 pub use name::{is_name, name_text};
 pub use ports::{PortLine, parse_ports};
 pub use request::Request;
-pub use spelling::spelling_reads_back;
+pub use spelling::{Address, MemoryByte, spelling_reads_back};
 pub use verb::is_verb;

@@ -11,7 +11,7 @@ use std::fmt;
 
 /// An address, shown in five hexadecimal digits.
 #[derive(Drop)]
-struct Address(u32);
+pub struct Address(pub u32);
 
 impl fmt::Display for Address {
     ghost output = { λ address. Some (hex5 address.0) };
@@ -29,7 +29,7 @@ impl fmt::Display for Address {
 
 /// A byte of memory, shown in two hexadecimal digits.
 #[derive(Drop)]
-struct MemoryByte(u8);
+pub struct MemoryByte(pub u8);
 
 impl fmt::Display for MemoryByte {
     ghost output = { λ byte. Some (hex2 byte.0) };

@@ -1,7 +1,6 @@
 //! The program's forms over a shelf and a sink: a session runs the requests of a job, and a report tells their answers.
 #![tactic(auto)]
 
-mod hex;
 mod play;
 mod program;
 mod report;

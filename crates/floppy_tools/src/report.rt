@@ -3,13 +3,12 @@ ghost use Rattle.std.specs.Prelude.{◌≡◌, ◌≤◌, ◌++◌, ℕ, List, c
 ghost use Rattle.std.specs.Fmt.{decimal};
 ghost use Rattle.flop_base.specs.Shelf.{Rose};
 ghost use Rattle.flop_base.specs.Sink.{grown, GrowsByPart};
-ghost use Rattle.sector_model.specs.Texts.{reply_text, stop_text, stop_status, bad_line_text, absent_text, image_text, image_error_text, reason_text, dump_text, dump_line, line_end};
+ghost use Rattle.sector_model.specs.Texts.{reply_text, stop_text, stop_status, bad_line_text, absent_text, image_text, image_error_text, reason_text, dump_text, dump_line, dump_byte, line_end};
 ghost use Rattle.sector_model.specs.Plays.{IsPutFault, Prints};
 ghost use Rattle.floppy_tools.specs.Programs.{bad_words_text};
 
-use crate::hex::{push_address, push_byte};
 use flop_base::{PutError, Sink, Status};
-use floppy_jobs::Request;
+use floppy_jobs::{Address, MemoryByte, Request};
 use raw_image::ImageError;
 use sector_model::{Reason, Reply, Stop};
 use std::alloc::{AllocError, Global};
@@ -56,9 +55,8 @@ fn reason_word(alloc: Global, reason: Reason) -> Result<String, AllocError>
 {
     match reason {
         Reason::Driver(code) => {
-            let number = code.number();
-            let (high, low) = (number / 16 % 16, number % 16);
-            format!(in alloc; "{high:X}{low:X}")
+            let number = MemoryByte(code.number());
+            format!(in alloc; "{number}")
         }
         Reason::Busy => String::from_str(alloc, "busy"),
         Reason::Empty => String::from_str(alloc, "empty"),
@@ -99,15 +97,24 @@ fn image_line(alloc: Global, name: &str, error: ImageError) -> Result<String, Al
     format!(in alloc; "image {name}: {cause}")
 }
 
+/// Adds a byte of a dump.
+fn push_byte(line: &mut String, value: u8) -> Result<(), AllocError>
+    ensures { OnOk result (string_bytes line.new ≡ string_bytes line.old ++ dump_byte value) }
+{
+    let byte = MemoryByte(value);
+    write!(line, " {byte}")?;
+    Ok(())
+}
+
 /// A line of a dump: the address of its first byte, and its bytes.
 #[tactic(auto, unfolding(sector_model::specs::Texts::dump_line))]
 fn dump_line(alloc: Global, address: u32, row: &[u8]) -> Result<String, AllocError>
     ensures { IfOk result (λ line. string_bytes line ≡ dump_line address row.now) }
 {
-    let mut line = String::new(alloc);
-    push_address(&mut line, address)?;
-    for byte in row {
-        push_byte(&mut line, *byte)?;
+    let place = Address(address);
+    let mut line = format!(in alloc; "{place}")?;
+    for value in row {
+        push_byte(&mut line, *value)?;
     }
     line.push('\n')?;
     Ok(line)

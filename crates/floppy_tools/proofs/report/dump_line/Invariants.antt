@@ -5,5 +5,5 @@ use Rattle.floppy_jobs.specs.Spelling.{hex5}
 use Rattle.sector_model.specs.Texts.{dump_byte}
 use Rattle.floppy_tools.proofs.report.dump_line.Given as goal
 
-abbrev pub invariant-loop-byte : goal.invariant-loop-byte
-invariant-loop-byte l = string_bytes l.line ≡ hex5 l.fn.address ++ flat_map dump_byte (take l.byte-index l.row)
+abbrev pub invariant-loop-value : goal.invariant-loop-value
+invariant-loop-value l = string_bytes l.line ≡ hex5 l.fn.address ++ flat_map dump_byte (take l.value-index l.row)
