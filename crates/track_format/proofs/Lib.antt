@@ -1,4 +1,4 @@
-mod Asked
+pub mod Asked
 mod Found
 mod Laid
 mod Parts

@@ -1,0 +1,12 @@
+mod Acked
+mod DrivenBays
+mod FormatKeys
+mod Formatted
+mod Kept
+mod Looked
+mod MetTracks
+mod Putting
+mod ReadStep
+mod Started
+mod StationSteps
+mod Wrote

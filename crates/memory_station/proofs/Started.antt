@@ -1,0 +1,29 @@
+-- A station before the first request.
+use Rattle.std.proofs.Common.{◌≡◌, ℕ, ap, List, length, replicate, Some, None, ◌∙◌}
+use Rattle.std.proofs.lemmas.List.{length-replicate}
+use Rattle.sector_model.specs.Bays.{Two, both}
+use Rattle.sector_model.specs.Stations as model
+use Rattle.sector_model.specs.Stations.{zeroes, fresh_bay}
+use Rattle.memory_station.specs.declared.bay.Bay.{Bay}
+use Rattle.memory_station.specs.Shown.{bay_shown, bays_shown}
+use Rattle.memory_station.specs.Counted.{quiet}
+
+pub zeroed : (bytes : List ℕ) (count : ℕ) → bytes ≡ replicate count 0 → bytes ≡ zeroes count
+unfolding zeroes
+zeroed bytes count is = is
+
+pub length-zeroes : (count : ℕ) → length (zeroes count) ≡ count
+unfolding zeroes
+length-zeroes count = length-replicate count 0
+
+pub length-quiet : (spares : ℕ) → length (quiet spares) ≡ spares
+unfolding quiet
+length-quiet spares = length-replicate spares (Some 0)
+
+-- a bay and a bay
+abbrev two_of : model.Bay → model.Bay → Two model.Bay
+two_of a b = record { first = a; second = b }
+
+-- two bays with nothing in them
+pub both_fresh : (first second : Bay) → bay_shown first ≡ fresh_bay None → bay_shown second ≡ fresh_bay None → bays_shown (record { first = first; second = second }) ≡ both (fresh_bay None)
+both_fresh first second e f = ap (λ b. two_of b (bay_shown second)) e ∙ ap (λ b. two_of (fresh_bay None) b) f

@@ -1,0 +1,13 @@
+use Rattle.std.proofs.Common.{refl, inl, inr}
+use Rattle.track_model.specs.declared.Look.TheVariants as look
+use Rattle.memory_station.specs.Shown.{bay_shown}
+use Rattle.memory_station.proofs.Looked.{refused_look}
+use Rattle.memory_station.proofs.bay.Bay.read.Goals as goal
+
+pub returns-in-NoMark-clause-refused : goal.returns-in-NoMark-clause-refused
+returns-in-NoMark-clause-refused c =
+    let refused = refused_look (bay_shown c.args.self.now) c.in-Some.track.now c.args.key c.find_sector.result in
+    elim c.in-NoMark.is [
+      | inl is ↦ refused look.NoMark _ c.in-Some.ensures c.find_sector.ensures is refl
+      | inr is ↦ refused look.NoData _ c.in-Some.ensures c.find_sector.ensures is refl
+    ]

@@ -1,0 +1,6 @@
+pub mod Answers
+pub mod Asked
+pub mod Counted
+pub mod Driven
+pub mod Put
+pub mod Shown

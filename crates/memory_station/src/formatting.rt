@@ -1,0 +1,114 @@
+// Formatting a track of the medium in a bay.
+ghost use Rattle.std.specs.Prelude.{◌≡◌, ◌+◌, ◌*◌, ◌≤◌, ◌↔◌, ℕ, IsTrue, length, slice_index};
+ghost use Rattle.std.specs.List.{flat_map};
+ghost use Rattle.track_model.specs.Layouts.{lay, laid_words};
+ghost use Rattle.track_format.specs.Keys.{key_bytes};
+ghost use Rattle.sector_map.specs.Failing.{sectors_at, track_keys};
+ghost use Rattle.sector_model.specs.Stations.{StationState};
+ghost use Rattle.sector_model.specs.Formats.{FormatsDrive};
+ghost use Rattle.memory_station.specs.Shown.{bay_shown, HasTrackMet};
+ghost use Rattle.memory_station.specs.Driven.{Drives};
+
+use crate::bay::{Bay, same_rate};
+use crate::outcome::Outcome;
+use flop_base::{Code, Rate};
+use track_format::FormatStream;
+
+/// The size code of records of 512 bytes.
+const SIZE_CODE: u8 = 2;
+
+/// How many sectors a track has, by the rate.
+fn sectors_at(rate: Rate) -> u8
+    ensures value { result ≡ sectors_at rate }
+    ensures most { result ≤ 18 }
+{
+    match rate {
+        Rate::R500 => 18,
+        Rate::R250 => 9,
+    }
+}
+
+/// Whether so many sectors of 512 bytes fit on a track of so many words.
+fn fits(sectors: u8, gap3: u8, words: usize) -> bool
+    ensures { IsTrue result ↔ laid_words sectors 2 gap3 ≤ words }
+{
+    146 + usize::from(sectors) * (574 + usize::from(gap3)) <= words
+}
+
+/// Byte `i` of the keys one after the other, 0 behind the last.
+fn key_byte(sectors: u8, c: u8, h: u8, i: usize) -> u8
+    ensures { result ≡ slice_index (flat_map key_bytes (track_keys sectors c h)) i }
+{
+    if i / 4 >= usize::from(sectors) {
+        return 0;
+    }
+    match i % 4 {
+        0 => c,
+        1 => h,
+        2 => (1 + i / 4) as u8,
+        _ => SIZE_CODE,
+    }
+}
+
+/// Fills words with those of a formatted track.
+fn fill_track(words: &mut [u16], sectors: u8, c: u8, h: u8, gap3: u8, fill: u8)
+    ensures { words.new ≡ lay (track_keys sectors c h) 2 gap3 fill (length words.old) }
+{
+    let mut stream = FormatStream::new(SIZE_CODE, sectors, gap3, fill);
+    let mut asked = 0;
+    for i in 0..words.len() {
+        let mut byte = 0;
+        if stream.needs_byte() {
+            byte = key_byte(sectors, c, h, asked);
+            asked += 1;
+        }
+        words[i] = stream.next(byte);
+    }
+}
+
+impl Bay {
+    /// Whether the medium has the track of a cylinder and a head, at the rate of the bay.
+    fn has_track(&self, c: u8, h: u8) -> bool
+        ensures { IsTrue result ↔ HasTrackMet (bay_shown self.now) c h }
+    {
+        match &self.medium {
+            Some(medium) => {
+                same_rate(medium.rate(), self.rate) && c < medium.cylinders() && h < medium.heads()
+            }
+            None => false,
+        }
+    }
+
+    /// Formats a track. The words are room for it.
+    pub fn format(&mut self, c: u8, h: u8, gap3: u8, fill: u8, words: &mut [u16]) -> Outcome
+        requires { length words.old ≡ 16384 }
+        ensures { (n : ℕ) (old new : StationState)
+            → Drives n (bay_shown self.old) result.commands (bay_shown self.new) old new
+            → FormatsDrive (record { c = c; h = h; rate = (bay_shown self.old).rate; gap3 = gap3; fill = fill })
+            n result.answer old new }
+    {
+        let sectors = sectors_at(self.rate);
+        let refused = Outcome {
+            answer: Err(Code::NoMark),
+            commands: 1 + sectors,
+        };
+        if !self.has_track(c, h) {
+            return refused;
+        }
+        let Some(medium) = &mut self.medium else {
+            unreachable!();
+        };
+        let length = usize::from(medium.words());
+        let track = &mut words[..length];
+        fill_track(track, sectors, c, h, gap3, fill);
+        medium.set_words(c, h, 0, track);
+        if fits(sectors, gap3, length) {
+            Outcome {
+                answer: Ok(()),
+                commands: 1 + sectors,
+            }
+        } else {
+            refused
+        }
+    }
+}
