@@ -1,10 +1,10 @@
 -- The steps of a station in memory.
-use Rattle.std.proofs.Common.{◌≡◌, ℕ, zero, suc, ◌+◌, ◌-◌, ◌≤◌, ◌==◌, ◌∷◌, Bool, true, false, if◌then◌else◌, List, take, drop, replicate, Option, Some, None, is_some, Result, MatchOption, MatchBool, refl, sym, ap, ◌∙◌, subst, arith}
+use Rattle.std.proofs.Common.{◌≡◌, ℕ, zero, suc, ◌+◌, ◌-◌, ◌<◌, ◌≤◌, ◌==◌, ◌∷◌, Bool, true, false, if◌then◌else◌, List, take, drop, replicate, Option, Some, None, is_some, Result, MatchOption, MatchBool, refl, sym, ap, ◌∙◌, subst, arith}
 use Rattle.std.proofs.lemmas.Bool.{false≢true, le-leb}
 use Rattle.raw_image.specs.Disk.{Disk}
 use Rattle.flop_base.specs.declared.answers.Code.{Code}
 use Rattle.sector_model.specs.Bays.{Two, both, in_bay, with_bay}
-use Rattle.sector_model.specs.Counters.{Counters, IsPastDriver}
+use Rattle.sector_model.specs.Counters.{Counters, IsPastDriver, last_count}
 use Rattle.sector_model.specs.Stations.{StationState, Bay, fresh_bay, bytes_from}
 use Rattle.flop_base.specs.declared.answers.Code.TheVariants.{BadRequest}
 use Rattle.sector_model.specs.Orders.{IsRefusedAtOnce}
@@ -79,6 +79,9 @@ quiet_more (suc spares) some =
     let back : spares ≡ suc spares - 1 = omega arith in
     ap (λ k. Some 0 ∷ replicate k (Some 0)) back
 
+few : (zero_faults n : ℕ) → zero_faults ≡ 0 → in_bay (both zero_faults) n + 0 < last_count
+few none n is = let same : in_bay (both none) n ≡ none = in_both none n in omega (arith, same, is)
+
 pub spare_taken : (bays after : Two Bay) (memory : List ℕ) (spares tries n : ℕ) (counts next : Counts) (value : Bay) → 1 ≤ spares → after ≡ with_bay bays n value → value ≡ fresh_bay None → next.taken ≡ counts.taken → ((k : ℕ) → IsPastDriver 1 (counters_of k counts) (counters_of k next)) → IsExchanged (station bays memory spares tries (counters_of spares counts)) n (station after memory (spares - 1) tries (counters_of (spares - 1) next))
 spare_taken bays after memory spares tries n counts next value some is fresh taken access = record {
   becomes = ap (λ b. station b memory (spares - 1) tries (counters_of (spares - 1) next)) (is ∙ ap (with_bay bays n) fresh);
@@ -86,7 +89,7 @@ spare_taken bays after memory spares tries n counts next value some is fresh tak
   counts = record {
     other = refl;
     other_left = refl;
-    spares = (Some 0, quiet_more spares some, (0, in_both (Some 0) n, omega arith));
+    spares = (Some 0, quiet_more spares some, (0, in_both (Some 0) n, omega arith, few 0 n refl));
     stalls = refl;
     stalls_left = refl;
     taken = taken;

@@ -1,4 +1,4 @@
-use Rattle.std.proofs.Common.{◌∙◌, ap, length, refl}
+use Rattle.std.proofs.Common.{arith, ◌∙◌, ap, length, refl}
 use Rattle.memory_station.proofs.Started.{length-zeroes, length-quiet, both_fresh}
 use Rattle.memory_station.proofs.station.MemoryStation.new.Goals as goal
 
@@ -11,4 +11,5 @@ returns-clause-fresh c = record {
   memory = c.in_ok-memory.ensures;
   tries = refl;
   spares = length-quiet c.args.spares;
+  tells = record { first = omega arith; second = omega arith; stalls = omega arith };
 }
