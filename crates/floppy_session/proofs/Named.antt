@@ -2,14 +2,16 @@
 use Rattle.std.proofs.Common.{◌≡◌, ℕ, ◌==◌, Bool, true, false, List, Option, Some, None, Result, Ok, Err, is_some, if◌then◌else◌, refl, sym, ap, ◌∙◌}
 use Rattle.std.specs.Option.{MatchOption}
 use Rattle.flop_base.specs.declared.key.Chrn.{Chrn}
+use Rattle.flop_base.specs.declared.answers.Rate.{Rate}
 use Rattle.flop_base.specs.declared.answers.Code.{Code}
 use Rattle.raw_image.specs.Disk.{Disk}
 use Rattle.sector_model.specs.Bays.{Two, with_bay}
 use Rattle.sector_model.specs.Stations.{StationState, Bay, Stays, bay_of}
-use Rattle.sector_model.specs.Orders.{read_refusal, write_refusal, format_refusal}
+use Rattle.sector_model.specs.Orders.{read_refusal, write_refusal, format_refusal, rate_refusal}
 use Rattle.sector_model.specs.Reads.{Reads, ReadsDrive}
 use Rattle.sector_model.specs.Writes.{WritesTo, Written, Change, Reaches}
 use Rattle.sector_model.specs.Formats.{FormatsTo, Format, Laying, Lays}
+use Rattle.sector_model.specs.Calls.{RatesTo}
 use Rattle.sector_model.specs.States.{State, IsNamed}
 
 -- a bay has a medium exactly where it had one
@@ -85,4 +87,11 @@ pub keeps_formats : (old new : StationState) (bay c h gap3 fill : ℕ) (answer :
 keeps_formats old new bay c h gap3 fill answer formats =
     by_refusal (format_refusal old bay c h gap3) _ _ formats
     (λ formatted. keeps_set old new bay _ (ap (λ (s : StationState). s.bays) formatted.becomes) (keeps_lays _ _ _ _ formatted.lays))
+    (λ code refused. keeps_stays old new refused.stays)
+
+-- a change of the rate leaves each medium in
+pub keeps_rates : (old new : StationState) (bay : ℕ) (rate : Rate) (answer : Result (Unit {0}) Code) → RatesTo old bay rate answer new → KeepsLoads old.bays new.bays
+keeps_rates old new bay rate answer rates =
+    by_refusal (rate_refusal old bay) _ _ rates
+    (λ set. keeps_set old new bay _ (ap (λ (s : StationState). s.bays) set.becomes) refl)
     (λ code refused. keeps_stays old new refused.stays)

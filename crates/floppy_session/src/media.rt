@@ -90,6 +90,7 @@ impl<D: Station> Session<D> {
         }
     }
 
+    /// Sets the name of a bay.
     fn set_name(&mut self, bay: u8, name: Name)
         ensures names { (state_of D.shown self.new).names
             ≡ with_bay (state_of D.shown self.old).names bay (Some name) }
@@ -145,6 +146,7 @@ impl<D: Station> Session<D> {
         store_medium(self.alloc, shelf, &name, &medium)
     }
 
+    /// Takes the name of a bay out, so that it has none.
     fn take_name(&mut self, bay: u8) -> Option<Name>
         ensures name { result ≡ in_bay (state_of D.shown self.old).names bay }
         ensures names { (state_of D.shown self.new).names

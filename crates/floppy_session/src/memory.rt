@@ -29,6 +29,7 @@ impl<D: Station> Session<D> {
         Reply::Done
     }
 
+    /// Sets the bytes of a range of user memory.
     fn fill_range(&mut self, address: u32, length: u32, byte: u8)
         requires ready { D.is_ready self.old.station }
         requires range { address + length ≤ 983040 }
@@ -55,6 +56,7 @@ impl<D: Station> Session<D> {
         Ok(Reply::Bytes { address, content })
     }
 
+    /// The bytes of a range of user memory.
     fn bytes_from(&self, address: u32, length: u32) -> Result<Bytes, NoMemory>
         requires { address + length ≤ 983040 }
         ensures { IfOk result (λ content. content ≡ bytes_from (state_of D.shown self.now).station.memory address length) }

@@ -1,4 +1,4 @@
-use Rattle.std.proofs.Common.{true, refl}
+use Rattle.std.proofs.Common.{refl}
 use Rattle.floppy_session.specs.Session.{state_of}
 use Rattle.floppy_session.proofs.Named.{named_still, keeps_writes}
 use Rattle.floppy_session.proofs.session.Session.write_deleted.Goals as goal
@@ -6,5 +6,5 @@ use Rattle.floppy_session.proofs.session.Session.write_deleted.Goals as goal
 pub returns-clause-running : goal.returns-clause-running
 returns-clause-running g c = record {
   ready = c.write.ensures.ready;
-  named = named_still (state_of g.D.Station.shown c.args.self.now) _ refl (keeps_writes (g.D.Station.shown c.args.self.now.station) (g.D.Station.shown c.write.new.self) c.args.bay c.args.key c.args.address true c.write.result c.write.ensures.step) c.requires.named;
+  named = named_still (state_of g.D.Station.shown c.args.self.now) _ refl (keeps_writes (g.D.Station.shown c.args.self.now.station) (g.D.Station.shown c.write.new.self) c.args.bay c.args.key c.args.address _ c.write.result c.write.ensures.step) c.requires.named;
 }
