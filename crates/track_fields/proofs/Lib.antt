@@ -1,4 +1,3 @@
-mod CrcTable
 mod Intact
 mod Listed
 mod Looked

@@ -5,7 +5,6 @@
 #![tactic(auto)]
 
 mod bytes;
-mod crc;
 mod fields;
 mod look;
 mod marks;
@@ -13,7 +12,7 @@ mod regular;
 mod writing;
 
 pub use bytes::content_byte;
-pub use crc::{crc_step, field_crc, mark_crc};
+pub use track_check::{crc_step, field_crc, mark_crc};
 pub use fields::list_fields;
 pub use look::{data_at, find_sector, look_at};
 pub use regular::{is_regular, window_word};

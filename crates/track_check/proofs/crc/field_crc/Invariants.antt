@@ -1,6 +1,6 @@
 use Rattle.std.proofs.Common.{◌≡◌, ◌^◌, ◌<◌, drop}
 use Rattle.track_model.specs.Crc.{crc, crc_from}
-use Rattle.track_fields.proofs.crc.field_crc.Given as goal
+use Rattle.track_check.proofs.crc.field_crc.Given as goal
 
 -- the CRC so far, going on over the bytes that are left, is the whole one
 abbrev pub invariant-loop-byte : goal.invariant-loop-byte

@@ -5,7 +5,7 @@ use Rattle.std.proofs.lemmas.Bool.{agree_below_at, eqb-true}
 use Rattle.std.proofs.lemmas.Nat.{xor_of_8, xor_of_16}
 use Rattle.track_model.specs.Crc.{bits, number_in, row_of, invert, reduced, divided, remainder, crc, crc_from}
 use Rattle.track_model.proofs.CrcSteps.{crc_from_below, crc_from_none, crc-append, crc_from-cons}
-use Rattle.track_fields.specs.declared.crc.TheConstants.{TABLE}
+use Rattle.track_check.specs.declared.crc.TheConstants.{TABLE}
 
 is_entry : ℕ → Bool
 is_entry index = eqb (get_or TABLE index 0) (crc_from 0 (index ∷ []))

@@ -1,5 +1,5 @@
-use Rattle.track_fields.proofs.CrcTable.{stepped_goes_on, stepped_extends}
-use Rattle.track_fields.proofs.crc.crc_step.Goals as goal
+use Rattle.track_check.proofs.CrcTable.{stepped_goes_on, stepped_extends}
+use Rattle.track_check.proofs.crc.crc_step.Goals as goal
 
 pub returns-clause-extends : goal.returns-clause-extends
 returns-clause-extends c = stepped_extends c.args.check c.args.byte c.ranges.check.fits c.ranges.byte.fits

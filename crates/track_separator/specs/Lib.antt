@@ -1,0 +1,6 @@
+pub mod Stages
+pub mod Register
+pub mod Parts
+pub mod Hunts
+pub mod Waits
+pub mod Turns

@@ -1,0 +1,55 @@
+-- What a word gives at any time, also as the last of its turn.
+use Rattle.std.specs.Prelude.{◌≡◌, ℕ, ◌+◌, Bool, true, false, List, []}
+use Rattle.track_separator.specs.declared.state.Seen.{Seen}
+use Rattle.track_separator.specs.declared.state.Seen.TheVariants.{Nothing, Mark, Address, Mode, Byte, End, NoData}
+use Rattle.track_separator.specs.declared.state.Stage.{Stage}
+use Rattle.track_separator.specs.declared.state.Stage.TheVariants.{Hunting, Reading, Addressed, Cut, Waiting, Content}
+use Rattle.track_separator.specs.declared.state.Separator.{Separator}
+use Rattle.track_separator.specs.Parts.{with_word}
+use Rattle.track_separator.specs.Hunts.{SHunts, SFollows, SHuntSeen, GivesAll}
+use Rattle.track_separator.specs.Waits.{SWaits, SReads, SWaitSeen, SReadSeen, HasEnded, TellsWhole, IsCutOff}
+
+-- a word to a separator that hunts, inside the turn
+pub record IsHunted (old : Separator) (word : ℕ) (new : Separator) (seen : Seen) : Type 0 where
+  pub keeps : (fed : List ℕ) → SHunts old fed → SHunts new (with_word fed word)
+  pub tells : (fed : List ℕ) → SHunts old fed → SHuntSeen (with_word fed word) new seen
+  pub follows : (fed : List ℕ) → SFollows old fed → SFollows new (with_word fed word)
+  pub gives : (fed : List ℕ) → SFollows old fed → GivesAll (with_word fed word) seen
+
+-- what the last word of the turn gives a separator that waits
+abbrev pub SWaitCut : List ℕ → ℕ → ℕ → Seen → Type 0
+SWaitCut fed p size NoData = IsCutOff fed p size
+SWaitCut fed p size _ = ⊥
+
+-- a word to a separator that waits
+abbrev pub SWaitFed : Bool → List ℕ → ℕ → ℕ → Separator → Seen → Type 0
+SWaitFed false fed p size separator seen = SWaitSeen fed p size separator seen
+SWaitFed true fed p size separator seen = SWaitCut fed p size seen
+
+-- what the last word of the turn gives one that reads
+abbrev pub SReadCut : List ℕ → ℕ → ℕ → Bool → ℕ → ℕ → Seen → Type 0
+SReadCut fed p q deleted size taken (End good) =
+    (taken ≡ size + 1) × HasEnded fed p q deleted size × TellsWhole fed q size good
+SReadCut fed p q deleted size taken NoData = IsCutOff fed p size
+SReadCut fed p q deleted size taken _ = ⊥
+
+-- a word to one that reads
+abbrev pub SReadFed : Bool → List ℕ → ℕ → ℕ → Bool → ℕ → ℕ → Separator → Seen → Type 0
+SReadFed false fed p q deleted size taken separator seen = SReadSeen fed p q deleted size taken separator seen
+SReadFed true fed p q deleted size taken separator seen = SReadCut fed p q deleted size taken seen
+
+-- a data field is asked for behind the end of its turn
+abbrev pub CutIn : Stage → Type 0
+CutIn Cut = Unit {0}
+CutIn _ = ⊥
+
+abbrev pub SCut : Separator → Type 0
+SCut separator = CutIn separator.stage
+
+-- the separator begins a turn
+abbrev pub BeginsIn : Stage → Type 0
+BeginsIn Hunting = Unit {0}
+BeginsIn _ = ⊥
+
+abbrev pub SBegins : Separator → Type 0
+SBegins separator = BeginsIn separator.stage
