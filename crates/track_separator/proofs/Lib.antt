@@ -1,1 +1,7 @@
 mod Bits
+pub mod Shared
+mod Runs
+mod Next
+mod Hunted
+mod HuntedWord
+mod Started

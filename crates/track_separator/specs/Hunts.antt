@@ -73,11 +73,15 @@ abbrev pub SAddressed : Separator → List ℕ → ℕ → Type 0
 SAddressed separator fed p = AddressedIn fed separator.cells separator.back p separator.stage
 
 -- and behind an Address, the field that it is of
+abbrev pub HuntSeenIn : List ℕ → ℕ → ℕ → Stage → Seen → Type 0
+HuntSeenIn fed cells back stage Nothing = Unit {0}
+HuntSeenIn fed cells back stage Mark = (p : ℕ) × EndsInLast fed (p + 64) × IsAddressMark fed p
+HuntSeenIn fed cells back stage (Address key) =
+    (p : ℕ) × EndsInLast fed (p + 160) × IsAddressAt fed p key × AddressedIn fed cells back p stage
+HuntSeenIn fed cells back stage _ = ⊥
+
 abbrev pub SHuntSeen : List ℕ → Separator → Seen → Type 0
-SHuntSeen fed separator Nothing = Unit {0}
-SHuntSeen fed separator Mark = (p : ℕ) × EndsInLast fed (p + 64) × IsAddressMark fed p
-SHuntSeen fed separator (Address key) = (p : ℕ) × EndsInLast fed (p + 160) × IsAddressAt fed p key × SAddressed separator fed p
-SHuntSeen fed separator _ = ⊥
+SHuntSeen fed separator seen = HuntSeenIn fed separator.cells separator.back separator.stage seen
 
 -- each address mark, and each intact address field in which no run begins, that ends in the last word is the event
 pub record GivesAll (fed : List ℕ) (seen : Seen) : Type 0 where
@@ -90,6 +94,7 @@ pub record GivesAll (fed : List ℕ) (seen : Seen) : Type 0 where
 pub record IsAtByte (fed : List ℕ) (cells p bytes back : ℕ) : Type 0 where
   pub place : p + 64 + 16 * bytes + back ≡ 16 * length fed
   pub few : bytes ≤ 6
+  pub small : back < 16
   pub run : IsRun fed p
   pub no_zero : HasNoZeroFrom fed p
   pub mark : 1 ≤ bytes → byte_at fed (p + 48) ≡ 0xFE
@@ -97,9 +102,9 @@ pub record IsAtByte (fed : List ℕ) (cells p bytes back : ℕ) : Type 0 where
   pub tail : HasTail fed cells
 
 -- what was made of it
-pub record IsByteTaken (fed : List ℕ) (p bytes back : ℕ) (separator : Separator) (seen : Seen) : Type 0 where
-  pub hunts : SHunts separator fed
-  pub tells : SHuntSeen fed separator seen
-  pub goes : bytes < 6 → byte_at fed (p + 48) ≡ 0xFE → (separator.stage ≡ Reading (bytes + 1)) × (separator.back ≡ back)
+pub record IsByteTaken (fed : List ℕ) (p bytes back cells after : ℕ) (stage : Stage) (seen : Seen) : Type 0 where
+  pub hunts : HuntsIn fed cells after stage
+  pub tells : HuntSeenIn fed cells after stage seen
+  pub goes : bytes < 6 → byte_at fed (p + 48) ≡ 0xFE → (stage ≡ Reading (bytes + 1)) × (after ≡ back)
   pub is_mark : bytes ≡ 0 → byte_at fed (p + 48) ≡ 0xFE → seen ≡ Mark
   pub is_address : (key : Chrn) → bytes ≡ 6 → IsAddressAt fed p key → seen ≡ Address key

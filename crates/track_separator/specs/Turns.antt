@@ -6,15 +6,18 @@ use Rattle.track_separator.specs.declared.state.Stage.{Stage}
 use Rattle.track_separator.specs.declared.state.Stage.TheVariants.{Hunting, Reading, Addressed, Cut, Waiting, Content}
 use Rattle.track_separator.specs.declared.state.Separator.{Separator}
 use Rattle.track_separator.specs.Parts.{with_word}
-use Rattle.track_separator.specs.Hunts.{SHunts, SFollows, SHuntSeen, GivesAll}
+use Rattle.track_separator.specs.Hunts.{HuntsIn, FollowsIn, HuntSeenIn, GivesAll}
 use Rattle.track_separator.specs.Waits.{SWaits, SReads, SWaitSeen, SReadSeen, HasEnded, TellsWhole, IsCutOff}
 
 -- a word to a separator that hunts, inside the turn
-pub record IsHunted (old : Separator) (word : ℕ) (new : Separator) (seen : Seen) : Type 0 where
-  pub keeps : (fed : List ℕ) → SHunts old fed → SHunts new (with_word fed word)
-  pub tells : (fed : List ℕ) → SHunts old fed → SHuntSeen (with_word fed word) new seen
-  pub follows : (fed : List ℕ) → SFollows old fed → SFollows new (with_word fed word)
-  pub gives : (fed : List ℕ) → SFollows old fed → GivesAll (with_word fed word) seen
+pub record IsHuntedIn (cells back : ℕ) (stage : Stage) (word after behind : ℕ) (next : Stage) (seen : Seen) : Type 0 where
+  pub keeps : (fed : List ℕ) → HuntsIn fed cells back stage → HuntsIn (with_word fed word) after behind next
+  pub tells : (fed : List ℕ) → HuntsIn fed cells back stage → HuntSeenIn (with_word fed word) after behind next seen
+  pub follows : (fed : List ℕ) → FollowsIn fed cells back stage → FollowsIn (with_word fed word) after behind next
+  pub gives : (fed : List ℕ) → FollowsIn fed cells back stage → GivesAll (with_word fed word) seen
+
+abbrev pub IsHunted : Separator → ℕ → Separator → Seen → Type 0
+IsHunted old word new seen = IsHuntedIn old.cells old.back old.stage word new.cells new.back new.stage seen
 
 -- what the last word of the turn gives a separator that waits
 abbrev pub SWaitCut : List ℕ → ℕ → ℕ → Seen → Type 0
@@ -53,3 +56,10 @@ BeginsIn _ = ⊥
 
 abbrev pub SBegins : Separator → Type 0
 SBegins separator = BeginsIn separator.stage
+
+-- a data field is asked for
+abbrev pub WantsIn : Stage → Type 0
+WantsIn Cut = Unit {0}
+WantsIn (Waiting size since marked) = Unit {0}
+WantsIn (Content size taken check touched) = Unit {0}
+WantsIn _ = ⊥

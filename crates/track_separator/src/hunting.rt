@@ -1,4 +1,6 @@
 // The hunt for address marks and address fields.
+ghost use Rattle.std.specs.Prelude.{◌≡◌, ℕ, List};
+
 use crate::register::{byte_before, key_before, next_cells, run_end};
 use crate::state::{Seen, Separator, Stage};
 
@@ -9,8 +11,13 @@ const ADDRESS_BYTE: u8 = 0xFE;
 const BYTES_BEFORE_LAST: u32 = 6;
 
 impl Separator {
+    ghost use Rattle.track_separator.specs.Hunts.{IsAtByte, IsByteTaken};
+    ghost use Rattle.track_separator.specs.Turns.{IsHunted};
+
     /// Takes one word while address marks are hunted for. A run that ends in it begins a field anew.
-    pub(crate) fn hunt_word(&mut self, word: u16) -> Seen {
+    pub(crate) fn hunt_word(&mut self, word: u16) -> Seen
+        ensures { IsHunted self.old word self.new result }
+    {
         self.cells = next_cells(self.cells, word);
         if let Some(back) = run_end(self.cells) {
             self.back = back;
@@ -27,7 +34,11 @@ impl Separator {
     }
 
     /// Takes the byte of an address field that has just come into the register, after `bytes` of them.
-    fn take_byte(&mut self, bytes: u32) -> Seen {
+    fn take_byte(&mut self, bytes: u32) -> Seen
+        ensures kept { self.new.cells ≡ self.old.cells }
+        ensures taken { (fed : List ℕ) (p : ℕ) → IsAtByte fed self.old.cells p bytes self.old.back
+            → IsByteTaken fed p bytes self.old.back self.new.cells self.new.back self.new.stage result }
+    {
         if bytes == 0 {
             if byte_before(self.cells, self.back) != ADDRESS_BYTE {
                 self.stage = Stage::Hunting;

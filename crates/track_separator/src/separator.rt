@@ -1,12 +1,21 @@
 // The calls of a separator.
-ghost use Rattle.std.specs.Prelude.{◌≤◌};
+ghost use Rattle.std.specs.Prelude.{◌≡◌, ◌≤◌, ◌<◌, ◌+◌, ◌↔◌, IsTrue, ℕ, Bool, true, false, List, []};
 
 use crate::register::BLANK;
 use crate::state::{Seen, Separator, Stage};
 
 impl Separator {
+    ghost use Rattle.track_separator.specs.Hunts.{SHunts, SFollows, SAddressed, Stands, SHuntSeen, GivesAll};
+    ghost use Rattle.track_separator.specs.Waits.{SWaits, SReads, SWaitSeen, SReadSeen};
+    ghost use Rattle.track_separator.specs.Turns.{IsHunted, SWaitFed, SReadFed, SCut, SBegins, WantsIn};
+    ghost use Rattle.track_separator.specs.Parts.{with_word, turn_after};
+
     /// A separator that hunts for address marks, at the beginning of a turn.
-    pub fn new() -> Separator {
+    pub fn new() -> Separator
+        ensures begins { SBegins result }
+        ensures hunts { (fed : List ℕ) → SHunts result fed }
+        ensures follows { SFollows result [] }
+    {
         Separator {
             cells: BLANK,
             back: 0,
@@ -15,7 +24,16 @@ impl Separator {
     }
 
     /// Takes one word of the turn. `index` says that the turn ends after it.
-    pub fn feed(&mut self, word: u16, index: bool) -> Seen {
+    pub fn feed(&mut self, word: u16, index: bool) -> Seen
+        ensures keeps { (fed : List ℕ) → SHunts self.old fed → SHunts self.new (turn_after index fed word) }
+        ensures stands { (fed : List ℕ) → SHunts self.old fed → Stands (with_word fed word) result }
+        ensures address { (fed : List ℕ) → SHunts self.old fed → index ≡ false
+            → SHuntSeen (with_word fed word) self.new result }
+        ensures follows { (fed : List ℕ) → SFollows self.old fed → SFollows self.new (turn_after index fed word) }
+        ensures turns { index ≡ true → SFollows self.new [] }
+        ensures begins { index ≡ true → SBegins self.new }
+        ensures gives { (fed : List ℕ) → SFollows self.old fed → GivesAll (with_word fed word) result }
+    {
         let seen = self.take(word);
         if !index {
             return seen;
@@ -40,12 +58,18 @@ impl Separator {
     }
 
     /// Hunts for address marks again, from the next word on.
-    pub fn hunt(&mut self) {
+    pub fn hunt(&mut self)
+        ensures begins { SBegins self.new }
+        ensures hunts { (fed : List ℕ) → SHunts self.new fed }
+        ensures follows { SFollows self.new [] }
+    {
         *self = Separator::new();
     }
 
     /// Takes one word, wherever the turn ends.
-    fn take(&mut self, word: u16) -> Seen {
+    fn take(&mut self, word: u16) -> Seen
+        ensures hunts { IsHunted self.old word self.new result }
+    {
         match self.stage {
             Stage::Hunting | Stage::Addressed | Stage::Reading { .. } => self.hunt_word(word),
             Stage::Cut => {
@@ -67,7 +91,9 @@ impl Separator {
     }
 
     /// Whether a data field is asked for.
-    fn is_wanted(&self) -> bool {
+    fn is_wanted(&self) -> bool
+        ensures { IsTrue result ↔ WantsIn self.now.stage }
+    {
         matches!(
             self.stage,
             Stage::Cut | Stage::Waiting { .. } | Stage::Content { .. }
