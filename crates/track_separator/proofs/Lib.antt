@@ -5,3 +5,6 @@ mod Next
 mod Hunted
 mod HuntedWord
 mod Started
+mod Waited
+mod Read
+mod Ended

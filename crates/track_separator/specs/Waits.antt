@@ -11,8 +11,8 @@ use Rattle.track_separator.specs.declared.state.Seen.TheVariants.{Nothing, Mark,
 use Rattle.track_separator.specs.declared.state.Stage.{Stage}
 use Rattle.track_separator.specs.declared.state.Stage.TheVariants.{Hunting, Reading, Addressed, Cut, Waiting, Content}
 use Rattle.track_separator.specs.declared.state.Separator.{Separator}
-use Rattle.track_separator.specs.Register.{HasNoZeroFrom, KeepsFrom, HasTail, IsFull}
-use Rattle.track_separator.specs.Hunts.{SHunts}
+use Rattle.track_separator.specs.Register.{HasNoZeroFrom, KeepsFrom, HasTail, IsFull, register_byte}
+use Rattle.track_separator.specs.Hunts.{HuntsIn}
 
 -- a run at q ended in the last word, and its cells were recorded
 pub record IsPending (fed : List ℕ) (q own : ℕ) : Type 0 where
@@ -87,18 +87,33 @@ abbrev pub IsCutOff : List ℕ → ℕ → ℕ → Type 0
 IsCutOff fed p size = (q : ℕ) (deleted : Bool) → HasEnded fed p q deleted size → ⊥
 
 -- what a word gives a separator that waits, inside the turn
+abbrev pub WaitSeenIn : List ℕ → ℕ → ℕ → ℕ → ℕ → Stage → Seen → Type 0
+WaitSeenIn fed p size cells back stage Nothing = WaitsIn fed cells back p size stage
+WaitSeenIn fed p size cells back stage (Mode deleted) = (q : ℕ) × ReadsIn fed cells back p q deleted size 0 stage
+WaitSeenIn fed p size cells back stage NoData = HasNoDataMark fed p × HuntsIn fed cells back stage
+WaitSeenIn fed p size cells back stage _ = ⊥
+
 abbrev pub SWaitSeen : List ℕ → ℕ → ℕ → Separator → Seen → Type 0
-SWaitSeen fed p size separator Nothing = SWaits separator fed p size
-SWaitSeen fed p size separator (Mode deleted) = (q : ℕ) × SReads separator fed p q deleted size 0
-SWaitSeen fed p size separator NoData = HasNoDataMark fed p × SHunts separator fed
-SWaitSeen fed p size separator _ = ⊥
+SWaitSeen fed p size separator seen = WaitSeenIn fed p size separator.cells separator.back separator.stage seen
 
 -- what it gives one that reads
+abbrev pub ReadSeenIn : List ℕ → ℕ → ℕ → Bool → ℕ → ℕ → ℕ → ℕ → Stage → Seen → Type 0
+ReadSeenIn fed p q deleted size taken cells back stage (Byte value) =
+    (taken < size) × (value ≡ byte_at fed (q + 64 + 16 * taken)) × ReadsIn fed cells back p q deleted size (taken + 1) stage
+ReadSeenIn fed p q deleted size taken cells back stage Nothing =
+    (taken ≡ size) × ReadsIn fed cells back p q deleted size (taken + 1) stage
+ReadSeenIn fed p q deleted size taken cells back stage (End good) =
+    (taken ≡ size + 1) × HasEnded fed p q deleted size × TellsWhole fed q size good × HuntsIn fed cells back stage
+ReadSeenIn fed p q deleted size taken cells back stage _ = ⊥
+
 abbrev pub SReadSeen : List ℕ → ℕ → ℕ → Bool → ℕ → ℕ → Separator → Seen → Type 0
-SReadSeen fed p q deleted size taken separator (Byte value) =
-    (taken < size) × (value ≡ byte_at fed (q + 64 + 16 * taken)) × SReads separator fed p q deleted size (taken + 1)
-SReadSeen fed p q deleted size taken separator Nothing =
-    (taken ≡ size) × SReads separator fed p q deleted size (taken + 1)
-SReadSeen fed p q deleted size taken separator (End good) =
-    (taken ≡ size + 1) × HasEnded fed p q deleted size × TellsWhole fed q size good × SHunts separator fed
-SReadSeen fed p q deleted size taken separator _ = ⊥
+SReadSeen fed p q deleted size taken separator seen =
+    ReadSeenIn fed p q deleted size taken separator.cells separator.back separator.stage seen
+
+-- ---- parts of a word
+
+-- a data mark is complete
+pub record IsMarkIn (cells back since : ℕ) (marked deleted : Bool) : Type 0 where
+  pub pending : marked ≡ true
+  pub near : since < 960 + 64 + back
+  pub byte : register_byte cells back ≡ data_byte deleted

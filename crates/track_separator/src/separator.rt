@@ -33,6 +33,12 @@ impl Separator {
         ensures turns { index ≡ true → SFollows self.new [] }
         ensures begins { index ≡ true → SBegins self.new }
         ensures gives { (fed : List ℕ) → SFollows self.old fed → GivesAll (with_word fed word) result }
+        ensures waits { (fed : List ℕ) (p size : ℕ) → SWaits self.old fed p size
+            → SWaitFed index (with_word fed word) p size self.new result }
+        ensures reads { (fed : List ℕ) (p q : ℕ) (deleted : Bool) (size taken : ℕ)
+            → SReads self.old fed p q deleted size taken
+            → SReadFed index (with_word fed word) p q deleted size taken self.new result }
+        ensures cut { SCut self.old → (result ≡ Seen.NoData) × ((fed : List ℕ) → SHunts self.new fed) }
     {
         let seen = self.take(word);
         if !index {
@@ -46,6 +52,8 @@ impl Separator {
     /// Asks for the data field of `size` bytes behind the address field that was just given.
     pub fn want(&mut self, size: usize)
         requires { size ≤ 8192 }
+        ensures waits { (fed : List ℕ) (p : ℕ) → SAddressed self.old fed p → SWaits self.new fed p size }
+        ensures cut { SBegins self.old → SCut self.new }
     {
         self.stage = match self.stage {
             Stage::Addressed => Stage::Waiting {
@@ -69,6 +77,12 @@ impl Separator {
     /// Takes one word, wherever the turn ends.
     fn take(&mut self, word: u16) -> Seen
         ensures hunts { IsHunted self.old word self.new result }
+        ensures waits { (fed : List ℕ) (p size : ℕ) → SWaits self.old fed p size
+            → SWaitSeen (with_word fed word) p size self.new result }
+        ensures reads { (fed : List ℕ) (p q : ℕ) (deleted : Bool) (size taken : ℕ)
+            → SReads self.old fed p q deleted size taken
+            → SReadSeen (with_word fed word) p q deleted size taken self.new result }
+        ensures cut { SCut self.old → (result ≡ Seen.NoData) × ((fed : List ℕ) → SHunts self.new fed) }
     {
         match self.stage {
             Stage::Hunting | Stage::Addressed | Stage::Reading { .. } => self.hunt_word(word),
