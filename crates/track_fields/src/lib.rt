@@ -12,9 +12,10 @@ mod regular;
 mod writing;
 
 pub use bytes::content_byte;
-pub use track_check::{crc_step, field_crc, mark_crc};
 pub use fields::list_fields;
 pub use look::{data_at, find_sector, look_at};
 pub use regular::{is_regular, window_word};
+pub use track_check::{crc_step, field_crc, mark_crc};
 pub use track_model::{Field, Look};
+pub use track_separator::{Seen, Separator};
 pub use writing::{address_words, field_words};

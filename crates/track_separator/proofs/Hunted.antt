@@ -22,7 +22,7 @@ use Rattle.track_separator.proofs.Next.{IsMore, more_of, no_zero_up, no_zero_dow
 
 pub tail_of : (fed : List ℕ) (cells back : ℕ) (stage : Stage) → HuntsIn fed cells back stage → HasTail fed cells
 tail_of fed cells back Hunting h = h
-tail_of fed cells back Addressed h = h
+tail_of fed cells back Addressed h = h.2.tail
 tail_of fed cells back (Reading bytes) h = h.0
 tail_of fed cells back Cut h = absurd h
 tail_of fed cells back (Waiting size since marked) h = absurd h
@@ -115,7 +115,7 @@ module _ (fed : List ℕ) (cells p bytes back : ℕ) (at : IsAtByte fed cells p 
       let six : bytes ≡ 6 = omega arith in
       let address = address_shown six key is in
       record {
-        hunts = at.tail;
+        hunts = (p, (key, address), record { place = omega arith; tail = at.tail; full = at.full });
         tells = (
           p,
           record { inside = omega arith; last = omega arith },

@@ -8,3 +8,4 @@ mod Started
 mod Waited
 mod Read
 mod Ended
+mod Told

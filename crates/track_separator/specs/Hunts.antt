@@ -3,7 +3,7 @@ use Rattle.std.specs.Prelude.{◌≡◌, ℕ, ◌+◌, ◌*◌, ◌<◌, ◌≤�
 use Rattle.flop_base.specs.declared.key.Chrn.{Chrn}
 use Rattle.track_model.specs.Bytes.{byte_at}
 use Rattle.track_model.specs.Marks.{IsRun, IsAddressMark}
-use Rattle.track_model.specs.Fields.{IsAddressAt}
+use Rattle.track_model.specs.Fields.{IsAddressAt, IsAddress}
 use Rattle.track_model.specs.Sectors.{HasNoRunWithin}
 use Rattle.track_separator.specs.declared.state.Seen.{Seen}
 use Rattle.track_separator.specs.declared.state.Seen.TheVariants.{Nothing, Mark, Address, Mode, Byte, End, NoData}
@@ -22,10 +22,16 @@ pub record IsAfterRun (fed : List ℕ) (cells p bytes back : ℕ) : Type 0 where
   pub mark : 1 ≤ bytes → byte_at fed (p + 48) ≡ 0xFE
   pub full : IsFull fed cells p
 
+-- an address field at p ended in the last word, and a data field may be asked for
+pub record IsAddressed (fed : List ℕ) (cells back p : ℕ) : Type 0 where
+  pub place : p + 160 + back ≡ 16 * length fed
+  pub tail : HasTail fed cells
+  pub full : IsFull fed cells p
+
 -- what a separator that hunts keeps of the words fed
 abbrev pub HuntsIn : List ℕ → ℕ → ℕ → Stage → Type 0
 HuntsIn fed cells back Hunting = HasTail fed cells
-HuntsIn fed cells back Addressed = HasTail fed cells
+HuntsIn fed cells back Addressed = (p : ℕ) × IsAddress fed p × IsAddressed fed cells back p
 HuntsIn fed cells back (Reading bytes) = HasTail fed cells × ((p : ℕ) × IsAfterRun fed cells p bytes back)
 HuntsIn fed cells back _ = ⊥
 
@@ -59,12 +65,7 @@ Stands fed Mark = (p : ℕ) × EndsInLast fed (p + 64) × IsAddressMark fed p
 Stands fed (Address key) = (p : ℕ) × EndsInLast fed (p + 160) × IsAddressAt fed p key
 Stands fed _ = ⊥
 
--- an address field at p ended in the last word, and a data field may be asked for
-pub record IsAddressed (fed : List ℕ) (cells back p : ℕ) : Type 0 where
-  pub place : p + 160 + back ≡ 16 * length fed
-  pub tail : HasTail fed cells
-  pub full : IsFull fed cells p
-
+-- that field is the one at p
 abbrev pub AddressedIn : List ℕ → ℕ → ℕ → ℕ → Stage → Type 0
 AddressedIn fed cells back p Addressed = IsAddressed fed cells back p
 AddressedIn fed cells back p _ = ⊥

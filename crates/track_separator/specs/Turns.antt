@@ -1,13 +1,16 @@
 -- What a word gives at any time, also as the last of its turn.
-use Rattle.std.specs.Prelude.{◌≡◌, ℕ, ◌+◌, Bool, true, false, List, []}
+use Rattle.std.specs.Prelude.{◌≡◌, ◌⊎◌, ℕ, ◌+◌, ◌*◌, Bool, true, false, List, []}
+use Rattle.track_model.specs.Bytes.{byte_at}
+use Rattle.track_model.specs.Fields.{IsAddress}
+use Rattle.track_model.specs.Looks.{IsFirstDataMark}
 use Rattle.track_separator.specs.declared.state.Seen.{Seen}
 use Rattle.track_separator.specs.declared.state.Seen.TheVariants.{Nothing, Mark, Address, Mode, Byte, End, NoData}
 use Rattle.track_separator.specs.declared.state.Stage.{Stage}
 use Rattle.track_separator.specs.declared.state.Stage.TheVariants.{Hunting, Reading, Addressed, Cut, Waiting, Content}
 use Rattle.track_separator.specs.declared.state.Separator.{Separator}
 use Rattle.track_separator.specs.Parts.{with_word}
-use Rattle.track_separator.specs.Hunts.{HuntsIn, FollowsIn, HuntSeenIn, GivesAll}
-use Rattle.track_separator.specs.Waits.{SWaits, SReads, SWaitSeen, SReadSeen, HasEnded, TellsWhole, IsCutOff}
+use Rattle.track_separator.specs.Hunts.{HuntsIn, FollowsIn, HuntSeenIn, GivesAll, Stands}
+use Rattle.track_separator.specs.Waits.{WaitsIn, ReadsIn, SWaitSeen, SReadSeen, HasEnded, TellsWhole, IsCutOff}
 
 -- a word to a separator that hunts, inside the turn
 pub record IsHuntedIn (cells back : ℕ) (stage : Stage) (word after behind : ℕ) (next : Stage) (seen : Seen) : Type 0 where
@@ -63,3 +66,29 @@ WantsIn Cut = Unit {0}
 WantsIn (Waiting size since marked) = Unit {0}
 WantsIn (Content size taken check touched) = Unit {0}
 WantsIn _ = ⊥
+
+-- ---- any calls
+
+-- the separator hunts, waits for a data field of some address field, reads one, or says that one is cut off: what it keeps
+-- is of these words
+abbrev pub FedIn : List ℕ → ℕ → ℕ → Stage → Type 0
+FedIn fed cells back stage =
+    HuntsIn fed cells back stage
+    ⊎ (((p : ℕ) × (size : ℕ) × IsAddress fed p × WaitsIn fed cells back p size stage)
+    ⊎ (((p : ℕ) × (q : ℕ) × (deleted : Bool) × (size : ℕ) × (taken : ℕ) × IsAddress fed p × ReadsIn fed cells back p q deleted size taken stage)
+    ⊎ CutIn stage))
+
+abbrev pub SFed : Separator → List ℕ → Type 0
+SFed separator fed = FedIn fed separator.cells separator.back separator.stage
+
+-- what each event stands for
+abbrev pub IsTold : List ℕ → Seen → Type 0
+IsTold fed Nothing = Unit {0}
+IsTold fed Mark = Stands fed Mark
+IsTold fed (Address key) = Stands fed (Address key)
+IsTold fed (Mode deleted) = (p : ℕ) × (q : ℕ) × IsAddress fed p × IsFirstDataMark fed p q deleted
+IsTold fed (Byte value) =
+    (p : ℕ) × (q : ℕ) × (deleted : Bool) × (i : ℕ) × IsAddress fed p × IsFirstDataMark fed p q deleted × (value ≡ byte_at fed (q + 64 + 16 * i))
+IsTold fed (End good) =
+    (p : ℕ) × (q : ℕ) × (deleted : Bool) × (size : ℕ) × IsAddress fed p × HasEnded fed p q deleted size × TellsWhole fed q size good
+IsTold fed NoData = Unit {0}

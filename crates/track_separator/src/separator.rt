@@ -7,7 +7,7 @@ use crate::state::{Seen, Separator, Stage};
 impl Separator {
     ghost use Rattle.track_separator.specs.Hunts.{SHunts, SFollows, SAddressed, Stands, SHuntSeen, GivesAll};
     ghost use Rattle.track_separator.specs.Waits.{SWaits, SReads, SWaitSeen, SReadSeen};
-    ghost use Rattle.track_separator.specs.Turns.{IsHunted, SWaitFed, SReadFed, SCut, SBegins, WantsIn};
+    ghost use Rattle.track_separator.specs.Turns.{IsHunted, SWaitFed, SReadFed, SCut, SBegins, WantsIn, SFed, IsTold};
     ghost use Rattle.track_separator.specs.Parts.{with_word, turn_after};
 
     /// A separator that hunts for address marks, at the beginning of a turn.
@@ -15,6 +15,7 @@ impl Separator {
         ensures begins { SBegins result }
         ensures hunts { (fed : List ℕ) → SHunts result fed }
         ensures follows { SFollows result [] }
+        ensures any { (fed : List ℕ) → SFed result fed }
     {
         Separator {
             cells: BLANK,
@@ -39,6 +40,8 @@ impl Separator {
             → SReads self.old fed p q deleted size taken
             → SReadFed index (with_word fed word) p q deleted size taken self.new result }
         ensures cut { SCut self.old → (result ≡ Seen.NoData) × ((fed : List ℕ) → SHunts self.new fed) }
+        ensures any { (fed : List ℕ) → SFed self.old fed → SFed self.new (turn_after index fed word) }
+        ensures told { (fed : List ℕ) → SFed self.old fed → IsTold (with_word fed word) result }
     {
         let seen = self.take(word);
         if !index {
@@ -54,6 +57,7 @@ impl Separator {
         requires { size ≤ 8192 }
         ensures waits { (fed : List ℕ) (p : ℕ) → SAddressed self.old fed p → SWaits self.new fed p size }
         ensures cut { SBegins self.old → SCut self.new }
+        ensures any { (fed : List ℕ) → SFed self.old fed → SFed self.new fed }
     {
         self.stage = match self.stage {
             Stage::Addressed => Stage::Waiting {
@@ -70,6 +74,7 @@ impl Separator {
         ensures begins { SBegins self.new }
         ensures hunts { (fed : List ℕ) → SHunts self.new fed }
         ensures follows { SFollows self.new [] }
+        ensures any { (fed : List ℕ) → SFed self.new fed }
     {
         *self = Separator::new();
     }

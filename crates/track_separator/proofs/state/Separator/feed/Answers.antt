@@ -1,3 +1,4 @@
+use Rattle.track_separator.proofs.Told.{fed_more}
 use Rattle.std.proofs.Common.{sym, ◌∙◌}
 use Rattle.std.proofs.lemmas.Bool.{false≢true}
 use Rattle.track_separator.proofs.Ended.{waits_cut, waits_over, reads_cut, reads_over}
@@ -58,3 +59,16 @@ returns-else-wanted-clause-reads c = λ fed p q deleted size taken reads.
     rw c.if-not-index.false
     (reads_over (with_word fed c.args.word) p q deleted size taken _ _ _ c.take-seen.result (λ w. false≢true (sym c.if-wanted.false ∙ c.is_wanted-wanted.ensures.1 w))
     (c.take-seen.ensures.reads fed p q deleted size taken reads))
+
+pub returns-then-not-index-clause-any : goal.returns-then-not-index-clause-any
+returns-then-not-index-clause-any c = λ fed h.
+    rw c.if-not-index.true
+    (fed_more c.args.self.now c.take-seen.new.self c.args.word c.take-seen.result c.take-seen.ensures.hunts c.take-seen.ensures.waits c.take-seen.ensures.reads c.take-seen.ensures.cut fed h).0
+
+pub returns-then-not-index-clause-told : goal.returns-then-not-index-clause-told
+returns-then-not-index-clause-told c = λ fed h.
+    (fed_more c.args.self.now c.take-seen.new.self c.args.word c.take-seen.result c.take-seen.ensures.hunts c.take-seen.ensures.waits c.take-seen.ensures.reads c.take-seen.ensures.cut fed h).1
+
+pub returns-else-wanted-clause-told : goal.returns-else-wanted-clause-told
+returns-else-wanted-clause-told c = λ fed h.
+    (fed_more c.args.self.now c.take-seen.new.self c.args.word c.take-seen.result c.take-seen.ensures.hunts c.take-seen.ensures.waits c.take-seen.ensures.reads c.take-seen.ensures.cut fed h).1
