@@ -3,3 +3,6 @@ mod Listed
 mod Looked
 mod Pushed
 mod RegularPlaces
+mod Turned
+mod ReadTurn
+mod TurnOver

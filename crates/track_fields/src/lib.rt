@@ -9,6 +9,7 @@ mod fields;
 mod look;
 mod marks;
 mod regular;
+mod turn;
 mod writing;
 
 pub use bytes::content_byte;
@@ -18,4 +19,5 @@ pub use regular::{is_regular, window_word};
 pub use track_check::{crc_step, field_crc, mark_crc};
 pub use track_model::{Field, Look};
 pub use track_separator::{Seen, Separator};
+pub use turn::{TurnRead, read_turn};
 pub use writing::{address_words, field_words};

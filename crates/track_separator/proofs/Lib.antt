@@ -1,11 +1,12 @@
 mod Bits
 pub mod Shared
-mod Runs
-mod Next
+pub mod Runs
+pub mod Next
 mod Hunted
 mod HuntedWord
 mod Started
 mod Waited
 mod Read
 mod Ended
-mod Told
+pub mod Told
+pub mod Lifted

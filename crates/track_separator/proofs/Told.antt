@@ -87,3 +87,15 @@ asked_behind fed cells back size old new small was is h =
 
 pub asked_late : (fed : List ℕ) (cells back : ℕ) (new : Stage) → new ≡ Cut → FedIn fed cells back new
 asked_late fed cells back new is = let At : Stage → Type 0 = λ stage. FedIn fed cells back stage in subst At (sym is) (inr (inr (inr tt)))
+
+-- what has passed of a data field is among the words fed
+pub reads_inside : (fed : List ℕ) (cells back p q : ℕ) (deleted : Bool) (size taken : ℕ) (stage : Stage) → ReadsIn fed cells back p q deleted size taken stage → q + 64 + 16 * taken ≤ 16 * length fed
+reads_inside fed cells back p q deleted size taken (Content asked passed check touched) h = let place = h.2.place in omega arith
+reads_inside fed cells back p q deleted size taken Hunting h = absurd h
+reads_inside fed cells back p q deleted size taken (Reading bytes) h = absurd h
+reads_inside fed cells back p q deleted size taken Addressed h = absurd h
+reads_inside fed cells back p q deleted size taken Cut h = absurd h
+reads_inside fed cells back p q deleted size taken (Waiting asked since marked) h = absurd h
+
+pub reads_within : (separator : Separator) (fed : List ℕ) (p q : ℕ) (deleted : Bool) (size taken : ℕ) → SReads separator fed p q deleted size taken → q + 64 + 16 * taken ≤ 16 * length fed
+reads_within separator fed p q deleted size taken h = reads_inside fed separator.cells separator.back p q deleted size taken separator.stage h

@@ -4,3 +4,4 @@ pub mod Parts
 pub mod Hunts
 pub mod Waits
 pub mod Turns
+pub mod Lifts

@@ -1,4 +1,6 @@
 // Turns of a formatted track, word by word through a separator.
+ghost use Rattle.std.specs.Prelude.{◌<◌};
+
 use flop_base::Chrn;
 use std::alloc::{AllocError, Global};
 use std::test::Fail;
