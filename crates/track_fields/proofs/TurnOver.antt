@@ -1,5 +1,5 @@
 -- The look at the first address field of a key is the look for the key.
-use Rattle.std.proofs.Common.{◌≡◌, ℕ, ◌+◌, List}
+use Rattle.std.proofs.Common.{ℕ, ◌+◌, List}
 use Rattle.flop_base.specs.declared.key.Chrn.{Chrn}
 use Rattle.track_model.specs.Looks.{IsFirstAddress}
 use Rattle.track_fields.specs.declared.turn.TurnRead.{TurnRead}

@@ -1,14 +1,13 @@
 -- The end of a turn while a data field is asked for.
-use Rattle.std.proofs.Common.{◌≡◌, ℕ, ◌+◌, ◌*◌, ◌<◌, ◌≤◌, Bool, false, List, length, refl, sym, subst, arith}
+use Rattle.std.proofs.Common.{ℕ, ◌+◌, ◌<◌, ◌≤◌, Bool, false, List, arith}
 use Rattle.track_model.specs.Fields.{IsDataMark}
 use Rattle.track_model.proofs.Unique.{one_first}
 use Rattle.track_separator.specs.declared.state.Seen.{Seen}
 use Rattle.track_separator.specs.declared.state.Seen.TheVariants.{Nothing, Mark, Address, Mode, Byte, End, NoData}
 use Rattle.track_separator.specs.declared.state.Stage.{Stage}
 use Rattle.track_separator.specs.declared.state.Stage.TheVariants.{Hunting, Reading, Addressed, Cut, Waiting, Content}
-use Rattle.track_separator.specs.Register.{HasTail}
-use Rattle.track_separator.specs.Hunts.{HuntsIn, IsAddressed}
-use Rattle.track_separator.specs.Waits.{IsPending, IsMarked, IsWaiting, WaitsIn, ReadsIn, HasEnded, IsCutOff, WaitSeenIn, ReadSeenIn}
+use Rattle.track_separator.specs.Hunts.{IsAddressed}
+use Rattle.track_separator.specs.Waits.{IsWaiting, WaitsIn, ReadsIn, IsCutOff, WaitSeenIn, ReadSeenIn}
 use Rattle.track_separator.specs.Turns.{SWaitCut, SReadCut, WantsIn}
 use Rattle.track_separator.proofs.Started.{hunts_not_wants}
 

@@ -1,24 +1,21 @@
 -- A word while address marks are hunted for.
-use Rattle.std.proofs.Common.{◌≡◌, ◌≢◌, ℕ, zero, suc, ◌+◌, ◌-◌, ◌*◌, ◌/◌, ◌<◌, ◌≤◌, List, length, get_or, refl, sym, ap, subst, ◌∙◌, lit≤, arith, inl, inr}
+use Rattle.std.proofs.Common.{◌≡◌, ◌≢◌, ℕ, zero, suc, ◌+◌, ◌-◌, ◌*◌, ◌/◌, ◌<◌, ◌≤◌, List, length, get_or, refl, sym, ap, ◌∙◌, arith, inl, inr}
 use Rattle.std.proofs.lemmas.Bool.{cases_lt, cases_order}
 use Rattle.flop_base.specs.declared.key.Chrn.{Chrn}
 use Rattle.track_model.specs.Bytes.{byte_at}
-use Rattle.track_model.specs.Crc.{crc}
 use Rattle.track_model.specs.Marks.{TouchesNoZero, IsSound, IsRun, IsAddressMark}
-use Rattle.track_model.specs.Fields.{IsAddressAt, address_bytes}
+use Rattle.track_model.specs.Fields.{IsAddressAt}
 use Rattle.track_model.specs.Sectors.{HasNoRunWithin}
 use Rattle.track_model.proofs.Unique.{one_key}
-use Rattle.track_separator.specs.declared.state.Seen.{Seen}
-use Rattle.track_separator.specs.declared.state.Seen.TheVariants.{Nothing, Mark, Address, Mode, Byte, End, NoData}
+use Rattle.track_separator.specs.declared.state.Seen.TheVariants.{Nothing, Mark, Address}
 use Rattle.track_separator.specs.declared.state.Stage.{Stage}
 use Rattle.track_separator.specs.declared.state.Stage.TheVariants.{Hunting, Reading, Addressed, Cut, Waiting, Content}
 use Rattle.track_separator.specs.Register.{HasNoZeroFrom, KeepsFrom, HasTail, IsFull, IsNext, HasRunBits, register_byte, register_check, IsKeyIn}
-use Rattle.track_separator.specs.Parts.{with_word, EndsInLast}
-use Rattle.track_separator.specs.Hunts.{IsAfterRun, HuntsIn, IsFollowed, FollowsIn, IsAddressed, AddressedIn, HuntSeenIn, GivesAll, IsAtByte, IsByteTaken}
-use Rattle.track_separator.specs.Turns.{IsHuntedIn}
+use Rattle.track_separator.specs.Parts.{EndsInLast}
+use Rattle.track_separator.specs.Hunts.{HuntsIn, IsFollowed, FollowsIn, GivesAll, IsAtByte, IsByteTaken}
 use Rattle.track_separator.proofs.Shared.{AreAlike, alike_back, alike_run, alike_byte_at}
 use Rattle.track_separator.proofs.Runs.{runs_apart, run_ends, no_run_after, address_high}
-use Rattle.track_separator.proofs.Next.{IsMore, more_of, no_zero_up, no_zero_down, last_some, tail_next, full_next, byte_kept, run_shown, IsFound, run_found}
+use Rattle.track_separator.proofs.Next.{IsMore, no_zero_down, last_some, tail_next, full_next, byte_kept, run_shown, IsFound, run_found}
 
 pub tail_of : (fed : List ℕ) (cells back : ℕ) (stage : Stage) → HuntsIn fed cells back stage → HasTail fed cells
 tail_of fed cells back Hunting h = h

@@ -1,18 +1,17 @@
 -- What stood in a part of a turn stands in the whole of it, and what the whole of it has stood in the part that reaches so far.
-use Rattle.std.proofs.Common.{◌≡◌, ℕ, ◌+◌, ◌*◌, ◌/◌, ◌<◌, ◌≤◌, Bool, true, false, IsTrue, List, length, take, get_or, refl, sym, ap, subst, ◌∙◌, arith, inl, inr}
+use Rattle.std.proofs.Common.{◌≡◌, ℕ, ◌+◌, ◌*◌, ◌≤◌, Bool, true, false, IsTrue, List, length, take, refl, sym, subst, arith}
 use Rattle.std.proofs.lemmas.Bool.{false≢true}
 use Rattle.std.proofs.lemmas.List.{length-take-le, get_or-take}
 use Rattle.flop_base.specs.declared.key.Chrn.{Chrn}
-use Rattle.track_model.specs.declared.Look.{Look}
-use Rattle.track_model.specs.declared.Look.TheVariants.{Found, NoData, BadCrc}
-use Rattle.track_model.specs.Marks.{IsRun, IsAddressMark}
+use Rattle.track_model.specs.declared.Look.TheVariants.{NoData}
+use Rattle.track_model.specs.Marks.{IsAddressMark}
 use Rattle.track_model.specs.Fields.{IsAddressAt, IsDataMark, IsWhole, IsSizeCode, content_size, content_at}
-use Rattle.track_model.specs.Looks.{IsFirstDataMark, HasDataField, IsIntact, LookAt}
+use Rattle.track_model.specs.Looks.{IsFirstDataMark, IsIntact, LookAt}
 use Rattle.track_model.specs.Sectors.{HasNoRunWithin}
 use Rattle.track_separator.specs.Parts.{IsPart, EndsInLast}
 use Rattle.track_separator.specs.Waits.{HasNoDataMark, HasEnded, TellsWhole, IsCutOff}
 use Rattle.track_separator.specs.Lifts.{look_of}
-use Rattle.track_separator.proofs.Shared.{AreAlike, alike_back, alike_within, alike_run, alike_bytes_at, alike_address_mark, alike_address_at, alike_data_mark, alike_whole}
+use Rattle.track_separator.proofs.Shared.{AreAlike, alike_back, alike_run, alike_bytes_at, alike_address_mark, alike_address_at, alike_data_mark, alike_whole}
 use Rattle.track_separator.proofs.Runs.{run_ends}
 
 module _ (fed whole : List ℕ) (part : IsPart fed whole) where

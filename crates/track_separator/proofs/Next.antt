@@ -1,11 +1,11 @@
 -- One word more.
-use Rattle.std.proofs.Common.{◌≡◌, ◌≢◌, ℕ, ◌+◌, ◌-◌, ◌*◌, ◌/◌, ◌%◌, ◌^◌, ◌<◌, ◌≤◌, List, [], ◌∷◌, ◌++◌, length, get_or, length-append, refl, sym, ap, subst, ◌∙◌, lit<, arith, inl, inr}
+use Rattle.std.proofs.Common.{◌≡◌, ◌≢◌, ℕ, ◌+◌, ◌-◌, ◌*◌, ◌/◌, ◌%◌, ◌<◌, ◌≤◌, List, [], ◌∷◌, ◌++◌, length, get_or, length-append, refl, sym, ap, ◌∙◌, lit<, arith, inl, inr}
 use Rattle.std.proofs.lemmas.Bool.{cases_lt, cases_eq}
 use Rattle.std.proofs.lemmas.List.{get_or_append_left, get_or-append_right}
 use Rattle.std.specs.Int.{bit_at}
 use Rattle.track_model.specs.Cells.{cell, cells_at}
 use Rattle.track_model.specs.Bytes.{byte_at}
-use Rattle.track_model.specs.Marks.{IsRun, TouchesNoZero}
+use Rattle.track_model.specs.Marks.{IsRun}
 use Rattle.track_model.proofs.Numbers.{number_ext, number_from_bits}
 use Rattle.track_model.proofs.Places.{cell_in}
 use Rattle.track_separator.specs.Register.{HasNoZeroFrom, KeepsFrom, IsTail, HasTail, IsFull, IsBlank, IsShifted, IsNext, HasRunBits, register_byte}

@@ -1,5 +1,5 @@
 -- A separator that begins, and one at the end of a turn.
-use Rattle.std.proofs.Common.{◌≡◌, ℕ, ◌+◌, ◌*◌, ◌<◌, ◌≤◌, Bool, true, false, List, [], length, refl, arith}
+use Rattle.std.proofs.Common.{ℕ, ◌*◌, List, [], length, arith}
 use Rattle.track_separator.specs.declared.state.Seen.{Seen}
 use Rattle.track_separator.specs.declared.state.Seen.TheVariants.{Nothing, Mark, Address, Mode, Byte, End, NoData}
 use Rattle.track_separator.specs.declared.state.Stage.{Stage}

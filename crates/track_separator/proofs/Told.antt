@@ -1,6 +1,6 @@
 -- Any calls: what the separator keeps is of the words fed, and each event stands for something in them.
-use Rattle.std.proofs.Common.{◌≡◌, ◌⊎◌, ℕ, ◌+◌, ◌*◌, ◌<◌, ◌≤◌, Bool, true, false, List, length, refl, sym, ap, subst, arith, inl, inr}
-use Rattle.track_model.specs.Fields.{IsAddressAt, IsAddress}
+use Rattle.std.proofs.Common.{◌≡◌, ℕ, ◌+◌, ◌*◌, ◌<◌, ◌≤◌, Bool, false, List, length, refl, sym, subst, arith, inl, inr}
+use Rattle.track_model.specs.Fields.{IsAddress}
 use Rattle.track_model.specs.Looks.{IsFirstDataMark}
 use Rattle.track_separator.specs.declared.state.Seen.{Seen}
 use Rattle.track_separator.specs.declared.state.Seen.TheVariants.{Nothing, Mark, Address, Mode, Byte, End, NoData}
@@ -8,11 +8,11 @@ use Rattle.track_separator.specs.declared.state.Stage.{Stage}
 use Rattle.track_separator.specs.declared.state.Stage.TheVariants.{Hunting, Reading, Addressed, Cut, Waiting, Content}
 use Rattle.track_separator.specs.declared.state.Separator.{Separator}
 use Rattle.track_separator.specs.Parts.{with_word}
-use Rattle.track_separator.specs.Hunts.{HuntsIn, SHunts, HuntSeenIn}
-use Rattle.track_separator.specs.Waits.{ReadsIn, WaitsIn, SWaits, SReads, WaitSeenIn, SWaitSeen, ReadSeenIn, SReadSeen}
+use Rattle.track_separator.specs.Hunts.{SHunts, HuntSeenIn}
+use Rattle.track_separator.specs.Waits.{ReadsIn, SWaits, SReads, WaitSeenIn, SWaitSeen, ReadSeenIn, SReadSeen}
 use Rattle.track_separator.specs.Turns.{IsHunted, SCut, FedIn, SFed, IsTold}
 use Rattle.track_separator.proofs.Shared.{alike_address_at}
-use Rattle.track_separator.proofs.Next.{IsMore, more_of}
+use Rattle.track_separator.proofs.Next.{more_of}
 use Rattle.track_separator.proofs.Ended.{right_behind}
 
 address_up : (fed : List ℕ) (word p : ℕ) → IsAddress fed p → IsAddress (with_word fed word) p

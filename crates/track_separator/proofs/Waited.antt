@@ -1,25 +1,18 @@
 -- A word while a data mark is awaited.
-use Rattle.std.proofs.Common.{◌≡◌, ◌≢◌, ℕ, zero, suc, ◌+◌, ◌-◌, ◌*◌, ◌/◌, ◌%◌, ◌^◌, ◌<◌, ◌≤◌, Bool, true, false, List, [], ◌∷◌, ◌++◌, length, min, get_or, refl, sym, ap, subst, ◌∙◌, lit<, lit≤, leb, arith, inl, inr}
-use Rattle.std.proofs.lemmas.Bool.{cases_lt, cases_eq, cases_order, leb-true, leb-false}
+use Rattle.std.proofs.Common.{◌≡◌, ◌≢◌, ℕ, ◌+◌, ◌-◌, ◌*◌, ◌<◌, ◌≤◌, Bool, true, false, List, ◌∷◌, ◌++◌, length, min, refl, sym, ap, ◌∙◌, lit<, leb, arith, inl, inr}
+use Rattle.std.proofs.lemmas.Bool.{cases_lt, cases_order, leb-true, leb-false}
 use Rattle.std.proofs.lemmas.Nat.Bits.{bit_at_ones}
 use Rattle.std.specs.Int.{bit_at}
-use Rattle.track_model.specs.Cells.{number}
 use Rattle.track_model.specs.Bytes.{byte_at, bytes_at}
 use Rattle.track_model.specs.Crc.{crc, crc_from}
-use Rattle.track_model.specs.Marks.{TouchesNoZero, IsRun, IsDataRun, data_byte}
+use Rattle.track_model.specs.Marks.{IsRun, data_byte}
 use Rattle.track_model.specs.Fields.{IsDataMark, after_marks}
-use Rattle.track_model.specs.Looks.{IsFirstDataMark}
 use Rattle.track_model.proofs.Numbers.{number_from_bits}
-use Rattle.track_separator.specs.declared.state.Seen.{Seen}
-use Rattle.track_separator.specs.declared.state.Seen.TheVariants.{Nothing, Mode, NoData}
-use Rattle.track_separator.specs.declared.state.Stage.{Stage}
-use Rattle.track_separator.specs.declared.state.Stage.TheVariants.{Waiting, Content}
-use Rattle.track_separator.specs.Register.{HasNoZeroFrom, KeepsFrom, HasTail, IsFull, IsBlank, IsNext, HasRunBits, register_byte}
-use Rattle.track_separator.specs.Parts.{with_word}
+use Rattle.track_separator.specs.Register.{HasNoZeroFrom, IsFull, IsBlank, IsNext, HasRunBits, register_byte}
 use Rattle.track_separator.specs.Waits.{IsPending, IsMarked, IsWaiting, IsWaitingNext, IsReading, IsMarkIn}
-use Rattle.track_separator.proofs.Shared.{alike_run, alike_byte_at, alike_data_mark}
+use Rattle.track_separator.proofs.Shared.{alike_run, alike_data_mark}
 use Rattle.track_separator.proofs.Runs.{runs_apart}
-use Rattle.track_separator.proofs.Next.{IsMore, more_of, no_zero_up, no_zero_down, last_some, tail_next, full_next, byte_kept, run_shown, run_found}
+use Rattle.track_separator.proofs.Next.{IsMore, no_zero_up, no_zero_down, tail_next, full_next, byte_kept, run_shown, run_found}
 use Rattle.track_separator.proofs.Hunted.{back_alike, zero_free, sound_from}
 
 -- two runs that end in one word are one

@@ -1,14 +1,14 @@
 -- A separator that hunts for address marks, and the words fed.
-use Rattle.std.specs.Prelude.{◌≡◌, ℕ, ◌+◌, ◌*◌, ◌<◌, ◌≤◌, Bool, List, length}
+use Rattle.std.specs.Prelude.{◌≡◌, ℕ, ◌+◌, ◌*◌, ◌<◌, ◌≤◌, List, length}
 use Rattle.flop_base.specs.declared.key.Chrn.{Chrn}
 use Rattle.track_model.specs.Bytes.{byte_at}
 use Rattle.track_model.specs.Marks.{IsRun, IsAddressMark}
 use Rattle.track_model.specs.Fields.{IsAddressAt, IsAddress}
 use Rattle.track_model.specs.Sectors.{HasNoRunWithin}
 use Rattle.track_separator.specs.declared.state.Seen.{Seen}
-use Rattle.track_separator.specs.declared.state.Seen.TheVariants.{Nothing, Mark, Address, Mode, Byte, End, NoData}
+use Rattle.track_separator.specs.declared.state.Seen.TheVariants.{Nothing, Mark, Address}
 use Rattle.track_separator.specs.declared.state.Stage.{Stage}
-use Rattle.track_separator.specs.declared.state.Stage.TheVariants.{Hunting, Reading, Addressed, Cut, Waiting, Content}
+use Rattle.track_separator.specs.declared.state.Stage.TheVariants.{Hunting, Reading, Addressed}
 use Rattle.track_separator.specs.declared.state.Separator.{Separator}
 use Rattle.track_separator.specs.Register.{HasNoZeroFrom, HasTail, IsFull}
 use Rattle.track_separator.specs.Parts.{EndsInLast}

@@ -1,12 +1,12 @@
 -- What a word gives at any time, also as the last of its turn.
-use Rattle.std.specs.Prelude.{◌≡◌, ◌⊎◌, ℕ, ◌+◌, ◌*◌, Bool, true, false, List, []}
+use Rattle.std.specs.Prelude.{◌≡◌, ◌⊎◌, ℕ, ◌+◌, ◌*◌, Bool, true, false, List}
 use Rattle.track_model.specs.Bytes.{byte_at}
 use Rattle.track_model.specs.Fields.{IsAddress}
 use Rattle.track_model.specs.Looks.{IsFirstDataMark}
 use Rattle.track_separator.specs.declared.state.Seen.{Seen}
 use Rattle.track_separator.specs.declared.state.Seen.TheVariants.{Nothing, Mark, Address, Mode, Byte, End, NoData}
 use Rattle.track_separator.specs.declared.state.Stage.{Stage}
-use Rattle.track_separator.specs.declared.state.Stage.TheVariants.{Hunting, Reading, Addressed, Cut, Waiting, Content}
+use Rattle.track_separator.specs.declared.state.Stage.TheVariants.{Hunting, Cut, Waiting, Content}
 use Rattle.track_separator.specs.declared.state.Separator.{Separator}
 use Rattle.track_separator.specs.Parts.{with_word}
 use Rattle.track_separator.specs.Hunts.{HuntsIn, FollowsIn, HuntSeenIn, GivesAll, Stands}

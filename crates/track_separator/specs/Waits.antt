@@ -7,9 +7,9 @@ use Rattle.track_model.specs.Marks.{IsRun, TouchesNoZero, data_byte}
 use Rattle.track_model.specs.Fields.{IsDataMark, after_marks, content_size}
 use Rattle.track_model.specs.Looks.{IsFirstDataMark, IsIntact}
 use Rattle.track_separator.specs.declared.state.Seen.{Seen}
-use Rattle.track_separator.specs.declared.state.Seen.TheVariants.{Nothing, Mark, Address, Mode, Byte, End, NoData}
+use Rattle.track_separator.specs.declared.state.Seen.TheVariants.{Nothing, Mode, Byte, End, NoData}
 use Rattle.track_separator.specs.declared.state.Stage.{Stage}
-use Rattle.track_separator.specs.declared.state.Stage.TheVariants.{Hunting, Reading, Addressed, Cut, Waiting, Content}
+use Rattle.track_separator.specs.declared.state.Stage.TheVariants.{Waiting, Content}
 use Rattle.track_separator.specs.declared.state.Separator.{Separator}
 use Rattle.track_separator.specs.Register.{HasNoZeroFrom, KeepsFrom, HasTail, IsFull, register_byte}
 use Rattle.track_separator.specs.Hunts.{HuntsIn}

@@ -1,5 +1,5 @@
 // The register: the last 128 cells, the last in bit 0.
-ghost use Rattle.std.specs.Prelude.{◌≡◌, ℕ, ◌+◌, ◌<◌, ◌≤◌, Bool, MatchOption};
+ghost use Rattle.std.specs.Prelude.{◌≡◌, ℕ, ◌+◌, ◌<◌, ◌≤◌, Bool, true, MatchOption};
 ghost use Rattle.flop_base.specs.declared.key.Chrn.{Chrn};
 ghost use Rattle.track_model.specs.Marks.{data_byte};
 ghost use Rattle.track_separator.specs.Register.{IsShifted, IsNext, IsBlank, HasRunBits, register_byte, register_check, IsKeyIn};
@@ -35,12 +35,23 @@ pub(crate) fn next_cells(cells: u128, word: u16) -> u128
     }
 }
 
+/// Whether the ones of a mark A1 are nowhere in sixteen cells that end in the last word. Then no run ends in it.
+fn has_no_mark_ones(recent: u64) -> bool
+    ensures { result ≡ true → (back : ℕ) → back < 16 → HasRunBits recent back → ⊥ }
+{
+    let ones = recent & recent >> 3 & recent >> 7 & recent >> 10 & recent >> 14;
+    ones & 0xFFFF == 0
+}
+
 /// How many cells stand behind a run that ends in the last word.
 pub(crate) fn run_end(cells: u128) -> Option<u32>
     ensures { MatchOption result ((back : ℕ) → back < 16 → HasRunBits cells back → ⊥)
         (λ back. (back < 16) × HasRunBits cells back) }
 {
     let recent = (cells & 0xFFFF_FFFF_FFFF_FFFF) as u64;
+    if has_no_mark_ones(recent) {
+        return None;
+    }
     for back in 0u32..16 {
         if recent >> back & RUN_MASK == RUN {
             return Some(back);

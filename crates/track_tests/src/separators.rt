@@ -4,7 +4,7 @@ ghost use Rattle.std.specs.Prelude.{◌<◌};
 use flop_base::Chrn;
 use std::alloc::{AllocError, Global};
 use std::test::Fail;
-use track_fields::{Seen, Separator};
+use track_fields::{Seen, Separator, TurnRead, read_turn};
 use track_format::layout;
 
 const WORDS: usize = 12_500;
@@ -160,5 +160,26 @@ fn an_address_in_the_last_word(rt: HostRuntime) -> Result<(), Fail> {
     separator.want(512);
     assert_eq!(rt; separator.feed(0x9254, false), Seen::NoData);
     assert_eq!(rt; read_first(&mut separator, track.as_slice()), Some(WHOLE));
+    Ok(())
+}
+
+#[test]
+fn a_whole_turn(rt: HostRuntime) -> Result<(), Fail> {
+    let track = first_track(rt.alloc())?;
+    let mut content = [0u8; 512];
+    let read = read_turn(track.as_slice(), FIRST, &mut content);
+    assert_eq!(rt; read, TurnRead::Found { deleted: false });
+    assert!(rt; content.iter().all(|byte| *byte == 0xF6));
+    let other = Chrn { r: 19, ..FIRST };
+    assert_eq!(rt;
+        read_turn(track.as_slice(), other, &mut content),
+        TurnRead::NoSector
+    );
+    let cut = first_words(track.as_slice(), DATA_END - 1);
+    assert_eq!(rt; read_turn(cut, FIRST, &mut content), TurnRead::NoData);
+    assert_eq!(rt;
+        read_turn(&[0x9254; 100], FIRST, &mut content),
+        TurnRead::NoMark
+    );
     Ok(())
 }

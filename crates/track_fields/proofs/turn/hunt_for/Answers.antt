@@ -1,6 +1,6 @@
-use Rattle.std.proofs.Common.{◌≡◌, ◌∙◌, sym, ap, refl, arith}
+use Rattle.std.proofs.Common.{◌∙◌, sym, ap, refl, arith}
 use Rattle.std.proofs.lemmas.Bool.{eq-eqb, ne_eqb, false≢true}
-use Rattle.track_separator.specs.declared.state.Seen.TheVariants.{Mark, Address}
+use Rattle.track_separator.specs.declared.state.Seen.TheVariants.{Address}
 use Rattle.track_fields.proofs.Turned.{hunting_on, hunting_marked, hunt_passed, same_address, no_address_mark}
 use Rattle.track_fields.proofs.turn.hunt_for.Goals as goal
 use Rattle.track_fields.proofs.turn.hunt_for.Goals.{in-Mark, in-Address+else-is_key, in_default}

@@ -1,5 +1,4 @@
-use Rattle.std.proofs.Common.{◌≡◌, ℕ, ◌<◌, ◌≤◌, length, take}
-use Rattle.track_model.specs.Fields.{IsSizeCode, content_size}
+use Rattle.std.proofs.Common.{ℕ, ◌≤◌, length, take}
 use Rattle.track_separator.specs.Waits.{SWaits}
 use Rattle.track_fields.proofs.ReadTurn.{IsReadingOn}
 use Rattle.track_fields.proofs.turn.read_behind.Given as goal

@@ -1,4 +1,3 @@
-use Rattle.std.proofs.Common.{◌≡◌, subst, sym, arith}
 use Rattle.track_separator.proofs.Bits.{shifted_is}
 use Rattle.track_separator.proofs.register.shifted.Goals as goal
 

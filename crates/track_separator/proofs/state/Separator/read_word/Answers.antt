@@ -1,4 +1,4 @@
-use Rattle.std.proofs.Common.{◌≡◌, ℕ, ◌+◌, List, ◌∷◌, ◌∙◌, refl, sym, ap, subst, arith}
+use Rattle.std.proofs.Common.{◌≡◌, ◌+◌, ◌∷◌, ◌∙◌, refl, sym, ap, arith}
 use Rattle.track_model.specs.Crc.{crc_from}
 use Rattle.track_separator.specs.Parts.{with_word}
 use Rattle.track_separator.proofs.Next.{more_of}

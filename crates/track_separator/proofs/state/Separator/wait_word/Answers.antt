@@ -1,4 +1,4 @@
-use Rattle.std.proofs.Common.{ℕ, List, ◌∷◌, refl, ap, ◌∙◌}
+use Rattle.std.proofs.Common.{◌∷◌, refl, ap, ◌∙◌}
 use Rattle.track_model.specs.Crc.{crc}
 use Rattle.track_separator.specs.Parts.{with_word}
 use Rattle.track_separator.proofs.Next.{more_of}
