@@ -1,6 +1,8 @@
-mod CrcTable
 mod Intact
 mod Listed
 mod Looked
 mod Pushed
 mod RegularPlaces
+mod Turned
+mod ReadTurn
+mod TurnOver

@@ -5,8 +5,8 @@ ghost use Rattle.track_model.specs.Bytes.{byte_at, bytes_at};
 ghost use Rattle.track_model.specs.Crc.{crc};
 ghost use Rattle.track_model.specs.Fields.{HasCheck, after_marks};
 
-use crate::crc::{MARKS_CRC, crc_step};
 use mfm_cells::{cells16, decode_word};
+use track_check::{MARKS_CRC, crc_step};
 
 /// The byte whose first cell is `p`.
 pub(crate) fn byte_at_cell(words: &[u16], p: usize) -> u8

@@ -5,17 +5,19 @@
 #![tactic(auto)]
 
 mod bytes;
-mod crc;
 mod fields;
 mod look;
 mod marks;
 mod regular;
+mod turn;
 mod writing;
 
 pub use bytes::content_byte;
-pub use crc::{crc_step, field_crc, mark_crc};
 pub use fields::list_fields;
 pub use look::{data_at, find_address, find_sector, has_address, look_at};
 pub use regular::{is_regular, window_word};
+pub use track_check::{crc_step, field_crc, mark_crc};
 pub use track_model::{Field, Look};
+pub use track_separator::{Seen, Separator};
+pub use turn::{TurnRead, read_turn};
 pub use writing::{address_words, field_words, fill_field_words};

@@ -5,10 +5,10 @@ ghost use Rattle.track_model.specs.Crc.{crc};
 ghost use Rattle.track_model.specs.Fields.{after_marks};
 ghost use Rattle.track_model.specs.Writing.{sync_and_marks, address_field, window};
 
-use crate::crc::{crc_step, field_crc, mark_crc};
 use flop_base::{Chrn, NoMemory};
 use mfm_cells::encode_byte;
 use std::alloc::Global;
+use track_check::{crc_step, field_crc, mark_crc};
 
 /// The three marks A1 in a row.
 const MARKS: [u16; 3] = [0x4489; 3];

@@ -12,4 +12,6 @@ mod plans;
 #[cfg(test)]
 mod regular;
 #[cfg(test)]
+mod separators;
+#[cfg(test)]
 mod texts;

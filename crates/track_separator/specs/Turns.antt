@@ -1,0 +1,94 @@
+-- What a word gives at any time, also as the last of its turn.
+use Rattle.std.specs.Prelude.{◌≡◌, ◌⊎◌, ℕ, ◌+◌, ◌*◌, Bool, true, false, List}
+use Rattle.track_model.specs.Bytes.{byte_at}
+use Rattle.track_model.specs.Fields.{IsAddress}
+use Rattle.track_model.specs.Looks.{IsFirstDataMark}
+use Rattle.track_separator.specs.declared.state.Seen.{Seen}
+use Rattle.track_separator.specs.declared.state.Seen.TheVariants.{Nothing, Mark, Address, Mode, Byte, End, NoData}
+use Rattle.track_separator.specs.declared.state.Stage.{Stage}
+use Rattle.track_separator.specs.declared.state.Stage.TheVariants.{Hunting, Cut, Waiting, Content}
+use Rattle.track_separator.specs.declared.state.Separator.{Separator}
+use Rattle.track_separator.specs.Parts.{with_word}
+use Rattle.track_separator.specs.Hunts.{HuntsIn, FollowsIn, HuntSeenIn, GivesAll, Stands}
+use Rattle.track_separator.specs.Waits.{WaitsIn, ReadsIn, SWaitSeen, SReadSeen, HasEnded, TellsWhole, IsCutOff}
+
+-- a word to a separator that hunts, inside the turn
+pub record IsHuntedIn (cells back : ℕ) (stage : Stage) (word after behind : ℕ) (next : Stage) (seen : Seen) : Type 0 where
+  pub keeps : (fed : List ℕ) → HuntsIn fed cells back stage → HuntsIn (with_word fed word) after behind next
+  pub tells : (fed : List ℕ) → HuntsIn fed cells back stage → HuntSeenIn (with_word fed word) after behind next seen
+  pub follows : (fed : List ℕ) → FollowsIn fed cells back stage → FollowsIn (with_word fed word) after behind next
+  pub gives : (fed : List ℕ) → FollowsIn fed cells back stage → GivesAll (with_word fed word) seen
+
+abbrev pub IsHunted : Separator → ℕ → Separator → Seen → Type 0
+IsHunted old word new seen = IsHuntedIn old.cells old.back old.stage word new.cells new.back new.stage seen
+
+-- what the last word of the turn gives a separator that waits
+abbrev pub SWaitCut : List ℕ → ℕ → ℕ → Seen → Type 0
+SWaitCut fed p size NoData = IsCutOff fed p size
+SWaitCut fed p size _ = ⊥
+
+-- a word to a separator that waits
+abbrev pub SWaitFed : Bool → List ℕ → ℕ → ℕ → Separator → Seen → Type 0
+SWaitFed false fed p size separator seen = SWaitSeen fed p size separator seen
+SWaitFed true fed p size separator seen = SWaitCut fed p size seen
+
+-- what the last word of the turn gives one that reads
+abbrev pub SReadCut : List ℕ → ℕ → ℕ → Bool → ℕ → ℕ → Seen → Type 0
+SReadCut fed p q deleted size taken (End good) =
+    (taken ≡ size + 1) × HasEnded fed p q deleted size × TellsWhole fed q size good
+SReadCut fed p q deleted size taken NoData = IsCutOff fed p size
+SReadCut fed p q deleted size taken _ = ⊥
+
+-- a word to one that reads
+abbrev pub SReadFed : Bool → List ℕ → ℕ → ℕ → Bool → ℕ → ℕ → Separator → Seen → Type 0
+SReadFed false fed p q deleted size taken separator seen = SReadSeen fed p q deleted size taken separator seen
+SReadFed true fed p q deleted size taken separator seen = SReadCut fed p q deleted size taken seen
+
+-- a data field is asked for behind the end of its turn
+abbrev pub CutIn : Stage → Type 0
+CutIn Cut = Unit {0}
+CutIn _ = ⊥
+
+abbrev pub SCut : Separator → Type 0
+SCut separator = CutIn separator.stage
+
+-- the separator begins a turn
+abbrev pub BeginsIn : Stage → Type 0
+BeginsIn Hunting = Unit {0}
+BeginsIn _ = ⊥
+
+abbrev pub SBegins : Separator → Type 0
+SBegins separator = BeginsIn separator.stage
+
+-- a data field is asked for
+abbrev pub WantsIn : Stage → Type 0
+WantsIn Cut = Unit {0}
+WantsIn (Waiting size since marked) = Unit {0}
+WantsIn (Content size taken check touched) = Unit {0}
+WantsIn _ = ⊥
+
+-- ---- any calls
+
+-- the separator hunts, waits for a data field of some address field, reads one, or says that one is cut off: what it keeps
+-- is of these words
+abbrev pub FedIn : List ℕ → ℕ → ℕ → Stage → Type 0
+FedIn fed cells back stage =
+    HuntsIn fed cells back stage
+    ⊎ (((p : ℕ) × (size : ℕ) × IsAddress fed p × WaitsIn fed cells back p size stage)
+    ⊎ (((p : ℕ) × (q : ℕ) × (deleted : Bool) × (size : ℕ) × (taken : ℕ) × IsAddress fed p × ReadsIn fed cells back p q deleted size taken stage)
+    ⊎ CutIn stage))
+
+abbrev pub SFed : Separator → List ℕ → Type 0
+SFed separator fed = FedIn fed separator.cells separator.back separator.stage
+
+-- what each event stands for
+abbrev pub IsTold : List ℕ → Seen → Type 0
+IsTold fed Nothing = Unit {0}
+IsTold fed Mark = Stands fed Mark
+IsTold fed (Address key) = Stands fed (Address key)
+IsTold fed (Mode deleted) = (p : ℕ) × (q : ℕ) × IsAddress fed p × IsFirstDataMark fed p q deleted
+IsTold fed (Byte value) =
+    (p : ℕ) × (q : ℕ) × (deleted : Bool) × (i : ℕ) × IsAddress fed p × IsFirstDataMark fed p q deleted × (value ≡ byte_at fed (q + 64 + 16 * i))
+IsTold fed (End good) =
+    (p : ℕ) × (q : ℕ) × (deleted : Bool) × (size : ℕ) × IsAddress fed p × HasEnded fed p q deleted size × TellsWhole fed q size good
+IsTold fed NoData = Unit {0}

@@ -1,0 +1,65 @@
+// The hunt for address marks and address fields.
+ghost use Rattle.std.specs.Prelude.{◌≡◌, ℕ, List};
+
+use crate::register::{byte_before, key_before, next_cells, run_end};
+use crate::state::{Seen, Separator, Stage};
+
+/// The byte of an address mark.
+const ADDRESS_BYTE: u8 = 0xFE;
+
+/// How many bytes of an address field are read before the last of its check.
+const BYTES_BEFORE_LAST: u32 = 6;
+
+impl Separator {
+    ghost use Rattle.track_separator.specs.Hunts.{IsAtByte, IsByteTaken};
+    ghost use Rattle.track_separator.specs.Turns.{IsHunted};
+
+    /// Takes one word while address marks are hunted for. A run that ends in it begins a field anew.
+    pub(crate) fn hunt_word(&mut self, word: u16) -> Seen
+        ensures { IsHunted self.old word self.new result }
+    {
+        self.cells = next_cells(self.cells, word);
+        if let Some(back) = run_end(self.cells) {
+            self.back = back;
+            self.stage = Stage::Reading { bytes: 0 };
+            return Seen::Nothing;
+        }
+        match self.stage {
+            Stage::Reading { bytes } if word != 0 => self.take_byte(bytes),
+            _ => {
+                self.stage = Stage::Hunting;
+                Seen::Nothing
+            }
+        }
+    }
+
+    /// Takes the byte of an address field that has just come into the register, after `bytes` of them.
+    fn take_byte(&mut self, bytes: u32) -> Seen
+        ensures kept { self.new.cells ≡ self.old.cells }
+        ensures taken { (fed : List ℕ) (p : ℕ) → IsAtByte fed self.old.cells p bytes self.old.back
+            → IsByteTaken fed p bytes self.old.back self.new.cells self.new.back self.new.stage result }
+    {
+        if bytes == 0 {
+            if byte_before(self.cells, self.back) != ADDRESS_BYTE {
+                self.stage = Stage::Hunting;
+                return Seen::Nothing;
+            }
+            self.stage = Stage::Reading { bytes: 1 };
+            return Seen::Mark;
+        }
+        if bytes < BYTES_BEFORE_LAST {
+            self.stage = Stage::Reading { bytes: bytes + 1 };
+            return Seen::Nothing;
+        }
+        match key_before(self.cells, self.back) {
+            Some(key) => {
+                self.stage = Stage::Addressed;
+                Seen::Address { key }
+            }
+            None => {
+                self.stage = Stage::Hunting;
+                Seen::Nothing
+            }
+        }
+    }
+}

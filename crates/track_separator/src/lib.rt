@@ -1,0 +1,19 @@
+//! The separator: the fields of a turn of the disk, found in its words as they pass under the head.
+//!
+//! A turn is the words from an index to the next. Each word has sixteen cells, the first in bit 15, and a field may begin
+//! at any cell (IBM System 34 format). The separator keeps the last 128 cells and a few numbers, and no list.
+#![tactic(auto)]
+
+mod hunting;
+mod laws;
+mod reading;
+mod register;
+mod separator;
+mod state;
+mod waiting;
+
+pub use laws::{
+    address_field_stays, address_mark_stays, clear_field_stood, cut_field_is_none,
+    data_field_stays, no_data_mark_stays,
+};
+pub use state::{Seen, Separator};

@@ -1,0 +1,66 @@
+// The bytes of a data field.
+ghost use Rattle.std.specs.Prelude.{◌≡◌, ◌≢◌, ◌≤◌, ◌↔◌, ℕ, List, Bool, true, false, IsTrue};
+
+use crate::register::{byte_before, check_before, shifted};
+use crate::state::{Seen, Separator, Stage};
+use track_check::crc_step;
+
+/// Whether cells of the field weren't recorded, up to this word.
+fn is_touched(before: bool, word: u16) -> bool
+    ensures clean { result ≡ false → (before ≡ false) × (word ≢ 0) }
+    ensures touched { result ≡ true → before ≡ false → word ≡ 0 }
+{
+    before || word == 0
+}
+
+/// Whether the field was recorded and has the check that it has to have.
+fn is_good(touched: bool, stored: u16, check: u16) -> bool
+    ensures { IsTrue result ↔ ((touched ≡ false) × (stored ≡ check)) }
+{
+    !touched && stored == check
+}
+
+impl Separator {
+    ghost use Rattle.track_separator.specs.Parts.{with_word};
+    ghost use Rattle.track_separator.specs.Waits.{IsReading, ReadSeenIn};
+
+    /// Takes one word of a data field, after `taken` bytes behind its mark.
+    pub(crate) fn read_word(
+        &mut self,
+        word: u16,
+        size: usize,
+        taken: usize,
+        check: u16,
+        before: bool,
+    ) -> Seen
+        requires { size ≤ 8192 }
+        ensures { (fed : List ℕ) (p q : ℕ) (deleted : Bool)
+            → IsReading fed self.old.cells self.old.back p q deleted size taken check before
+            → ReadSeenIn (with_word fed word) p q deleted size taken self.new.cells self.new.back self.new.stage result }
+    {
+        self.cells = shifted(self.cells, word);
+        let touched = is_touched(before, word);
+        if taken < size {
+            let value = byte_before(self.cells, self.back);
+            self.stage = Stage::Content {
+                size,
+                taken: taken + 1,
+                check: crc_step(check, value),
+                touched,
+            };
+            return Seen::Byte { value };
+        }
+        if taken == size {
+            self.stage = Stage::Content {
+                size,
+                taken: taken + 1,
+                check,
+                touched,
+            };
+            return Seen::Nothing;
+        }
+        let good = is_good(touched, check_before(self.cells, self.back), check);
+        self.hunt();
+        Seen::End { good }
+    }
+}

@@ -1,0 +1,121 @@
+// The calls of a separator.
+ghost use Rattle.std.specs.Prelude.{◌≡◌, ◌≤◌, ◌<◌, ◌+◌, ◌↔◌, IsTrue, ℕ, Bool, true, false, List, []};
+
+use crate::register::BLANK;
+use crate::state::{Seen, Separator, Stage};
+
+impl Separator {
+    ghost use Rattle.track_separator.specs.Hunts.{SHunts, SFollows, SAddressed, Stands, SHuntSeen, GivesAll};
+    ghost use Rattle.track_separator.specs.Waits.{SWaits, SReads, SWaitSeen, SReadSeen};
+    ghost use Rattle.track_separator.specs.Turns.{IsHunted, SWaitFed, SReadFed, SCut, SBegins, WantsIn, SFed, IsTold};
+    ghost use Rattle.track_separator.specs.Parts.{with_word, turn_after};
+
+    /// A separator that hunts for address marks, at the beginning of a turn.
+    pub fn new() -> Separator
+        ensures begins { SBegins result }
+        ensures hunts { (fed : List ℕ) → SHunts result fed }
+        ensures follows { SFollows result [] }
+        ensures any { (fed : List ℕ) → SFed result fed }
+    {
+        Separator {
+            cells: BLANK,
+            back: 0,
+            stage: Stage::Hunting,
+        }
+    }
+
+    /// Takes one word of the turn. `index` says that the turn ends after it.
+    pub fn feed(&mut self, word: u16, index: bool) -> Seen
+        ensures keeps { (fed : List ℕ) → SHunts self.old fed → SHunts self.new (turn_after index fed word) }
+        ensures stands { (fed : List ℕ) → SHunts self.old fed → Stands (with_word fed word) result }
+        ensures address { (fed : List ℕ) → SHunts self.old fed → index ≡ false
+            → SHuntSeen (with_word fed word) self.new result }
+        ensures follows { (fed : List ℕ) → SFollows self.old fed → SFollows self.new (turn_after index fed word) }
+        ensures turns { index ≡ true → SFollows self.new [] }
+        ensures begins { index ≡ true → SBegins self.new }
+        ensures gives { (fed : List ℕ) → SFollows self.old fed → GivesAll (with_word fed word) result }
+        ensures waits { (fed : List ℕ) (p size : ℕ) → SWaits self.old fed p size
+            → SWaitFed index (with_word fed word) p size self.new result }
+        ensures reads { (fed : List ℕ) (p q : ℕ) (deleted : Bool) (size taken : ℕ)
+            → SReads self.old fed p q deleted size taken
+            → SReadFed index (with_word fed word) p q deleted size taken self.new result }
+        ensures cut { SCut self.old → (result ≡ Seen.NoData) × ((fed : List ℕ) → SHunts self.new fed) }
+        ensures any { (fed : List ℕ) → SFed self.old fed → SFed self.new (turn_after index fed word) }
+        ensures told { (fed : List ℕ) → SFed self.old fed → IsTold (with_word fed word) result }
+    {
+        let seen = self.take(word);
+        if !index {
+            return seen;
+        }
+        let wanted = self.is_wanted();
+        *self = Separator::new();
+        if wanted { Seen::NoData } else { seen }
+    }
+
+    /// Asks for the data field of `size` bytes behind the address field that was just given.
+    pub fn want(&mut self, size: usize)
+        requires { size ≤ 8192 }
+        ensures waits { (fed : List ℕ) (p : ℕ) → SAddressed self.old fed p → SWaits self.new fed p size }
+        ensures cut { SBegins self.old → SCut self.new }
+        ensures any { (fed : List ℕ) → SFed self.old fed → SFed self.new fed }
+    {
+        self.stage = match self.stage {
+            Stage::Addressed => Stage::Waiting {
+                size,
+                since: self.back,
+                marked: false,
+            },
+            _ => Stage::Cut,
+        };
+    }
+
+    /// Hunts for address marks again, from the next word on.
+    pub fn hunt(&mut self)
+        ensures begins { SBegins self.new }
+        ensures hunts { (fed : List ℕ) → SHunts self.new fed }
+        ensures follows { SFollows self.new [] }
+        ensures any { (fed : List ℕ) → SFed self.new fed }
+    {
+        *self = Separator::new();
+    }
+
+    /// Takes one word, wherever the turn ends.
+    fn take(&mut self, word: u16) -> Seen
+        ensures hunts { IsHunted self.old word self.new result }
+        ensures waits { (fed : List ℕ) (p size : ℕ) → SWaits self.old fed p size
+            → SWaitSeen (with_word fed word) p size self.new result }
+        ensures reads { (fed : List ℕ) (p q : ℕ) (deleted : Bool) (size taken : ℕ)
+            → SReads self.old fed p q deleted size taken
+            → SReadSeen (with_word fed word) p q deleted size taken self.new result }
+        ensures cut { SCut self.old → (result ≡ Seen.NoData) × ((fed : List ℕ) → SHunts self.new fed) }
+    {
+        match self.stage {
+            Stage::Hunting | Stage::Addressed | Stage::Reading { .. } => self.hunt_word(word),
+            Stage::Cut => {
+                self.hunt();
+                Seen::NoData
+            }
+            Stage::Waiting {
+                size,
+                since,
+                marked,
+            } => self.wait_word(word, size, since, marked),
+            Stage::Content {
+                size,
+                taken,
+                check,
+                touched,
+            } => self.read_word(word, size, taken, check, touched),
+        }
+    }
+
+    /// Whether a data field is asked for.
+    fn is_wanted(&self) -> bool
+        ensures { IsTrue result ↔ WantsIn self.now.stage }
+    {
+        matches!(
+            self.stage,
+            Stage::Cut | Stage::Waiting { .. } | Stage::Content { .. }
+        )
+    }
+}

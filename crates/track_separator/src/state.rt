@@ -1,0 +1,67 @@
+// What a separator keeps, and what it answers.
+ghost use Rattle.std.specs.Prelude.{◌<◌, ◌≤◌};
+ghost use Rattle.track_separator.specs.Stages.{size_in, since_in};
+
+use flop_base::Chrn;
+
+/// What is complete by the end of a word.
+#[derive(Clone, Copy, Debug, PartialEq, Eq)]
+pub enum Seen {
+    /// Nothing that is told.
+    Nothing,
+    /// An address mark.
+    Mark,
+    /// An intact address field.
+    Address { key: Chrn },
+    /// The data mark of the field that was asked for.
+    Mode { deleted: bool },
+    /// The next byte of its content.
+    Byte { value: u8 },
+    /// Its check. `good` says that the check is right and that all its cells were recorded.
+    End { good: bool },
+    /// There is no data field, or not all of it.
+    NoData,
+}
+
+/// What is awaited.
+#[derive(Clone, Copy)]
+pub(crate) enum Stage {
+    /// A run of marks.
+    Hunting,
+    /// The bytes of an address field, after so many of them and the run before them.
+    Reading {
+        bytes: u32,
+    },
+    /// What is done about the address field that ended in the last word.
+    Addressed,
+    /// The word after the index, where a data field was asked for and the turn is over.
+    Cut,
+    /// A data mark: `since` cells passed since the address field, and the run before the mark ended in the last word or not.
+    Waiting {
+        size: usize,
+        since: u32,
+        marked: bool,
+    },
+    /// The bytes of a data field behind its mark, after `taken` of them. `check` is that of the content so far, and
+    /// `touched` says that cells of the field weren't recorded.
+    Content {
+        size: usize,
+        taken: usize,
+        check: u16,
+        touched: bool,
+    },
+}
+
+/// Finds the fields of a turn, word by word.
+#[derive(Clone, Copy)]
+pub struct Separator {
+    /// The last 128 cells, the last in bit 0. Cells before the first word of the turn, and all up to a word 0000, are ones,
+    /// since a run begins with a 0.
+    pub(crate) cells: u128,
+    /// How many cells stand behind the run or the byte that ended last.
+    pub(crate) back: u32,
+    pub(crate) stage: Stage,
+    ghost few: { back < 16 },
+    ghost small: { size_in stage ≤ 8192 },
+    ghost early: { since_in stage < 1023 },
+}
