@@ -1,5 +1,5 @@
 -- A play ties its counts.
-use Rattle.std.proofs.Common.{arith, ◌≡◌, ℕ, ◌+◌, ◌≤◌, List, [], ◌∷◌, ◌++◌, length, refl, ap, ◌∙◌, sym, subst, Option, Some, None, Result, Ok, Err}
+use Rattle.std.proofs.Common.{arith, ◌≡◌, ℕ, ◌+◌, ◌≤◌, List, ◌∷◌, ◌++◌, length, ap, ◌∙◌, sym, subst, Option, Result, Ok, Err}
 use Rattle.std.proofs.lemmas.List.Sums.{sum_by-cons, sum_by-append}
 use Rattle.std.specs.Prelude.{sum_by, IsSomeAnd, IfSome}
 use Rattle.flop_base.specs.Shelf.{Files, file_at}
@@ -8,7 +8,7 @@ use Rattle.floppy_jobs.specs.Texts.{job_of}
 use Rattle.floppy_jobs.specs.declared.request.Request.{Request}
 use Rattle.sector_model.specs.Counters.{Counters}
 use Rattle.sector_model.specs.States.{State}
-use Rattle.sector_model.specs.Plays.{World, PlaysRequests, Played, Stopped, CutOff, EndStopped, PlaysParsed, PlaysText, Plays, There, Missing, TooLong, Faulty, Starved, Tells, IsIdle, IsText, most_job_bytes}
+use Rattle.sector_model.specs.Plays.{World, PlaysRequests, Played, Stopped, CutOff, EndStopped, PlaysParsed, Plays, There, Missing, TooLong, Faulty, Starved, IsText, most_job_bytes}
 use Rattle.sector_model.specs.Ties.{TiesCounts, accesses_of, accesses_of_job, IsJob}
 use Rattle.sector_model.proofs.Ties.{Tied, tied_after, tied_more, ties_none, step_tied, run_tied, stop_tied, ends_tied, end_stop_tied}
 

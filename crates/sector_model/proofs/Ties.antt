@@ -1,5 +1,5 @@
 -- Each step ties its counts, so a run does.
-use Rattle.std.proofs.Common.{arith, ◌≡◌, ℕ, zero, suc, ◌+◌, ◌-◌, ◌<◌, ◌≤◌, min, Bool, true, false, List, [], ◌∷◌, ◌++◌, refl, ap, ◌∙◌, sym, subst, inl, inr, Option, Some, None, Result, Ok, Err}
+use Rattle.std.proofs.Common.{arith, ◌≡◌, ℕ, zero, suc, ◌+◌, ◌-◌, ◌<◌, ◌≤◌, Bool, true, false, List, [], ◌∷◌, refl, ap, ◌∙◌, sym, subst, Option, Some, None, Result}
 use Rattle.std.proofs.lemmas.Bool.Decides.{nat_tests}
 use Rattle.std.proofs.lemmas.List.Sums.{sum_by-cons}
 use Rattle.std.specs.Prelude.{◌==◌, if◌then◌else◌, MatchOption, MatchBool, IfSome, sum_by}
@@ -8,18 +8,14 @@ use Rattle.flop_base.specs.declared.answers.Code.{Code}
 use Rattle.floppy_jobs.specs.declared.request.Request.{Request}
 use Rattle.floppy_jobs.specs.declared.request.Request.TheVariants as request
 use Rattle.sector_model.specs.declared.reply.Reply.{Reply}
-use Rattle.sector_model.specs.declared.reply.Reason.{Reason}
 use Rattle.sector_model.specs.declared.reply.Stop.{Stop}
-use Rattle.sector_model.specs.Bays.{Two, in_bay}
-use Rattle.sector_model.specs.Counters.{Counters, last_count, RoseBy, GoesOn, SpendsLeft, Spends, IsDriven, IsPastDriver}
+use Rattle.sector_model.specs.Bays.{in_bay}
+use Rattle.sector_model.specs.Counters.{Counters, last_count, GoesOn, Spends, IsDriven, IsPastDriver}
 use Rattle.sector_model.specs.Stations.{StationState}
 use Rattle.sector_model.specs.Orders.{IsRefusedAtOnce, read_refusal, write_refusal, format_refusal, rate_refusal, is_bay}
-use Rattle.sector_model.specs.Reads.{Reads}
-use Rattle.sector_model.specs.Writes.{WritesTo, written_from}
-use Rattle.sector_model.specs.Formats.{FormatsTo}
-use Rattle.sector_model.specs.Calls.{Acks, RatesTo, TakesSpare}
+use Rattle.sector_model.specs.Calls.{TakesSpare}
 use Rattle.sector_model.specs.States.{State, IsSame, ChangesMedium}
-use Rattle.sector_model.specs.Steps.{Step, Does, refusal_of, StopsAt, AfterStop, standard_gap, standard_fill}
+use Rattle.sector_model.specs.Steps.{Step, Does, refusal_of, StopsAt, AfterStop}
 use Rattle.sector_model.specs.Runs.{Run, Ends, EndsBay, Stored, Left, EndStopsAt, AtFirst, AtSecond}
 use Rattle.sector_model.specs.Ties.{told_sum, spares_sum, all_left, TiesCounts, accesses_of}
 
@@ -32,23 +28,23 @@ either (Some x) holds none some = some x holds
 sum_falls : (a b c d : Option ℕ) → IfSome a (λ most. (rest : ℕ) × (c ≡ Some rest) × (rest ≤ most)) → IfSome b (λ most. (rest : ℕ) × (d ≡ Some rest) × (rest ≤ most)) → IfSome (told_sum a b) (λ most. (rest : ℕ) × (told_sum c d ≡ Some rest) × (rest ≤ most))
 sum_falls None b c d first second = tt
 sum_falls (Some x) None c d first second = tt
-sum_falls (Some x) (Some y) c d first second = (first.0 + second.0 , ap (λ o. told_sum o d) first.1 ∙ ap (λ o. told_sum (Some first.0) o) second.1 , omega (arith, first.2, second.2))
+sum_falls (Some x) (Some y) c d first second = (first.0 + second.0, ap (λ o. told_sum o d) first.1 ∙ ap (λ o. told_sum (Some first.0) o) second.1, omega (arith, first.2, second.2))
 
 spent_falls : (count after : ℕ) (left now : Option ℕ) → count ≤ after → Spends count left after now → IfSome left (λ most. (rest : ℕ) × (now ≡ Some rest) × (rest ≤ most))
 spent_falls count after None now rose spends = tt
-spent_falls count after (Some most) now rose spends = (spends.0 , spends.1 , omega (arith, spends.2))
+spent_falls count after (Some most) now rose spends = (spends.0, spends.1, omega (arith, spends.2))
 
 stays_falls : (left now : Option ℕ) → now ≡ left → IfSome left (λ most. (rest : ℕ) × (now ≡ Some rest) × (rest ≤ most))
 stays_falls None now same = tt
-stays_falls (Some most) now same = (most , same , omega arith)
+stays_falls (Some most) now same = (most, same, omega arith)
 
 left_falls : (old new : Counters) → GoesOn old new → IfSome (all_left old) (λ most. (rest : ℕ) × (all_left new ≡ Some rest) × (rest ≤ most))
 left_falls old new goes =
     sum_falls (told_sum old.left.first old.left.second) (spares_sum old.spares_left) (told_sum new.left.first new.left.second) (spares_sum new.spares_left)
-        (sum_falls old.left.first old.left.second new.left.first new.left.second
-            (spent_falls old.faults.first new.faults.first old.left.first new.left.first goes.never_falls.first goes.spends.first)
-            (spent_falls old.faults.second new.faults.second old.left.second new.left.second goes.never_falls.second goes.spends.second))
-        (stays_falls (spares_sum old.spares_left) (spares_sum new.spares_left) (ap spares_sum goes.spends.spares))
+    (sum_falls old.left.first old.left.second new.left.first new.left.second
+    (spent_falls old.faults.first new.faults.first old.left.first new.left.first goes.never_falls.first goes.spends.first)
+    (spent_falls old.faults.second new.faults.second old.left.second new.left.second goes.never_falls.second goes.spends.second))
+    (stays_falls (spares_sum old.spares_left) (spares_sum new.spares_left) (ap spares_sum goes.spends.spares))
 
 -- a step of the driver, or past it
 driven_ties : (most : ℕ) (old new : Counters) → GoesOn old new → IsDriven most old new → TiesCounts old new
@@ -79,9 +75,9 @@ ties_after old mid new first second = record {
   left = falls_twice (all_left old) (all_left mid) (all_left new) first.left second.left;
 }
   where
-  falls_twice : (a b c : Option ℕ) → IfSome a (λ most. (rest : ℕ) × (b ≡ Some rest) × (rest ≤ most)) → IfSome b (λ most. (rest : ℕ) × (c ≡ Some rest) × (rest ≤ most)) → IfSome a (λ most. (rest : ℕ) × (c ≡ Some rest) × (rest ≤ most))
-  falls_twice None b c one two = tt
-  falls_twice (Some x) b c one two = let next = subst (λ (o : Option ℕ). IfSome o (λ most. (rest : ℕ) × (c ≡ Some rest) × (rest ≤ most))) one.1 two in (next.0 , next.1 , omega (arith, one.2, next.2))
+    falls_twice : (a b c : Option ℕ) → IfSome a (λ most. (rest : ℕ) × (b ≡ Some rest) × (rest ≤ most)) → IfSome b (λ most. (rest : ℕ) × (c ≡ Some rest) × (rest ≤ most)) → IfSome a (λ most. (rest : ℕ) × (c ≡ Some rest) × (rest ≤ most))
+    falls_twice None b c one two = tt
+    falls_twice (Some x) b c one two = let next = subst (λ (o : Option ℕ). IfSome o (λ most. (rest : ℕ) × (c ≡ Some rest) × (rest ≤ most))) one.1 two in (next.0, next.1, omega (arith, one.2, next.2))
 
 -- nothing happened
 pub ties_none : (old : Counters) → TiesCounts old old
@@ -129,7 +125,7 @@ first_falls count (Some x) None spares spare c d same comes = tt
 first_falls count (Some x) (Some y) spares None c d same comes = tt
 first_falls count (Some x) (Some y) None (Some z) c d same comes = tt
 first_falls count (Some x) (Some y) (Some w) (Some z) c d same comes =
-    (comes.0 + y + w , ap (λ o. told_sum (told_sum o d) (Some w)) comes.1 ∙ ap (λ o. told_sum (told_sum (Some comes.0) o) (Some w)) same , omega (arith, comes.2))
+    (comes.0 + y + w, ap (λ o. told_sum (told_sum o d) (Some w)) comes.1 ∙ ap (λ o. told_sum (told_sum (Some comes.0) o) (Some w)) same, omega (arith, comes.2))
 
 second_falls : (count : ℕ) (a b spares spare c d : Option ℕ) → c ≡ a → Comes count spare d → IfSome (told_sum (told_sum a b) (told_sum spare spares)) (λ most. (rest : ℕ) × (told_sum (told_sum c d) spares ≡ Some rest) × (rest ≤ most))
 second_falls count None b spares spare c d same comes = tt
@@ -137,7 +133,7 @@ second_falls count (Some x) None spares spare c d same comes = tt
 second_falls count (Some x) (Some y) spares None c d same comes = tt
 second_falls count (Some x) (Some y) None (Some z) c d same comes = tt
 second_falls count (Some x) (Some y) (Some w) (Some z) c d same comes =
-    (x + comes.0 + w , ap (λ o. told_sum (told_sum c o) (Some w)) comes.1 ∙ ap (λ o. told_sum (told_sum o (Some comes.0)) (Some w)) same , omega (arith, comes.2))
+    (x + comes.0 + w, ap (λ o. told_sum (told_sum c o) (Some w)) comes.1 ∙ ap (λ o. told_sum (told_sum o (Some comes.0)) (Some w)) same, omega (arith, comes.2))
 
 not-first : (bay : ℕ) → (suc bay == 0) ≡ false
 not-first bay = grind (arith, nat_tests)
@@ -146,12 +142,12 @@ not-first bay = grind (arith, nat_tests)
 spare_falls : (old new : Counters) (bay : ℕ) → TakesSpare old bay new → IfSome (all_left old) (λ most. (rest : ℕ) × (all_left new ≡ Some rest) × (rest ≤ most))
 spare_falls old new zero takes =
     subst (λ (spares : List (Option ℕ)). IfSome (told_sum (told_sum old.left.first old.left.second) (spares_sum spares)) (λ most. (rest : ℕ) × (all_left new ≡ Some rest) × (rest ≤ most))) (sym takes.spares.1)
-        (first_falls new.faults.first old.left.first old.left.second (spares_sum new.spares_left) takes.spares.0 new.left.first new.left.second takes.other_left takes.spares.2)
+    (first_falls new.faults.first old.left.first old.left.second (spares_sum new.spares_left) takes.spares.0 new.left.first new.left.second takes.other_left takes.spares.2)
 spare_falls old new (suc bay) takes =
     let first : 1 - suc bay ≡ 0 = omega arith in
     let other : new.left.first ≡ old.left.first = subst (λ (k : ℕ). in_bay new.left k ≡ in_bay old.left k) first takes.other_left in
     subst (λ (spares : List (Option ℕ)). IfSome (told_sum (told_sum old.left.first old.left.second) (spares_sum spares)) (λ most. (rest : ℕ) × (all_left new ≡ Some rest) × (rest ≤ most))) (sym takes.spares.1)
-        (second_falls (in_bay new.faults (suc bay)) old.left.first old.left.second (spares_sum new.spares_left) takes.spares.0 new.left.first new.left.second other (subst (λ (b : Bool). MatchOption takes.spares.0 ((if b then new.left.first else new.left.second) ≡ None) (λ most. (rest : ℕ) × ((if b then new.left.first else new.left.second) ≡ Some rest) × (rest ≤ most) × (in_bay new.faults (suc bay) + rest < last_count))) (not-first bay) takes.spares.2))
+    (second_falls (in_bay new.faults (suc bay)) old.left.first old.left.second (spares_sum new.spares_left) takes.spares.0 new.left.first new.left.second other (subst (λ (b : Bool). MatchOption takes.spares.0 ((if b then new.left.first else new.left.second) ≡ None) (λ most. (rest : ℕ) × ((if b then new.left.first else new.left.second) ≡ Some rest) × (rest ≤ most) × (in_bay new.faults (suc bay) + rest < last_count))) (not-first bay) takes.spares.2))
 
 does_tied : (old new : State) (told after : Option Files) (asked : Request) (answer : Reply) → Does old told asked answer new after → Tied (accesses_of asked) old.station.counters new.station.counters
 does_tied old new told after (request.Insert bay name) answer does = changed_tied old new bay _ _ does.2.2

@@ -1,5 +1,5 @@
 -- The other calls of a station: acknowledgement, rate, attempts, media, drives, memory.
-use Rattle.std.specs.Prelude.{◌≡◌, ℕ, ◌+◌, ◌-◌, ◌<◌, ◌≤◌, List, ◌∷◌, length, slice_set, Option, Some, None, IsSome, Result, Ok, Err, IsOk, IsErr, IfErr, MatchOption, MatchBool, IfSome, drop, Bool, true, false, if◌then◌else◌, not, ◌⊎◌}
+use Rattle.std.specs.Prelude.{◌≡◌, ℕ, ◌+◌, ◌-◌, ◌<◌, ◌≤◌, ◌∷◌, slice_set, Option, Some, None, IsSome, Result, Ok, Err, IsOk, IfErr, MatchOption, MatchBool, Bool, ◌⊎◌}
 use Rattle.flop_base.specs.declared.answers.Rate.{Rate}
 use Rattle.flop_base.specs.declared.answers.Rate.TheVariants.{R500, R250}
 use Rattle.flop_base.specs.declared.answers.Code.{Code}
@@ -9,7 +9,7 @@ use Rattle.track_model.specs.Fields.{IsAddress}
 use Rattle.track_model.specs.Sectors.{IsClear}
 use Rattle.sector_model.specs.Bays.{in_bay}
 use Rattle.sector_model.specs.Counters.{Counters, last_count, FaultsRoseBy, FaultsRoseLess, IsDriven, IsPastDriver, GoesOn}
-use Rattle.sector_model.specs.Stations.{StationState, Bay, Becomes, Stays, bay_of, set_bay, fresh_bay}
+use Rattle.sector_model.specs.Stations.{StationState, Becomes, Stays, bay_of, set_bay, fresh_bay}
 use Rattle.sector_model.specs.Orders.{is_bay, rate_refusal, IsRefusedAtOnce}
 
 -- the track of cylinder 0 and head 0 has a Clear address field

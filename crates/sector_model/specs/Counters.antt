@@ -1,5 +1,5 @@
 -- What the counters of a station show, and how far they rise in a call.
-use Rattle.std.specs.Prelude.{◌≡◌, ℕ, ◌+◌, ◌-◌, ◌<◌, ◌≤◌, min, List, [], ◌∷◌, Option, Some, None, IfSome}
+use Rattle.std.specs.Prelude.{◌≡◌, ℕ, ◌+◌, ◌-◌, ◌<◌, ◌≤◌, min, List, Option, Some, None, IfSome}
 use Rattle.sector_model.specs.Bays.{Two, in_bay}
 
 pub record Counters : Type 0 where

@@ -3,7 +3,7 @@ use Rattle.std.specs.Prelude.{◌≡◌, ◌↔◌, ℕ, ◌+◌, ◌*◌, ◌�
 use Rattle.flop_base.specs.declared.key.Chrn.{Chrn}
 use Rattle.flop_base.specs.declared.answers.Rate.{Rate}
 use Rattle.flop_base.specs.declared.answers.Code.{Code}
-use Rattle.flop_base.specs.declared.answers.Code.TheVariants.{NoMark, NotFound, Overrun, BadCrc, Seek}
+use Rattle.flop_base.specs.declared.answers.Code.TheVariants.{NoMark, Overrun, Seek}
 use Rattle.raw_image.specs.Disk.{Disk, HasTrack, track_of, IsWithTrack}
 use Rattle.track_model.specs.Layouts.{lay, Fits}
 use Rattle.track_model.specs.Windows.{with_words}

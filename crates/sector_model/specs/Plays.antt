@@ -1,5 +1,5 @@
 -- Plays: a job is read, run and told, up to its end or to what stops it, with the status of the run.
-use Rattle.std.specs.Prelude.{◌≡◌, ◌<◌, ◌≤◌, ℕ, Bool, List, ◌∷◌, ◌++◌, length, Option, None, Result, Ok, Err, IfSome, IsSomeAnd, if◌then◌else◌, ◌⊎◌}
+use Rattle.std.specs.Prelude.{◌≡◌, ◌≤◌, ℕ, Bool, List, ◌∷◌, ◌++◌, length, Option, Result, Ok, Err, IfSome, IsSomeAnd, if◌then◌else◌}
 use Rattle.flop_base.specs.Shelf.{Files, file_at}
 use Rattle.flop_base.specs.Sink.{grown, GrowsByPart}
 use Rattle.flop_base.specs.declared.answers.Status.{Status}

@@ -3,7 +3,7 @@ use Rattle.std.specs.Prelude.{◌≡◌, ℕ, List, Option, None, is_some}
 use Rattle.raw_image.specs.Disk.{Disk}
 use Rattle.sector_model.specs.Bays.{Two, both, with_bay}
 use Rattle.sector_model.specs.Counters.{GoesOn, IsPastDriver}
-use Rattle.sector_model.specs.Stations.{StationState, Stays, fresh_bay}
+use Rattle.sector_model.specs.Stations.{StationState, Stays}
 use Rattle.sector_model.specs.Calls.{Exchanges}
 
 pub record State : Type 0 where

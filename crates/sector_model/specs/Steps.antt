@@ -1,5 +1,5 @@
 -- The step of each request: from a state and the told files to an answer, a state and files.
-use Rattle.std.specs.Prelude.{◌≡◌, ℕ, ◌+◌, ◌<◌, ◌≤◌, ◌==◌, ◌&&◌, Bool, true, false, not, nat_le, List, length, replicate, is_some, Option, Some, None, Result, Ok, Err, IfSome, IsSomeAnd, MatchOption, if◌then◌else◌}
+use Rattle.std.specs.Prelude.{◌≡◌, ℕ, ◌+◌, ◌<◌, ◌≤◌, ◌==◌, ◌&&◌, Bool, true, false, nat_le, List, length, replicate, is_some, Option, Some, None, Result, Ok, Err, IfSome, IsSomeAnd, MatchOption, if◌then◌else◌}
 use Rattle.flop_base.specs.Shelf.{Files, file_at, stored}
 use Rattle.flop_base.specs.declared.answers.Rate.{Rate}
 use Rattle.flop_base.specs.declared.answers.Rate.TheVariants.{R500, R250}
@@ -18,7 +18,7 @@ use Rattle.sector_model.specs.declared.reply.Stop.{Stop}
 use Rattle.sector_model.specs.declared.reply.Stop.TheVariants as stop
 use Rattle.sector_model.specs.Bays.{in_bay}
 use Rattle.sector_model.specs.Counters.{GoesOn, IsPastDriver}
-use Rattle.sector_model.specs.Stations.{StationState, Becomes, bay_of, user_bytes, bytes_from, with_bytes}
+use Rattle.sector_model.specs.Stations.{Becomes, bay_of, user_bytes, bytes_from, with_bytes}
 use Rattle.sector_model.specs.Orders.{is_bay}
 use Rattle.sector_model.specs.Reads.{Reads}
 use Rattle.sector_model.specs.Writes.{WritesTo}
