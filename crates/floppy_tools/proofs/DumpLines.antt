@@ -1,5 +1,5 @@
 -- The lines of a dump, one after the other, and what is put of them.
-use Rattle.std.proofs.Common.{arith, zero, subst, inl, inr, length-drop, ◌≡◌, ℕ, ◌+◌, ◌-◌, ◌*◌, ◌/◌, ◌%◌, ◌<◌, ◌≤◌, suc, min, List, [], ◌∷◌, ◌++◌, length, take, drop, map, append_assoc, append-nil, refl, ap, ◌∙◌, sym, Option, Some, None}
+use Rattle.std.proofs.Common.{arith, zero, subst, inl, inr, length-drop, ◌≡◌, ℕ, ◌+◌, ◌-◌, ◌*◌, ◌/◌, ◌%◌, ◌<◌, suc, min, List, [], ◌∷◌, ◌++◌, length, take, drop, append_assoc, append-nil, refl, ap, ◌∙◌, sym, Option, Some, None}
 use Rattle.std.specs.List.{range_with_len, flat_map}
 use Rattle.std.proofs.lemmas.Grind.{flat_map-append}
 use Rattle.std.proofs.lemmas.List.{take_all}
@@ -7,7 +7,7 @@ use Rattle.std.proofs.lemmas.Bool.{cases_lt}
 use Rattle.std.specs.Prelude.{Result, Ok, Err, OnErr}
 use Rattle.flop_base.specs.declared.answers.Status.{Status}
 use Rattle.flop_base.specs.Sink.{grown, GrowsByPart}
-use Rattle.floppy_jobs.specs.Spelling.{hex_digit, hex5}
+use Rattle.floppy_jobs.specs.Spelling.{hex5}
 use Rattle.sector_model.specs.Texts.{dump_byte, dump_line, dump_text, line_end}
 
 -- the first lines of a dump
@@ -29,12 +29,12 @@ grown-twice (Some told) first second = ap (λ s. Some s) (append_assoc told firs
 pub part-behind : (told new : Option (List ℕ)) (first second rest : List ℕ) → GrowsByPart (grown told first) second new → GrowsByPart told (first ++ (second ++ rest)) new
 part-behind None new first second rest grows = grows
 part-behind (Some told) new first second rest grows =
-    (first ++ grows.0 , grows.1 ++ rest , ap (λ s. first ++ (s ++ rest)) grows.2 ∙ ap (λ s. first ++ s) (append_assoc grows.0 grows.1 rest) ∙ sym (append_assoc first grows.0 (grows.1 ++ rest)) , grows.3 ∙ ap (λ s. Some s) (append_assoc told first grows.0))
+    (first ++ grows.0, grows.1 ++ rest, ap (λ s. first ++ (s ++ rest)) grows.2 ∙ ap (λ s. first ++ s) (append_assoc grows.0 grows.1 rest) ∙ sym (append_assoc first grows.0 (grows.1 ++ rest)), grows.3 ∙ ap (λ s. Some s) (append_assoc told first grows.0))
 
 -- nothing put is a part of any text
 pub no-part : (told : Option (List ℕ)) (text : List ℕ) → GrowsByPart told text told
 no-part None text = refl
-no-part (Some told) text = ([] , text , refl , ap (λ s. Some s) (sym (append-nil told)))
+no-part (Some told) text = ([], text, refl, ap (λ s. Some s) (sym (append-nil told)))
 
 -- the digits of an address depend on its last twenty bits alone
 pub hex5-wraps : (n m : ℕ) → m ≡ n % 4294967296 → hex5 m ≡ hex5 n
@@ -97,10 +97,11 @@ pub row_of-line : (bytes row : List ℕ) (i : ℕ) → row ≡ take (min (length
 row_of-line bytes row i is =
     is ∙ clipped (drop (16 * i) bytes) (min (length bytes) (16 * i + 16) - 16 * i) (omega (arith, length-drop (16 * i) bytes))
   where
-  clipped : (l : List ℕ) (m : ℕ) → m ≡ min (length l) 16 → take m l ≡ take 16 l
-  clipped l m same = elim (cases_lt (length l) 16) [
-      inl short ↦ (take_all m l (omega arith) ∙ sym (take_all 16 l (omega arith)))
-    | inr more ↦ (let cut : m ≡ 16 = omega arith in ap (λ k. take k l) cut) ]
+    clipped : (l : List ℕ) (m : ℕ) → m ≡ min (length l) 16 → take m l ≡ take 16 l
+    clipped l m same = elim (cases_lt (length l) 16) [
+      | inl short ↦ (take_all m l (omega arith) ∙ sym (take_all 16 l (omega arith)))
+      | inr more ↦ (let cut : m ≡ 16 = omega arith in ap (λ k. take k l) cut)
+    ]
 
 -- a line was put whole: one line more
 pub line-put : (told before now : Option (List ℕ)) (address place i : ℕ) (bytes row : List ℕ) → before ≡ grown told (lines_below address bytes i) → place ≡ (address + 16 * i) % 4294967296 → row ≡ take 16 (drop (16 * i) bytes) → now ≡ grown before (dump_line place row) → now ≡ grown told (lines_below address bytes (i + 1))

@@ -1,5 +1,5 @@
 -- Requests that were run and told, one after the other.
-use Rattle.std.proofs.Common.{arith, ◌≡◌, ℕ, ◌+◌, ◌<◌, ◌≤◌, suc, Bool, true, false, List, [], ◌∷◌, ◌++◌, length, take, drop, get_or, refl, ap, ◌∙◌, sym, subst, append-nil, append_assoc, drop-cons, Option, Some, None}
+use Rattle.std.proofs.Common.{◌≡◌, ℕ, ◌+◌, ◌<◌, ◌≤◌, suc, Bool, true, false, List, [], ◌∷◌, ◌++◌, length, take, drop, get_or, refl, ap, ◌∙◌, sym, subst, append-nil, append_assoc, drop-cons, Option, Some, None}
 use Rattle.std.specs.Prelude.{◌||◌}
 use Rattle.std.proofs.lemmas.List.{take-append-drop, take_more}
 use Rattle.flop_base.specs.Shelf.{Files}
@@ -37,13 +37,13 @@ or-moves false b c = refl
 run-push : (old mid new : State) (files mid_files after : Option Files) (requests : List Request) (asked : Request) (answer : Reply) (text : List ℕ) (refused : Bool) → Run old files requests text refused mid mid_files → Step mid mid_files asked answer new after → Run old files (requests ++ asked ∷ []) (text ++ reply_text asked answer) (refused || is_refusal answer) new after
 run-push old mid new files mid_files after [] asked answer text refused run step =
     let here : Step old files asked answer new after = subst (λ (s : State). Step s files asked answer new after) run.2 (subst (λ (f : Option Files). Step mid f asked answer new after) run.3 step) in
-    (answer , new , after , [] , false , here , (refl , refl , refl , refl) , ap (λ t. t ++ reply_text asked answer) run.0 ∙ sym (append-nil (reply_text asked answer)) , ap (λ r. r || is_refusal answer) run.1 ∙ sym (or-false (is_refusal answer)))
+    (answer, new, after, [], false, here, (refl, refl, refl, refl), ap (λ t. t ++ reply_text asked answer) run.0 ∙ sym (append-nil (reply_text asked answer)), ap (λ r. r || is_refusal answer) run.1 ∙ sym (or-false (is_refusal answer)))
 run-push old mid new files mid_files after (first ∷ later) asked answer text refused run step =
-    (run.0 , run.1 , run.2 , run.3 ++ reply_text asked answer , (run.4 || is_refusal answer) , run.5 , run-push run.1 mid new run.2 mid_files after later asked answer run.3 run.4 run.6 step , ap (λ t. t ++ reply_text asked answer) run.7 ∙ append_assoc (reply_text first run.0) run.3 (reply_text asked answer) , ap (λ r. r || is_refusal answer) run.8 ∙ sym (or-moves (is_refusal run.0) run.4 (is_refusal answer)))
+    (run.0, run.1, run.2, run.3 ++ reply_text asked answer, (run.4 || is_refusal answer), run.5, run-push run.1 mid new run.2 mid_files after later asked answer run.3 run.4 run.6 step, ap (λ t. t ++ reply_text asked answer) run.7 ∙ append_assoc (reply_text first run.0) run.3 (reply_text asked answer), ap (λ r. r || is_refusal answer) run.8 ∙ sym (or-moves (is_refusal run.0) run.4 (is_refusal answer)))
 
 -- no request was run
 pub has-run-none : (old : World) → HasRun old [] false old
-has-run-none old = record { text = []; run = (refl , refl , refl , refl); report = sym (grown-nothing old.report) }
+has-run-none old = record { text = []; run = (refl, refl, refl, refl); report = sym (grown-nothing old.report) }
 
 -- one request more was run
 pub has-run-more : (old mid new : World) (requests : List Request) (asked : Request) (refused refusal : Bool) → HasRun old requests refused mid → IsTurn mid asked refusal new → HasRun old (requests ++ asked ∷ []) (refused || refusal) new
@@ -149,7 +149,7 @@ as_text old new job text ended told (Starving idle) = Starved idle
 -- a loaded text is the told file's
 pub loaded_text : (told : Option Files) (job : List ℕ) (bytes : Vec ℕ Global) → IfSome told (λ files. Loads files job 4194304 (Ok bytes)) → IsText told job bytes.items
 loaded_text None job bytes loads = tt
-loaded_text (Some files) job bytes loads = subst (λ (found : Option (List ℕ)). IsSomeAnd found (λ b. (b ≡ bytes.items) × (length b ≤ 4194304))) (sym loads.0) (refl , loads.1)
+loaded_text (Some files) job bytes loads = subst (λ (found : Option (List ℕ)). IsSomeAnd found (λ b. (b ≡ bytes.items) × (length b ≤ 4194304))) (sym loads.0) (refl, loads.1)
 
 -- a play whose text wasn't had
 pub as_missed : (told : Option Files) (state : State) (report after : Option (List ℕ)) (job : List ℕ) (error : LoadError) (ended : Status) → IfSome told (λ files. Loads files job 4194304 (Err error)) → Misses error job report after ended → Plays (world state told report) job (world state told after) ended

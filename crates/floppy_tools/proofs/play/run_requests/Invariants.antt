@@ -1,4 +1,4 @@
-use Rattle.std.proofs.Common.{◌≡◌, ◌≤◌, take}
+use Rattle.std.proofs.Common.{◌≤◌, take}
 use Rattle.floppy_session.specs.Session.{state_of, IsRunning}
 use Rattle.floppy_tools.specs.Turns.{world, HasRun}
 use Rattle.floppy_tools.proofs.play.run_requests.Given as goal
