@@ -1,5 +1,5 @@
 // A turn under a separator, from the index to the index.
-ghost use Rattle.std.specs.Prelude.{◌≡◌, ◌↔◌, IsTrue, ◌≤◌, ◌<◌, ◌+◌, ◌*◌, ℕ, List, [], length, take};
+ghost use Rattle.std.specs.Prelude.{◌≡◌, ◌↔◌, IsTrue, ◌<◌, ℕ, [], length, take};
 ghost use Rattle.flop_base.specs.declared.key.Chrn.{Chrn};
 ghost use Rattle.track_model.specs.Fields.{IsSizeCode, content_size};
 ghost use Rattle.track_model.specs.Sectors.{IsPlain};

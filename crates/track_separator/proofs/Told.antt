@@ -1,6 +1,6 @@
 -- Any calls: what the separator keeps is of the words fed, and each event stands for something in them.
 use Rattle.std.proofs.Common.{◌≡◌, ℕ, ◌+◌, ◌*◌, ◌<◌, ◌≤◌, Bool, false, List, length, refl, sym, subst, arith, inl, inr}
-use Rattle.track_model.specs.Fields.{IsAddress}
+use Rattle.track_model.specs.Fields.{IsAddress, IsDataMark}
 use Rattle.track_model.specs.Looks.{IsFirstDataMark}
 use Rattle.track_separator.specs.declared.state.Seen.{Seen}
 use Rattle.track_separator.specs.declared.state.Seen.TheVariants.{Nothing, Mark, Address, Mode, Byte, End, NoData}
@@ -9,7 +9,7 @@ use Rattle.track_separator.specs.declared.state.Stage.TheVariants.{Hunting, Read
 use Rattle.track_separator.specs.declared.state.Separator.{Separator}
 use Rattle.track_separator.specs.Parts.{with_word}
 use Rattle.track_separator.specs.Hunts.{SHunts, HuntSeenIn}
-use Rattle.track_separator.specs.Waits.{ReadsIn, SWaits, SReads, WaitSeenIn, SWaitSeen, ReadSeenIn, SReadSeen}
+use Rattle.track_separator.specs.Waits.{WaitsIn, ReadsIn, SWaits, SReads, WaitSeenIn, SWaitSeen, ReadSeenIn, SReadSeen}
 use Rattle.track_separator.specs.Turns.{IsHunted, SCut, FedIn, SFed, IsTold}
 use Rattle.track_separator.proofs.Shared.{alike_address_at}
 use Rattle.track_separator.proofs.Next.{more_of}
@@ -99,3 +99,19 @@ reads_inside fed cells back p q deleted size taken (Waiting asked since marked) 
 
 pub reads_within : (separator : Separator) (fed : List ℕ) (p q : ℕ) (deleted : Bool) (size taken : ℕ) → SReads separator fed p q deleted size taken → q + 64 + 16 * taken ≤ 16 * length fed
 reads_within separator fed p q deleted size taken h = reads_inside fed separator.cells separator.back p q deleted size taken separator.stage h
+
+-- the field that is read is the one of the first data mark
+pub reads_mark : (separator : Separator) (fed : List ℕ) (p q : ℕ) (deleted : Bool) (size taken : ℕ) → SReads separator fed p q deleted size taken → IsFirstDataMark fed p q deleted
+reads_mark separator fed p q deleted size taken h = reads_first fed separator.cells separator.back p q deleted size taken separator.stage h
+
+waits_none : (fed : List ℕ) (cells back p size : ℕ) (stage : Stage) → WaitsIn fed cells back p size stage → (q : ℕ) (deleted : Bool) → IsDataMark fed p q deleted → ⊥
+waits_none fed cells back p size (Waiting asked since marked) h = h.1.none
+waits_none fed cells back p size Hunting h = absurd h
+waits_none fed cells back p size (Reading bytes) h = absurd h
+waits_none fed cells back p size Addressed h = absurd h
+waits_none fed cells back p size Cut h = absurd h
+waits_none fed cells back p size (Content asked taken check touched) h = absurd h
+
+-- while a data mark is awaited there was none
+pub waits_mark : (separator : Separator) (fed : List ℕ) (p size : ℕ) → SWaits separator fed p size → (q : ℕ) (deleted : Bool) → IsDataMark fed p q deleted → ⊥
+waits_mark separator fed p size h = waits_none fed separator.cells separator.back p size separator.stage h

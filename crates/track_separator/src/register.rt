@@ -1,8 +1,8 @@
 // The register: the last 128 cells, the last in bit 0.
-ghost use Rattle.std.specs.Prelude.{◌≡◌, ℕ, ◌+◌, ◌<◌, ◌≤◌, Bool, true, MatchOption};
+ghost use Rattle.std.specs.Prelude.{◌≡◌, ℕ, ◌<◌, ◌≤◌, Bool, true, MatchOption};
 ghost use Rattle.flop_base.specs.declared.key.Chrn.{Chrn};
 ghost use Rattle.track_model.specs.Marks.{data_byte};
-ghost use Rattle.track_separator.specs.Register.{IsShifted, IsNext, IsBlank, HasRunBits, register_byte, register_check, IsKeyIn};
+ghost use Rattle.track_separator.specs.Register.{IsShifted, IsNext, HasRunBits, register_byte, register_check, IsKeyIn};
 
 use flop_base::Chrn;
 use mfm_cells::decode_word;

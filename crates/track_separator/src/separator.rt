@@ -1,5 +1,5 @@
 // The calls of a separator.
-ghost use Rattle.std.specs.Prelude.{◌≡◌, ◌≤◌, ◌<◌, ◌+◌, ◌↔◌, IsTrue, ℕ, Bool, true, false, List, []};
+ghost use Rattle.std.specs.Prelude.{◌≡◌, ◌≤◌, ◌↔◌, IsTrue, ℕ, Bool, true, false, List, []};
 
 use crate::register::BLANK;
 use crate::state::{Seen, Separator, Stage};
