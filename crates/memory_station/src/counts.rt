@@ -1,6 +1,6 @@
 // What a station in memory counts.
-ghost use Rattle.std.specs.Prelude.{◌≡◌, ℕ};
-ghost use Rattle.sector_model.specs.Counters.{GoesOn, IsPastDriver};
+ghost use Rattle.std.specs.Prelude.{◌≡◌, ◌+◌, ℕ, min};
+ghost use Rattle.sector_model.specs.Counters.{GoesOn, IsPastDriver, last_count};
 ghost use Rattle.memory_station.specs.Counted.{HasSent, counters_of};
 
 /// Data commands, interrupts taken and direct accesses. Each count stays at its last value.
@@ -37,6 +37,7 @@ impl Counts {
     pub fn access(&mut self)
         ensures rose { (spares : ℕ) →
             IsPastDriver 1 (counters_of spares self.old) (counters_of spares self.new) }
+        ensures direct { self.new.direct ≡ min (self.old.direct + 1) last_count }
         ensures taken { self.new.taken ≡ self.old.taken }
         ensures counts { (spares : ℕ) → GoesOn (counters_of spares self.old) (counters_of spares self.new) }
     {
