@@ -2,7 +2,7 @@
 use Rattle.std.specs.Prelude.{◌≡◌, ◌⊎◌, ℕ, ◌+◌, ◌-◌, ◌<◌, ◌≤◌, min, Bool, true, false, not, ◌&&◌, ◌==◌, nat_lt, nat_le, if◌then◌else◌, List, [], slice_index, Option, Some, None, is_some, IsTrue, IfSome, IsSomeAnd}
 use Rattle.flop_base.specs.declared.answers.Rate.{Rate}
 use Rattle.flop_base.specs.declared.answers.Rate.TheVariants.{R500}
-use Rattle.flop_base.specs.Shelf.{Rose}
+use Rattle.flop_base.specs.Counts.{Rose}
 use Rattle.raw_image.specs.Disk.{Disk, IsDisk, track_of, with_word}
 
 -- a drive: the medium in it or none, the cylinder under its heads, the place that passes them next, its motor, for how many word times the medium has spun up, its change line, its write gate, whether the gate was cut, and its count of faults

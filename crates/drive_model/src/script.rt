@@ -1,11 +1,9 @@
 // A drive whose faults are planned.
 ghost use Rattle.std.specs.Prelude.{◌≡◌, ◌≤◌, ◌↔◌, IsErr, IsSome, OnOk, IfErr};
 ghost use Rattle.std.specs.Bool.{OnTrue, OnFalse};
-ghost use Rattle.flop_base.specs.Shelf.{Rose};
-ghost use Rattle.drive_model.specs.Drive.{last_count, Becomes, InRange, Spends};
-ghost use Rattle.drive_model.specs.Drive.{loaded, unloaded, with_motor, with_gate, moved, passed, written, cut_off};
+ghost use Rattle.flop_base.specs.Counts.{Rose};
+ghost use Rattle.drive_model.specs.Drive.{last_count, Becomes, InRange, Spends, loaded, unloaded, with_motor, with_gate, moved, passed, written, cut_off, at_index, word_under, Pulses, Reads, Writes};
 ghost use Rattle.drive_model.specs.Fault.{comes};
-ghost use Rattle.drive_model.specs.Drive.{at_index, word_under, Pulses, Reads, Writes};
 
 use crate::fault::{Event, take_fault};
 use crate::mechanics::Mechanics;

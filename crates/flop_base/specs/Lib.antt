@@ -1,5 +1,7 @@
+pub mod Counts
 pub mod MemShelf
 pub mod MemSink
 pub mod Numbers
 pub mod Shelf
 pub mod Sink
+pub mod Standard

@@ -1,5 +1,5 @@
 -- Named files as contracts see them, and what each answer of a shelf says.
-use Rattle.std.specs.Prelude.{◌≡◌, ◌<◌, ◌≤◌, ◌+◌, ℕ, List, length, min, Option, Some, None, Result, Ok, Err, Vec, IsSomeAnd}
+use Rattle.std.specs.Prelude.{◌≡◌, ◌<◌, ◌≤◌, ℕ, List, length, Option, Some, None, Result, Ok, Err, Vec, IsSomeAnd}
 use Rattle.std.specs.Ordering.{nat_cmp}
 use Rattle.std.specs.Cmp.Lexicographic.{slice_cmp}
 use Rattle.std.specs.declared.alloc.Global.{Global}
@@ -31,7 +31,3 @@ Loads files name most (Err Absent) = file_at files name ≡ None
 Loads files name most (Err TooLong) = IsSomeAnd (file_at files name) (λ bytes. most < length bytes)
 Loads files name most (Err Failed) = Unit {0}
 Loads files name most (Err NoMemory) = Unit {0}
-
--- a count of faults rose: it stays at the greatest number of 64 bits, and standing there counts as having risen
-abbrev pub Rose : ℕ → ℕ → Type 0
-Rose before now = min (before + 1) 18446744073709551615 ≤ now

@@ -14,7 +14,8 @@ pub struct Chrn {
 pub fn sector_size(n: u8) -> usize
     requires at_least { 1 ≤ n }
     requires at_most { n ≤ 6 }
-    ensures { result ≡ 128 * 2 ^ n }
+    ensures size { result ≡ 128 * 2 ^ n }
+    ensures most { result ≤ 8192 }
 {
     128usize << n
 }

@@ -5,15 +5,14 @@
 mod answers;
 mod key;
 mod memory;
-mod outside;
 mod shelf;
 mod sink;
+pub mod standard;
 mod text;
 
 pub use answers::{Code, LoadError, NoMemory, PutError, Rate, Status, StoreError};
 pub use key::{Chrn, sector_size};
 pub use memory::{MemShelf, MemSink};
-pub use outside::{FileShelf, StreamSink};
 pub use shelf::Shelf;
 pub use sink::Sink;
 pub use text::{Bytes, Name};

@@ -1,7 +1,8 @@
 // A shelf and a sink in memory, whose calls fail where their maker says so.
 ghost use Rattle.std.specs.Prelude.{◌≡◌, ◌≤◌, ◌+◌, ◌++◌, ◌↔◌, [], min, length, Some, Contains, IsTrue, IfOk, OnOk, OnErr, IsErrOf, option_copied};
 ghost use Rattle.std.specs.Bool.{OnTrue, OnFalse};
-ghost use Rattle.flop_base.specs.Shelf.{Loads, Rose, no_files, file_at, stored};
+ghost use Rattle.flop_base.specs.Counts.{Rose, last_count};
+ghost use Rattle.flop_base.specs.Shelf.{Loads, no_files, file_at, stored};
 
 use crate::{LoadError, NoMemory, PutError, Shelf, Sink, StoreError};
 use std::alloc::Global;
@@ -64,7 +65,7 @@ impl MemShelf {
     fn call_fails(&mut self) -> bool
         ensures files { files_of self.new ≡ files_of self.old }
         ensures failing { failing_of self.new ≡ failing_of self.old }
-        ensures calls { calls_of self.new ≡ min (calls_of self.old + 1) 18446744073709551615 }
+        ensures calls { calls_of self.new ≡ min (calls_of self.old + 1) last_count }
         ensures exactly { IsTrue result ↔ Contains (failing_of self.old) (calls_of self.new) }
         ensures counted { OnTrue result (Rose (faults_of self.old) (faults_of self.new)) }
         ensures uncounted { OnFalse result (faults_of self.new ≡ faults_of self.old) }
@@ -95,7 +96,7 @@ impl Shelf for MemShelf {
         ensures never_falls { faults_of self.old ≤ faults_of self.new }
 
         ensures failing { failing_of self.new ≡ failing_of self.old }
-        ensures calls { calls_of self.new ≡ min (calls_of self.old + 1) 18446744073709551615 }
+        ensures calls { calls_of self.new ≡ min (calls_of self.old + 1) last_count }
         ensures fails_exactly { IsErrOf result LoadError.Failed
             ↔ Contains (failing_of self.old) (calls_of self.new) }
     {
@@ -120,7 +121,7 @@ impl Shelf for MemShelf {
         ensures never_falls { faults_of self.old ≤ faults_of self.new }
 
         ensures failing { failing_of self.new ≡ failing_of self.old }
-        ensures calls { calls_of self.new ≡ min (calls_of self.old + 1) 18446744073709551615 }
+        ensures calls { calls_of self.new ≡ min (calls_of self.old + 1) last_count }
         ensures fails_exactly { IsErrOf result StoreError.Failed
             ↔ Contains (failing_of self.old) (calls_of self.new) }
     {
@@ -187,7 +188,7 @@ impl Sink for MemSink {
         ensures never_falls { faults_of self.old ≤ faults_of self.new }
 
         ensures failing { failing_of self.new ≡ failing_of self.old }
-        ensures calls { calls_of self.new ≡ min (calls_of self.old + 1) 18446744073709551615 }
+        ensures calls { calls_of self.new ≡ min (calls_of self.old + 1) last_count }
         ensures fails_exactly { IsErrOf result PutError.Failed
             ↔ Contains (failing_of self.old) (calls_of self.new) }
     {

@@ -1,6 +1,7 @@
 // Named files, wherever they lie.
 ghost use Rattle.std.specs.Prelude.{◌≡◌, ◌≤◌, ℕ, Option, length, IfSome, IfOk, OnOk, OnErr, IsErrOf};
-ghost use Rattle.flop_base.specs.Shelf.{Files, Loads, Rose, stored};
+ghost use Rattle.flop_base.specs.Counts.{Rose};
+ghost use Rattle.flop_base.specs.Shelf.{Files, Loads, stored};
 
 use crate::{LoadError, StoreError};
 use std::alloc::Global;

@@ -1,6 +1,6 @@
 // Where the program prints.
 ghost use Rattle.std.specs.Prelude.{◌≡◌, ◌≤◌, ℕ, List, Option, OnOk, OnErr, IsErrOf};
-ghost use Rattle.flop_base.specs.Shelf.{Rose};
+ghost use Rattle.flop_base.specs.Counts.{Rose};
 ghost use Rattle.flop_base.specs.Sink.{grown, GrowsByPart};
 
 use crate::PutError;

@@ -1,7 +1,8 @@
 //! The program: files of the current folder, standard output, the words of the command line.
 #![tactic(auto)]
 
-use flop_base::{FileShelf, Status, StreamSink};
+use flop_base::Status;
+use flop_outside::{FileShelf, StreamSink};
 use floppy_tools::floppy;
 use memory_station::MemoryStation;
 use std::env;

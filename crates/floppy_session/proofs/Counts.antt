@@ -1,6 +1,7 @@
 -- How counts go on over several calls.
 use Rattle.std.proofs.Common.{◌≡◌, ℕ, Option, Some, None, arith, ◌∙◌, refl}
-use Rattle.sector_model.specs.Counters.{Counters, Spends, GoesOn}
+use Rattle.bay_model.specs.Counters.{Counters, GoesOn}
+use Rattle.flop_base.specs.Counts.{Spends}
 
 spends_twice : (c0 : ℕ) (l0 : Option ℕ) (c1 : ℕ) (l1 : Option ℕ) (c2 : ℕ) (l2 : Option ℕ) → Spends c0 l0 c1 l1 → Spends c1 l1 c2 l2 → Spends c0 l0 c2 l2
 spends_twice c0 None c1 None c2 l2 one two = two

@@ -7,7 +7,7 @@ use Rattle.floppy_jobs.specs.declared.request.Request.{Request}
 use Rattle.floppy_jobs.specs.declared.request.Request.TheVariants as request
 use Rattle.sector_model.specs.declared.reply.Reply.{Reply}
 use Rattle.sector_model.specs.declared.reply.Stop.{Stop}
-use Rattle.sector_model.specs.Bays.{in_bay}
+use Rattle.bay_model.specs.Bays.{in_bay}
 use Rattle.sector_model.specs.Stations.{bay_of}
 use Rattle.sector_model.specs.States.{State, IsSame, ChangesMedium}
 use Rattle.sector_model.specs.Steps.{Step, StopsAt, StopCause, StoresMedium, refusal_of, is_loaded}

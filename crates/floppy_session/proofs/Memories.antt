@@ -2,8 +2,9 @@
 use Rattle.std.proofs.Common.{◌≡◌, ℕ, ◌+◌, ◌-◌, ◌<◌, List, [], ◌∷◌, ◌++◌, length, take, drop, min, suc, replicate, get_or, refl, sym, ap, ◌∙◌, subst, arith, append_assoc, slice_set, length-append, length-take, length-drop}
 use Rattle.std.proofs.lemmas.List.{take-append-drop, replicate-append-replicate, length-replicate}
 use Rattle.std.proofs.Math.Seq.{drop-cons, set-append_seam}
-use Rattle.sector_model.specs.Stations.{StationState, with_bytes, user_bytes}
-use Rattle.sector_model.specs.Counters.{GoesOn}
+use Rattle.bay_model.specs.Memory.{with_bytes, user_bytes}
+use Rattle.sector_model.specs.Stations.{StationState}
+use Rattle.bay_model.specs.Counters.{GoesOn}
 use Rattle.sector_model.specs.Calls.{SetsMemory}
 use Rattle.sector_model.specs.States.{State}
 use Rattle.sector_model.specs.Steps.{Fills}

@@ -5,12 +5,14 @@ use Rattle.flop_base.specs.declared.key.Chrn.{Chrn}
 use Rattle.flop_base.specs.declared.answers.Rate.{Rate}
 use Rattle.flop_base.specs.declared.answers.Code.{Code}
 use Rattle.raw_image.specs.Disk.{Disk}
-use Rattle.sector_model.specs.Bays.{Two, with_bay}
+use Rattle.bay_model.specs.Bays.{Two, with_bay}
 use Rattle.sector_model.specs.Stations.{StationState, Bay, Stays, bay_of}
 use Rattle.sector_model.specs.Orders.{read_refusal, write_refusal, format_refusal, rate_refusal}
 use Rattle.sector_model.specs.Reads.{Reads, ReadsDrive}
-use Rattle.sector_model.specs.Writes.{WritesTo, Written, Change, Reaches}
-use Rattle.sector_model.specs.Formats.{FormatsTo, Format, Laying, Lays}
+use Rattle.sector_map.specs.Changes.{Written, Change}
+use Rattle.sector_model.specs.Writes.{WritesTo, Reaches}
+use Rattle.sector_map.specs.Layings.{Format, Laying}
+use Rattle.sector_model.specs.Formats.{FormatsTo, Lays}
 use Rattle.sector_model.specs.Calls.{RatesTo}
 use Rattle.sector_model.specs.States.{State, IsNamed}
 

@@ -2,7 +2,8 @@
 ghost use Rattle.std.specs.Prelude.{◌≡◌, ◌≤◌, Option};
 ghost use Rattle.flop_base.specs.Shelf.{Files};
 ghost use Rattle.sector_model.specs.Stations.{bay_of};
-ghost use Rattle.sector_model.specs.Steps.{Step, reply_of, read_reply, standard_gap as standard_gap_of};
+ghost use Rattle.flop_base.specs.Standard.{gap_at as standard_gap_of};
+ghost use Rattle.sector_model.specs.Steps.{Step, reply_of, read_reply};
 
 use crate::session::Session;
 use flop_base::{Chrn, Code, Rate};

@@ -1,7 +1,7 @@
 // The requests on user memory.
 ghost use Rattle.std.specs.Prelude.{◌≡◌, ◌+◌, ◌≤◌, Option, IfOk, IfErr, IsOkUnless, nat_le};
 ghost use Rattle.flop_base.specs.Shelf.{Files};
-ghost use Rattle.sector_model.specs.Stations.{bytes_from};
+ghost use Rattle.bay_model.specs.Memory.{bytes_from};
 ghost use Rattle.sector_model.specs.Steps.{Step, StopsAt, Fills};
 
 use crate::session::{Session, bad_request};

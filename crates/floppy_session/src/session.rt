@@ -1,6 +1,6 @@
 // A session: a station, and the names under which the media in its bays are stored.
 ghost use Rattle.std.specs.Prelude.{◌≡◌, ◌≤◌, IfOk, IfErr, OnOk, IsErrOf};
-ghost use Rattle.flop_base.specs.Shelf.{Rose};
+ghost use Rattle.flop_base.specs.Counts.{Rose};
 ghost use Rattle.sector_model.specs.Stations.{IsFresh};
 ghost use Rattle.sector_model.specs.States.{start_of};
 ghost use Rattle.sector_model.specs.Steps.{Step, StopsAt};

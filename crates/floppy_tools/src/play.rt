@@ -1,6 +1,6 @@
 // The form `play JOB`: a job is read and run to its end, or up to what stops it.
 ghost use Rattle.std.specs.Prelude.{◌≡◌, ◌≢◌, ◌≤◌, ◌||◌, All, IfOk, IfErr, IsErrOf, Err};
-ghost use Rattle.flop_base.specs.Shelf.{Rose};
+ghost use Rattle.flop_base.specs.Counts.{Rose};
 ghost use Rattle.sector_model.specs.Texts.{is_refusal};
 ghost use Rattle.sector_model.specs.Plays.{PlaysRequests, Plays, whole_status};
 ghost use Rattle.floppy_session.specs.Session.{state_of, IsRunning};

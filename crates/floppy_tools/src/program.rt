@@ -1,8 +1,8 @@
 // The top call.
 ghost use Rattle.std.specs.Prelude.{◌≡◌, ◌≤◌, ◌+◌, ℕ, List, Option, Some, None, map, string_bytes};
-ghost use Rattle.flop_base.specs.Shelf.{Rose};
+ghost use Rattle.flop_base.specs.Counts.{Rose};
 ghost use Rattle.floppy_jobs.specs.declared.request.Request.{Request};
-ghost use Rattle.sector_model.specs.Bays.{Two};
+ghost use Rattle.bay_model.specs.Bays.{Two};
 ghost use Rattle.sector_model.specs.Ties.{TiesCounts, IsJob, accesses_of_job};
 ghost use Rattle.sector_model.specs.Stations.{IsFresh};
 ghost use Rattle.sector_model.specs.States.{start_of};

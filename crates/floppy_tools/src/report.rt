@@ -1,7 +1,7 @@
 // The lines of a report. Each ends with a line feed and is put by one call.
 ghost use Rattle.std.specs.Prelude.{◌≡◌, ◌≤◌, ◌++◌, ℕ, List, codes, IfErr, MatchResult, ◌≢◌, OnOk, OnErr, IfOk, IsErrOf, string_bytes, map};
 ghost use Rattle.std.specs.Fmt.{decimal};
-ghost use Rattle.flop_base.specs.Shelf.{Rose};
+ghost use Rattle.flop_base.specs.Counts.{Rose};
 ghost use Rattle.flop_base.specs.Sink.{grown, GrowsByPart};
 ghost use Rattle.sector_model.specs.Texts.{reply_text, stop_text, stop_status, bad_line_text, absent_text, image_text, image_error_text, reason_text, dump_text, dump_line, dump_byte, line_end};
 ghost use Rattle.sector_model.specs.Plays.{IsPutFault, Prints};

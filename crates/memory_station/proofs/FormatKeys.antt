@@ -5,7 +5,7 @@ use Rattle.std.proofs.lemmas.List.FromFn.{length-map-range_with_len, get_or-map-
 use Rattle.flop_base.specs.declared.key.Chrn.{Chrn}
 use Rattle.track_format.specs.Keys.{key_bytes}
 use Rattle.track_format.proofs.Asked.{key_byte_at, no_key_byte}
-use Rattle.sector_map.specs.Failing.{key_of, track_keys}
+use Rattle.sector_map.specs.Standard.{key_of, track_keys}
 
 pub length-track_keys : (sectors c h : ℕ) → length (track_keys sectors c h) ≡ sectors
 unfolding track_keys

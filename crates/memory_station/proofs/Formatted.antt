@@ -8,10 +8,12 @@ use Rattle.flop_base.specs.declared.answers.Code.TheVariants.{NoMark}
 use Rattle.raw_image.specs.Disk.{Disk, IsDisk, HasTrack, IsWithTrack, track_of}
 use Rattle.track_model.specs.Layouts.{Fits, laid_words}
 use Rattle.track_model.specs.Windows.{with_words}
-use Rattle.sector_map.specs.Failing.{sectors_at}
-use Rattle.sector_model.specs.Counters.{RoseBy, IsDriven}
+use Rattle.flop_base.specs.Standard.{sectors_at}
+use Rattle.flop_base.specs.Counts.{RoseBy}
+use Rattle.bay_model.specs.Counters.{IsDriven}
 use Rattle.sector_model.specs.Stations.{StationState, Bay, bay_of}
-use Rattle.sector_model.specs.Formats.{Format, format_keys, formatted, Laying, IsLaying, Lays, IsFormattable, IsFormatted, FormatsDrive}
+use Rattle.sector_map.specs.Layings.{Format, format_keys, formatted, Laying, IsLaying, IsFormattable}
+use Rattle.sector_model.specs.Formats.{Lays, IsFormatted, FormatsDrive}
 use Rattle.memory_station.specs.Shown.{HasTrackMet}
 use Rattle.memory_station.specs.Driven.{Drives}
 use Rattle.memory_station.proofs.DrivenBays.{fewer_driven, with_medium, becomes_medium}

@@ -7,7 +7,9 @@ use Rattle.flop_base.specs.declared.answers.Rate.{Rate}
 use Rattle.flop_base.specs.declared.answers.Rate.TheVariants.{R500, R250}
 use Rattle.raw_image.specs.Disk.{Disk, IsDisk, HasTrack, track_of}
 use Rattle.track_model.specs.Looks.{HasAddressMark}
-use Rattle.sector_model.specs.Stations.{Bay, zeroes, same_rate, met_on, met}
+use Rattle.bay_model.specs.Memory.{zeroes}
+use Rattle.sector_map.specs.Met.{same_rate, met_on}
+use Rattle.sector_model.specs.Stations.{Bay, met}
 use Rattle.memory_station.specs.Shown.{IsRecorded}
 
 zero_at : (n k : ℕ) → get_or {A = ℕ} (replicate n 0) k 0 ≡ 0

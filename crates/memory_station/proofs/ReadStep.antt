@@ -12,11 +12,13 @@ use Rattle.track_model.specs.Looks.{LookAt, LookFor}
 use Rattle.track_model.specs.Sectors.{IsSector}
 use Rattle.track_model.proofs.Sectored.{found_sector, sector_under}
 use Rattle.track_model.proofs.Unique.{one_look_at}
-use Rattle.sector_model.specs.Bays.{Two, in_bay}
-use Rattle.sector_model.specs.Counters.{Counters}
-use Rattle.sector_model.specs.Stations.{StationState, Bay, met, with_bytes, SameOutside}
+use Rattle.bay_model.specs.Bays.{Two, in_bay}
+use Rattle.bay_model.specs.Counters.{Counters}
+use Rattle.bay_model.specs.Memory.{with_bytes, SameOutside}
+use Rattle.sector_model.specs.Stations.{StationState, Bay, met}
 use Rattle.sector_model.specs.Orders.{IsDeviceRefusal}
-use Rattle.sector_model.specs.Reads.{AllFound, IsRead, IsReadCause, IsReadRefused, ReadsDrive}
+use Rattle.sector_map.specs.Met.{AllFound}
+use Rattle.sector_model.specs.Reads.{IsRead, IsReadCause, IsReadRefused, ReadsDrive}
 use Rattle.memory_station.specs.Counted.{HasSent}
 use Rattle.memory_station.specs.Answers.{ReadsField, RefusedAs, IsRefusedLook}
 use Rattle.memory_station.proofs.DrivenBays.{fewer_driven}

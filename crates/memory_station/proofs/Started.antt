@@ -1,9 +1,10 @@
 -- A station before the first request.
 use Rattle.std.proofs.Common.{◌≡◌, ℕ, ap, List, length, replicate, Some, None, ◌∙◌}
 use Rattle.std.proofs.lemmas.List.{length-replicate}
-use Rattle.sector_model.specs.Bays.{Two, both}
+use Rattle.bay_model.specs.Bays.{Two, both}
 use Rattle.sector_model.specs.Stations as model
-use Rattle.sector_model.specs.Stations.{zeroes, fresh_bay}
+use Rattle.bay_model.specs.Memory.{zeroes}
+use Rattle.sector_model.specs.Stations.{fresh_bay}
 use Rattle.memory_station.specs.declared.bay.Bay.{Bay}
 use Rattle.memory_station.specs.Shown.{bay_shown, bays_shown}
 use Rattle.memory_station.specs.Counted.{quiet}

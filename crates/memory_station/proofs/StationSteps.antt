@@ -3,9 +3,11 @@ use Rattle.std.proofs.Common.{◌≡◌, ℕ, zero, suc, ◌+◌, ◌-◌, ◌<�
 use Rattle.std.proofs.lemmas.Bool.{false≢true, le-leb}
 use Rattle.raw_image.specs.Disk.{Disk}
 use Rattle.flop_base.specs.declared.answers.Code.{Code}
-use Rattle.sector_model.specs.Bays.{Two, both, in_bay, with_bay}
-use Rattle.sector_model.specs.Counters.{Counters, IsPastDriver, last_count}
-use Rattle.sector_model.specs.Stations.{StationState, Bay, fresh_bay, bytes_from}
+use Rattle.bay_model.specs.Bays.{Two, both, in_bay, with_bay}
+use Rattle.bay_model.specs.Counters.{Counters, IsPastDriver}
+use Rattle.flop_base.specs.Counts.{last_count}
+use Rattle.bay_model.specs.Memory.{bytes_from}
+use Rattle.sector_model.specs.Stations.{StationState, Bay, fresh_bay}
 use Rattle.flop_base.specs.declared.answers.Code.TheVariants.{BadRequest}
 use Rattle.sector_model.specs.Orders.{IsRefusedAtOnce}
 use Rattle.sector_model.specs.Calls.{AcksDrive, Acks, IsUnmoved, Exchanges, Ejects, IsExchanged}

@@ -18,11 +18,13 @@ use Rattle.track_model.proofs.Sectored.{sector_under}
 use Rattle.track_model.proofs.Unique.{one_look_at}
 use Rattle.track_model.proofs.Written.{length-window}
 use Rattle.sector_map.specs.Disks.{IsRegularDisk, IsOnMap}
-use Rattle.sector_model.specs.Counters.{RoseBy, IsDriven}
+use Rattle.flop_base.specs.Counts.{RoseBy}
+use Rattle.bay_model.specs.Counters.{IsDriven}
 use Rattle.sector_model.specs.Stations.{StationState, Bay, bay_of, met}
 use Rattle.sector_model.specs.Orders.{IsDeviceRefusal}
-use Rattle.sector_model.specs.Reads.{HasLook}
-use Rattle.sector_model.specs.Writes.{Change, Written, window_of, IsChange, Reaches, IsLastWhole, HasWindowCut, HasOtherContent, entry_of, ChangesAlone, KeepsRegular, WritesDrive}
+use Rattle.sector_map.specs.Met.{HasLook}
+use Rattle.sector_map.specs.Changes.{Change, Written, window_of, IsChange}
+use Rattle.sector_model.specs.Writes.{Reaches, IsLastWhole, HasWindowCut, HasOtherContent, entry_of, ChangesAlone, KeepsRegular, WritesDrive}
 use Rattle.memory_station.specs.Driven.{Drives}
 use Rattle.memory_station.specs.Put.{IsCutTo, PutsWindow, RefusedBack, ReadsBack, HasFieldAt, IsAbsent, IsHere}
 use Rattle.memory_station.proofs.DrivenBays.{fewer_driven, with_medium, becomes_medium}

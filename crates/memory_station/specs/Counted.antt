@@ -1,7 +1,8 @@
 -- The counters of a station in memory.
 use Rattle.std.specs.Prelude.{ℕ, List, replicate, Option, Some}
-use Rattle.sector_model.specs.Bays.{both}
-use Rattle.sector_model.specs.Counters.{Counters, RoseBy, GoesOn, IsDriven}
+use Rattle.bay_model.specs.Bays.{both}
+use Rattle.bay_model.specs.Counters.{Counters, GoesOn, IsDriven}
+use Rattle.flop_base.specs.Counts.{RoseBy}
 use Rattle.memory_station.specs.declared.counts.Counts.{Counts}
 
 -- each spare drive tells that no fault is left

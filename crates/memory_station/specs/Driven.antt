@@ -1,6 +1,6 @@
 -- Calls that work on one bay.
 use Rattle.std.specs.Prelude.{◌≡◌, ℕ, ◌≤◌}
-use Rattle.sector_model.specs.Bays.{in_bay}
+use Rattle.bay_model.specs.Bays.{in_bay}
 use Rattle.sector_model.specs.Stations as model
 use Rattle.sector_model.specs.Stations.{StationState, Becomes, bay_of, set_bay}
 use Rattle.memory_station.specs.Counted.{HasSent}

@@ -2,7 +2,7 @@
 use Rattle.std.specs.Prelude.{◌≡◌, ℕ, List, Some, None, if◌then◌else◌}
 use Rattle.raw_image.specs.Disk.{Disk, IsDisk, HasTrack, track_of}
 use Rattle.track_model.specs.Cells.{IsTrackSized}
-use Rattle.sector_model.specs.Bays.{Two}
+use Rattle.bay_model.specs.Bays.{Two}
 use Rattle.sector_model.specs.Stations as model
 use Rattle.sector_model.specs.Stations.{StationState, met}
 use Rattle.memory_station.specs.Counted.{counters_of}

@@ -1,6 +1,7 @@
 // What a station in memory counts.
 ghost use Rattle.std.specs.Prelude.{◌≡◌, ◌+◌, ℕ, min};
-ghost use Rattle.sector_model.specs.Counters.{GoesOn, IsPastDriver, last_count};
+ghost use Rattle.bay_model.specs.Counters.{GoesOn, IsPastDriver};
+ghost use Rattle.flop_base.specs.Counts.{last_count};
 ghost use Rattle.memory_station.specs.Counted.{HasSent, counters_of};
 
 /// Data commands, interrupts taken and direct accesses. Each count stays at its last value.

@@ -3,7 +3,8 @@ ghost use Rattle.std.specs.Prelude.{◌≡◌, ◌+◌, ◌*◌, ◌≤◌, ◌�
 ghost use Rattle.std.specs.List.{flat_map};
 ghost use Rattle.track_model.specs.Layouts.{lay, laid_words};
 ghost use Rattle.track_format.specs.Keys.{key_bytes};
-ghost use Rattle.sector_map.specs.Failing.{sectors_at, track_keys};
+ghost use Rattle.flop_base.specs.Standard.{sectors_at};
+ghost use Rattle.sector_map.specs.Standard.{track_keys};
 ghost use Rattle.sector_model.specs.Stations.{StationState};
 ghost use Rattle.sector_model.specs.Formats.{FormatsDrive};
 ghost use Rattle.memory_station.specs.Shown.{bay_shown, HasTrackMet};

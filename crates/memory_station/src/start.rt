@@ -1,6 +1,7 @@
 // A station before the first request.
 ghost use Rattle.std.specs.Prelude.{◌≡◌, ◌<◌, ◌^◌, length, IfOk};
-ghost use Rattle.sector_model.specs.Stations.{IsFresh, zeroes};
+ghost use Rattle.bay_model.specs.Memory.{zeroes};
+ghost use Rattle.sector_model.specs.Stations.{IsFresh};
 ghost use Rattle.memory_station.specs.Shown.{shown_of};
 
 use crate::bay::Bay;

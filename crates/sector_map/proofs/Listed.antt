@@ -7,7 +7,9 @@ use Rattle.flop_base.specs.declared.key.Chrn.{Chrn}
 use Rattle.raw_image.specs.Disk.{Disk}
 use Rattle.track_model.specs.declared.Look.{Look}
 use Rattle.sector_map.specs.Disks.{LookOn}
-use Rattle.sector_map.specs.Failing.{sectors_at, key_of, track_keys, cylinder_keys, standard_keys, unless_found, AreFailing}
+use Rattle.flop_base.specs.Standard.{sectors_at}
+use Rattle.sector_map.specs.Standard.{key_of, track_keys, cylinder_keys, standard_keys}
+use Rattle.sector_map.specs.Failing.{unless_found, AreFailing}
 
 pub failing-append : (disk : Disk) (keys more : List Chrn) (failed others : List (Chrn × Look)) → AreFailing disk keys failed → AreFailing disk more others → AreFailing disk (keys ++ more) (failed ++ others)
 failing-append disk [] more failed others a b = subst (AreFailing disk more) (sym (ap (λ fs. fs ++ others) a)) b

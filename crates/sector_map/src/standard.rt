@@ -2,27 +2,16 @@
 ghost use Rattle.std.specs.Prelude.{◌≡◌, ◌++◌, ◌<◌, ◌≤◌, List, OnOk, IfOk};
 ghost use Rattle.flop_base.specs.declared.key.Chrn.{Chrn};
 ghost use Rattle.track_model.specs.declared.Look.{Look};
-ghost use Rattle.sector_map.specs.Failing.{sectors_at, unless_found, track_keys, cylinder_keys, standard_keys, AreFailing};
+ghost use Rattle.flop_base.specs.Standard.{sectors_at};
+ghost use Rattle.sector_map.specs.Standard.{track_keys, cylinder_keys, standard_keys};
+ghost use Rattle.sector_map.specs.Failing.{unless_found, AreFailing};
 
 use crate::disks::look;
-use flop_base::{Chrn, NoMemory, Rate};
+use flop_base::standard::SIZE_CODE;
+use flop_base::{Chrn, NoMemory};
 use raw_image::Medium;
 use std::alloc::Global;
 use track_fields::Look;
-
-/// The size code of sectors of 512 bytes.
-const SIZE_CODE: u8 = 2;
-
-/// How many sectors a track has at a rate, in the formats of 1.44 MB and 720 KB.
-fn sectors_at(rate: Rate) -> u8
-    ensures value { result ≡ sectors_at rate }
-    ensures most { result ≤ 18 }
-{
-    match rate {
-        Rate::R500 => 18,
-        Rate::R250 => 9,
-    }
-}
 
 /// Adds the key with its look, unless it was found.
 fn push_unless_found(failed: &mut Vec<(Chrn, Look)>, key: Chrn, look: Look) -> Result<(), NoMemory>
@@ -82,7 +71,7 @@ pub fn failing(alloc: Global, medium: &Medium) -> Result<Vec<(Chrn, Look)>, NoMe
     ensures { IfOk result (λ failed. AreFailing medium.now (standard_keys medium.now) failed.items) }
 {
     let mut failed = Vec::new(alloc);
-    let sectors = sectors_at(medium.rate());
+    let sectors = medium.rate().sectors();
     for c in 0..medium.cylinders() {
         push_cylinder(&mut failed, medium, sectors, c)?;
     }

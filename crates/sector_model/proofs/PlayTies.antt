@@ -6,7 +6,7 @@ use Rattle.flop_base.specs.Shelf.{Files, file_at}
 use Rattle.flop_base.specs.declared.answers.Status.{Status}
 use Rattle.floppy_jobs.specs.Texts.{job_of}
 use Rattle.floppy_jobs.specs.declared.request.Request.{Request}
-use Rattle.sector_model.specs.Counters.{Counters}
+use Rattle.bay_model.specs.Counters.{Counters}
 use Rattle.sector_model.specs.States.{State}
 use Rattle.sector_model.specs.Plays.{World, PlaysRequests, Played, Stopped, CutOff, EndStopped, PlaysParsed, Plays, There, Missing, TooLong, Faulty, Starved, IsText, most_job_bytes}
 use Rattle.sector_model.specs.Ties.{TiesCounts, accesses_of, accesses_of_job, IsJob}

@@ -9,11 +9,11 @@ use Rattle.floppy_jobs.specs.declared.request.Request.{Request}
 use Rattle.floppy_jobs.specs.declared.request.Request.TheVariants as request
 use Rattle.sector_model.specs.declared.reply.Reply.{Reply}
 use Rattle.sector_model.specs.declared.reply.Stop.{Stop}
-use Rattle.sector_model.specs.Bays.{in_bay}
-use Rattle.sector_model.specs.Counters.{Counters, last_count, GoesOn, Spends, IsDriven, IsPastDriver}
+use Rattle.bay_model.specs.Bays.{in_bay}
+use Rattle.bay_model.specs.Counters.{Counters, GoesOn, IsDriven, IsPastDriver, TakesSpare}
+use Rattle.flop_base.specs.Counts.{last_count, Spends}
 use Rattle.sector_model.specs.Stations.{StationState}
 use Rattle.sector_model.specs.Orders.{IsRefusedAtOnce, read_refusal, write_refusal, format_refusal, rate_refusal, is_bay}
-use Rattle.sector_model.specs.Calls.{TakesSpare}
 use Rattle.sector_model.specs.States.{State, IsSame, ChangesMedium}
 use Rattle.sector_model.specs.Steps.{Step, Does, refusal_of, StopsAt, AfterStop}
 use Rattle.sector_model.specs.Runs.{Run, Ends, EndsBay, Stored, Left, EndStopsAt, AtFirst, AtSecond}

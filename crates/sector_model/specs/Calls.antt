@@ -7,8 +7,9 @@ use Rattle.flop_base.specs.declared.answers.Code.TheVariants.{BadRequest, NotRea
 use Rattle.raw_image.specs.Disk.{Disk, track_of}
 use Rattle.track_model.specs.Fields.{IsAddress}
 use Rattle.track_model.specs.Sectors.{IsClear}
-use Rattle.sector_model.specs.Bays.{in_bay}
-use Rattle.sector_model.specs.Counters.{Counters, last_count, FaultsRoseBy, FaultsRoseLess, IsDriven, IsPastDriver, GoesOn}
+use Rattle.bay_model.specs.Bays.{in_bay}
+use Rattle.bay_model.specs.Counters.{Counters, FaultsRoseBy, FaultsRoseLess, IsDriven, IsPastDriver, GoesOn}
+use Rattle.flop_base.specs.Counts.{last_count}
 use Rattle.sector_model.specs.Stations.{StationState, Becomes, Stays, bay_of, set_bay, fresh_bay}
 use Rattle.sector_model.specs.Orders.{is_bay, rate_refusal, IsRefusedAtOnce}
 

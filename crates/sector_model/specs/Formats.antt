@@ -7,8 +7,10 @@ use Rattle.flop_base.specs.declared.answers.Code.TheVariants.{NoMark, Overrun, S
 use Rattle.raw_image.specs.Disk.{Disk, HasTrack, track_of, IsWithTrack}
 use Rattle.track_model.specs.Layouts.{lay, Fits}
 use Rattle.track_model.specs.Windows.{with_words}
-use Rattle.sector_map.specs.Failing.{sectors_at, track_keys}
-use Rattle.sector_model.specs.Counters.{RoseBy, IsFaultless, IsUndisturbed, DisturbedLess, FaultsRoseBy, IsDriven}
+use Rattle.flop_base.specs.Standard.{sectors_at}
+use Rattle.sector_map.specs.Standard.{track_keys}
+use Rattle.flop_base.specs.Counts.{RoseBy}
+use Rattle.bay_model.specs.Counters.{IsFaultless, IsUndisturbed, DisturbedLess, FaultsRoseBy, IsDriven}
 use Rattle.sector_model.specs.Stations.{StationState, Becomes, bay_of, set_bay}
 use Rattle.sector_model.specs.Orders.{format_refusal, IsRefusedAtOnce, IsDeviceRefusal}
 use Rattle.sector_model.specs.Reads.{spoilable}

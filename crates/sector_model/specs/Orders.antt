@@ -7,8 +7,9 @@ use Rattle.flop_base.specs.declared.answers.Rate.TheVariants.{R500, R250}
 use Rattle.flop_base.specs.declared.answers.Code.{Code}
 use Rattle.flop_base.specs.declared.answers.Code.TheVariants.{BadRequest, NoMark, Protected, NotFound, Changed, Overrun, Page, BadCrc, Seek}
 use Rattle.track_model.specs.Fields.{content_size}
-use Rattle.sector_model.specs.Counters.{IsDriven}
-use Rattle.sector_model.specs.Stations.{StationState, Stays, bay_of, user_bytes}
+use Rattle.bay_model.specs.Counters.{IsDriven}
+use Rattle.bay_model.specs.Memory.{user_bytes}
+use Rattle.sector_model.specs.Stations.{StationState, Stays, bay_of}
 
 -- a bay of the station
 abbrev pub is_bay : ℕ → Bool

@@ -9,8 +9,10 @@ use Rattle.track_model.specs.declared.Look.TheVariants as look
 use Rattle.track_model.specs.Fields.{IsAddressAt, IsDataMark, IsWhole, content_size}
 use Rattle.track_model.specs.Looks.{LookAt, HasAddressMark}
 use Rattle.track_model.specs.Sectors.{IsClear, IsSector, IsLone}
-use Rattle.sector_model.specs.Counters.{RoseBy, IsFaultless, IsUndisturbed, DisturbedLess, FaultsRoseBy, IsDriven}
-use Rattle.sector_model.specs.Stations.{StationState, Becomes, bay_of, met, with_bytes, SameOutside, IsSteady}
+use Rattle.flop_base.specs.Counts.{RoseBy}
+use Rattle.bay_model.specs.Counters.{IsFaultless, IsUndisturbed, DisturbedLess, FaultsRoseBy, IsDriven}
+use Rattle.bay_model.specs.Memory.{with_bytes, SameOutside}
+use Rattle.sector_model.specs.Stations.{StationState, Becomes, bay_of, met, IsSteady}
 use Rattle.sector_model.specs.Orders.{read_refusal, IsRefusedAtOnce, IsDeviceRefusal}
 
 -- no address mark of the track is Clear

@@ -4,8 +4,9 @@ use Rattle.std.specs.Option.{option_map_or}
 use Rattle.flop_base.specs.declared.answers.Rate.{Rate}
 use Rattle.flop_base.specs.declared.answers.Rate.TheVariants.{R500, R250}
 use Rattle.raw_image.specs.Disk.{Disk, track_of}
-use Rattle.sector_model.specs.Bays.{Two, both, in_bay, with_bay}
-use Rattle.sector_model.specs.Counters.{Counters, TellsLeft, last_count}
+use Rattle.bay_model.specs.Bays.{Two, both, in_bay, with_bay}
+use Rattle.bay_model.specs.Counters.{Counters, TellsLeft}
+use Rattle.flop_base.specs.Counts.{last_count}
 
 pub record Bay : Type 0 where
   pub medium : Option Disk

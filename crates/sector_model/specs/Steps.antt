@@ -16,9 +16,10 @@ use Rattle.sector_model.specs.declared.reply.Reason.{Reason}
 use Rattle.sector_model.specs.declared.reply.Reason.TheVariants as reason
 use Rattle.sector_model.specs.declared.reply.Stop.{Stop}
 use Rattle.sector_model.specs.declared.reply.Stop.TheVariants as stop
-use Rattle.sector_model.specs.Bays.{in_bay}
-use Rattle.sector_model.specs.Counters.{GoesOn, IsPastDriver}
-use Rattle.sector_model.specs.Stations.{Becomes, bay_of, user_bytes, bytes_from, with_bytes}
+use Rattle.bay_model.specs.Bays.{in_bay}
+use Rattle.bay_model.specs.Counters.{GoesOn, IsPastDriver}
+use Rattle.bay_model.specs.Memory.{user_bytes, bytes_from, with_bytes}
+use Rattle.sector_model.specs.Stations.{Becomes, bay_of}
 use Rattle.sector_model.specs.Orders.{is_bay}
 use Rattle.sector_model.specs.Reads.{Reads}
 use Rattle.sector_model.specs.Writes.{WritesTo}

@@ -4,7 +4,8 @@ use Rattle.flop_base.specs.Shelf.{Files, file_at}
 use Rattle.floppy_jobs.specs.Texts.{job_of}
 use Rattle.floppy_jobs.specs.declared.request.Request.{Request}
 use Rattle.floppy_jobs.specs.declared.request.Request.TheVariants as request
-use Rattle.sector_model.specs.Counters.{Counters, RoseBy}
+use Rattle.bay_model.specs.Counters.{Counters}
+use Rattle.flop_base.specs.Counts.{RoseBy}
 
 -- two numbers together, where both are told
 abbrev pub told_sum : Option ℕ → Option ℕ → Option ℕ

@@ -12,10 +12,13 @@ use Rattle.track_model.specs.Writing.{window}
 use Rattle.track_model.specs.Windows.{window_word, window_words, cut_of, IsCuttable, IsTidy}
 use Rattle.track_model.specs.Regular.{IsRegular}
 use Rattle.sector_map.specs.Disks.{IsRegularDisk, Entry, IsOnMap}
-use Rattle.sector_model.specs.Counters.{RoseBy, IsFaultless, FaultsRoseLess, IsUndisturbed, DisturbedLess, FaultsRoseBy, IsDriven}
-use Rattle.sector_model.specs.Stations.{StationState, Becomes, bay_of, set_bay, met, bytes_from, IsSteady}
+use Rattle.flop_base.specs.Counts.{RoseBy}
+use Rattle.bay_model.specs.Counters.{IsFaultless, FaultsRoseLess, IsUndisturbed, DisturbedLess, FaultsRoseBy, IsDriven}
+use Rattle.bay_model.specs.Memory.{bytes_from}
+use Rattle.sector_model.specs.Stations.{StationState, Becomes, bay_of, set_bay, met, IsSteady}
 use Rattle.sector_model.specs.Orders.{write_refusal, IsRefusedAtOnce, IsDeviceRefusal}
-use Rattle.sector_model.specs.Reads.{HasNoClearMark, HasClearAddress, HasLook, spoilable}
+use Rattle.sector_map.specs.Met.{HasNoClearMark, HasClearAddress, HasLook}
+use Rattle.sector_model.specs.Reads.{spoilable}
 
 -- a write behind an address field: on which cylinder, where the address field is, and how many words of the window stand
 pub record Change : Type 0 where

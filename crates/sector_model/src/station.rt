@@ -1,8 +1,9 @@
 // What a session stands on.
 ghost use Rattle.std.specs.Prelude.{◌≡◌, ◌≤◌, ◌<◌, ◌↔◌, ◌⊎◌, length, slice_index, is_some, IsTrue};
-ghost use Rattle.sector_model.specs.Bays.{in_bay};
-ghost use Rattle.sector_model.specs.Counters.{GoesOn};
-ghost use Rattle.sector_model.specs.Stations.{StationState, bay_of, user_bytes};
+ghost use Rattle.bay_model.specs.Bays.{in_bay};
+ghost use Rattle.bay_model.specs.Counters.{GoesOn};
+ghost use Rattle.bay_model.specs.Memory.{user_bytes};
+ghost use Rattle.sector_model.specs.Stations.{StationState, bay_of};
 ghost use Rattle.sector_model.specs.Reads.{Reads};
 ghost use Rattle.sector_model.specs.Writes.{WritesTo};
 ghost use Rattle.sector_model.specs.Formats.{FormatsTo};

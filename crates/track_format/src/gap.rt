@@ -1,7 +1,8 @@
 // Whether sectors fit on a track, and the gap behind them.
 ghost use Rattle.std.specs.Prelude.{◌≤◌, ◌↔◌, ℕ, IsTrue, MatchOption};
 ghost use Rattle.track_model.specs.Layouts.{laid_words};
-ghost use Rattle.track_format.specs.Gaps.{Suits, IsLargestGap, most_gap, rate_words};
+ghost use Rattle.flop_base.specs.Standard.{gap_at, words_at};
+ghost use Rattle.track_format.specs.Gaps.{Suits, IsLargestGap};
 
 use flop_base::{Rate, sector_size};
 
@@ -49,14 +50,11 @@ pub fn choose_gap(n: u8, sectors: u8, rate: Rate) -> Option<u8>
     requires at_least { 1 ≤ n }
     requires at_most { n ≤ 6 }
     ensures { MatchOption result
-        ((gap : ℕ) → 16 ≤ gap → gap ≤ most_gap rate → Suits n sectors (rate_words rate) gap → ⊥)
+        ((gap : ℕ) → 16 ≤ gap → gap ≤ gap_at rate → Suits n sectors (words_at rate) gap → ⊥)
         (λ gap. IsLargestGap n sectors rate gap) }
 {
-    let (words, most) = match rate {
-        Rate::R500 => (12_500, 0x6C),
-        Rate::R250 => (6_250, 0x50),
-    };
-    let mut gap: u8 = most;
+    let words = usize::from(rate.words());
+    let mut gap = rate.format_gap();
     while gap >= LEAST_GAP {
         if suits(n, sectors, words, gap) {
             return Some(gap);

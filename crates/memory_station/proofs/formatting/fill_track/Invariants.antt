@@ -5,7 +5,7 @@ use Rattle.track_model.specs.Layouts.{lay, recorded}
 use Rattle.track_format.specs.Keys.{key_bytes}
 use Rattle.track_format.specs.Streams.{Gives}
 use Rattle.track_format.proofs.Asked.{asked_in, filled}
-use Rattle.sector_map.specs.Failing.{track_keys}
+use Rattle.sector_map.specs.Standard.{track_keys}
 use Rattle.memory_station.proofs.formatting.fill_track.Given as goal
 
 -- the words so far and those that the stream gives next are the track

@@ -2,8 +2,8 @@ use Rattle.std.proofs.Common.{◌≡◌, ℕ, ◌≤◌, length, take, refl, sym
 use Rattle.std.proofs.lemmas.Bool.{false≢true}
 use Rattle.std.proofs.lemmas.List.{length-take}
 use Rattle.track_model.specs.Layouts.{lay, laid_words}
-use Rattle.sector_map.specs.Failing.{track_keys}
-use Rattle.sector_model.specs.Formats.{Format, formatted}
+use Rattle.sector_map.specs.Standard.{track_keys}
+use Rattle.sector_map.specs.Layings.{Format, formatted}
 use Rattle.memory_station.specs.Shown.{bay_shown}
 use Rattle.memory_station.proofs.Formatted.{formatted_none, formatted_all, formatted_part}
 use Rattle.memory_station.proofs.bay.Bay.format.Goals as goal

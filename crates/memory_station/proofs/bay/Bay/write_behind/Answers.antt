@@ -2,7 +2,7 @@ use Rattle.std.proofs.Common.{ℕ, List, refl, length, ap, sym, subst, arith}
 use Rattle.track_model.specs.Fields.{IsAddressAt}
 use Rattle.track_model.proofs.Sizes.{content_size_bound}
 use Rattle.track_model.proofs.Written.{length-window}
-use Rattle.sector_model.specs.Writes.{Written}
+use Rattle.sector_map.specs.Changes.{Written}
 use Rattle.memory_station.specs.Shown.{bay_shown}
 use Rattle.memory_station.specs.Put.{IsCutTo, ReadsBack}
 use Rattle.memory_station.proofs.Wrote.{field_here, address_after, wrote_cut, wrote_whole}

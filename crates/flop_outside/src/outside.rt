@@ -1,7 +1,7 @@
 // The trusted edge: files of the current folder, and standard output. Neither tells what it holds.
 ghost use Rattle.std.specs.Prelude.{◌≡◌, None};
 
-use crate::{LoadError, PutError, Shelf, Sink, StoreError};
+use flop_base::{LoadError, PutError, Shelf, Sink, StoreError};
 use std::alloc::Global;
 use std::io::{ErrorKind, Read};
 use std::rt::Files;

@@ -1,0 +1,27 @@
+-- Counts: each stays at the greatest number of 64 bits, its last value.
+use Rattle.std.specs.Prelude.{◌≡◌, ◌<◌, ◌≤◌, ◌+◌, ℕ, min, Option, Some, None, IfSome}
+
+-- where a count stays, once it is there
+abbrev pub last_count : ℕ
+last_count = 18446744073709551615
+
+-- the count rose by n or more; standing at its last value it counts as having risen by any number
+abbrev pub RoseBy : ℕ → ℕ → ℕ → Type 0
+RoseBy n before now = min (before + n) last_count ≤ now
+
+-- the count rose by less than n
+abbrev pub RoseLess : ℕ → ℕ → ℕ → Type 0
+RoseLess n before now = (now < before + n) × (now < last_count)
+
+-- the count rose
+abbrev pub Rose : ℕ → ℕ → Type 0
+Rose before now = RoseBy 1 before now
+
+-- what is left of a count is told only where the count can't reach its last value by it
+abbrev pub CanTell : ℕ → Option ℕ → Type 0
+CanTell count left = IfSome left (λ most. count + most < last_count)
+
+-- a count rises by no more than what was left of it; who doesn't tell what is left goes on not telling it
+abbrev pub Spends : ℕ → Option ℕ → ℕ → Option ℕ → Type 0
+Spends count None after left = left ≡ None
+Spends count (Some most) after left = (rest : ℕ) × (left ≡ Some rest) × (after + rest ≤ count + most)

@@ -1,0 +1,31 @@
+-- What a write makes of a disk.
+use Rattle.std.specs.Prelude.{◌≡◌, ℕ, Bool, List}
+use Rattle.flop_base.specs.declared.key.Chrn.{Chrn}
+use Rattle.raw_image.specs.Disk.{Disk, HasTrack, track_of, IsWithTrack}
+use Rattle.track_model.specs.Fields.{IsAddressAt}
+use Rattle.track_model.specs.Writing.{window}
+use Rattle.track_model.specs.Windows.{cut_of, IsCuttable}
+
+-- a write behind an address field: on which cylinder, where the address field is, and how many words of the window stand
+pub record Change : Type 0 where
+  pub cylinder : ℕ
+  pub place : ℕ
+  pub words : ℕ
+
+-- what is written under a key
+pub record Written : Type 0 where
+  pub key : Chrn
+  pub deleted : Bool
+  pub content : List ℕ
+
+-- the words of its window
+abbrev pub window_of : Written → List ℕ
+window_of written = window written.deleted written.content
+
+-- the disk `after` comes from a change: a track of the key's head with a cut of the window at an address field of the key
+pub record IsChange (written : Written) (disk : Disk) (change : Change) (after : Disk) : Type 0 where
+  pub track : HasTrack disk change.cylinder written.key.h
+  pub address : IsAddressAt (track_of disk change.cylinder written.key.h) change.place written.key
+  pub cuttable : IsCuttable (track_of disk change.cylinder written.key.h) change.place change.words (window_of written)
+  pub cut : IsWithTrack disk change.cylinder written.key.h
+      (cut_of (track_of disk change.cylinder written.key.h) change.place change.words (window_of written)) after
