@@ -1,5 +1,5 @@
 -- The other calls of a station: acknowledgement, rate, attempts, media, drives, memory.
-use Rattle.std.specs.Prelude.{◌≡◌, ℕ, ◌+◌, ◌-◌, ◌<◌, ◌≤◌, ◌∷◌, slice_set, Option, Some, None, IsSome, Result, Ok, Err, IsOk, IfErr, MatchOption, MatchBool, Bool, ◌⊎◌}
+use Rattle.std.specs.Prelude.{◌≡◌, ℕ, ◌+◌, ◌-◌, ◌<◌, ◌≤◌, ◌∷◌, slice_set, Option, Some, None, IsSome, Result, Ok, Err, IsOk, IfErr, MatchOption, MatchBool, Bool, not, ◌⊎◌}
 use Rattle.flop_base.specs.declared.answers.Rate.{Rate}
 use Rattle.flop_base.specs.declared.answers.Rate.TheVariants.{R500, R250}
 use Rattle.flop_base.specs.declared.answers.Code.{Code}
@@ -7,11 +7,9 @@ use Rattle.flop_base.specs.declared.answers.Code.TheVariants.{BadRequest, NotRea
 use Rattle.raw_image.specs.Disk.{Disk, track_of}
 use Rattle.track_model.specs.Fields.{IsAddress}
 use Rattle.track_model.specs.Sectors.{IsClear}
-use Rattle.bay_model.specs.Bays.{in_bay}
-use Rattle.bay_model.specs.Counters.{Counters, FaultsRoseBy, FaultsRoseLess, IsDriven, IsPastDriver, GoesOn}
-use Rattle.flop_base.specs.Counts.{last_count}
+use Rattle.bay_model.specs.Counters.{faults_of, FaultsRoseBy, FaultsRoseLess, TakesSpare, IsDriven, IsPastDriver, GoesOn}
 use Rattle.sector_model.specs.Stations.{StationState, Becomes, Stays, bay_of, set_bay, fresh_bay}
-use Rattle.sector_model.specs.Orders.{is_bay, rate_refusal, IsRefusedAtOnce}
+use Rattle.sector_model.specs.Orders.{is_bay, is_acknowledged, rate_refusal, IsRefusedAtOnce}
 
 -- the track of cylinder 0 and head 0 has a Clear address field
 abbrev pub HasClearStart : Disk → Type 0
@@ -28,7 +26,7 @@ pub record IsAcknowledged (old : StationState) (bay : ℕ) (new : StationState) 
   pub medium : (bay_of old bay).medium ≡ Some disk
   pub becomes : Becomes (set_bay old bay (record {
     medium = Some disk;
-    acknowledged = Some (in_bay new.counters.faults bay);
+    acknowledged = Some (faults_of new.counters bay);
     rate = rate;
   })) new
   pub double : rate ≡ R250 → disk.rate ≡ R250
@@ -68,6 +66,12 @@ pub record SetsTries (old : StationState) (tries : ℕ) (new : StationState) : T
   pub becomes : Becomes (record old { tries = tries }) new
   pub idle : IsDriven 0 old.counters new.counters
 
+-- it was told whether the medium was exchanged since the bay was acknowledged
+pub record TellsChange (old : StationState) (bay : ℕ) (answer : Bool) (new : StationState) : Type 0 where
+  pub changed : answer ≡ not (is_acknowledged old bay)
+  pub stays : Stays old new
+  pub idle : IsDriven 0 old.counters new.counters
+
 -- a call past the driver that changed nothing
 pub record IsUnmoved (old new : StationState) : Type 0 where
   pub stays : Stays old new
@@ -88,17 +92,6 @@ pub record Ejects (old : StationState) (bay : ℕ) (answer : Option Disk) (new :
   pub medium : answer ≡ (bay_of old bay).medium
   pub exchanged : IsSome answer → Exchanges old bay None new
   pub unmoved : answer ≡ None → IsUnmoved old new
-
--- how counters go on where the drive of a bay is exchanged for the next spare
-pub record TakesSpare (old : Counters) (bay : ℕ) (new : Counters) : Type 0 where
-  pub other : in_bay new.faults (1 - bay) ≡ in_bay old.faults (1 - bay)
-  pub other_left : in_bay new.left (1 - bay) ≡ in_bay old.left (1 - bay)
-  pub spares : (left : Option ℕ) × (old.spares_left ≡ left ∷ new.spares_left)
-      × MatchOption left (in_bay new.left bay ≡ None) (λ most. (rest : ℕ) × (in_bay new.left bay ≡ Some rest) × (rest ≤ most)
-      × (in_bay new.faults bay + rest < last_count))
-  pub stalls : new.stalls ≡ old.stalls
-  pub stalls_left : new.stalls_left ≡ old.stalls_left
-  pub taken : new.taken ≡ old.taken
 
 -- the drive of a bay was exchanged for the next spare; the old one is dropped, with the medium in it
 pub record IsExchanged (old : StationState) (bay : ℕ) (new : StationState) : Type 0 where

@@ -1,47 +1,15 @@
 -- A format of a track.
-use Rattle.std.specs.Prelude.{◌≡◌, ◌↔◌, ℕ, ◌+◌, ◌*◌, ◌≤◌, List, [], ◌∷◌, length, take, All, Option, Some, None, Result, IsOk, IfErr, MatchOption}
-use Rattle.flop_base.specs.declared.key.Chrn.{Chrn}
-use Rattle.flop_base.specs.declared.answers.Rate.{Rate}
+use Rattle.std.specs.Prelude.{◌≡◌, ◌↔◌, ℕ, ◌+◌, ◌*◌, ◌≤◌, List, [], ◌∷◌, length, All, Option, Some, None, Result, IsOk, IfErr, MatchOption}
 use Rattle.flop_base.specs.declared.answers.Code.{Code}
 use Rattle.flop_base.specs.declared.answers.Code.TheVariants.{NoMark, Overrun, Seek}
-use Rattle.raw_image.specs.Disk.{Disk, HasTrack, track_of, IsWithTrack}
-use Rattle.track_model.specs.Layouts.{lay, Fits}
-use Rattle.track_model.specs.Windows.{with_words}
+use Rattle.raw_image.specs.Disk.{Disk, HasTrack, track_of}
 use Rattle.flop_base.specs.Standard.{sectors_at}
-use Rattle.sector_map.specs.Standard.{track_keys}
+use Rattle.sector_map.specs.Layings.{Format, Laying, IsLaying, formatted, IsFormattable}
 use Rattle.flop_base.specs.Counts.{RoseBy}
 use Rattle.bay_model.specs.Counters.{IsFaultless, IsUndisturbed, DisturbedLess, FaultsRoseBy, IsDriven}
 use Rattle.sector_model.specs.Stations.{StationState, Becomes, bay_of, set_bay}
 use Rattle.sector_model.specs.Orders.{format_refusal, IsRefusedAtOnce, IsDeviceRefusal}
 use Rattle.sector_model.specs.Reads.{spoilable}
-
--- what is asked of a format: records from 1 on of 512 bytes, as many as the rate has, for a cylinder and a head
-pub record Format : Type 0 where
-  pub c : ℕ
-  pub h : ℕ
-  pub rate : Rate
-  pub gap3 : ℕ
-  pub fill : ℕ
-
--- its keys
-abbrev pub format_keys : Format → List Chrn
-format_keys format = track_keys (sectors_at format.rate) format.c format.h
-
--- the formatted track of so many words, or its beginning where the sectors don't fit
-abbrev pub formatted : Format → ℕ → List ℕ
-formatted format words = lay (format_keys format) 2 format.gap3 format.fill words
-
--- a format of a track: of which cylinder, and how many of its first words stand
-pub record Laying : Type 0 where
-  pub cylinder : ℕ
-  pub words : ℕ
-
--- the disk `after` comes from a laying: a track of the head with the first words of the layout
-pub record IsLaying (format : Format) (disk : Disk) (laying : Laying) (after : Disk) : Type 0 where
-  pub track : HasTrack disk laying.cylinder format.h
-  pub most : laying.words ≤ disk.words_per_track
-  pub laid : IsWithTrack disk laying.cylinder format.h
-      (with_words (track_of disk laying.cylinder format.h) 0 (take laying.words (formatted format disk.words_per_track))) after
 
 -- one after the other
 abbrev pub LaysDisk : Format → Disk → List Laying → Disk → Type 0
@@ -54,16 +22,6 @@ abbrev pub Lays : Format → Option Disk → List Laying → Option Disk → Typ
 Lays format (Some disk) layings (Some after) = LaysDisk format disk layings after
 Lays format (Some disk) layings None = ⊥
 Lays format None layings medium = (layings ≡ []) × (medium ≡ None)
-
--- the medium has the track, at the rate of the bay, and the sectors fit on it
-pub record CanFormat (format : Format) (disk : Disk) : Type 0 where
-  pub track : HasTrack disk format.c format.h
-  pub rate : disk.rate ≡ format.rate
-  pub fits : Fits (format_keys format) 2 format.gap3 disk.words_per_track
-
--- the medium in the bay can be formatted so
-abbrev pub IsFormattable : Format → Option Disk → Type 0
-IsFormattable format medium = (disk : Disk) × (medium ≡ Some disk) × CanFormat format disk
 
 -- the track after a format at the rate of the medium: the layout, or its beginning where it doesn't fit
 abbrev pub IsFormatted : Format → Option Disk → Option Disk → Type 0

@@ -1,5 +1,3 @@
-pub mod Bays
-pub mod Counters
 pub mod Stations
 pub mod Orders
 pub mod Reads

@@ -1,17 +1,16 @@
 -- Plays: a job is read, run and told, up to its end or to what stops it, with the status of the run.
-use Rattle.std.specs.Prelude.{◌≡◌, ◌≤◌, ℕ, Bool, List, ◌∷◌, ◌++◌, length, Option, Result, Ok, Err, IfSome, IsSomeAnd, if◌then◌else◌}
+use Rattle.std.specs.Prelude.{◌≡◌, ◌≤◌, ℕ, Bool, List, [], ◌∷◌, ◌++◌, length, Option, Result, Ok, Err, IfSome, IsSomeAnd, if◌then◌else◌}
 use Rattle.flop_base.specs.Shelf.{Files, file_at}
 use Rattle.flop_base.specs.Sink.{grown, GrowsByPart}
 use Rattle.flop_base.specs.declared.answers.Status.{Status}
 use Rattle.flop_base.specs.declared.answers.Status.TheVariants as status
 use Rattle.floppy_jobs.specs.Texts.{job_of}
 use Rattle.floppy_jobs.specs.declared.request.Request.{Request}
-use Rattle.sector_model.specs.declared.reply.Reply.{Reply}
 use Rattle.sector_model.specs.declared.reply.Stop.{Stop}
 use Rattle.sector_model.specs.States.{State}
 use Rattle.sector_model.specs.Steps.{Step, StopsAt, IsAbsent, IsLonger}
 use Rattle.sector_model.specs.Texts.{reply_text, stop_text, stop_status, bad_line_text, absent_text}
-use Rattle.sector_model.specs.Runs.{Run, Ends, EndStopsAt, IsEndStop}
+use Rattle.sector_model.specs.Runs.{Taken, Run, requests_of, course_text, has_refusal, Ends, EndStopsAt, IsEndStop}
 
 -- all that a play may change: the state of its session, the told files, and the told report
 pub record World : Type 0 where
@@ -46,71 +45,70 @@ abbrev pub whole_status : Bool → Status
 whole_status refused = if refused then status.SomeRefused else status.AllOk
 
 -- all requests were run and told, and the media that were left in were stored
-pub record IsPlayed (old : World) (requests : List Request) (new : World) (ended : Status) : Type 0 where
-  pub text : List ℕ
-  pub refused : Bool
+pub record IsPlayed (old : World) (requests : List Request) (course : List Taken) (new : World) (ended : Status) : Type 0 where
   pub mid : State
   pub files : Option Files
-  pub run : Run old.state old.files requests text refused mid files
+  pub run : Run old.state old.files course mid files
+  pub all : requests ≡ requests_of course
   pub stored : Ends mid files new.state new.files
-  pub report : new.report ≡ grown old.report text
-  pub status : ended ≡ whole_status refused
+  pub report : new.report ≡ grown old.report (course_text course)
+  pub status : ended ≡ whole_status (has_refusal course)
 
 -- a request stopped the run, after all before it were run and told
-pub record IsStopped (old : World) (requests : List Request) (new : World) (ended : Status) : Type 0 where
-  pub before : List Request
+pub record IsStopped (old : World) (requests : List Request) (course : List Taken) (new : World) (ended : Status) : Type 0 where
   pub asked : Request
   pub later : List Request
-  pub all : requests ≡ before ++ asked ∷ later
-  pub text : List ℕ
-  pub refused : Bool
   pub mid : State
   pub files : Option Files
   pub cause : Stop
-  pub run : Run old.state old.files before text refused mid files
+  pub run : Run old.state old.files course mid files
+  pub all : requests ≡ requests_of course ++ asked ∷ later
   pub stops : StopsAt mid files asked cause new.state new.files
-  pub prints : Prints (grown old.report text) (stop_text cause) (stop_status cause) new.report ended
+  pub prints : Prints (grown old.report (course_text course)) (stop_text cause) (stop_status cause) new.report ended
 
--- a request was run, after all before it were run and told, and its answer couldn't be told whole
-pub record IsCutOff (old : World) (requests : List Request) (new : World) (ended : Status) : Type 0 where
-  pub before : List Request
-  pub asked : Request
+-- the answer to a request couldn't be told whole, after all before it were run and told
+pub record IsCutOff (old : World) (requests : List Request) (course : List Taken) (new : World) (ended : Status) : Type 0 where
+  pub before : List Taken
+  pub last : Taken
   pub later : List Request
-  pub all : requests ≡ before ++ asked ∷ later
-  pub text : List ℕ
-  pub refused : Bool
   pub mid : State
   pub files : Option Files
-  pub answer : Reply
-  pub run : Run old.state old.files before text refused mid files
-  pub step : Step mid files asked answer new.state new.files
-  pub part : GrowsByPart (grown old.report text) (reply_text asked answer) new.report
+  pub run : Run old.state old.files before mid files
+  pub step : Step mid files last.asked last.answer new.state new.files
+  pub after : last.after ≡ new.state
+  pub course_is : course ≡ before ++ last ∷ []
+  pub all : requests ≡ requests_of before ++ last.asked ∷ later
+  pub part : GrowsByPart (grown old.report (course_text before)) (reply_text last.asked last.answer) new.report
   pub fault : IsPutFault ended
 
 -- all requests were run and told, and the end couldn't store what was left in
-pub record IsEndStopped (old : World) (requests : List Request) (new : World) (ended : Status) : Type 0 where
-  pub text : List ℕ
-  pub refused : Bool
+pub record IsEndStopped (old : World) (requests : List Request) (course : List Taken) (new : World) (ended : Status) : Type 0 where
   pub mid : State
   pub files : Option Files
   pub cause : Stop
-  pub run : Run old.state old.files requests text refused mid files
+  pub run : Run old.state old.files course mid files
+  pub all : requests ≡ requests_of course
   pub only : IsEndStop cause
   pub stops : EndStopsAt mid files new.state new.files
-  pub report : new.report ≡ grown old.report text
+  pub report : new.report ≡ grown old.report (course_text course)
   pub status : ended ≡ stop_status cause
 
--- how the requests of a job are played
-pub data PlaysRequests (old : World) (requests : List Request) (new : World) (ended : Status) : Type 0 where
-  Played : IsPlayed old requests new ended → PlaysRequests old requests new ended
-  Stopped : IsStopped old requests new ended → PlaysRequests old requests new ended
-  CutOff : IsCutOff old requests new ended → PlaysRequests old requests new ended
-  EndStopped : IsEndStopped old requests new ended → PlaysRequests old requests new ended
+-- how the requests of a job are played, and the course of their run
+pub data PlaysRequests (old : World) (requests : List Request) (course : List Taken) (new : World) (ended : Status) : Type 0 where
+  Played : IsPlayed old requests course new ended → PlaysRequests old requests course new ended
+  Stopped : IsStopped old requests course new ended → PlaysRequests old requests course new ended
+  CutOff : IsCutOff old requests course new ended → PlaysRequests old requests course new ended
+  EndStopped : IsEndStopped old requests course new ended → PlaysRequests old requests course new ended
+
+-- nothing was run, and a line told why
+pub record TellsAlone (old : World) (line : List ℕ) (wanted : Status) (course : List Taken) (new : World) (ended : Status) : Type 0 where
+  pub nothing : course ≡ []
+  pub tells : Tells old line wanted new ended
 
 -- a text in the grammar of jobs has requests, and any other a first bad line
-abbrev pub PlaysParsed : World → Result (List Request) ℕ → World → Status → Type 0
-PlaysParsed old (Ok requests) new ended = PlaysRequests old requests new ended
-PlaysParsed old (Err line) new ended = Tells old (bad_line_text line) status.BadJob new ended
+abbrev pub PlaysParsed : World → Result (List Request) ℕ → List Taken → World → Status → Type 0
+PlaysParsed old (Ok requests) course new ended = PlaysRequests old requests course new ended
+PlaysParsed old (Err line) course new ended = TellsAlone old (bad_line_text line) status.BadJob course new ended
 
 -- the most bytes of a job's text
 abbrev pub most_job_bytes : ℕ
@@ -122,16 +120,18 @@ IsText told name text =
     IfSome told (λ files. IsSomeAnd (file_at files name) (λ bytes. (bytes ≡ text) × (length bytes ≤ most_job_bytes)))
 
 -- a job's text is there, and is played as it is parsed
-pub record PlaysText (old : World) (job : List ℕ) (new : World) (ended : Status) : Type 0 where
+pub record PlaysText (old : World) (job : List ℕ) (course : List Taken) (new : World) (ended : Status) : Type 0 where
   pub text : List ℕ
   pub told : IsText old.files job text
-  pub plays : PlaysParsed old (job_of text) new ended
+  pub plays : PlaysParsed old (job_of text) course new ended
 
 -- how a job is played: its text is there; no file has its name; the file is too long; the shelf failed; or memory
 -- couldn't be had before the first request
-pub data Plays (old : World) (job : List ℕ) (new : World) (ended : Status) : Type 0 where
-  There : PlaysText old job new ended → Plays old job new ended
-  Missing : IsAbsent old.files job → Tells old (absent_text job) status.Absent new ended → Plays old job new ended
-  TooLong : IsLonger old.files job most_job_bytes → Tells old (bad_line_text 0) status.BadJob new ended → Plays old job new ended
-  Faulty : IsIdle old new status.FileFault ended → Plays old job new ended
-  Starved : IsIdle old new status.NoMemory ended → Plays old job new ended
+pub data Plays (old : World) (job : List ℕ) (course : List Taken) (new : World) (ended : Status) : Type 0 where
+  There : PlaysText old job course new ended → Plays old job course new ended
+  Missing : IsAbsent old.files job → TellsAlone old (absent_text job) status.Absent course new ended
+      → Plays old job course new ended
+  TooLong : IsLonger old.files job most_job_bytes → TellsAlone old (bad_line_text 0) status.BadJob course new ended
+      → Plays old job course new ended
+  Faulty : course ≡ [] → IsIdle old new status.FileFault ended → Plays old job course new ended
+  Starved : course ≡ [] → IsIdle old new status.NoMemory ended → Plays old job course new ended

@@ -4,38 +4,16 @@ use Rattle.flop_base.specs.declared.key.Chrn.{Chrn}
 use Rattle.flop_base.specs.declared.answers.Code.{Code}
 use Rattle.flop_base.specs.declared.answers.Code.TheVariants.{NoMark, NotFound, Overrun, BadCrc, Seek}
 use Rattle.raw_image.specs.Disk.{Disk, HasTrack, track_of}
-use Rattle.track_model.specs.declared.Look.{Look}
 use Rattle.track_model.specs.declared.Look.TheVariants as look
 use Rattle.track_model.specs.Fields.{IsAddressAt, IsDataMark, IsWhole, content_size}
-use Rattle.track_model.specs.Looks.{LookAt, HasAddressMark}
-use Rattle.track_model.specs.Sectors.{IsClear, IsSector, IsLone}
+use Rattle.track_model.specs.Looks.{HasAddressMark}
+use Rattle.track_model.specs.Sectors.{IsSector, IsLone}
 use Rattle.flop_base.specs.Counts.{RoseBy}
 use Rattle.bay_model.specs.Counters.{IsFaultless, IsUndisturbed, DisturbedLess, FaultsRoseBy, IsDriven}
 use Rattle.bay_model.specs.Memory.{with_bytes, SameOutside}
+use Rattle.sector_map.specs.Met.{HasNoClearMark, HasClearAddress, HasLook, AllFound}
 use Rattle.sector_model.specs.Stations.{StationState, Becomes, bay_of, met, IsSteady}
 use Rattle.sector_model.specs.Orders.{read_refusal, IsRefusedAtOnce, IsDeviceRefusal}
-
--- no address mark of the track is Clear
-abbrev pub HasNoClearMark : List ℕ → Type 0
-HasNoClearMark track = (p : ℕ) → IsClear track p → ⊥
-
--- a Clear address field of the key is at p
-pub record IsClearAddress (track : List ℕ) (key : Chrn) (p : ℕ) : Type 0 where
-  pub clear : IsClear track p
-  pub address : IsAddressAt track p key
-
--- the track has a Clear address field of the key
-abbrev pub HasClearAddress : List ℕ → Chrn → Type 0
-HasClearAddress track key = (p : ℕ) × IsClearAddress track key p
-
--- the look at some address field of the key has this answer
-abbrev pub HasLook : List ℕ → Chrn → Look → Type 0
-HasLook track key answer = (p : ℕ) × IsAddressAt track p key × LookAt track p key.n answer
-
--- the look at each address field of the key finds its data
-abbrev pub AllFound : List ℕ → Chrn → Type 0
-AllFound track key =
-    (p : ℕ) → IsAddressAt track p key → (deleted : Bool) × (place : ℕ) × LookAt track p key.n (look.Found deleted place)
 
 -- with so many attempts, all is well in one of them where faults and stalls rose by less than this
 abbrev pub spoilable : ℕ → ℕ

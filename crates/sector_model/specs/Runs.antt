@@ -1,5 +1,5 @@
 -- Runs: steps one after the other, with the text that answers them; and the end of a run, which stores what is left in.
-use Rattle.std.specs.Prelude.{◌≡◌, ℕ, Bool, false, ◌||◌, List, [], ◌∷◌, ◌++◌, Option, None}
+use Rattle.std.specs.Prelude.{◌≡◌, ℕ, Bool, true, false, ◌||◌, List, [], ◌∷◌, ◌++◌, map, Option, None}
 use Rattle.flop_base.specs.Shelf.{Files}
 use Rattle.floppy_jobs.specs.declared.request.Request.{Request}
 use Rattle.sector_model.specs.declared.reply.Reply.{Reply}
@@ -9,14 +9,32 @@ use Rattle.sector_model.specs.States.{State, IsSame, ChangesMedium}
 use Rattle.sector_model.specs.Steps.{Step, StoresMedium, is_loaded}
 use Rattle.sector_model.specs.Texts.{reply_text, is_refusal}
 
--- the requests are run one after the other; `text` answers them, and `refused` says that some answer is a refusal
-abbrev pub Run : State → Option Files → List Request → List ℕ → Bool → State → Option Files → Type 0
-Run old told [] text refused new told_after = (text ≡ []) × (refused ≡ false) × (new ≡ old) × (told_after ≡ told)
-Run old told (asked ∷ later) text refused new told_after =
-    (answer : Reply) × (mid : State) × (mid_told : Option Files) × (rest : List ℕ) × (more : Bool)
-    × Step old told asked answer mid mid_told
-    × Run mid mid_told later rest more new told_after
-    × (text ≡ reply_text asked answer ++ rest) × (refused ≡ (is_refusal answer || more))
+-- a step of a run: the request, its answer, and the state that it leads to
+pub record Taken : Type 0 where
+  pub asked : Request
+  pub answer : Reply
+  pub after : State
+
+-- the course of a run: its steps were taken one after the other
+abbrev pub Run : State → Option Files → List Taken → State → Option Files → Type 0
+Run old told [] new told_after = (new ≡ old) × (told_after ≡ told)
+Run old told (taken ∷ later) new told_after =
+    (mid_told : Option Files) × Step old told taken.asked taken.answer taken.after mid_told
+    × Run taken.after mid_told later new told_after
+
+-- the requests of a course
+abbrev pub requests_of : List Taken → List Request
+requests_of course = map (λ taken. taken.asked) course
+
+-- the text that answers them
+abbrev pub course_text : List Taken → List ℕ
+course_text [] = []
+course_text (taken ∷ later) = reply_text taken.asked taken.answer ++ course_text later
+
+-- some answer is a refusal
+abbrev pub has_refusal : List Taken → Bool
+has_refusal [] = false
+has_refusal (taken ∷ later) = is_refusal taken.answer || has_refusal later
 
 -- a bay without a medium at the end of a run
 pub record IsLeft (old : State) (told : Option Files) (bay : ℕ) (new : State) (told_after : Option Files) : Type 0 where
@@ -34,10 +52,15 @@ abbrev pub Ends : State → Option Files → State → Option Files → Type 0
 Ends old told new told_after =
     (mid : State) × (mid_told : Option Files) × EndsBay old told 0 mid mid_told × EndsBay mid mid_told 1 new told_after
 
--- where the end of a run stopped: at the store of bay 0, or at that of bay 1 after the end of bay 0. The medium is dropped
+-- the medium of a bay couldn't be stored, and is dropped
+pub record DropsMedium (old : State) (bay : ℕ) (new : State) : Type 0 where
+  pub loaded : is_loaded old bay ≡ true
+  pub changes : ChangesMedium old bay None None new
+
+-- where the end of a run stopped: at the store of bay 0, or at that of bay 1 after the end of bay 0
 pub data EndStopsAt (old : State) (told : Option Files) (new : State) (told_after : Option Files) : Type 0 where
-  AtFirst : ChangesMedium old 0 None None new → told_after ≡ told → EndStopsAt old told new told_after
-  AtSecond : (mid : State) → EndsBay old told 0 mid told_after → ChangesMedium mid 1 None None new → EndStopsAt old told new told_after
+  AtFirst : DropsMedium old 0 new → told_after ≡ told → EndStopsAt old told new told_after
+  AtSecond : (mid : State) → EndsBay old told 0 mid told_after → DropsMedium mid 1 new → EndStopsAt old told new told_after
 
 -- what can stop the end of a run: a fault of the shelf, or want of memory
 abbrev pub IsEndStop : Stop → Type 0

@@ -1,6 +1,7 @@
 -- The step of each request: from a state and the told files to an answer, a state and files.
 use Rattle.std.specs.Prelude.{◌≡◌, ℕ, ◌+◌, ◌<◌, ◌≤◌, ◌==◌, ◌&&◌, Bool, true, false, nat_le, List, length, replicate, is_some, Option, Some, None, Result, Ok, Err, IfSome, IsSomeAnd, MatchOption, if◌then◌else◌}
 use Rattle.flop_base.specs.Shelf.{Files, file_at, stored}
+use Rattle.flop_base.specs.Standard.{words_at, gap_at, standard_fill}
 use Rattle.flop_base.specs.declared.answers.Rate.{Rate}
 use Rattle.flop_base.specs.declared.answers.Rate.TheVariants.{R500, R250}
 use Rattle.flop_base.specs.declared.answers.Code.{Code}
@@ -76,23 +77,9 @@ IsImageOf told name disk =
     IfSome told (λ files. IsSomeAnd (file_at files name)
     (λ bytes. (length bytes ≤ most_image_bytes) × (image_of bytes ≡ Ok disk)))
 
--- the words of a track, by the rate
-abbrev pub blank_words : Rate → ℕ
-blank_words R500 = 12500
-blank_words R250 = 6250
-
 -- a blank disk of two heads
 abbrev pub blank_of : ℕ → Rate → Disk
-blank_of cylinders rate = blank_disk cylinders 2 (blank_words rate) rate
-
--- the gap 3 of the standard format
-abbrev pub standard_gap : Rate → ℕ
-standard_gap R500 = 0x6C
-standard_gap R250 = 0x50
-
--- the fill byte of the standard format
-abbrev pub standard_fill : ℕ
-standard_fill = 0xF6
+blank_of cylinders rate = blank_disk cylinders 2 (words_at rate) rate
 
 -- the reply to a call of the driver
 abbrev pub reply_of : Result (Unit {0}) Code → Reply
@@ -154,7 +141,7 @@ Does old told (request.WriteDeleted bay key address) answer new told_after =
 Does old told (request.Format bay c h) answer new told_after =
     IsDriverCall old told new told_after
     × ((called : Result (Unit {0}) Code) × (answer ≡ reply_of called)
-    × FormatsTo old.station bay c h (standard_gap (bay_of old.station bay).rate) standard_fill called new.station)
+    × FormatsTo old.station bay c h (gap_at (bay_of old.station bay).rate) standard_fill called new.station)
 Does old told (request.Fill address count byte) answer new told_after =
     (answer ≡ reply.Done) × (told_after ≡ told) × Fills old address count byte new
 Does old told (request.Dump address count) answer new told_after =

@@ -1,36 +1,115 @@
 -- What ties the counts of a run to what the station shows before and after it.
-use Rattle.std.specs.Prelude.{◌≡◌, ℕ, ◌+◌, ◌-◌, ◌≤◌, List, [], ◌∷◌, Option, Some, None, Ok, IfSome, sum_by}
+use Rattle.std.specs.Prelude.{◌≡◌, ℕ, ◌+◌, ◌-◌, ◌≤◌, ◌==◌, Bool, false, if◌then◌else◌, All, List, [], ◌∷◌, Option, Some, Ok, sum_by}
+use Rattle.std.specs.Option.{option_map_or}
+use Rattle.flop_base.specs.Counts.{RoseBy}
 use Rattle.flop_base.specs.Shelf.{Files, file_at}
+use Rattle.bay_model.specs.Bays.{in_bay, with_bay}
+use Rattle.bay_model.specs.Counters.{DriveCounts, Counters, faults_of, TellsLeft, IsUndisturbed}
 use Rattle.floppy_jobs.specs.Texts.{job_of}
 use Rattle.floppy_jobs.specs.declared.request.Request.{Request}
 use Rattle.floppy_jobs.specs.declared.request.Request.TheVariants as request
-use Rattle.bay_model.specs.Counters.{Counters}
-use Rattle.flop_base.specs.Counts.{RoseBy}
+use Rattle.sector_model.specs.declared.reply.Reply.{Reply}
+use Rattle.sector_model.specs.declared.reply.Reply.TheVariants as reply
+use Rattle.sector_model.specs.Runs.{Taken}
 
--- two numbers together, where both are told
-abbrev pub told_sum : Option ℕ → Option ℕ → Option ℕ
-told_sum (Some first) (Some second) = Some (first + second)
-told_sum (Some first) None = None
-told_sum None second = None
+-- ---- Each step, with the drives that stand in the bays in it.
 
--- the faults that spare drives can still have together, where each of them tells it
-abbrev pub spares_sum : List (Option ℕ) → Option ℕ
-spares_sum [] = Some 0
-spares_sum (left ∷ later) = told_sum left (spares_sum later)
+-- the counters with the next spare drive in a bay
+abbrev pub with_spare : Counters → ℕ → List DriveCounts → Counters
+with_spare counters bay [] = counters
+with_spare counters bay (next ∷ later) = record counters { drives = with_bay counters.drives bay next; spares = later }
 
--- the faults that all drives can still have together, where each of them tells it
-abbrev pub all_left : Counters → Option ℕ
-all_left counters = told_sum (told_sum counters.left.first counters.left.second) (spares_sum counters.spares_left)
+-- the counters as a step finds them: where it exchanges the drive of a bay, the one that comes stands there already
+abbrev pub entered_by : Counters → Request → Reply → Counters
+entered_by counters (request.Unit bay) reply.Done = with_spare counters bay counters.spares
+entered_by counters _ _ = counters
 
--- what holds of the counts before and after a run
-pub record TiesCounts (old new : Counters) : Type 0 where
+abbrev pub entered : Counters → Taken → Counters
+entered counters taken = entered_by counters taken.asked taken.answer
+
+-- the counters after a step
+abbrev pub left_by : Taken → Counters
+left_by taken = taken.after.station.counters
+
+-- the faults of a bay's drive in a step
+abbrev pub step_faults : ℕ → Counters → Taken → ℕ
+step_faults bay counters taken = faults_of (left_by taken) bay - faults_of (entered counters taken) bay
+
+-- ---- All steps together.
+
+-- the faults of a drive that tells what is left of them; one that doesn't counts as none
+abbrev pub told_rise : DriveCounts → DriveCounts → ℕ
+told_rise old new = option_map_or (λ most. new.faults - old.faults) old.left 0
+
+-- the faults of the telling drives in a step
+abbrev pub told_faults : Counters → Counters → ℕ
+told_faults old new = told_rise old.drives.first new.drives.first + told_rise old.drives.second new.drives.second
+
+-- and in all steps of a course
+abbrev pub sum_told : Counters → List Taken → ℕ
+sum_told counters [] = 0
+sum_told counters (taken ∷ later) = told_faults (entered counters taken) (left_by taken) + sum_told (left_by taken) later
+
+-- the faults that a drive can still have, where it tells it
+abbrev pub told_left : DriveCounts → ℕ
+told_left drive = option_map_or (λ most. most) drive.left 0
+
+-- and those of all drives that tell it, in the bays and spare
+abbrev pub all_left : Counters → ℕ
+all_left counters = told_left counters.drives.first + told_left counters.drives.second + sum_by told_left counters.spares
+
+-- the step exchanged the drive of a bay
+abbrev pub is_exchange_by : ℕ → Request → Reply → Bool
+is_exchange_by bay (request.Unit exchanged) reply.Done = exchanged == bay
+is_exchange_by bay _ _ = false
+
+abbrev pub is_exchange : ℕ → Taken → Bool
+is_exchange bay taken = is_exchange_by bay taken.asked taken.answer
+
+-- the count that the drive which stands in a bay after a course had as it came: on entry, or as a spare
+abbrev pub came_with : ℕ → ℕ → Counters → List Taken → ℕ
+came_with bay count counters [] = count
+came_with bay count counters (taken ∷ later) =
+    came_with bay (if is_exchange bay taken then faults_of (entered counters taken) bay else count) (left_by taken) later
+
+-- its faults in the steps since then, one after the other
+abbrev pub faults_since : ℕ → ℕ → Counters → List Taken → ℕ
+faults_since bay sum counters [] = sum
+faults_since bay sum counters (taken ∷ later) =
+    faults_since bay ((if is_exchange bay taken then 0 else sum) + step_faults bay counters taken) (left_by taken) later
+
+-- nothing is left: no drive can have a fault any more, and no stall can come
+pub record HasNothingLeft (counters : Counters) : Type 0 where
+  pub tells : TellsLeft counters
+  pub first : counters.drives.first.left ≡ Some 0
+  pub second : counters.drives.second.left ≡ Some 0
+  pub spares : All (λ drive. drive.left ≡ Some 0) counters.spares
+  pub stalls : counters.stalls_left ≡ 0
+
+-- neither a fault nor a stall disturbed any step of a course, in any bay
+abbrev pub AreUndisturbed : Counters → List Taken → Type 0
+AreUndisturbed counters [] = Unit {0}
+AreUndisturbed counters (taken ∷ later) =
+    IsUndisturbed 0 (entered counters taken) (left_by taken) × IsUndisturbed 1 (entered counters taken) (left_by taken)
+    × AreUndisturbed (left_by taken) later
+
+-- what holds of the counts before a course and at some time after it
+pub record TiesCounts (old : Counters) (course : List Taken) (new : Counters) : Type 0 where
   -- an interrupt was taken for each data command
   pub commands : old.data_commands ≤ new.data_commands
   pub interrupts : RoseBy (new.data_commands - old.data_commands) old.taken new.taken
-  -- what is left of stalls and of all drives' faults pays for those that came
+  -- what is left of stalls pays for those that came
   pub stalls : old.stalls ≤ new.stalls
   pub stalls_left : new.stalls + new.stalls_left ≤ old.stalls + old.stalls_left
-  pub left : IfSome (all_left old) (λ most. (rest : ℕ) × (all_left new ≡ Some rest) × (rest ≤ most))
+  -- what was left of the faults of all drives that tell it pays for theirs in all steps
+  pub told : sum_told old course + all_left new ≤ all_left old
+  -- for each bay, its faults since its last exchange are faults of the drive that stands in it
+  pub since : (bay : ℕ) → bay ≤ 1
+      → came_with bay (faults_of old bay) old course + faults_since bay 0 old course ≤ faults_of new bay
+  -- so with nothing left, no step was disturbed
+  pub undisturbed : HasNothingLeft old → AreUndisturbed old course
+
+-- ---- Accesses past the driver.
 
 -- the most accesses past the driver that a request makes
 abbrev pub accesses_of : Request → ℕ

@@ -8,7 +8,6 @@ use Rattle.track_model.specs.declared.Look.TheVariants as look
 use Rattle.track_model.specs.Fields.{IsAddressAt, content_size, content_at}
 use Rattle.track_model.specs.Looks.{LookAt, HasAddressMark}
 use Rattle.track_model.specs.Sectors.{IsSector, IsUnder, IsLone}
-use Rattle.track_model.specs.Writing.{window}
 use Rattle.track_model.specs.Windows.{window_word, window_words, cut_of, IsCuttable, IsTidy}
 use Rattle.track_model.specs.Regular.{IsRegular}
 use Rattle.sector_map.specs.Disks.{IsRegularDisk, Entry, IsOnMap}
@@ -17,32 +16,9 @@ use Rattle.bay_model.specs.Counters.{IsFaultless, FaultsRoseLess, IsUndisturbed,
 use Rattle.bay_model.specs.Memory.{bytes_from}
 use Rattle.sector_model.specs.Stations.{StationState, Becomes, bay_of, set_bay, met, IsSteady}
 use Rattle.sector_model.specs.Orders.{write_refusal, IsRefusedAtOnce, IsDeviceRefusal}
+use Rattle.sector_map.specs.Changes.{Change, Written, window_of, IsChange}
 use Rattle.sector_map.specs.Met.{HasNoClearMark, HasClearAddress, HasLook}
 use Rattle.sector_model.specs.Reads.{spoilable}
-
--- a write behind an address field: on which cylinder, where the address field is, and how many words of the window stand
-pub record Change : Type 0 where
-  pub cylinder : ℕ
-  pub place : ℕ
-  pub words : ℕ
-
--- what is written under a key
-pub record Written : Type 0 where
-  pub key : Chrn
-  pub deleted : Bool
-  pub content : List ℕ
-
--- the words of its window
-abbrev pub window_of : Written → List ℕ
-window_of written = window written.deleted written.content
-
--- the disk `after` comes from a change: a track of the key's head with a cut of the window at an address field of the key
-pub record IsChange (written : Written) (disk : Disk) (change : Change) (after : Disk) : Type 0 where
-  pub track : HasTrack disk change.cylinder written.key.h
-  pub address : IsAddressAt (track_of disk change.cylinder written.key.h) change.place written.key
-  pub cuttable : IsCuttable (track_of disk change.cylinder written.key.h) change.place change.words (window_of written)
-  pub cut : IsWithTrack disk change.cylinder written.key.h
-      (cut_of (track_of disk change.cylinder written.key.h) change.place change.words (window_of written)) after
 
 -- changes one after the other
 abbrev pub ChangesDisk : Written → Disk → List Change → Disk → Type 0
@@ -146,7 +122,7 @@ pub record WritesDrive (written : Written) (bay : ℕ) (answer : Result (Unit {0
   pub few : length changes ≤ old.tries
   pub reach : Reaches written (bay_of old bay).medium changes (bay_of new bay).medium
   pub becomes : Becomes (set_bay old bay (record (bay_of old bay) { medium = (bay_of new bay).medium })) new
-  pub steady : IsOk answer → IsSteady old bay new → All (λ change. change.cylinder ≡ written.key.c) changes
+  pub steady : IsSteady old bay new → All (λ change. change.cylinder ≡ written.key.c) changes
   pub done : IsOk answer → IsWritten written bay changes old new
   pub refused : IfErr answer (λ code. IsWriteCause written (met (bay_of old bay) written.key.c written.key.h)
       (met (bay_of new bay) written.key.c written.key.h) changes bay code old new)

@@ -1,13 +1,12 @@
 // What a session stands on.
 ghost use Rattle.std.specs.Prelude.{◌≡◌, ◌≤◌, ◌<◌, ◌↔◌, ◌⊎◌, length, slice_index, is_some, IsTrue};
-ghost use Rattle.bay_model.specs.Bays.{in_bay};
-ghost use Rattle.bay_model.specs.Counters.{GoesOn};
+ghost use Rattle.bay_model.specs.Counters.{GoesOn, faults_of};
 ghost use Rattle.bay_model.specs.Memory.{user_bytes};
 ghost use Rattle.sector_model.specs.Stations.{StationState, bay_of};
 ghost use Rattle.sector_model.specs.Reads.{Reads};
 ghost use Rattle.sector_model.specs.Writes.{WritesTo};
 ghost use Rattle.sector_model.specs.Formats.{FormatsTo};
-ghost use Rattle.sector_model.specs.Calls.{Acks, RatesTo, SetsTries, Inserts, Ejects, TakesUnit, SetsMemory};
+ghost use Rattle.sector_model.specs.Calls.{Acks, RatesTo, SetsTries, TellsChange, Inserts, Ejects, TakesUnit, SetsMemory};
 
 use flop_base::{Chrn, Code, Rate};
 use raw_image::Medium;
@@ -49,24 +48,26 @@ pub trait Station: Drop {
 
     /// Whether a medium is in.
     fn is_loaded(&self, bay: u8) -> bool
+        requires ready { is_ready self.now }
         requires bay { bay ≤ 1 }
         ensures { result ≡ is_some (bay_of (shown self.now) bay).medium };
 
     /// The rate of the bay, R500 where it isn't acknowledged.
     fn rate(&self, bay: u8) -> Rate
+        requires ready { is_ready self.now }
         requires bay { bay ≤ 1 }
         ensures { result ≡ (bay_of (shown self.now) bay).rate };
 
     /// A byte of user memory.
     fn memory(&self, address: u32) -> u8
-        requires address { address < 983040 }
+        requires address { address < user_bytes }
         ensures byte { result ≡ slice_index (shown self.now).memory address }
         ensures size { length (shown self.now).memory ≡ user_bytes };
 
     /// Sets a byte of user memory.
     fn set_memory(&mut self, address: u32, byte: u8)
         requires ready { is_ready self.old }
-        requires address { address < 983040 }
+        requires address { address < user_bytes }
         ensures step { SetsMemory (shown self.old) address byte (shown self.new) }
         ensures size { length (shown self.old).memory ≡ user_bytes }
         ensures counts { GoesOn (shown self.old).counters (shown self.new).counters }
@@ -76,6 +77,14 @@ pub trait Station: Drop {
     fn ack(&mut self, bay: u8) -> Result<(), Code>
         requires ready { is_ready self.old }
         ensures step { Acks (shown self.old) bay result (shown self.new) }
+        ensures counts { GoesOn (shown self.old).counters (shown self.new).counters }
+        ensures ready { is_ready self.new };
+
+    /// Whether the bay isn't acknowledged: a medium was put in or taken out, or the drive exchanged, since it was.
+    fn changed(&mut self, bay: u8) -> bool
+        requires ready { is_ready self.old }
+        requires bay { bay ≤ 1 }
+        ensures step { TellsChange (shown self.old) bay result (shown self.new) }
         ensures counts { GoesOn (shown self.old).counters (shown self.new).counters }
         ensures ready { is_ready self.new };
 
@@ -119,7 +128,7 @@ pub trait Station: Drop {
     /// The count of faults of the drive in the bay. Each of these counts stays at its last value.
     fn faults(&self, bay: u8) -> u64
         requires bay { bay ≤ 1 }
-        ensures { result ≡ in_bay (shown self.now).counters.faults bay };
+        ensures { result ≡ faults_of (shown self.now).counters bay };
 
     /// The DMA requests that waited too long.
     fn stalls(&self) -> u64
