@@ -1,2 +1,5 @@
+mod Counted
+mod Courses
 pub mod PlayTies
-pub mod Ties
+pub mod Runs
+mod Ties

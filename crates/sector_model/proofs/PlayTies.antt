@@ -1,48 +1,98 @@
 -- A play ties its counts.
-use Rattle.std.proofs.Common.{arith, ◌≡◌, ℕ, ◌+◌, ◌≤◌, List, ◌∷◌, ◌++◌, length, ap, ◌∙◌, sym, subst, Option, Result, Ok, Err}
+use Rattle.std.proofs.Common.{arith, ◌≡◌, ℕ, ◌+◌, ◌≤◌, List, [], ◌∷◌, ◌++◌, length, refl, ap, ◌∙◌, sym, subst, Option, Result, Ok, Err}
 use Rattle.std.proofs.lemmas.List.Sums.{sum_by-cons, sum_by-append}
 use Rattle.std.specs.Prelude.{sum_by, IsSomeAnd, IfSome}
 use Rattle.flop_base.specs.Shelf.{Files, file_at}
 use Rattle.flop_base.specs.declared.answers.Status.{Status}
+use Rattle.bay_model.specs.Counters.{Counters, GoesOn, faults_of}
 use Rattle.floppy_jobs.specs.Texts.{job_of}
 use Rattle.floppy_jobs.specs.declared.request.Request.{Request}
-use Rattle.bay_model.specs.Counters.{Counters}
 use Rattle.sector_model.specs.States.{State}
+use Rattle.sector_model.specs.Runs.{Taken, Run, requests_of}
 use Rattle.sector_model.specs.Plays.{World, PlaysRequests, Played, Stopped, CutOff, EndStopped, PlaysParsed, Plays, There, Missing, TooLong, Faulty, Starved, IsText, most_job_bytes}
 use Rattle.sector_model.specs.Ties.{TiesCounts, accesses_of, accesses_of_job, IsJob}
-use Rattle.sector_model.proofs.Ties.{Tied, tied_after, tied_more, ties_none, step_tied, run_tied, stop_tied, ends_tied, end_stop_tied}
+use Rattle.sector_model.proofs.Counted.{goes_on_itself}
+use Rattle.sector_model.proofs.Runs.{run_more, requests_more}
+use Rattle.sector_model.proofs.Ties.{Tied, tied_after, tied_more, tied_none, run_tied, stop_tied, ends_tied, end_stop_tied, stop_goes, ends_goes, end_stop_goes}
+use Rattle.sector_model.proofs.Courses.{told_paid, since_came, all_undisturbed}
 
 -- the counters of a world
 abbrev counters_of : World → Counters
 counters_of world = world.state.station.counters
 
+-- what a play of some requests with a course does to counters
+record PlayTied (old : Counters) (requests : List Request) (course : List Taken) (new : Counters) : Type 0 where
+  pub ties : TiesCounts old course new
+  pub accesses : new.direct ≤ old.direct + accesses_of_job requests
+
+-- a run, and how counts go on after it
+run_ties : (old mid : State) (told after : Option Files) (course : List Taken) (new : Counters) (most : ℕ) → Run old told course mid after → GoesOn mid.station.counters new → Tied most old.station.counters new → TiesCounts old.station.counters course new
+run_ties old mid told after course new most run goes tied = record {
+  commands = tied.commands;
+  interrupts = tied.interrupts;
+  stalls = tied.stalls;
+  stalls_left = tied.stalls_left;
+  told = told_paid old mid told after course new run goes;
+  since = λ bay is. since_came bay is new old mid told after course (faults_of old.station.counters bay) 0 run goes (omega arith);
+  undisturbed = all_undisturbed old mid told after course run;
+}
+
+play_tied : (old mid : State) (told after : Option Files) (course : List Taken) (requests : List Request) (new : Counters) (last : ℕ) → Run old told course mid after → GoesOn mid.station.counters new → Tied last mid.station.counters new → sum_by accesses_of (requests_of course) + last ≤ accesses_of_job requests → PlayTied old.station.counters requests course new
+play_tied old mid told after course requests new last run goes tied within =
+    let all = tied_after (sum_by accesses_of (requests_of course)) last _ _ _ (run_tied old mid told after course run) tied in
+    record {
+      ties = run_ties old mid told after course new (sum_by accesses_of (requests_of course) + last) run goes all;
+      accesses = (tied_more _ (accesses_of_job requests) _ _ within all).accesses;
+    }
+
+-- all requests and the two bays at the end
+to_the_end : (course : List Taken) (requests : List Request) → requests ≡ requests_of course → sum_by accesses_of (requests_of course) + 2 ≤ accesses_of_job requests
+to_the_end course requests all = omega (arith, ap (sum_by accesses_of) all)
+
 -- a request and those before it make no more accesses than all
-within_all : (before later requests : List Request) (asked : Request) → requests ≡ before ++ asked ∷ later → sum_by accesses_of before + accesses_of asked ≤ accesses_of_job requests
-within_all before later requests asked all =
-    let whole : sum_by accesses_of requests ≡ sum_by accesses_of before + (accesses_of asked + sum_by accesses_of later) = ap (sum_by accesses_of) all ∙ sum_by-append accesses_of before (asked ∷ later) ∙ ap (λ n. sum_by accesses_of before + n) (sum_by-cons accesses_of asked later) in
+up_to_one : (course : List Taken) (requests later : List Request) (asked : Request) → requests ≡ requests_of course ++ asked ∷ later → sum_by accesses_of (requests_of course) + accesses_of asked ≤ accesses_of_job requests
+up_to_one course requests later asked all =
+    let whole : sum_by accesses_of requests ≡ sum_by accesses_of (requests_of course) + (accesses_of asked + sum_by accesses_of later) = ap (sum_by accesses_of) all ∙ sum_by-append accesses_of (requests_of course) (asked ∷ later) ∙ ap (λ n. sum_by accesses_of (requests_of course) + n) (sum_by-cons accesses_of asked later) in
     omega (arith, whole)
 
-pub requests_tied : (old new : World) (requests : List Request) (ended : Status) → PlaysRequests old requests new ended → Tied (accesses_of_job requests) (counters_of old) (counters_of new)
-requests_tied old new requests ended (Played p) = tied_after (sum_by accesses_of requests) 2 _ _ _ (run_tied old.state p.mid old.files p.files requests p.text p.refused p.run) (ends_tied p.mid new.state p.files new.files p.stored)
-requests_tied old new requests ended (Stopped p) = tied_more _ _ _ _ (within_all p.before p.later requests p.asked p.all) (tied_after (sum_by accesses_of p.before) (accesses_of p.asked) _ _ _ (run_tied old.state p.mid old.files p.files p.before p.text p.refused p.run) (stop_tied p.mid new.state p.files new.files p.asked p.cause p.stops))
-requests_tied old new requests ended (CutOff p) = tied_more _ _ _ _ (within_all p.before p.later requests p.asked p.all) (tied_after (sum_by accesses_of p.before) (accesses_of p.asked) _ _ _ (run_tied old.state p.mid old.files p.files p.before p.text p.refused p.run) (step_tied p.mid new.state p.files new.files p.asked p.answer p.step))
-requests_tied old new requests ended (EndStopped p) = tied_after (sum_by accesses_of requests) 2 _ _ _ (run_tied old.state p.mid old.files p.files requests p.text p.refused p.run) (end_stop_tied p.mid new.state p.files new.files p.stops)
+-- up to one that was run
+up_to_last : (before : List Taken) (last : Taken) (requests later : List Request) → requests ≡ requests_of before ++ last.asked ∷ later → sum_by accesses_of (requests_of (before ++ last ∷ [])) + 0 ≤ accesses_of_job requests
+up_to_last before last requests later all =
+    let one = up_to_one before requests later last.asked all in
+    let run = ap (sum_by accesses_of) (requests_more before last) ∙ sum_by-append accesses_of (requests_of before) (last.asked ∷ []) ∙ ap (λ n. sum_by accesses_of (requests_of before) + n) (sum_by-cons accesses_of last.asked []) in
+    omega (arith, one, run)
 
--- where the state stays, nothing was counted
-stays_tied : (old new : World) → new.state ≡ old.state → Tied 0 (counters_of old) (counters_of new)
-stays_tied old new same = subst (λ (s : State). Tied 0 (counters_of old) s.station.counters) (sym same) (record { ties = ties_none (counters_of old); accesses = omega arith })
+pub requests_tied : (old new : World) (requests : List Request) (course : List Taken) (ended : Status) → PlaysRequests old requests course new ended → PlayTied (counters_of old) requests course (counters_of new)
+requests_tied old new requests course ended (Played p) =
+    play_tied old.state p.mid old.files p.files course requests (counters_of new) 2 p.run (ends_goes p.mid new.state p.files new.files p.stored) (ends_tied p.mid new.state p.files new.files p.stored) (to_the_end course requests p.all)
+requests_tied old new requests course ended (Stopped p) =
+    play_tied old.state p.mid old.files p.files course requests (counters_of new) (accesses_of p.asked) p.run (stop_goes p.mid new.state p.files new.files p.asked p.cause p.stops) (stop_tied p.mid new.state p.files new.files p.asked p.cause p.stops) (up_to_one course requests p.later p.asked p.all)
+requests_tied old new requests course ended (CutOff p) =
+    let run = run_more old.state p.mid old.files p.files new.files p.before p.last p.run p.step in
+    let tied = play_tied old.state p.last.after old.files new.files (p.before ++ p.last ∷ []) requests p.last.after.station.counters 0 run (goes_on_itself _) (tied_none _) (up_to_last p.before p.last requests p.later p.all) in
+    subst (λ (steps : List Taken). PlayTied (counters_of old) requests steps (counters_of new)) (sym p.course_is)
+    (subst (λ (s : State). PlayTied (counters_of old) requests (p.before ++ p.last ∷ []) s.station.counters) (sym p.after) tied)
+requests_tied old new requests course ended (EndStopped p) =
+    play_tied old.state p.mid old.files p.files course requests (counters_of new) 2 p.run (end_stop_goes p.mid new.state p.files new.files p.stops) (end_stop_tied p.mid new.state p.files new.files p.stops) (to_the_end course requests p.all)
 
-parsed_ties : (old new : World) (parsed : Result (List Request) ℕ) (ended : Status) → PlaysParsed old parsed new ended → TiesCounts (counters_of old) (counters_of new)
-parsed_ties old new (Ok requests) ended plays = (requests_tied old new requests ended plays).ties
-parsed_ties old new (Err line) ended tells = (stays_tied old new tells.state).ties
+-- where nothing was run and the state stays, nothing was counted
+stays_tied : (old new : World) (requests : List Request) (course : List Taken) → course ≡ [] → new.state ≡ old.state → PlayTied (counters_of old) requests course (counters_of new)
+stays_tied old new requests course nothing same =
+    subst (λ (steps : List Taken). PlayTied (counters_of old) requests steps (counters_of new)) (sym nothing)
+    (subst (λ (s : State). PlayTied (counters_of old) requests [] s.station.counters) (sym same)
+    (play_tied old.state old.state old.files old.files [] requests (counters_of old) 0 (refl, refl) (goes_on_itself _) (tied_none _) (omega arith)))
+
+parsed_ties : (old new : World) (parsed : Result (List Request) ℕ) (course : List Taken) (ended : Status) → PlaysParsed old parsed course new ended → TiesCounts (counters_of old) course (counters_of new)
+parsed_ties old new (Ok requests) course ended plays = (requests_tied old new requests course ended plays).ties
+parsed_ties old new (Err line) course ended alone = (stays_tied old new [] course alone.nothing alone.tells.state).ties
 
 -- a play ties its counts
-pub play_ties : (old new : World) (job : List ℕ) (ended : Status) → Plays old job new ended → TiesCounts (counters_of old) (counters_of new)
-play_ties old new job ended (There p) = parsed_ties old new (job_of p.text) ended p.plays
-play_ties old new job ended (Missing absent tells) = (stays_tied old new tells.state).ties
-play_ties old new job ended (TooLong longer tells) = (stays_tied old new tells.state).ties
-play_ties old new job ended (Faulty idle) = (stays_tied old new (ap (λ (w : World). w.state) idle.same)).ties
-play_ties old new job ended (Starved idle) = (stays_tied old new (ap (λ (w : World). w.state) idle.same)).ties
+pub play_ties : (old new : World) (job : List ℕ) (course : List Taken) (ended : Status) → Plays old job course new ended → TiesCounts (counters_of old) course (counters_of new)
+play_ties old new job course ended (There p) = parsed_ties old new (job_of p.text) course ended p.plays
+play_ties old new job course ended (Missing absent alone) = (stays_tied old new [] course alone.nothing alone.tells.state).ties
+play_ties old new job course ended (TooLong longer alone) = (stays_tied old new [] course alone.nothing alone.tells.state).ties
+play_ties old new job course ended (Faulty nothing idle) = (stays_tied old new [] course nothing (ap (λ (w : World). w.state) idle.same)).ties
+play_ties old new job course ended (Starved nothing idle) = (stays_tied old new [] course nothing (ap (λ (w : World). w.state) idle.same)).ties
 
 -- the text that was read is the told one
 one_text : (told : Option Files) (job text : List ℕ) (requests : List Request) (is : IsJob told job requests) → IsText told job text → text ≡ is.text
@@ -52,10 +102,10 @@ one_text told job text requests is read =
     sym here.0
 
 -- a play of a job with these requests makes no more accesses than they say
-pub play_accesses : (old new : World) (job : List ℕ) (ended : Status) (requests : List Request) → Plays old job new ended → IsJob old.files job requests → Tied (accesses_of_job requests) (counters_of old) (counters_of new)
-play_accesses old new job ended requests (There p) is =
-    requests_tied old new requests ended (subst (λ (parsed : Result (List Request) ℕ). PlaysParsed old parsed new ended) (ap job_of (one_text old.files job p.text requests is p.told) ∙ is.spells) p.plays)
-play_accesses old new job ended requests (Missing absent tells) is = tied_more 0 _ _ _ (omega arith) (stays_tied old new tells.state)
-play_accesses old new job ended requests (TooLong longer tells) is = tied_more 0 _ _ _ (omega arith) (stays_tied old new tells.state)
-play_accesses old new job ended requests (Faulty idle) is = tied_more 0 _ _ _ (omega arith) (stays_tied old new (ap (λ (w : World). w.state) idle.same))
-play_accesses old new job ended requests (Starved idle) is = tied_more 0 _ _ _ (omega arith) (stays_tied old new (ap (λ (w : World). w.state) idle.same))
+pub play_accesses : (old new : World) (job : List ℕ) (course : List Taken) (ended : Status) (requests : List Request) → Plays old job course new ended → IsJob old.files job requests → (counters_of new).direct ≤ (counters_of old).direct + accesses_of_job requests
+play_accesses old new job course ended requests (There p) is =
+    (requests_tied old new requests course ended (subst (λ (parsed : Result (List Request) ℕ). PlaysParsed old parsed course new ended) (ap job_of (one_text old.files job p.text requests is p.told) ∙ is.spells) p.plays)).accesses
+play_accesses old new job course ended requests (Missing absent alone) is = (stays_tied old new requests course alone.nothing alone.tells.state).accesses
+play_accesses old new job course ended requests (TooLong longer alone) is = (stays_tied old new requests course alone.nothing alone.tells.state).accesses
+play_accesses old new job course ended requests (Faulty nothing idle) is = (stays_tied old new requests course nothing (ap (λ (w : World). w.state) idle.same)).accesses
+play_accesses old new job course ended requests (Starved nothing idle) is = (stays_tied old new requests course nothing (ap (λ (w : World). w.state) idle.same)).accesses

@@ -1,104 +1,78 @@
 -- Each step ties its counts, so a run does.
-use Rattle.std.proofs.Common.{arith, ◌≡◌, ℕ, zero, suc, ◌+◌, ◌-◌, ◌<◌, ◌≤◌, Bool, true, false, List, [], ◌∷◌, refl, ap, ◌∙◌, sym, subst, Option, Some, None, Result}
-use Rattle.std.proofs.lemmas.Bool.Decides.{nat_tests}
+use Rattle.std.proofs.Common.{arith, ◌≡◌, ℕ, zero, suc, ◌+◌, ◌-◌, ◌<◌, ◌≤◌, Bool, true, false, List, [], ◌∷◌, ◌++◌, refl, ap, ◌∙◌, sym, subst, Option, Some, None, Result}
 use Rattle.std.proofs.lemmas.List.Sums.{sum_by-cons}
-use Rattle.std.specs.Prelude.{◌==◌, if◌then◌else◌, MatchOption, MatchBool, IfSome, sum_by}
+use Rattle.std.specs.Prelude.{MatchOption, MatchBool, sum_by}
+use Rattle.flop_base.specs.Counts.{RoseBy}
 use Rattle.flop_base.specs.Shelf.{Files}
 use Rattle.flop_base.specs.declared.answers.Code.{Code}
+use Rattle.bay_model.specs.Counters.{Counters, GoesOn, IsDriven, IsPastDriver}
 use Rattle.floppy_jobs.specs.declared.request.Request.{Request}
 use Rattle.floppy_jobs.specs.declared.request.Request.TheVariants as request
 use Rattle.sector_model.specs.declared.reply.Reply.{Reply}
+use Rattle.sector_model.specs.declared.reply.Reply.TheVariants as reply
+use Rattle.sector_model.specs.declared.reply.Reason.{Reason}
 use Rattle.sector_model.specs.declared.reply.Stop.{Stop}
-use Rattle.bay_model.specs.Bays.{in_bay}
-use Rattle.bay_model.specs.Counters.{Counters, GoesOn, IsDriven, IsPastDriver, TakesSpare}
-use Rattle.flop_base.specs.Counts.{last_count, Spends}
 use Rattle.sector_model.specs.Stations.{StationState}
 use Rattle.sector_model.specs.Orders.{IsRefusedAtOnce, read_refusal, write_refusal, format_refusal, rate_refusal, is_bay}
 use Rattle.sector_model.specs.States.{State, IsSame, ChangesMedium}
 use Rattle.sector_model.specs.Steps.{Step, Does, refusal_of, StopsAt, AfterStop}
-use Rattle.sector_model.specs.Runs.{Run, Ends, EndsBay, Stored, Left, EndStopsAt, AtFirst, AtSecond}
-use Rattle.sector_model.specs.Ties.{told_sum, spares_sum, all_left, TiesCounts, accesses_of}
+use Rattle.sector_model.specs.Runs.{Taken, Run, requests_of, Ends, EndsBay, Stored, Left, EndStopsAt, AtFirst, AtSecond}
+use Rattle.sector_model.specs.Ties.{entered_by, accesses_of}
+use Rattle.sector_model.proofs.Counted.{goes_on_after, exchange_goes}
 
 -- one of two cases holds, and each gives the fact
-either : {A : Type 0} {P R : Type 0} {Q : A → Type 0} (value : Option A) → MatchOption value P Q → (P → R) → ((x : A) → Q x → R) → R
+pub either : {A : Type 0} {P R : Type 0} {Q : A → Type 0} (value : Option A) → MatchOption value P Q → (P → R) → ((x : A) → Q x → R) → R
 either None holds none some = none holds
 either (Some x) holds none some = some x holds
 
--- what is left of two falls where each falls
-sum_falls : (a b c d : Option ℕ) → IfSome a (λ most. (rest : ℕ) × (c ≡ Some rest) × (rest ≤ most)) → IfSome b (λ most. (rest : ℕ) × (d ≡ Some rest) × (rest ≤ most)) → IfSome (told_sum a b) (λ most. (rest : ℕ) × (told_sum c d ≡ Some rest) × (rest ≤ most))
-sum_falls None b c d first second = tt
-sum_falls (Some x) None c d first second = tt
-sum_falls (Some x) (Some y) c d first second = (first.0 + second.0, ap (λ o. told_sum o d) first.1 ∙ ap (λ o. told_sum (Some first.0) o) second.1, omega (arith, first.2, second.2))
+-- what holds of the counts before and after some calls: an interrupt for each data command, stalls paid for by what was
+-- left of them, and at most so many accesses past the driver
+pub record Tied (most : ℕ) (old new : Counters) : Type 0 where
+  pub commands : old.data_commands ≤ new.data_commands
+  pub interrupts : RoseBy (new.data_commands - old.data_commands) old.taken new.taken
+  pub stalls : old.stalls ≤ new.stalls
+  pub stalls_left : new.stalls + new.stalls_left ≤ old.stalls + old.stalls_left
+  pub accesses : new.direct ≤ old.direct + most
 
-spent_falls : (count after : ℕ) (left now : Option ℕ) → count ≤ after → Spends count left after now → IfSome left (λ most. (rest : ℕ) × (now ≡ Some rest) × (rest ≤ most))
-spent_falls count after None now rose spends = tt
-spent_falls count after (Some most) now rose spends = (spends.0, spends.1, omega (arith, spends.2))
-
-stays_falls : (left now : Option ℕ) → now ≡ left → IfSome left (λ most. (rest : ℕ) × (now ≡ Some rest) × (rest ≤ most))
-stays_falls None now same = tt
-stays_falls (Some most) now same = (most, same, omega arith)
-
-left_falls : (old new : Counters) → GoesOn old new → IfSome (all_left old) (λ most. (rest : ℕ) × (all_left new ≡ Some rest) × (rest ≤ most))
-left_falls old new goes =
-    sum_falls (told_sum old.left.first old.left.second) (spares_sum old.spares_left) (told_sum new.left.first new.left.second) (spares_sum new.spares_left)
-    (sum_falls old.left.first old.left.second new.left.first new.left.second
-    (spent_falls old.faults.first new.faults.first old.left.first new.left.first goes.never_falls.first goes.spends.first)
-    (spent_falls old.faults.second new.faults.second old.left.second new.left.second goes.never_falls.second goes.spends.second))
-    (stays_falls (spares_sum old.spares_left) (spares_sum new.spares_left) (ap spares_sum goes.spends.spares))
-
--- a step of the driver, or past it
-driven_ties : (most : ℕ) (old new : Counters) → GoesOn old new → IsDriven most old new → TiesCounts old new
-driven_ties most old new goes driven = record {
-  commands = goes.never_falls.data_commands;
-  interrupts = driven.interrupts;
-  stalls = goes.never_falls.stalls;
-  stalls_left = goes.spends.stalls;
-  left = left_falls old new goes;
-}
-
-past_ties : (most : ℕ) (old new : Counters) → GoesOn old new → IsPastDriver most old new → TiesCounts old new
-past_ties most old new goes past = record {
-  commands = goes.never_falls.data_commands;
-  interrupts = omega (arith, past.no_commands, goes.never_falls.taken);
-  stalls = goes.never_falls.stalls;
-  stalls_left = goes.spends.stalls;
-  left = left_falls old new goes;
-}
-
--- ties follow each other
-pub ties_after : (old mid new : Counters) → TiesCounts old mid → TiesCounts mid new → TiesCounts old new
-ties_after old mid new first second = record {
+pub tied_after : (n m : ℕ) (old mid new : Counters) → Tied n old mid → Tied m mid new → Tied (n + m) old new
+tied_after n m old mid new first second = record {
   commands = omega (arith, first.commands, second.commands);
   interrupts = omega (arith, first.interrupts, second.interrupts, first.commands, second.commands);
   stalls = omega (arith, first.stalls, second.stalls);
   stalls_left = omega (arith, first.stalls_left, second.stalls_left);
-  left = falls_twice (all_left old) (all_left mid) (all_left new) first.left second.left;
+  accesses = omega (arith, first.accesses, second.accesses);
 }
-  where
-    falls_twice : (a b c : Option ℕ) → IfSome a (λ most. (rest : ℕ) × (b ≡ Some rest) × (rest ≤ most)) → IfSome b (λ most. (rest : ℕ) × (c ≡ Some rest) × (rest ≤ most)) → IfSome a (λ most. (rest : ℕ) × (c ≡ Some rest) × (rest ≤ most))
-    falls_twice None b c one two = tt
-    falls_twice (Some x) b c one two = let next = subst (λ (o : Option ℕ). IfSome o (λ most. (rest : ℕ) × (c ≡ Some rest) × (rest ≤ most))) one.1 two in (next.0, next.1, omega (arith, one.2, next.2))
 
 -- nothing happened
-pub ties_none : (old : Counters) → TiesCounts old old
-ties_none old = record { commands = omega arith; interrupts = omega arith; stalls = omega arith; stalls_left = omega arith; left = stays_falls (all_left old) (all_left old) refl }
-
--- a step: its ties, and its accesses past the driver
-pub record Tied (most : ℕ) (old new : Counters) : Type 0 where
-  pub ties : TiesCounts old new
-  pub accesses : new.direct ≤ old.direct + most
-
-pub tied_after : (n m : ℕ) (old mid new : Counters) → Tied n old mid → Tied m mid new → Tied (n + m) old new
-tied_after n m old mid new first second = record { ties = ties_after old mid new first.ties second.ties; accesses = omega (arith, first.accesses, second.accesses) }
+pub tied_none : (old : Counters) → Tied 0 old old
+tied_none old = record { commands = omega arith; interrupts = omega arith; stalls = omega arith; stalls_left = omega arith; accesses = omega arith }
 
 past_tied : (most : ℕ) (old new : Counters) → GoesOn old new → IsPastDriver most old new → Tied most old new
-past_tied most old new goes past = record { ties = past_ties most old new goes past; accesses = past.accesses }
+past_tied most old new goes past = record {
+  commands = goes.data_commands;
+  interrupts = omega (arith, past.no_commands, goes.taken);
+  stalls = goes.stalls;
+  stalls_left = goes.stalls_spent;
+  accesses = past.accesses;
+}
 
 driven_tied : (most : ℕ) (old new : Counters) → GoesOn old new → IsDriven most old new → Tied 0 old new
-driven_tied most old new goes driven = record { ties = driven_ties most old new goes driven; accesses = omega (arith, driven.past_driver) }
+driven_tied most old new goes driven = record {
+  commands = goes.data_commands;
+  interrupts = driven.interrupts;
+  stalls = goes.stalls;
+  stalls_left = goes.stalls_spent;
+  accesses = omega (arith, driven.past_driver);
+}
 
 pub tied_more : (n m : ℕ) (old new : Counters) → n ≤ m → Tied n old new → Tied m old new
-tied_more n m old new more tied = record { ties = tied.ties; accesses = omega (arith, tied.accesses) }
+tied_more n m old new more tied = record {
+  commands = tied.commands;
+  interrupts = tied.interrupts;
+  stalls = tied.stalls;
+  stalls_left = tied.stalls_left;
+  accesses = omega (arith, tied.accesses);
+}
 
 same_tied : (old new : State) → IsSame old new → Tied 0 old.station.counters new.station.counters
 same_tied old new same = past_tied 0 _ _ same.counts same.idle
@@ -115,40 +89,6 @@ acks_driven : {P : Type 0} (good : Bool) (old new : StationState) (answer : Resu
 acks_driven true old new answer code called reached goes = driven_tied 6 old.counters new.counters goes (reached called)
 acks_driven false old new answer code called reached goes = driven_tied 0 old.counters new.counters goes called.idle
 
--- what is left of a spare drive, once it stands in a bay
-abbrev Comes : ℕ → Option ℕ → Option ℕ → Type 0
-Comes count spare now = MatchOption spare (now ≡ None) (λ most. (rest : ℕ) × (now ≡ Some rest) × (rest ≤ most) × (count + rest < last_count))
-
-first_falls : (count : ℕ) (a b spares spare c d : Option ℕ) → d ≡ b → Comes count spare c → IfSome (told_sum (told_sum a b) (told_sum spare spares)) (λ most. (rest : ℕ) × (told_sum (told_sum c d) spares ≡ Some rest) × (rest ≤ most))
-first_falls count None b spares spare c d same comes = tt
-first_falls count (Some x) None spares spare c d same comes = tt
-first_falls count (Some x) (Some y) spares None c d same comes = tt
-first_falls count (Some x) (Some y) None (Some z) c d same comes = tt
-first_falls count (Some x) (Some y) (Some w) (Some z) c d same comes =
-    (comes.0 + y + w, ap (λ o. told_sum (told_sum o d) (Some w)) comes.1 ∙ ap (λ o. told_sum (told_sum (Some comes.0) o) (Some w)) same, omega (arith, comes.2))
-
-second_falls : (count : ℕ) (a b spares spare c d : Option ℕ) → c ≡ a → Comes count spare d → IfSome (told_sum (told_sum a b) (told_sum spare spares)) (λ most. (rest : ℕ) × (told_sum (told_sum c d) spares ≡ Some rest) × (rest ≤ most))
-second_falls count None b spares spare c d same comes = tt
-second_falls count (Some x) None spares spare c d same comes = tt
-second_falls count (Some x) (Some y) spares None c d same comes = tt
-second_falls count (Some x) (Some y) None (Some z) c d same comes = tt
-second_falls count (Some x) (Some y) (Some w) (Some z) c d same comes =
-    (x + comes.0 + w, ap (λ o. told_sum (told_sum c o) (Some w)) comes.1 ∙ ap (λ o. told_sum (told_sum o (Some comes.0)) (Some w)) same, omega (arith, comes.2))
-
-not-first : (bay : ℕ) → (suc bay == 0) ≡ false
-not-first bay = grind (arith, nat_tests)
-
--- what is left of all drives, where one takes the place of another
-spare_falls : (old new : Counters) (bay : ℕ) → TakesSpare old bay new → IfSome (all_left old) (λ most. (rest : ℕ) × (all_left new ≡ Some rest) × (rest ≤ most))
-spare_falls old new zero takes =
-    subst (λ (spares : List (Option ℕ)). IfSome (told_sum (told_sum old.left.first old.left.second) (spares_sum spares)) (λ most. (rest : ℕ) × (all_left new ≡ Some rest) × (rest ≤ most))) (sym takes.spares.1)
-    (first_falls new.faults.first old.left.first old.left.second (spares_sum new.spares_left) takes.spares.0 new.left.first new.left.second takes.other_left takes.spares.2)
-spare_falls old new (suc bay) takes =
-    let first : 1 - suc bay ≡ 0 = omega arith in
-    let other : new.left.first ≡ old.left.first = subst (λ (k : ℕ). in_bay new.left k ≡ in_bay old.left k) first takes.other_left in
-    subst (λ (spares : List (Option ℕ)). IfSome (told_sum (told_sum old.left.first old.left.second) (spares_sum spares)) (λ most. (rest : ℕ) × (all_left new ≡ Some rest) × (rest ≤ most))) (sym takes.spares.1)
-    (second_falls (in_bay new.faults (suc bay)) old.left.first old.left.second (spares_sum new.spares_left) takes.spares.0 new.left.first new.left.second other (subst (λ (b : Bool). MatchOption takes.spares.0 ((if b then new.left.first else new.left.second) ≡ None) (λ most. (rest : ℕ) × ((if b then new.left.first else new.left.second) ≡ Some rest) × (rest ≤ most) × (in_bay new.faults (suc bay) + rest < last_count))) (not-first bay) takes.spares.2))
-
 does_tied : (old new : State) (told after : Option Files) (asked : Request) (answer : Reply) → Does old told asked answer new after → Tied (accesses_of asked) old.station.counters new.station.counters
 does_tied old new told after (request.Insert bay name) answer does = changed_tied old new bay _ _ does.2.2
 does_tied old new told after (request.Blank bay name cylinders) answer does = changed_tied old new bay _ _ does.2
@@ -162,13 +102,10 @@ does_tied old new told after (request.Format bay c h) answer does = called_drive
 does_tied old new told after (request.Fill address count byte) answer does = past_tied count _ _ does.2.counts does.2.access
 does_tied old new told after (request.Dump address count) answer does = same_tied old new does.2
 does_tied old new told after (request.Unit bay) answer does = record {
-  ties = record {
-    commands = omega (arith, does.3.access.no_commands);
-    interrupts = omega (arith, does.3.access.no_commands, does.3.counts.taken);
-    stalls = omega (arith, does.3.counts.stalls);
-    stalls_left = omega (arith, does.3.counts.stalls, does.3.counts.stalls_left);
-    left = spare_falls _ _ bay does.3.counts;
-  };
+  commands = omega (arith, does.3.access.no_commands);
+  interrupts = omega (arith, does.3.access.no_commands, does.3.counts.taken);
+  stalls = omega (arith, does.3.counts.stalls);
+  stalls_left = omega (arith, does.3.counts.stalls, does.3.counts.stalls_left);
   accesses = does.3.access.accesses;
 }
 does_tied old new told after (request.SetRate bay rate) answer does = called_driven (rate_refusal old.station bay) does.1.0 0 old.station new.station does.1.2 (λ p. p.idle) does.0.counts
@@ -180,10 +117,10 @@ step_tied old new told after asked answer step =
     either (refusal_of old asked) step (does_tied old new told after asked answer) (λ cause refused. tied_more 0 (accesses_of asked) _ _ (omega arith) (same_tied old new refused.same))
 
 -- a run
-pub run_tied : (old new : State) (told after : Option Files) (requests : List Request) (text : List ℕ) (refused : Bool) → Run old told requests text refused new after → Tied (sum_by accesses_of requests) old.station.counters new.station.counters
-run_tied old new told after [] text refused run = subst (λ (s : State). Tied 0 old.station.counters s.station.counters) (sym run.2) (record { ties = ties_none old.station.counters; accesses = omega arith })
-run_tied old new told after (asked ∷ later) text refused run =
-    subst (λ (n : ℕ). Tied n old.station.counters new.station.counters) (sym (sum_by-cons accesses_of asked later)) (tied_after (accesses_of asked) (sum_by accesses_of later) _ _ _ (step_tied old run.1 told run.2 asked run.0 run.5) (run_tied run.1 new run.2 after later run.3 run.4 run.6))
+pub run_tied : (old new : State) (told after : Option Files) (course : List Taken) → Run old told course new after → Tied (sum_by accesses_of (requests_of course)) old.station.counters new.station.counters
+run_tied old new told after [] run = subst (λ (s : State). Tied 0 old.station.counters s.station.counters) (sym run.0) (tied_none old.station.counters)
+run_tied old new told after (taken ∷ later) run =
+    subst (λ (n : ℕ). Tied n old.station.counters new.station.counters) (sym (sum_by-cons accesses_of taken.asked (requests_of later))) (tied_after (accesses_of taken.asked) (sum_by accesses_of (requests_of later)) _ _ _ (step_tied old taken.after told run.0 taken.asked taken.answer run.1) (run_tied taken.after new run.0 after later run.2))
 
 -- what stands after a stop
 stopped_tied : (old new : State) (asked : Request) → AfterStop old asked new → Tied (accesses_of asked) old.station.counters new.station.counters
@@ -216,5 +153,84 @@ ends_tied old new told after ends = tied_after 1 1 _ _ _ (bay_tied old ends.0 to
 
 -- an end that stopped
 pub end_stop_tied : (old new : State) (told after : Option Files) → EndStopsAt old told new after → Tied 2 old.station.counters new.station.counters
-end_stop_tied old new told after (AtFirst changes same) = tied_more 1 2 _ _ (omega arith) (changed_tied old new 0 _ _ changes)
-end_stop_tied old new told after (AtSecond mid ends changes) = tied_after 1 1 _ _ _ (bay_tied old mid told after 0 ends) (changed_tied mid new 1 _ _ changes)
+end_stop_tied old new told after (AtFirst drops same) = tied_more 1 2 _ _ (omega arith) (changed_tied old new 0 _ _ drops.changes)
+end_stop_tied old new told after (AtSecond mid ends drops) = tied_after 1 1 _ _ _ (bay_tied old mid told after 0 ends) (changed_tied mid new 1 _ _ drops.changes)
+
+-- ---- How counters go on in a step, from the drives that stand in the bays in it.
+
+does_goes : (old new : State) (told after : Option Files) (asked : Request) (answer : Reply) → Does old told asked answer new after → GoesOn (entered_by old.station.counters asked answer) new.station.counters
+does_goes old new told after (request.Insert bay name) answer does = does.2.2.counts
+does_goes old new told after (request.Blank bay name cylinders) answer does = does.2.counts
+does_goes old new told after (request.BlankDd bay name cylinders) answer does = does.2.counts
+does_goes old new told after (request.Eject bay) answer does = does.1.4.counts
+does_goes old new told after (request.Ack bay) answer does = does.0.counts
+does_goes old new told after (request.Read bay key address) answer does = does.0.counts
+does_goes old new told after (request.Write bay key address) answer does = does.0.counts
+does_goes old new told after (request.WriteDeleted bay key address) answer does = does.0.counts
+does_goes old new told after (request.Format bay c h) answer does = does.0.counts
+does_goes old new told after (request.Fill address count byte) answer does = does.2.counts
+does_goes old new told after (request.Dump address count) answer does = does.2.counts
+does_goes old new told after (request.Unit bay) answer does =
+    subst (λ (a : Reply). GoesOn (entered_by old.station.counters (request.Unit bay) a) new.station.counters) (sym does.0)
+    (exchange_goes old.station.counters new.station.counters bay does.3.counts does.3.access.no_commands)
+does_goes old new told after (request.SetRate bay rate) answer does = does.0.counts
+does_goes old new told after (request.Tries tries) answer does = does.0.counts
+
+-- a refused request exchanges no drive
+refused_enters : (counters : Counters) (asked : Request) (cause : Reason) → entered_by counters asked (reply.Refused cause) ≡ counters
+refused_enters counters (request.Insert bay name) cause = refl
+refused_enters counters (request.Blank bay name cylinders) cause = refl
+refused_enters counters (request.BlankDd bay name cylinders) cause = refl
+refused_enters counters (request.Eject bay) cause = refl
+refused_enters counters (request.Ack bay) cause = refl
+refused_enters counters (request.Read bay key address) cause = refl
+refused_enters counters (request.Write bay key address) cause = refl
+refused_enters counters (request.WriteDeleted bay key address) cause = refl
+refused_enters counters (request.Format bay c h) cause = refl
+refused_enters counters (request.Fill address count byte) cause = refl
+refused_enters counters (request.Dump address count) cause = refl
+refused_enters counters (request.Unit bay) cause = refl
+refused_enters counters (request.SetRate bay rate) cause = refl
+refused_enters counters (request.Tries tries) cause = refl
+
+-- a step
+pub step_goes : (old new : State) (told after : Option Files) (asked : Request) (answer : Reply) → Step old told asked answer new after → GoesOn (entered_by old.station.counters asked answer) new.station.counters
+step_goes old new told after asked answer step =
+    either (refusal_of old asked) step (does_goes old new told after asked answer)
+    (λ cause refused.
+    subst (λ (a : Reply). GoesOn (entered_by old.station.counters asked a) new.station.counters) (sym refused.answered)
+    (subst (λ (c : Counters). GoesOn c new.station.counters) (sym (refused_enters old.station.counters asked cause)) refused.same.counts))
+
+-- what stands after a stop
+stopped_goes : (old new : State) (asked : Request) → AfterStop old asked new → GoesOn old.station.counters new.station.counters
+stopped_goes old new (request.Eject bay) stopped = stopped.counts
+stopped_goes old new (request.Insert bay name) stopped = stopped.counts
+stopped_goes old new (request.Blank bay name cylinders) stopped = stopped.counts
+stopped_goes old new (request.BlankDd bay name cylinders) stopped = stopped.counts
+stopped_goes old new (request.Unit bay) stopped = stopped.counts
+stopped_goes old new (request.Fill address count byte) stopped = stopped.counts
+stopped_goes old new (request.Ack bay) stopped = stopped.counts
+stopped_goes old new (request.Read bay key address) stopped = stopped.counts
+stopped_goes old new (request.Write bay key address) stopped = stopped.counts
+stopped_goes old new (request.WriteDeleted bay key address) stopped = stopped.counts
+stopped_goes old new (request.Format bay c h) stopped = stopped.counts
+stopped_goes old new (request.Dump address count) stopped = stopped.counts
+stopped_goes old new (request.SetRate bay rate) stopped = stopped.counts
+stopped_goes old new (request.Tries tries) stopped = stopped.counts
+
+-- a request that stopped the run
+pub stop_goes : (old new : State) (told after : Option Files) (asked : Request) (cause : Stop) → StopsAt old told asked cause new after → GoesOn old.station.counters new.station.counters
+stop_goes old new told after asked cause stops = stopped_goes old new asked stops.after
+
+bay_goes : (old new : State) (told after : Option Files) (bay : ℕ) → EndsBay old told bay new after → GoesOn old.station.counters new.station.counters
+bay_goes old new told after bay (Stored stores) = stores.4.counts
+bay_goes old new told after bay (Left left) = left.same.counts
+
+-- the end of a run
+pub ends_goes : (old new : State) (told after : Option Files) → Ends old told new after → GoesOn old.station.counters new.station.counters
+ends_goes old new told after ends = goes_on_after _ _ _ (bay_goes old ends.0 told ends.1 0 ends.2) (bay_goes ends.0 new ends.1 after 1 ends.3)
+
+-- an end that stopped
+pub end_stop_goes : (old new : State) (told after : Option Files) → EndStopsAt old told new after → GoesOn old.station.counters new.station.counters
+end_stop_goes old new told after (AtFirst drops same) = drops.changes.counts
+end_stop_goes old new told after (AtSecond mid ends drops) = goes_on_after _ _ _ (bay_goes old mid told after 0 ends) drops.changes.counts

@@ -74,8 +74,8 @@ pub record IsCutOff (old : World) (requests : List Request) (course : List Taken
   pub mid : State
   pub files : Option Files
   pub run : Run old.state old.files before mid files
-  pub step : Step mid files last.asked last.answer new.state new.files
-  pub after : last.after ≡ new.state
+  pub step : Step mid files last.asked last.answer last.after new.files
+  pub after : new.state ≡ last.after
   pub course_is : course ≡ before ++ last ∷ []
   pub all : requests ≡ requests_of before ++ last.asked ∷ later
   pub part : GrowsByPart (grown old.report (course_text before)) (reply_text last.asked last.answer) new.report

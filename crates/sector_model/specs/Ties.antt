@@ -1,10 +1,10 @@
 -- What ties the counts of a run to what the station shows before and after it.
-use Rattle.std.specs.Prelude.{◌≡◌, ℕ, ◌+◌, ◌-◌, ◌≤◌, ◌==◌, Bool, false, if◌then◌else◌, All, List, [], ◌∷◌, Option, Some, Ok, sum_by}
+use Rattle.std.specs.Prelude.{◌≡◌, ℕ, ◌+◌, ◌-◌, ◌<◌, ◌≤◌, ◌==◌, Bool, false, if◌then◌else◌, All, List, [], ◌∷◌, Option, Some, Ok, sum_by}
 use Rattle.std.specs.Option.{option_map_or}
-use Rattle.flop_base.specs.Counts.{RoseBy}
+use Rattle.flop_base.specs.Counts.{last_count, RoseBy}
 use Rattle.flop_base.specs.Shelf.{Files, file_at}
 use Rattle.bay_model.specs.Bays.{in_bay, with_bay}
-use Rattle.bay_model.specs.Counters.{DriveCounts, Counters, faults_of, TellsLeft, IsUndisturbed}
+use Rattle.bay_model.specs.Counters.{DriveCounts, Counters, faults_of, IsUndisturbed}
 use Rattle.floppy_jobs.specs.Texts.{job_of}
 use Rattle.floppy_jobs.specs.declared.request.Request.{Request}
 use Rattle.floppy_jobs.specs.declared.request.Request.TheVariants as request
@@ -78,13 +78,18 @@ faults_since bay sum counters [] = sum
 faults_since bay sum counters (taken ∷ later) =
     faults_since bay ((if is_exchange bay taken then 0 else sum) + step_faults bay counters taken) (left_by taken) later
 
+-- no fault of a drive is left
+pub record IsSpent (drive : DriveCounts) : Type 0 where
+  pub left : drive.left ≡ Some 0
+  pub below : drive.faults < last_count
+
 -- nothing is left: no drive can have a fault any more, and no stall can come
 pub record HasNothingLeft (counters : Counters) : Type 0 where
-  pub tells : TellsLeft counters
-  pub first : counters.drives.first.left ≡ Some 0
-  pub second : counters.drives.second.left ≡ Some 0
-  pub spares : All (λ drive. drive.left ≡ Some 0) counters.spares
+  pub first : IsSpent counters.drives.first
+  pub second : IsSpent counters.drives.second
+  pub spares : All IsSpent counters.spares
   pub stalls : counters.stalls_left ≡ 0
+  pub stalls_below : counters.stalls < last_count
 
 -- neither a fault nor a stall disturbed any step of a course, in any bay
 abbrev pub AreUndisturbed : Counters → List Taken → Type 0

@@ -19,9 +19,9 @@ returns-clause-step c =
     let user = self.user in
     let fits : a + content_size c.args.key.n ≤ length memory = omega arith in
     let size : length content ≡ content_size c.args.key.n =
-    omega (arith, length-take k (drop a c.deref_mut.result.now), length-drop a c.deref_mut.result.now, ap length c.deref_mut.ensures.value, c.sector_size.ensures) in
+    omega (arith, length-take k (drop a c.deref_mut.result.now), length-drop a c.deref_mut.result.now, ap length c.deref_mut.ensures.value, c.sector_size.ensures.size) in
     let room : a + length content ≤ length memory = omega arith in
-    let put = put_bytes c.deref_mut.result.now memory content a k c.deref_mut.ensures.value (omega (arith, c.sector_size.ensures)) in
+    let put = put_bytes c.deref_mut.result.now memory content a k c.deref_mut.ensures.value (omega (arith, c.sector_size.ensures.size)) in
     let long = ap length put ∙ length-with_bytes memory a content room ∙ ap length (sym c.deref_mut.ensures.value) ∙ c.deref_mut.ensures.len in
     no_refusal _ c.read_refusal.result _ _ c.read_refusal.ensures.value c.in_default.is
     (reads (bays_shown self.bays) memory _ self.spares self.tries c.args.bay a _ _ c.args.key (bay_shown c.get.result.now) content

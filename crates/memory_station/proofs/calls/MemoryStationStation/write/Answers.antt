@@ -13,7 +13,7 @@ returns-clause-step c =
     let new = station (bays_shown c.set.new.self) self.memory.items self.spares self.tries (counters_of self.spares c.send.new.self) in
     let Writes : List ℕ → Type 0 = λ bytes. WritesDrive (record { key = c.args.key; deleted = c.args.deleted; content = bytes }) c.args.bay c.write-outcome.result.answer old new in
     no_refusal _ c.write_refusal.result _ _ c.write_refusal.ensures.value c.in_default.is
-    (subst Writes (bytes_part self.memory.items c.deref.result.now c.args.address c.sector_size-size.result (content_size c.args.key.n) c.deref.ensures.value c.sector_size-size.ensures)
+    (subst Writes (bytes_part self.memory.items c.deref.result.now c.args.address c.sector_size-size.result (content_size c.args.key.n) c.deref.ensures.value c.sector_size-size.ensures.size)
     (c.write-outcome.ensures c.args.bay old new
     (drives_station (bays_shown self.bays) (bays_shown c.take-slot.new.self) (bays_shown c.set.new.self) self.memory.items self.spares self.tries c.args.bay
     c.write-outcome.result.commands self.counts c.send.new.self (bay_shown c.take-slot.result) (bay_shown c.write-outcome.new.self)

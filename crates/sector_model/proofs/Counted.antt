@@ -1,0 +1,130 @@
+-- How counters go on, call after call.
+use Rattle.std.proofs.Common.{arith, ◌≡◌, ℕ, zero, suc, ◌+◌, ◌-◌, ◌<◌, ◌≤◌, Bool, true, false, List, [], ◌∷◌, refl, ap, ◌∙◌, sym, subst, Option, Some, None}
+use Rattle.std.proofs.lemmas.Bool.Decides.{nat_tests}
+use Rattle.std.proofs.lemmas.List.Sums.{sum_by-cons}
+use Rattle.std.specs.Prelude.{◌==◌, if◌then◌else◌, sum_by}
+use Rattle.std.specs.Option.{option_map_or}
+use Rattle.flop_base.specs.Counts.{Spends}
+use Rattle.bay_model.specs.Bays.{Two, in_bay, with_bay}
+use Rattle.bay_model.specs.Counters.{DriveCounts, Counters, DriveGoesOn, GoesOn, TakesSpare, faults_of}
+use Rattle.sector_model.specs.Ties.{with_spare, told_rise, told_faults, told_left, all_left}
+
+spends_twice : (a b c : ℕ) (l m n : Option ℕ) → Spends a l b m → Spends b m c n → Spends a l c n
+spends_twice a b c None m n first second = subst (λ (o : Option ℕ). Spends b o c n) first second
+spends_twice a b c (Some most) m n first second =
+    let next = subst (λ (o : Option ℕ). Spends b o c n) first.1 second in
+    (next.0, next.1, omega (arith, first.2, next.2))
+
+drive_twice : (a b c : DriveCounts) → DriveGoesOn a b → DriveGoesOn b c → DriveGoesOn a c
+drive_twice a b c first second = record {
+  never_falls = omega (arith, first.never_falls, second.never_falls);
+  spends = spends_twice a.faults b.faults c.faults a.left b.left c.left first.spends second.spends;
+}
+
+spends_itself : (a : ℕ) (l : Option ℕ) → Spends a l a l
+spends_itself a None = refl
+spends_itself a (Some most) = (most, refl, omega arith)
+
+drive_itself : (a : DriveCounts) → DriveGoesOn a a
+drive_itself a = record { never_falls = omega arith; spends = spends_itself a.faults a.left }
+
+drive_same : (a b : DriveCounts) → b ≡ a → DriveGoesOn a b
+drive_same a b same = subst (λ (d : DriveCounts). DriveGoesOn a d) (sym same) (drive_itself a)
+
+-- one call and then another
+pub goes_on_after : (a b c : Counters) → GoesOn a b → GoesOn b c → GoesOn a c
+goes_on_after a b c one two = record {
+  first = drive_twice a.drives.first b.drives.first c.drives.first one.first two.first;
+  second = drive_twice a.drives.second b.drives.second c.drives.second one.second two.second;
+  spares = two.spares ∙ one.spares;
+  stalls = omega (arith, one.stalls, two.stalls);
+  stalls_spent = omega (arith, one.stalls_spent, two.stalls_spent);
+  data_commands = omega (arith, one.data_commands, two.data_commands);
+  taken = omega (arith, one.taken, two.taken);
+  direct = omega (arith, one.direct, two.direct);
+}
+
+-- no call
+pub goes_on_itself : (a : Counters) → GoesOn a a
+goes_on_itself a = record {
+  first = drive_itself a.drives.first;
+  second = drive_itself a.drives.second;
+  spares = refl;
+  stalls = omega arith;
+  stalls_spent = omega arith;
+  data_commands = omega arith;
+  taken = omega arith;
+  direct = omega arith;
+}
+
+-- a count rises in no bay by less than nothing
+pub faults_go_on : (old new : Counters) (bay : ℕ) → GoesOn old new → faults_of old bay ≤ faults_of new bay
+faults_go_on old new bay goes = by_bay (bay == 0)
+  where
+    by_bay : (is_first : Bool) → (if is_first then old.drives.first else old.drives.second).faults ≤ (if is_first then new.drives.first else new.drives.second).faults
+    by_bay true = goes.first.never_falls
+    by_bay false = goes.second.never_falls
+
+not-first : (bay : ℕ) → (suc bay == 0) ≡ false
+not-first bay = grind (arith, nat_tests)
+
+-- counters with a spare in a bay go on
+module _ (old : Counters) (new : Counters) (next : DriveCounts) (direct : old.direct ≤ new.direct) (commands : new.data_commands ≡ old.data_commands) where
+  spare_goes : (bay : ℕ) → TakesSpare old bay new → DriveGoesOn next (in_bay new.drives bay) → GoesOn (with_spare old bay (next ∷ new.spares)) new
+  spare_goes zero takes comes = record {
+    first = comes;
+    second = drive_same old.drives.second new.drives.second takes.other;
+    spares = refl;
+    stalls = omega (arith, takes.stalls);
+    stalls_spent = omega (arith, takes.stalls, takes.stalls_left);
+    data_commands = omega (arith, commands);
+    taken = omega (arith, takes.taken);
+    direct = direct;
+  }
+  spare_goes (suc bay) takes comes =
+      let first : 1 - suc bay ≡ 0 = omega arith in
+      let other : new.drives.first ≡ old.drives.first = subst (λ (k : ℕ). in_bay new.drives k ≡ in_bay old.drives k) first takes.other in
+      let there : DriveGoesOn next new.drives.second = subst (λ (b : Bool). DriveGoesOn next (if b then new.drives.first else new.drives.second)) (not-first bay) comes in
+      let goes : GoesOn (record old { drives = record old.drives { second = next }; spares = new.spares }) new = record {
+        first = drive_same old.drives.first new.drives.first other;
+        second = there;
+        spares = refl;
+        stalls = omega (arith, takes.stalls);
+        stalls_spent = omega (arith, takes.stalls, takes.stalls_left);
+        data_commands = omega (arith, commands);
+        taken = omega (arith, takes.taken);
+        direct = direct;
+      } in
+      subst (λ (b : Bool). GoesOn (record old { drives = (if b then record old.drives { first = next } else record old.drives { second = next }); spares = new.spares }) new) (sym (not-first bay)) goes
+
+-- where a spare takes the place of a drive, the counters go on from those with the spare in the bay
+pub exchange_goes : (old new : Counters) (bay : ℕ) → TakesSpare old bay new → new.data_commands ≡ old.data_commands → GoesOn (with_spare old bay old.spares) new
+exchange_goes old new bay takes commands =
+    subst (λ (spares : List DriveCounts). GoesOn (with_spare old bay spares) new) (sym takes.spare.1)
+    (spare_goes old new takes.spare.0 takes.direct commands bay takes takes.spare.2)
+
+-- ---- What is left pays for the faults.
+
+rise_paid : (a b : ℕ) (l m : Option ℕ) → a ≤ b → Spends a l b m → option_map_or (λ most. b - a) l 0 + option_map_or (λ most. most) m 0 ≤ option_map_or (λ most. most) l 0
+rise_paid a b None m rose spends = subst (λ (o : Option ℕ). option_map_or (λ most. b - a) (None {A = ℕ}) 0 + option_map_or (λ most. most) o 0 ≤ 0) (sym spends) (omega arith)
+rise_paid a b (Some most) m rose spends = subst (λ (o : Option ℕ). (b - a) + option_map_or (λ most. most) o 0 ≤ most) (sym spends.1) (omega (arith, spends.2))
+
+drive_paid : (old new : DriveCounts) → DriveGoesOn old new → told_rise old new + told_left new ≤ told_left old
+drive_paid old new goes = rise_paid old.faults new.faults old.left new.left goes.never_falls goes.spends
+
+pub left_paid : (old new : Counters) → GoesOn old new → told_faults old new + all_left new ≤ all_left old
+left_paid old new goes =
+    let spares = ap (sum_by told_left) goes.spares in
+    omega (arith, drive_paid old.drives.first new.drives.first goes.first, drive_paid old.drives.second new.drives.second goes.second, spares)
+
+-- a drive that goes out takes along what it had left
+pub spare_left : (counters : Counters) (bay : ℕ) (spares : List DriveCounts) → counters.spares ≡ spares → all_left (with_spare counters bay spares) ≤ all_left counters
+spare_left counters bay [] same = omega arith
+spare_left counters bay (next ∷ later) same = by_bay (bay == 0)
+  where
+    all : sum_by told_left counters.spares ≡ told_left next + sum_by told_left later
+    all = ap (sum_by told_left) same ∙ sum_by-cons told_left next later
+
+    by_bay : (is_first : Bool) → all_left (record counters { drives = (if is_first then record counters.drives { first = next } else record counters.drives { second = next }); spares = later }) ≤ all_left counters
+    by_bay true = omega (arith, all)
+    by_bay false = omega (arith, all)

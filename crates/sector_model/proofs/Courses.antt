@@ -1,0 +1,196 @@
+-- What a course's counts come to.
+use Rattle.std.proofs.Common.{arith, ◌≡◌, ℕ, zero, suc, ◌+◌, ◌-◌, ◌<◌, ◌≤◌, Bool, true, false, All, List, [], ◌∷◌, ◌++◌, refl, ap, ◌∙◌, sym, subst, Option, Some, None}
+use Rattle.std.proofs.lemmas.Bool.{true≢false, leb-true, eqb-false}
+use Rattle.std.proofs.lemmas.Bool.Decides.{nat_tests}
+use Rattle.std.specs.Prelude.{◌==◌, if◌then◌else◌, MatchOption}
+use Rattle.flop_base.specs.Counts.{Spends}
+use Rattle.flop_base.specs.Shelf.{Files}
+use Rattle.bay_model.specs.Counters.{DriveCounts, Counters, faults_of, DriveGoesOn, GoesOn, IsUndisturbed}
+use Rattle.floppy_jobs.specs.declared.request.Request.{Request}
+use Rattle.floppy_jobs.specs.declared.request.Request.TheVariants as request
+use Rattle.sector_model.specs.declared.reply.Reply.{Reply}
+use Rattle.sector_model.specs.declared.reply.Reply.TheVariants as reply
+use Rattle.sector_model.specs.declared.reply.Reason.{Reason}
+use Rattle.sector_model.specs.States.{State}
+use Rattle.sector_model.specs.Orders.{is_bay}
+use Rattle.sector_model.specs.Steps.{Step, IsRefused, unless_bad}
+use Rattle.sector_model.specs.Runs.{Taken, Run}
+use Rattle.sector_model.specs.Ties.{with_spare, entered_by, entered, left_by, step_faults, sum_told, all_left, is_exchange_by, is_exchange, came_with, faults_since, IsSpent, HasNothingLeft, AreUndisturbed}
+use Rattle.sector_model.proofs.Counted.{faults_go_on, left_paid, spare_left}
+use Rattle.sector_model.proofs.Ties.{step_goes}
+
+-- ---- What was left of the faults pays for them.
+
+entered_left : (counters : Counters) (asked : Request) (answer : Reply) → all_left (entered_by counters asked answer) ≤ all_left counters
+entered_left counters (request.Unit bay) reply.Done = spare_left counters bay counters.spares refl
+entered_left counters (request.Unit bay) reply.DoneDeleted = omega arith
+entered_left counters (request.Unit bay) (reply.Bytes address content) = omega arith
+entered_left counters (request.Unit bay) (reply.Refused cause) = omega arith
+entered_left counters (request.Insert bay name) answer = omega arith
+entered_left counters (request.Blank bay name cylinders) answer = omega arith
+entered_left counters (request.BlankDd bay name cylinders) answer = omega arith
+entered_left counters (request.Eject bay) answer = omega arith
+entered_left counters (request.Ack bay) answer = omega arith
+entered_left counters (request.Read bay key address) answer = omega arith
+entered_left counters (request.Write bay key address) answer = omega arith
+entered_left counters (request.WriteDeleted bay key address) answer = omega arith
+entered_left counters (request.Format bay c h) answer = omega arith
+entered_left counters (request.Fill address count byte) answer = omega arith
+entered_left counters (request.Dump address count) answer = omega arith
+entered_left counters (request.SetRate bay rate) answer = omega arith
+entered_left counters (request.Tries tries) answer = omega arith
+
+-- and the counts go on after the course
+pub told_paid : (old mid : State) (told after : Option Files) (course : List Taken) (new : Counters) → Run old told course mid after → GoesOn mid.station.counters new → sum_told old.station.counters course + all_left new ≤ all_left old.station.counters
+told_paid old mid told after [] new run goes =
+    let same = ap (λ (s : State). all_left s.station.counters) run.0 in
+    let paid = left_paid mid.station.counters new goes in
+    omega (arith, same, paid)
+told_paid old mid told after (taken ∷ later) new run goes =
+    let enters = entered_left old.station.counters taken.asked taken.answer in
+    let paid = left_paid (entered old.station.counters taken) (left_by taken) (step_goes old taken.after told run.0 taken.asked taken.answer run.1) in
+    let rest = told_paid taken.after mid run.0 after later new run.2 goes in
+    omega (arith, enters, paid, rest)
+
+-- ---- The faults of a bay's drive since it came.
+
+-- a drive is exchanged in a bay alone
+taken_well : {P : Type 0} {Q : Reason → Type 0} (good : Bool) (next : Option Reason) → MatchOption (unless_bad good next) P Q → ((cause : Reason) → Q cause → ⊥) → good ≡ true
+taken_well true next holds none = refl
+taken_well false next holds none = absurd (none _ holds)
+
+not_refused : (old : State) (told : Option Files) (cause : Reason) (new : State) (after : Option Files) → IsRefused old told cause reply.Done new after → ⊥
+not_refused old told cause new after refused = let e = refused.answered in absurd (cc)
+
+done_bay : (old : State) (told after : Option Files) (new : State) (bay : ℕ) → Step old told (request.Unit bay) reply.Done new after → bay ≤ 1
+done_bay old told after new bay step =
+    leb-true bay 1 (taken_well (is_bay bay) _ step (λ cause refused. not_refused old told cause new after refused))
+
+not-first : (bay : ℕ) → (suc bay == 0) ≡ false
+not-first bay = grind (arith, nat_tests)
+
+-- another bay has the drive that it had
+spare_elsewhere : (counters : Counters) (spares : List DriveCounts) (exchanged bay : ℕ) → exchanged ≤ 1 → bay ≤ 1 → (exchanged == bay) ≡ false → faults_of (with_spare counters exchanged spares) bay ≡ faults_of counters bay
+spare_elsewhere counters [] exchanged bay one two apart = refl
+spare_elsewhere counters (next ∷ later) zero zero one two apart = absurd (true≢false apart)
+spare_elsewhere counters (next ∷ later) zero (suc bay) one two apart =
+    subst (λ (b : Bool). (if b then next else counters.drives.second).faults ≡ (if b then counters.drives.first else counters.drives.second).faults) (sym (not-first bay)) refl
+spare_elsewhere counters (next ∷ later) (suc exchanged) zero one two apart =
+    subst (λ (b : Bool). (if b then record counters.drives { first = next } else record counters.drives { second = next }).first.faults ≡ counters.drives.first.faults) (sym (not-first exchanged)) refl
+spare_elsewhere counters (next ∷ later) (suc exchanged) (suc bay) one two apart =
+    let other = eqb-false (suc exchanged) (suc bay) apart in absurd (other (omega arith))
+
+-- a step that exchanges no drive of the bay finds the one that was there
+entered_same : (old : State) (told after : Option Files) (asked : Request) (answer : Reply) (new : State) (bay : ℕ) → Step old told asked answer new after → bay ≤ 1 → is_exchange_by bay asked answer ≡ false → faults_of (entered_by old.station.counters asked answer) bay ≡ faults_of old.station.counters bay
+entered_same old told after (request.Unit exchanged) reply.Done new bay step one apart =
+    spare_elsewhere old.station.counters old.station.counters.spares exchanged bay (done_bay old told after new exchanged step) one apart
+entered_same old told after (request.Unit exchanged) reply.DoneDeleted new bay step one apart = refl
+entered_same old told after (request.Unit exchanged) (reply.Bytes address content) new bay step one apart = refl
+entered_same old told after (request.Unit exchanged) (reply.Refused cause) new bay step one apart = refl
+entered_same old told after (request.Insert at name) answer new bay step one apart = refl
+entered_same old told after (request.Blank at name cylinders) answer new bay step one apart = refl
+entered_same old told after (request.BlankDd at name cylinders) answer new bay step one apart = refl
+entered_same old told after (request.Eject at) answer new bay step one apart = refl
+entered_same old told after (request.Ack at) answer new bay step one apart = refl
+entered_same old told after (request.Read at key address) answer new bay step one apart = refl
+entered_same old told after (request.Write at key address) answer new bay step one apart = refl
+entered_same old told after (request.WriteDeleted at key address) answer new bay step one apart = refl
+entered_same old told after (request.Format at c h) answer new bay step one apart = refl
+entered_same old told after (request.Fill address count byte) answer new bay step one apart = refl
+entered_same old told after (request.Dump address count) answer new bay step one apart = refl
+entered_same old told after (request.SetRate at rate) answer new bay step one apart = refl
+entered_same old told after (request.Tries tries) answer new bay step one apart = refl
+
+module _ (bay : ℕ) (is : bay ≤ 1) (new : Counters) where
+  pub since_came : (old mid : State) (told after : Option Files) (course : List Taken) (count sum : ℕ) → Run old told course mid after → GoesOn mid.station.counters new → count + sum ≤ faults_of old.station.counters bay → came_with bay count old.station.counters course + faults_since bay sum old.station.counters course ≤ faults_of new bay
+  since_came old mid told after [] count sum run goes within =
+      let same = ap (λ (s : State). faults_of s.station.counters bay) run.0 in
+      let rose = faults_go_on mid.station.counters new bay goes in
+      omega (arith, same, rose)
+  since_came old mid told after (taken ∷ later) count sum run goes within = by_test (is_exchange bay taken) refl
+    where
+      came : ℕ
+      came = faults_of (entered old.station.counters taken) bay
+
+      rose : came ≤ faults_of (left_by taken) bay
+      unfolding came
+      rose = faults_go_on (entered old.station.counters taken) (left_by taken) bay (step_goes old taken.after told run.0 taken.asked taken.answer run.1)
+
+      by_test : (test : Bool) → is_exchange bay taken ≡ test → came_with bay (if test then faults_of (entered old.station.counters taken) bay else count) (left_by taken) later + faults_since bay ((if test then 0 else sum) + step_faults bay old.station.counters taken) (left_by taken) later ≤ faults_of new bay
+      unfolding came
+      by_test true exchanged = since_came taken.after mid run.0 after later came (0 + step_faults bay old.station.counters taken) run.2 goes (omega (arith, rose))
+      by_test false stayed =
+          let same = entered_same old told run.0 taken.asked taken.answer taken.after bay run.1 is stayed in
+          since_came taken.after mid run.0 after later count (sum + step_faults bay old.station.counters taken) run.2 goes (omega (arith, rose, same))
+
+-- ---- With nothing left nothing is disturbed.
+
+-- the count of a drive with no faults left stays
+spent_stays : (old new : DriveCounts) → IsSpent old → DriveGoesOn old new → (new.faults ≡ old.faults) × IsSpent new
+spent_stays old new spent goes =
+    let pays = subst (λ (left : Option ℕ). Spends old.faults left new.faults new.left) spent.left goes.spends in
+    let same : new.faults ≡ old.faults = omega (arith, pays.2, goes.never_falls) in
+    let none : pays.0 ≡ 0 = omega (arith, pays.2, goes.never_falls) in
+    (same, record { left = pays.1 ∙ ap (λ (n : ℕ). Some n) none; below = omega (arith, spent.below, same) })
+
+spare_spent : (counters : Counters) (bay : ℕ) (spares : List DriveCounts) → HasNothingLeft counters → All IsSpent spares → HasNothingLeft (with_spare counters bay spares)
+spare_spent counters bay [] none all = none
+spare_spent counters bay (next ∷ later) none all = by_bay (bay == 0)
+  where
+    here : IsSpent next
+    here = all 0 next (omega arith)
+
+    rest : All IsSpent later
+    rest k default within = all (suc k) default (omega arith)
+
+    by_bay : (is_first : Bool) → HasNothingLeft (record counters { drives = (if is_first then record counters.drives { first = next } else record counters.drives { second = next }); spares = later })
+    by_bay true = record { first = here; second = none.second; spares = rest; stalls = none.stalls; stalls_below = none.stalls_below }
+    by_bay false = record { first = none.first; second = here; spares = rest; stalls = none.stalls; stalls_below = none.stalls_below }
+
+entered_spent : (counters : Counters) (asked : Request) (answer : Reply) → HasNothingLeft counters → HasNothingLeft (entered_by counters asked answer)
+entered_spent counters (request.Unit bay) reply.Done none = spare_spent counters bay counters.spares none none.spares
+entered_spent counters (request.Unit bay) reply.DoneDeleted none = none
+entered_spent counters (request.Unit bay) (reply.Bytes address content) none = none
+entered_spent counters (request.Unit bay) (reply.Refused cause) none = none
+entered_spent counters (request.Insert bay name) answer none = none
+entered_spent counters (request.Blank bay name cylinders) answer none = none
+entered_spent counters (request.BlankDd bay name cylinders) answer none = none
+entered_spent counters (request.Eject bay) answer none = none
+entered_spent counters (request.Ack bay) answer none = none
+entered_spent counters (request.Read bay key address) answer none = none
+entered_spent counters (request.Write bay key address) answer none = none
+entered_spent counters (request.WriteDeleted bay key address) answer none = none
+entered_spent counters (request.Format bay c h) answer none = none
+entered_spent counters (request.Fill address count byte) answer none = none
+entered_spent counters (request.Dump address count) answer none = none
+entered_spent counters (request.SetRate bay rate) answer none = none
+entered_spent counters (request.Tries tries) answer none = none
+
+module _ (old new : Counters) (none : HasNothingLeft old) (goes : GoesOn old new) where
+  first_stays = spent_stays old.drives.first new.drives.first none.first goes.first
+  second_stays = spent_stays old.drives.second new.drives.second none.second goes.second
+
+  stalls_stay : new.stalls ≡ old.stalls
+  stalls_stay = omega (arith, none.stalls, goes.stalls, goes.stalls_spent)
+
+  none_after : HasNothingLeft new
+  none_after = record {
+    first = first_stays.1;
+    second = second_stays.1;
+    spares = subst (λ (spares : List DriveCounts). All IsSpent spares) (sym goes.spares) none.spares;
+    stalls = omega (arith, none.stalls, goes.stalls, goes.stalls_spent);
+    stalls_below = omega (arith, none.stalls_below, stalls_stay);
+  }
+
+  undisturbed_first : IsUndisturbed 0 old new
+  undisturbed_first = record { faults = first_stays.1.below; stalls = none_after.stalls_below; together = omega (arith, first_stays.0, stalls_stay) }
+
+  undisturbed_second : IsUndisturbed 1 old new
+  undisturbed_second = record { faults = second_stays.1.below; stalls = none_after.stalls_below; together = omega (arith, second_stays.0, stalls_stay) }
+
+pub all_undisturbed : (old mid : State) (told after : Option Files) (course : List Taken) → Run old told course mid after → HasNothingLeft old.station.counters → AreUndisturbed old.station.counters course
+all_undisturbed old mid told after [] run none = tt
+all_undisturbed old mid told after (taken ∷ later) run none =
+    let enters = entered_spent old.station.counters taken.asked taken.answer none in
+    let goes = step_goes old taken.after told run.0 taken.asked taken.answer run.1 in
+    (undisturbed_first _ _ enters goes, undisturbed_second _ _ enters goes, all_undisturbed taken.after mid run.0 after later run.2 (none_after _ _ enters goes))
