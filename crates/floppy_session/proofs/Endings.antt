@@ -11,8 +11,8 @@ use Rattle.bay_model.specs.Bays.{in_bay}
 use Rattle.sector_model.specs.Stations.{bay_of}
 use Rattle.sector_model.specs.States.{State, IsSame, ChangesMedium}
 use Rattle.sector_model.specs.Steps.{Step, StopsAt, StopCause, StoresMedium, refusal_of, is_loaded}
-use Rattle.sector_model.specs.Runs.{EndsBay, EndStopsAt, AtSecond, IsEndStop}
-use Rattle.floppy_session.proofs.Counts.{goes_on_still}
+use Rattle.sector_model.specs.Runs.{EndsBay, DropsMedium, EndStopsAt, AtSecond, IsEndStop}
+use Rattle.bay_model.proofs.Counted.{goes_on_itself}
 
 -- the step of the request that was asked
 pub step_at : (old new : State) (told : Option Files) (asked named : Request) (answer : Reply) → asked ≡ named → Step old told named answer new told → Step old told asked answer new told
@@ -24,7 +24,7 @@ same_still state = record {
   names = refl;
   stays = refl;
   idle = record { accesses = omega arith; no_commands = refl };
-  counts = goes_on_still state.station.counters;
+  counts = goes_on_itself state.station.counters;
 }
 
 insert_taken : (state : State) (bay : ℕ) (name : List ℕ) → bay ≤ 1 → is_loaded state bay ≡ false → refusal_of state (request.Insert bay name) ≡ None
@@ -45,7 +45,7 @@ stores_out (Ok u) old new told told_after bay disk name medium named changes kep
 stores_out (Err e) old new told told_after bay disk name medium named changes kept = tt
 
 -- the end of bay 1 stops the end of a run, or doesn't
-pub second_stops : (result : Result (Unit {0}) Stop) (old mid new : State) (told told_mid told_after : Option Files) → EndsBay old told 0 mid told_mid → IfErr result IsEndStop → OnErr result (ChangesMedium mid 1 None None new) → OnErr result (told_after ≡ told_mid) → IfErr result (λ stop. IsEndStop stop × EndStopsAt old told new told_after)
+pub second_stops : (result : Result (Unit {0}) Stop) (old mid new : State) (told told_mid told_after : Option Files) → EndsBay old told 0 mid told_mid → IfErr result IsEndStop → OnErr result (DropsMedium mid 1 new) → OnErr result (told_after ≡ told_mid) → IfErr result (λ stop. IsEndStop stop × EndStopsAt old told new told_after)
 second_stops (Ok u) old mid new told told_mid told_after first cause dropped files = tt
 second_stops (Err stop) old mid new told told_mid told_after first cause dropped files =
     (cause, AtSecond mid (subst (λ (t : Option Files). EndsBay old told 0 mid t) (sym files) first) dropped)

@@ -1,4 +1,3 @@
-pub mod Counts
 pub mod Endings
 pub mod Memories
 pub mod Named

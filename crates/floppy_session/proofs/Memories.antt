@@ -8,7 +8,7 @@ use Rattle.bay_model.specs.Counters.{GoesOn}
 use Rattle.sector_model.specs.Calls.{SetsMemory}
 use Rattle.sector_model.specs.States.{State}
 use Rattle.sector_model.specs.Steps.{Fills}
-use Rattle.floppy_session.proofs.Counts.{goes_on_twice, goes_on_still}
+use Rattle.bay_model.proofs.Counted.{goes_on_after, goes_on_itself}
 
 module _ (memory : List ℕ) (address : ℕ) where
   -- no bytes change nothing
@@ -57,7 +57,7 @@ fills_none old address byte = record {
   names = refl;
   becomes = ap (λ (memory : List ℕ). let station : StationState = record old.station { memory = memory } in station) (sym (with_bytes-nil old.station.memory address));
   access = record { accesses = omega arith; no_commands = refl };
-  counts = goes_on_still old.station.counters;
+  counts = goes_on_itself old.station.counters;
 }
 
 -- a byte behind those that were filled
@@ -76,5 +76,5 @@ fills_more old mid new address i byte filled names sets counts size inside =
         accesses = omega (arith, filled.access.accesses, sets.access.accesses);
         no_commands = sets.access.no_commands ∙ filled.access.no_commands;
       };
-      counts = goes_on_twice _ _ _ filled.counts counts;
+      counts = goes_on_after _ _ _ filled.counts counts;
     }

@@ -2,16 +2,14 @@
 ghost use Rattle.std.specs.Prelude.{◌≡◌, ◌≤◌, Option};
 ghost use Rattle.flop_base.specs.Shelf.{Files};
 ghost use Rattle.sector_model.specs.Stations.{bay_of};
-ghost use Rattle.flop_base.specs.Standard.{gap_at as standard_gap_of};
+ghost use Rattle.flop_base.specs.Standard.{gap_at};
 ghost use Rattle.sector_model.specs.Steps.{Step, reply_of, read_reply};
 
 use crate::session::Session;
+use flop_base::standard::FILL;
 use flop_base::{Chrn, Code, Rate};
 use floppy_jobs::Request;
 use sector_model::{Reason, Reply, Station};
-
-/// The fill byte of the standard format.
-const FILL: u8 = 0xF6;
 
 impl<D: Station> Session<D> {
     ghost use Rattle.floppy_session.specs.Session.{state_of, IsRunning};
@@ -69,12 +67,10 @@ impl<D: Station> Session<D> {
 
     /// The gap 3 of the standard format at the rate of the bay.
     fn standard_gap(&self, bay: u8) -> u8
-        ensures { result ≡ standard_gap_of (bay_of (state_of D.shown self.now).station bay).rate }
+        requires { IsRunning D.shown D.is_ready self.now }
+        ensures { result ≡ gap_at (bay_of (state_of D.shown self.now).station bay).rate }
     {
-        match self.station.rate(bay.min(1)) {
-            Rate::R500 => 0x6C,
-            Rate::R250 => 0x50,
-        }
+        self.station.rate(bay.min(1)).format_gap()
     }
 
     /// Sets the data rate of the bay.

@@ -5,7 +5,7 @@ ghost use Rattle.flop_base.specs.Shelf.{Files};
 ghost use Rattle.bay_model.specs.Bays.{in_bay, with_bay};
 ghost use Rattle.sector_model.specs.States.{ChangesMedium};
 ghost use Rattle.sector_model.specs.Steps.{Step, StopsAt, StoresMedium, is_loaded, is_blank_request as is_blank_request_of, blank_of};
-ghost use Rattle.sector_model.specs.Runs.{EndsBay, IsEndStop};
+ghost use Rattle.sector_model.specs.Runs.{EndsBay, DropsMedium, IsEndStop};
 ghost use Rattle.floppy_session.specs.Blanks.{blank_request};
 
 use crate::loading::{load_medium, store_medium};
@@ -168,8 +168,7 @@ impl<D: Station> Session<D> {
         ensures ok { OnOk result (EndsBay (state_of D.shown self.old) (S.told shelf.old) bay
             (state_of D.shown self.new) (S.told shelf.new)) }
         ensures cause { IfErr result IsEndStop }
-        ensures dropped { OnErr result (ChangesMedium (state_of D.shown self.old) bay None None
-            (state_of D.shown self.new)) }
+        ensures dropped { OnErr result (DropsMedium (state_of D.shown self.old) bay (state_of D.shown self.new)) }
         ensures err { OnErr result (S.told shelf.new ≡ S.told shelf.old) }
         ensures running { IsRunning D.shown D.is_ready self.new }
         ensures fault { IsErrOf result Stop.FileFault
@@ -217,9 +216,5 @@ fn blank_medium(alloc: Global, cylinders: u8, rate: Rate) -> Result<Medium, NoMe
     requires most { cylinders ≤ 80 }
     ensures { IfOk result (λ medium. medium ≡ blank_of cylinders rate) }
 {
-    let words = match rate {
-        Rate::R500 => 12_500,
-        Rate::R250 => 6_250,
-    };
-    Medium::blank_at(alloc, cylinders, 2, words, rate)
+    Medium::blank_at(alloc, cylinders, 2, rate.words(), rate)
 }

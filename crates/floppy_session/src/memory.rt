@@ -1,16 +1,14 @@
 // The requests on user memory.
 ghost use Rattle.std.specs.Prelude.{◌≡◌, ◌+◌, ◌≤◌, Option, IfOk, IfErr, IsOkUnless, nat_le};
 ghost use Rattle.flop_base.specs.Shelf.{Files};
-ghost use Rattle.bay_model.specs.Memory.{bytes_from};
+ghost use Rattle.bay_model.specs.Memory.{user_bytes, bytes_from};
 ghost use Rattle.sector_model.specs.Steps.{Step, StopsAt, Fills};
 
 use crate::session::{Session, bad_request};
+use bay_model::USER_BYTES;
 use flop_base::{Bytes, NoMemory};
 use floppy_jobs::Request;
 use sector_model::{Reply, Station, Stop};
-
-/// The bytes of user memory.
-const USER_BYTES: u32 = 983_040;
 
 impl<D: Station> Session<D> {
     ghost use Rattle.floppy_session.specs.Session.{state_of, IsRunning};
@@ -32,7 +30,7 @@ impl<D: Station> Session<D> {
     /// Sets the bytes of a range of user memory.
     fn fill_range(&mut self, address: u32, length: u32, byte: u8)
         requires ready { D.is_ready self.old.station }
-        requires range { address + length ≤ 983040 }
+        requires range { address + length ≤ user_bytes }
         ensures fills { Fills (state_of D.shown self.old) address length byte (state_of D.shown self.new) }
         ensures ready { D.is_ready self.new.station }
     {
@@ -58,7 +56,7 @@ impl<D: Station> Session<D> {
 
     /// The bytes of a range of user memory.
     fn bytes_from(&self, address: u32, length: u32) -> Result<Bytes, NoMemory>
-        requires { address + length ≤ 983040 }
+        requires { address + length ≤ user_bytes }
         ensures { IfOk result (λ content. content ≡ bytes_from (state_of D.shown self.now).station.memory address length) }
     {
         let mut content = Vec::with_capacity(self.alloc, length as usize)?;
@@ -71,7 +69,7 @@ impl<D: Station> Session<D> {
 
 /// Whether so many bytes from the address on lie in user memory.
 fn is_range(address: u32, length: u32) -> bool
-    ensures { result ≡ nat_le (address + length) 983040 }
+    ensures { result ≡ nat_le (address + length) user_bytes }
 {
     length <= USER_BYTES && address <= USER_BYTES - length
 }

@@ -13,8 +13,8 @@ use Rattle.sector_model.specs.declared.reply.Stop.{Stop}
 use Rattle.sector_model.specs.States.{State}
 use Rattle.sector_model.specs.Steps.{Step, StopsAt}
 use Rattle.sector_model.specs.Texts.{reply_text, stop_text, stop_status, is_refusal, absent_text, bad_line_text}
-use Rattle.sector_model.specs.Runs.{Run, Ends, EndStopsAt, IsEndStop}
-use Rattle.sector_model.specs.Plays.{World, Prints, IsPutFault, IsIdle, PlaysParsed, whole_status}
+use Rattle.sector_model.specs.Runs.{Taken, Run, requests_of, course_text, has_refusal, Ends, EndStopsAt, IsEndStop}
+use Rattle.sector_model.specs.Plays.{World, Prints, IsPutFault, IsIdle, PlaysRequests, PlaysParsed, whole_status}
 
 -- all that a play may change
 abbrev pub world : State → Option Files → Option (List ℕ) → World
@@ -36,9 +36,15 @@ pub data Breaks (old : World) (asked : Request) (new : World) (ended : Status) :
 
 -- some requests were run and told whole
 pub record HasRun (old : World) (requests : List Request) (refused : Bool) (new : World) : Type 0 where
-  pub text : List ℕ
-  pub run : Run old.state old.files requests text refused new.state new.files
-  pub report : new.report ≡ grown old.report text
+  pub course : List Taken
+  pub run : Run old.state old.files course new.state new.files
+  pub all : requests ≡ requests_of course
+  pub report : new.report ≡ grown old.report (course_text course)
+  pub is_refused : refused ≡ has_refusal course
+
+-- requests of a job are played, by some course
+abbrev pub HasPlayed : World → List Request → World → Status → Type 0
+HasPlayed old requests new ended = (course : List Taken) × PlaysRequests old requests course new ended
 
 -- the end of a run: what was left in was stored, or a stop came at a store
 pub data EndsAs (old : State) (files : Option Files) (refused : Bool) (new : State) (after : Option Files) (ended : Status) : Type 0 where
@@ -48,7 +54,7 @@ pub data EndsAs (old : State) (files : Option Files) (refused : Bool) (new : Sta
 
 -- a text is played as it is parsed, or memory for that couldn't be had
 pub data PlaysOrStarves (old : World) (text : List ℕ) (new : World) (ended : Status) : Type 0 where
-  AsParsed : PlaysParsed old (job_of text) new ended → PlaysOrStarves old text new ended
+  AsParsed : (course : List Taken) → PlaysParsed old (job_of text) course new ended → PlaysOrStarves old text new ended
   Starving : IsIdle old new status.NoMemory ended → PlaysOrStarves old text new ended
 
 -- why a job's text wasn't had, and what was printed of it

@@ -1,11 +1,12 @@
 // The form `play JOB`: a job is read and run to its end, or up to what stops it.
-ghost use Rattle.std.specs.Prelude.{◌≡◌, ◌≢◌, ◌≤◌, ◌||◌, All, IfOk, IfErr, IsErrOf, Err};
+ghost use Rattle.std.specs.Prelude.{◌≡◌, ◌≢◌, ◌≤◌, ◌||◌, All, List, IfOk, IfErr, IsErrOf, Err};
 ghost use Rattle.flop_base.specs.Counts.{Rose};
 ghost use Rattle.sector_model.specs.Texts.{is_refusal};
-ghost use Rattle.sector_model.specs.Plays.{PlaysRequests, Plays, whole_status};
+ghost use Rattle.sector_model.specs.Runs.{Taken};
+ghost use Rattle.sector_model.specs.Plays.{Plays, whole_status};
 ghost use Rattle.floppy_session.specs.Session.{state_of, IsRunning};
 ghost use Rattle.floppy_session.specs.Tries.{HasTries};
-ghost use Rattle.floppy_tools.specs.Turns.{world, IsTurn, Breaks, HasRun, EndsAs, PlaysOrStarves, Misses};
+ghost use Rattle.floppy_tools.specs.Turns.{world, IsTurn, Breaks, HasRun, HasPlayed, EndsAs, PlaysOrStarves, Misses};
 
 use crate::report::{put_last, put_last_absent, put_last_bad_line, put_reply, stop_status};
 use flop_base::{LoadError, Shelf, Sink, Status};
@@ -80,7 +81,7 @@ fn run_requests<S: Shelf, K: Sink, D: Station>(
     ensures run { IfOk result (λ refused. HasRun
         (world (state_of D.shown session.old) (S.told shelf.old) (K.told out.old)) requests.now refused
         (world (state_of D.shown session.new) (S.told shelf.new) (K.told out.new))) }
-    ensures plays { IfErr result (λ ended. PlaysRequests
+    ensures plays { IfErr result (λ ended. HasPlayed
         (world (state_of D.shown session.old) (S.told shelf.old) (K.told out.old)) requests.now
         (world (state_of D.shown session.new) (S.told shelf.new) (K.told out.new)) ended) }
     ensures running { IsRunning D.shown D.is_ready session.new }
@@ -140,7 +141,7 @@ fn play_requests<S: Shelf, K: Sink, D: Station>(
 ) -> Status
     requires running { IsRunning D.shown D.is_ready session.old }
     requires tries { All HasTries requests.now }
-    ensures plays { PlaysRequests
+    ensures plays { HasPlayed
         (world (state_of D.shown session.old) (S.told shelf.old) (K.told out.old)) requests.now
         (world (state_of D.shown session.new) (S.told shelf.new) (K.told out.new)) result }
     ensures running { IsRunning D.shown D.is_ready session.new }
@@ -209,8 +210,8 @@ pub(crate) fn play<S: Shelf, K: Sink, D: Station>(
     out: &mut K,
 ) -> Status
     requires running { IsRunning D.shown D.is_ready session.old }
-    ensures plays { Plays
-        (world (state_of D.shown session.old) (S.told shelf.old) (K.told out.old)) job.now
+    ensures plays { (course : List Taken) × Plays
+        (world (state_of D.shown session.old) (S.told shelf.old) (K.told out.old)) job.now course
         (world (state_of D.shown session.new) (S.told shelf.new) (K.told out.new)) result }
     ensures running { IsRunning D.shown D.is_ready session.new }
     ensures is_form { result ≢ Status.BadWords }

