@@ -51,7 +51,7 @@ exchange_goes old new bay takes commands =
 -- ---- What is left pays for the faults.
 
 rise_paid : (a b : ℕ) (l m : Option ℕ) → a ≤ b → Spends a l b m → option_map_or (λ most. b - a) l 0 + option_map_or (λ most. most) m 0 ≤ option_map_or (λ most. most) l 0
-rise_paid a b None m rose spends = subst (λ (o : Option ℕ). option_map_or (λ most. b - a) (None {A = ℕ}) 0 + option_map_or (λ most. most) o 0 ≤ 0) (sym spends) (omega arith)
+rise_paid a b None m rose spends = subst (λ (o : Option ℕ). 0 + option_map_or (λ most. most) o 0 ≤ 0) (sym spends) (omega arith)
 rise_paid a b (Some most) m rose spends = subst (λ (o : Option ℕ). (b - a) + option_map_or (λ most. most) o 0 ≤ most) (sym spends.1) (omega (arith, spends.2))
 
 drive_paid : (old new : DriveCounts) → DriveGoesOn old new → told_rise old new + told_left new ≤ told_left old

@@ -9,7 +9,9 @@ use Rattle.floppy_jobs.specs.declared.request.Request.{Request}
 use Rattle.floppy_jobs.specs.declared.request.Request.TheVariants as request
 use Rattle.sector_model.specs.declared.reply.Reply.{Reply}
 use Rattle.sector_model.specs.declared.reply.Reply.TheVariants as reply
+use Rattle.flop_base.specs.declared.answers.Code.TheVariants.{BadRequest}
 use Rattle.sector_model.specs.declared.reply.Reason.{Reason}
+use Rattle.sector_model.specs.declared.reply.Reason.TheVariants as reason
 use Rattle.sector_model.specs.States.{State}
 use Rattle.sector_model.specs.Orders.{is_bay}
 use Rattle.sector_model.specs.Steps.{Step, IsRefused, unless_bad}
@@ -55,16 +57,16 @@ told_paid old mid told after (taken ∷ later) new run goes =
 -- ---- The faults of a bay's drive since it came.
 
 -- a drive is exchanged in a bay alone
-taken_well : {P : Type 0} {Q : Reason → Type 0} (good : Bool) (next : Option Reason) → MatchOption (unless_bad good next) P Q → ((cause : Reason) → Q cause → ⊥) → good ≡ true
-taken_well true next holds none = refl
-taken_well false next holds none = absurd (none _ holds)
+taken_well : (P : Type 0) (Q : Reason → Type 0) (good : Bool) (next : Option Reason) → MatchOption (unless_bad good next) P Q → ((cause : Reason) → Q cause → ⊥) → good ≡ true
+taken_well P Q true next holds none = refl
+taken_well P Q false next holds none = absurd (none (reason.Driver BadRequest) holds)
 
 not_refused : (old : State) (told : Option Files) (cause : Reason) (new : State) (after : Option Files) → IsRefused old told cause reply.Done new after → ⊥
 not_refused old told cause new after refused = let e = refused.answered in absurd (cc)
 
 done_bay : (old : State) (told after : Option Files) (new : State) (bay : ℕ) → Step old told (request.Unit bay) reply.Done new after → bay ≤ 1
 done_bay old told after new bay step =
-    leb-true bay 1 (taken_well (is_bay bay) _ step (λ cause refused. not_refused old told cause new after refused))
+    leb-true bay 1 (taken_well _ _ (is_bay bay) _ step (λ cause refused. not_refused old told cause new after refused))
 
 -- another bay has the drive that it had
 spare_elsewhere : (counters : Counters) (spares : List DriveCounts) (exchanged bay : ℕ) → exchanged ≤ 1 → bay ≤ 1 → (exchanged == bay) ≡ false → faults_of (with_spare counters exchanged spares) bay ≡ faults_of counters bay
@@ -98,27 +100,28 @@ entered_same old told after (request.Dump address count) answer new bay step one
 entered_same old told after (request.SetRate at rate) answer new bay step one apart = refl
 entered_same old told after (request.Tries tries) answer new bay step one apart = refl
 
-module _ (bay : ℕ) (is : bay ≤ 1) (new : Counters) where
-  pub since_came : (old mid : State) (told after : Option Files) (course : List Taken) (count sum : ℕ) → Run old told course mid after → GoesOn mid.station.counters new → count + sum ≤ faults_of old.station.counters bay → came_with bay count old.station.counters course + faults_since bay sum old.station.counters course ≤ faults_of new bay
-  since_came old mid told after [] count sum run goes within =
-      let same = ap (λ (s : State). faults_of s.station.counters bay) run.0 in
-      let rose = faults_go_on mid.station.counters new bay goes in
-      omega (arith, same, rose)
-  since_came old mid told after (taken ∷ later) count sum run goes within = by_test (is_exchange bay taken) refl
-    where
-      came : ℕ
-      came = faults_of (entered old.station.counters taken) bay
+-- one step more, before steps of which it holds
+module _ (bay : ℕ) (is : bay ≤ 1) (old : State) (told mid_told : Option Files) (taken : Taken) (later : List Taken) (new : Counters) (count sum : ℕ) (step : Step old told taken.asked taken.answer taken.after mid_told) (within : count + sum ≤ faults_of old.station.counters bay) where
+  rose_in : faults_of (entered old.station.counters taken) bay ≤ faults_of (left_by taken) bay
+  rose_in = faults_go_on (entered old.station.counters taken) (left_by taken) bay (step_goes old taken.after told mid_told taken.asked taken.answer step)
 
-      rose : came ≤ faults_of (left_by taken) bay
-      unfolding came
-      rose = faults_go_on (entered old.station.counters taken) (left_by taken) bay (step_goes old taken.after told run.0 taken.asked taken.answer run.1)
+  since_step : (test : Bool) → is_exchange bay taken ≡ test → ((came risen : ℕ) → came + risen ≤ faults_of (left_by taken) bay → came_with bay came (left_by taken) later + faults_since bay risen (left_by taken) later ≤ faults_of new bay) → came_with bay (if test then faults_of (entered old.station.counters taken) bay else count) (left_by taken) later + faults_since bay ((if test then 0 else sum) + step_faults bay old.station.counters taken) (left_by taken) later ≤ faults_of new bay
+  since_step true exchanged next =
+      let rose = rose_in in
+      next (faults_of (entered old.station.counters taken) bay) (0 + step_faults bay old.station.counters taken) (omega (arith, rose))
+  since_step false stayed next =
+      let rose = rose_in in
+      let same = entered_same old told mid_told taken.asked taken.answer taken.after bay step is stayed in
+      next count (sum + step_faults bay old.station.counters taken) (omega (arith, rose, same))
 
-      by_test : (test : Bool) → is_exchange bay taken ≡ test → came_with bay (if test then faults_of (entered old.station.counters taken) bay else count) (left_by taken) later + faults_since bay ((if test then 0 else sum) + step_faults bay old.station.counters taken) (left_by taken) later ≤ faults_of new bay
-      unfolding came
-      by_test true exchanged = since_came taken.after mid run.0 after later came (0 + step_faults bay old.station.counters taken) run.2 goes (omega (arith, rose))
-      by_test false stayed =
-          let same = entered_same old told run.0 taken.asked taken.answer taken.after bay run.1 is stayed in
-          since_came taken.after mid run.0 after later count (sum + step_faults bay old.station.counters taken) run.2 goes (omega (arith, rose, same))
+pub since_came : (bay : ℕ) → bay ≤ 1 → (new : Counters) (old mid : State) (told after : Option Files) (course : List Taken) (count sum : ℕ) → Run old told course mid after → GoesOn mid.station.counters new → count + sum ≤ faults_of old.station.counters bay → came_with bay count old.station.counters course + faults_since bay sum old.station.counters course ≤ faults_of new bay
+since_came bay is new old mid told after [] count sum run goes within =
+    let same = ap (λ (s : State). faults_of s.station.counters bay) run.0 in
+    let rose = faults_go_on mid.station.counters new bay goes in
+    omega (arith, same, rose)
+since_came bay is new old mid told after (taken ∷ later) count sum run goes within =
+    since_step bay is old told run.0 taken later new count sum run.1 within (is_exchange bay taken) refl
+    (λ came risen fits. since_came bay is new taken.after mid run.0 after later came risen run.2 goes fits)
 
 -- ---- With nothing left nothing is disturbed.
 
@@ -164,7 +167,9 @@ entered_spent counters (request.SetRate bay rate) answer none = none
 entered_spent counters (request.Tries tries) answer none = none
 
 module _ (old new : Counters) (none : HasNothingLeft old) (goes : GoesOn old new) where
+  first_stays : (new.drives.first.faults ≡ old.drives.first.faults) × IsSpent new.drives.first
   first_stays = spent_stays old.drives.first new.drives.first none.first goes.first
+  second_stays : (new.drives.second.faults ≡ old.drives.second.faults) × IsSpent new.drives.second
   second_stays = spent_stays old.drives.second new.drives.second none.second goes.second
 
   stalls_stay : new.stalls ≡ old.stalls
@@ -172,18 +177,18 @@ module _ (old new : Counters) (none : HasNothingLeft old) (goes : GoesOn old new
 
   none_after : HasNothingLeft new
   none_after = record {
-    first = first_stays.1;
-    second = second_stays.1;
+    first = (let stays = first_stays in stays.1);
+    second = (let stays = second_stays in stays.1);
     spares = subst (λ (spares : List DriveCounts). All IsSpent spares) (sym goes.spares) none.spares;
     stalls = omega (arith, none.stalls, goes.stalls, goes.stalls_spent);
     stalls_below = omega (arith, none.stalls_below, stalls_stay);
   }
 
   undisturbed_first : IsUndisturbed 0 old new
-  undisturbed_first = record { faults = first_stays.1.below; stalls = none_after.stalls_below; together = omega (arith, first_stays.0, stalls_stay) }
+  undisturbed_first = let same = first_stays in let none = none_after in record { faults = none.first.below; stalls = none.stalls_below; together = omega (arith, same.0, stalls_stay) }
 
   undisturbed_second : IsUndisturbed 1 old new
-  undisturbed_second = record { faults = second_stays.1.below; stalls = none_after.stalls_below; together = omega (arith, second_stays.0, stalls_stay) }
+  undisturbed_second = let same = second_stays in let none = none_after in record { faults = none.second.below; stalls = none.stalls_below; together = omega (arith, same.0, stalls_stay) }
 
 pub all_undisturbed : (old mid : State) (told after : Option Files) (course : List Taken) → Run old told course mid after → HasNothingLeft old.station.counters → AreUndisturbed old.station.counters course
 all_undisturbed old mid told after [] run none = tt

@@ -21,7 +21,7 @@ abbrev counters_of : World → Counters
 counters_of world = world.state.station.counters
 
 -- what a play of some requests with a course does to counters
-record PlayTied (old : Counters) (requests : List Request) (course : List Taken) (new : Counters) : Type 0 where
+pub record PlayTied (old : Counters) (requests : List Request) (course : List Taken) (new : Counters) : Type 0 where
   pub ties : TiesCounts old course new
   pub accesses : new.direct ≤ old.direct + accesses_of_job requests
 
