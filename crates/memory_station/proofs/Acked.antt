@@ -6,7 +6,7 @@ use Rattle.flop_base.specs.declared.answers.Rate.TheVariants.{R500, R250}
 use Rattle.flop_base.specs.declared.answers.Code.TheVariants.{NotReady}
 use Rattle.raw_image.specs.Disk.{Disk, track_of}
 use Rattle.track_model.specs.Fields.{IsAddress}
-use Rattle.bay_model.specs.Bays.{in_bay}
+use Rattle.bay_model.specs.Counters.{faults_of}
 use Rattle.sector_model.specs.Stations.{StationState, Bay, bay_of, fresh_bay}
 use Rattle.sector_model.specs.Calls.{AcksDrive, HasNoStart}
 use Rattle.memory_station.specs.Driven.{Drives}
@@ -21,7 +21,7 @@ acked n old new before disk rate commands is few found none double drives = reco
     disk = disk;
     rate = rate;
     medium = ap (λ (b : Bay). b.medium) drives.was ∙ is;
-    becomes = becomes_bay n before (acked_bay before.medium 0 rate) (acked_bay (Some disk) (in_bay new.counters.faults n) rate) commands old new drives
+    becomes = becomes_bay n before (acked_bay before.medium 0 rate) (acked_bay (Some disk) (faults_of new.counters n) rate) commands old new drives
         (ap (λ m. acked_bay m 0 rate) is ∙ ap (λ f. acked_bay (Some disk) f rate) (sym drives.no_faults));
     double = double;
     told = λ less start. found start.0 start.2;

@@ -8,7 +8,7 @@ use Rattle.flop_base.specs.declared.answers.Rate.TheVariants.{R500, R250}
 use Rattle.raw_image.specs.Disk.{Disk, IsDisk, HasTrack, track_of}
 use Rattle.track_model.specs.Looks.{HasAddressMark}
 use Rattle.bay_model.specs.Memory.{zeroes}
-use Rattle.sector_map.specs.Met.{same_rate, met_on}
+use Rattle.sector_map.specs.Met.{unrecorded, same_rate, met_on}
 use Rattle.sector_model.specs.Stations.{Bay, met}
 use Rattle.memory_station.specs.Shown.{IsRecorded}
 
@@ -20,8 +20,8 @@ zero_at n k =
     ]
 
 -- words 0000 hold no address mark
-pub no_mark_in_zeroes : (n : ℕ) → HasAddressMark (zeroes n) → ⊥
-unfolding zeroes
+pub no_mark_in_zeroes : (n : ℕ) → HasAddressMark (unrecorded n) → ⊥
+unfolding unrecorded
 no_mark_in_zeroes n mark = mark.1.sound.no_zero mark.0 (omega arith) (omega arith) (zero_at n _)
 
 rates_same : (a b : Rate) → same_rate a b ≡ true → a ≡ b
@@ -37,17 +37,17 @@ same_itself R250 = refl
 -- nothing is met where no medium is in
 pub none_met : (bay : Bay) (c h : ℕ) → bay.medium ≡ None → HasAddressMark (met bay c h) → ⊥
 none_met bay c h none mark =
-    let Marked : Option Disk → Type 0 = λ m. HasAddressMark (option_map_or (λ disk. met_on disk bay.rate c h) m (zeroes 64)) in
+    let Marked : Option Disk → Type 0 = λ m. HasAddressMark (option_map_or (λ disk. met_on disk bay.rate c h) m (unrecorded 64)) in
     no_mark_in_zeroes 64 (subst Marked none mark)
 
 module _ (bay : Bay) (disk : Disk) (c h : ℕ) (is : bay.medium ≡ Some disk) where
   met_is_on : met bay c h ≡ met_on disk bay.rate c h
-  met_is_on = ap (λ (m : Option Disk). option_map_or (λ d. met_on d bay.rate c h) m (zeroes 64)) is
+  met_is_on = ap (λ (m : Option Disk). option_map_or (λ d. met_on d bay.rate c h) m (unrecorded 64)) is
 
   -- or where it has no such track, or another rate
   pub off_met : (HasTrack disk c h → disk.rate ≡ bay.rate → ⊥) → HasAddressMark (met bay c h) → ⊥
   off_met not mark =
-      cond_both (nat_lt c disk.cylinders && nat_lt h disk.heads && same_rate disk.rate bay.rate) (track_of disk c h) (zeroes disk.words_per_track) (λ track. HasAddressMark track → ⊥)
+      cond_both (nat_lt c disk.cylinders && nat_lt h disk.heads && same_rate disk.rate bay.rate) (track_of disk c h) (unrecorded disk.words_per_track) (λ track. HasAddressMark track → ⊥)
       (λ t.
       let rate = and_parts (nat_lt c disk.cylinders && nat_lt h disk.heads) (same_rate disk.rate bay.rate) t in
       let place = and_parts (nat_lt c disk.cylinders) (nat_lt h disk.heads) rate.0 in
@@ -58,7 +58,7 @@ module _ (bay : Bay) (disk : Disk) (c h : ℕ) (is : bay.medium ≡ Some disk) w
   pub met_there : HasTrack disk c h → disk.rate ≡ bay.rate → met bay c h ≡ track_of disk c h
   met_there has same =
       met_is_on
-      ∙ cond-true (nat_lt c disk.cylinders && nat_lt h disk.heads && same_rate disk.rate bay.rate) (track_of disk c h) (zeroes disk.words_per_track)
+      ∙ cond-true (nat_lt c disk.cylinders && nat_lt h disk.heads && same_rate disk.rate bay.rate) (track_of disk c h) (unrecorded disk.words_per_track)
       (and_from (nat_lt c disk.cylinders && nat_lt h disk.heads) (same_rate disk.rate bay.rate)
       (and_from (nat_lt c disk.cylinders) (nat_lt h disk.heads) (lt-ltb c disk.cylinders has.0) (lt-ltb h disk.heads has.1))
       (subst (λ r. same_rate disk.rate r ≡ true) same (same_itself disk.rate)))

@@ -1,13 +1,14 @@
 -- A station before the first request.
-use Rattle.std.proofs.Common.{◌≡◌, ℕ, ap, List, length, replicate, Some, None, ◌∙◌}
-use Rattle.std.proofs.lemmas.List.{length-replicate}
+use Rattle.std.proofs.Common.{◌≡◌, ℕ, ap, All, List, length, replicate, Some, None, ◌∙◌, sym, subst, lit<, arith}
+use Rattle.std.proofs.lemmas.List.{length-replicate, get_or-replicate}
 use Rattle.bay_model.specs.Bays.{Two, both}
 use Rattle.sector_model.specs.Stations as model
+use Rattle.bay_model.specs.Counters.{DriveTells}
 use Rattle.bay_model.specs.Memory.{zeroes}
 use Rattle.sector_model.specs.Stations.{fresh_bay}
 use Rattle.memory_station.specs.declared.bay.Bay.{Bay}
 use Rattle.memory_station.specs.Shown.{bay_shown, bays_shown}
-use Rattle.memory_station.specs.Counted.{quiet}
+use Rattle.memory_station.specs.Counted.{faultless, quiet}
 
 pub zeroed : (bytes : List ℕ) (count : ℕ) → bytes ≡ replicate count 0 → bytes ≡ zeroes count
 unfolding zeroes
@@ -19,7 +20,12 @@ length-zeroes count = length-replicate count 0
 
 pub length-quiet : (spares : ℕ) → length (quiet spares) ≡ spares
 unfolding quiet
-length-quiet spares = length-replicate spares (Some 0)
+length-quiet spares = length-replicate spares faultless
+
+-- each of them tells that none is left
+pub quiet_tells : (spares : ℕ) → All DriveTells (quiet spares)
+unfolding quiet
+quiet_tells spares k default within = subst DriveTells (sym (get_or-replicate spares k faultless default (omega (arith, length-replicate spares faultless)))) (lit< tt)
 
 -- a bay and a bay
 abbrev two_of : model.Bay → model.Bay → Two model.Bay

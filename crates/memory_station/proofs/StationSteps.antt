@@ -4,15 +4,15 @@ use Rattle.std.proofs.lemmas.Bool.{false≢true, le-leb}
 use Rattle.raw_image.specs.Disk.{Disk}
 use Rattle.flop_base.specs.declared.answers.Code.{Code}
 use Rattle.bay_model.specs.Bays.{Two, both, in_bay, with_bay}
-use Rattle.bay_model.specs.Counters.{Counters, IsPastDriver}
-use Rattle.flop_base.specs.Counts.{last_count}
+use Rattle.bay_model.specs.Counters.{DriveCounts, Counters, IsPastDriver}
+use Rattle.bay_model.proofs.Counted.{drive_same}
 use Rattle.bay_model.specs.Memory.{bytes_from}
 use Rattle.sector_model.specs.Stations.{StationState, Bay, fresh_bay}
 use Rattle.flop_base.specs.declared.answers.Code.TheVariants.{BadRequest}
 use Rattle.sector_model.specs.Orders.{IsRefusedAtOnce}
 use Rattle.sector_model.specs.Calls.{AcksDrive, Acks, IsUnmoved, Exchanges, Ejects, IsExchanged}
 use Rattle.memory_station.specs.declared.counts.Counts.{Counts}
-use Rattle.memory_station.specs.Counted.{quiet, counters_of, HasSent}
+use Rattle.memory_station.specs.Counted.{faultless, quiet, counters_of, HasSent}
 use Rattle.memory_station.specs.Driven.{Drives}
 
 -- ---- bays
@@ -74,27 +74,24 @@ module _ (bays : Two Bay) (memory : List ℕ) (spares tries n : ℕ) (old new : 
     unmoved = λ none. absurd (false≢true (sym (ap is_some none) ∙ ap is_some is ∙ some));
   }
 
-quiet_more : (spares : ℕ) → 1 ≤ spares → quiet spares ≡ Some 0 ∷ quiet (spares - 1)
+quiet_more : (spares : ℕ) → 1 ≤ spares → quiet spares ≡ faultless ∷ quiet (spares - 1)
 unfolding quiet
 quiet_more zero some = absurd (omega arith)
 quiet_more (suc spares) some =
     let back : spares ≡ suc spares - 1 = omega arith in
-    ap (λ k. Some 0 ∷ replicate k (Some 0)) back
+    ap (λ k. faultless ∷ replicate k faultless) back
 
-few : (zero_faults n : ℕ) → zero_faults ≡ 0 → in_bay (both zero_faults) n + 0 < last_count
-few none n is = let same : in_bay (both none) n ≡ none = in_both none n in omega (arith, same, is)
-
-pub spare_taken : (bays after : Two Bay) (memory : List ℕ) (spares tries n : ℕ) (counts next : Counts) (value : Bay) → 1 ≤ spares → after ≡ with_bay bays n value → value ≡ fresh_bay None → next.taken ≡ counts.taken → ((k : ℕ) → IsPastDriver 1 (counters_of k counts) (counters_of k next)) → IsExchanged (station bays memory spares tries (counters_of spares counts)) n (station after memory (spares - 1) tries (counters_of (spares - 1) next))
-spare_taken bays after memory spares tries n counts next value some is fresh taken access = record {
+pub spare_taken : (bays after : Two Bay) (memory : List ℕ) (spares tries n : ℕ) (counts next : Counts) (value : Bay) → 1 ≤ spares → after ≡ with_bay bays n value → value ≡ fresh_bay None → next.taken ≡ counts.taken → counts.direct ≤ next.direct → ((k : ℕ) → IsPastDriver 1 (counters_of k counts) (counters_of k next)) → IsExchanged (station bays memory spares tries (counters_of spares counts)) n (station after memory (spares - 1) tries (counters_of (spares - 1) next))
+spare_taken bays after memory spares tries n counts next value some is fresh taken direct access = record {
   becomes = ap (λ b. station b memory (spares - 1) tries (counters_of (spares - 1) next)) (is ∙ ap (with_bay bays n) fresh);
   some = some;
   counts = record {
     other = refl;
-    other_left = refl;
-    spares = (Some 0, quiet_more spares some, (0, in_both (Some 0) n, omega arith, few 0 n refl));
+    spare = (faultless, quiet_more spares some, drive_same faultless (in_bay (both faultless) n) (in_both faultless n));
     stalls = refl;
     stalls_left = refl;
     taken = taken;
+    direct = direct;
   };
   access = let more = access spares in record { accesses = more.accesses; no_commands = more.no_commands };
 }
@@ -108,7 +105,7 @@ drives_station bays taken done memory spares tries n commands counts next slot f
       is = ap (λ b. in_bay b n) all ∙ in_with bays n final;
       becomes = ap (λ b. station b memory spares tries (counters_of spares next)) all;
       some_tries = some;
-      no_faults = in_both 0 n;
+      no_faults = ap (λ (d : DriveCounts). d.faults) (in_both faultless n);
       sent = sent;
     }
 

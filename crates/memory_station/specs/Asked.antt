@@ -1,6 +1,7 @@
 -- What holds of a request that reaches a drive.
 use Rattle.std.specs.Prelude.{ℕ, ◌+◌, ◌≤◌}
 use Rattle.flop_base.specs.declared.key.Chrn.{Chrn}
+use Rattle.bay_model.specs.Memory.{user_bytes}
 use Rattle.track_model.specs.Fields.{IsSizeCode, content_size}
 
 -- a read or a write of this key, at this address
@@ -9,7 +10,7 @@ pub record IsAsked (bay : ℕ) (key : Chrn) (address : ℕ) : Type 0 where
   pub cylinder : key.c ≤ 79
   pub head : key.h ≤ 1
   pub coded : IsSizeCode key.n
-  pub within : address + content_size key.n ≤ 983040
+  pub within : address + content_size key.n ≤ user_bytes
 
 -- a format of this track
 pub record IsFormatAsked (bay c h gap3 : ℕ) : Type 0 where

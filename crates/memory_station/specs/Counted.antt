@@ -1,20 +1,23 @@
 -- The counters of a station in memory.
-use Rattle.std.specs.Prelude.{ℕ, List, replicate, Option, Some}
+use Rattle.std.specs.Prelude.{ℕ, List, replicate, Some}
 use Rattle.bay_model.specs.Bays.{both}
-use Rattle.bay_model.specs.Counters.{Counters, GoesOn, IsDriven}
+use Rattle.bay_model.specs.Counters.{DriveCounts, Counters, GoesOn, IsDriven}
 use Rattle.flop_base.specs.Counts.{RoseBy}
 use Rattle.memory_station.specs.declared.counts.Counts.{Counts}
 
--- each spare drive tells that no fault is left
-unfoldable pub quiet : ℕ → List (Option ℕ)
-quiet spares = replicate spares (Some 0)
+-- a drive that has had no fault, and tells that none is left
+abbrev pub faultless : DriveCounts
+faultless = record { faults = 0; left = Some 0 }
+
+-- so many spare drives like that
+unfoldable pub quiet : ℕ → List DriveCounts
+quiet spares = replicate spares faultless
 
 -- no faults and no stalls, and none are left
 abbrev pub counters_of : ℕ → Counts → Counters
 counters_of spares counts = record {
-  faults = both 0;
-  left = both (Some 0);
-  spares_left = quiet spares;
+  drives = both faultless;
+  spares = quiet spares;
   stalls = 0;
   stalls_left = 0;
   data_commands = counts.commands;

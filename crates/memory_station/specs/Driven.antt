@@ -1,6 +1,6 @@
 -- Calls that work on one bay.
 use Rattle.std.specs.Prelude.{◌≡◌, ℕ, ◌≤◌}
-use Rattle.bay_model.specs.Bays.{in_bay}
+use Rattle.bay_model.specs.Counters.{faults_of}
 use Rattle.sector_model.specs.Stations as model
 use Rattle.sector_model.specs.Stations.{StationState, Becomes, bay_of, set_bay}
 use Rattle.memory_station.specs.Counted.{HasSent}
@@ -11,5 +11,5 @@ pub record Drives (n : ℕ) (before : model.Bay) (commands : ℕ) (after : model
   pub is : bay_of new n ≡ after
   pub becomes : Becomes (set_bay old n after) new
   pub some_tries : 1 ≤ old.tries
-  pub no_faults : in_bay new.counters.faults n ≡ 0
+  pub no_faults : faults_of new.counters n ≡ 0
   pub sent : HasSent commands old.counters new.counters

@@ -69,6 +69,10 @@ impl Station for MemoryStation {
         outcome.answer
     }
 
+    fn changed(&mut self, bay: u8) -> bool {
+        !self.bays.get(bay).acknowledged
+    }
+
     fn read(&mut self, bay: u8, key: Chrn, address: u32) -> Result<bool, Code> {
         if let Some(code) = self.read_refusal(bay, key, address) {
             return Err(code);

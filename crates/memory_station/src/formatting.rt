@@ -12,22 +12,9 @@ ghost use Rattle.memory_station.specs.Driven.{Drives};
 
 use crate::bay::{Bay, same_rate};
 use crate::outcome::Outcome;
-use flop_base::{Code, Rate};
+use flop_base::Code;
+use flop_base::standard::SIZE_CODE;
 use track_format::FormatStream;
-
-/// The size code of records of 512 bytes.
-const SIZE_CODE: u8 = 2;
-
-/// How many sectors a track has, by the rate.
-fn sectors_at(rate: Rate) -> u8
-    ensures value { result ≡ sectors_at rate }
-    ensures most { result ≤ 18 }
-{
-    match rate {
-        Rate::R500 => 18,
-        Rate::R250 => 9,
-    }
-}
 
 /// Whether so many sectors of 512 bytes fit on a track of so many words.
 fn fits(sectors: u8, gap3: u8, words: usize) -> bool
@@ -88,7 +75,7 @@ impl Bay {
             → FormatsDrive (record { c = c; h = h; rate = (bay_shown self.old).rate; gap3 = gap3; fill = fill })
             n result.answer old new }
     {
-        let sectors = sectors_at(self.rate);
+        let sectors = self.rate.sectors();
         let refused = Outcome {
             answer: Err(Code::NoMark),
             commands: 1 + sectors,

@@ -1,15 +1,14 @@
 // Which refusal comes before a command reaches a drive.
 ghost use Rattle.std.specs.Prelude.{◌≡◌, ◌+◌, ◌≤◌, None, true, IsTrue};
+ghost use Rattle.bay_model.specs.Memory.{user_bytes};
 ghost use Rattle.track_model.specs.Fields.{content_size};
 ghost use Rattle.sector_model.specs.Orders.{is_place, is_sector_request, crosses_page, is_acknowledged, is_protected, is_format_request, read_refusal, write_refusal, format_refusal, rate_refusal};
 ghost use Rattle.memory_station.specs.Shown.{shown_of};
 ghost use Rattle.memory_station.specs.Asked.{IsAsked, IsFormatAsked};
 
 use crate::station::MemoryStation;
+use bay_model::USER_BYTES;
 use flop_base::{Chrn, Code, Rate, sector_size};
-
-/// The bytes of user memory.
-const USER_BYTES: usize = 983_040;
 
 /// A cylinder and a head of a drive.
 fn is_place(c: u8, h: u8) -> bool
@@ -26,13 +25,13 @@ fn is_sector_request(bay: u8, key: Chrn, address: u32) -> bool
     if bay > 1 || !is_place(key.c, key.h) || key.n < 1 || key.n > 6 || key.r < 1 {
         return false;
     }
-    address as usize + sector_size(key.n) <= USER_BYTES
+    address as usize + sector_size(key.n) <= USER_BYTES as usize
 }
 
 /// Whether the first and the last byte of a range of user memory lie in different pages of 65,536 bytes.
 fn crosses_page(address: u32, count: usize) -> bool
     requires some { 1 ≤ count }
-    requires within { address + count ≤ 983040 }
+    requires within { address + count ≤ user_bytes }
     ensures { result ≡ crosses_page address count }
 {
     let first = address as usize;

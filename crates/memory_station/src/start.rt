@@ -8,11 +8,9 @@ use crate::bay::Bay;
 use crate::bays::Bays;
 use crate::counts::Counts;
 use crate::station::MemoryStation;
+use bay_model::USER_BYTES;
 use flop_base::NoMemory;
 use std::alloc::Global;
-
-/// The bytes of user memory.
-const USER_BYTES: usize = 983_040;
 
 /// The most words of a track.
 const TRACK_WORDS: usize = 16_384;
@@ -44,7 +42,7 @@ impl MemoryStation {
         ensures fresh { IfOk result (λ station. IsFresh (shown_of station)) }
         ensures spares { IfOk result (λ station. (shown_of station).spares ≡ spares) }
     {
-        let memory = zero_bytes(alloc, USER_BYTES)?;
+        let memory = zero_bytes(alloc, USER_BYTES as usize)?;
         let words = zero_words(alloc, TRACK_WORDS)?;
         Ok(MemoryStation {
             bays: Bays {

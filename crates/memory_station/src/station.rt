@@ -1,5 +1,6 @@
 // A station in memory.
 ghost use Rattle.std.specs.Prelude.{◌≡◌, ◌≤◌, length};
+ghost use Rattle.bay_model.specs.Memory.{user_bytes};
 
 use crate::bays::Bays;
 use crate::counts::Counts;
@@ -15,7 +16,7 @@ pub struct MemoryStation {
     pub(crate) counts: Counts,
     // the words of a field or of a track that is written
     pub(crate) words: Vec<u16>,
-    ghost user: { length memory.items ≡ 983040 },
+    ghost user: { length memory.items ≡ user_bytes },
     ghost room: { length words.items ≡ 16384 },
     ghost some_tries: { 1 ≤ tries },
 }

@@ -1,5 +1,5 @@
 use Rattle.std.proofs.Common.{arith, ◌∙◌, ap, length, refl}
-use Rattle.memory_station.proofs.Started.{length-zeroes, length-quiet, both_fresh}
+use Rattle.memory_station.proofs.Started.{length-zeroes, length-quiet, quiet_tells, both_fresh}
 use Rattle.memory_station.proofs.station.MemoryStation.new.Goals as goal
 
 pub invariant_of-result-clause-user : goal.invariant_of-result-clause-user
@@ -11,5 +11,5 @@ returns-clause-fresh c = record {
   memory = c.in_ok-memory.ensures;
   tries = refl;
   spares = length-quiet c.args.spares;
-  tells = record { first = omega arith; second = omega arith; stalls = omega arith };
+  tells = record { first = omega arith; second = omega arith; spares = quiet_tells c.args.spares; stalls = omega arith; stalls_below = omega arith };
 }
