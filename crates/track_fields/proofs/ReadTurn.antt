@@ -15,9 +15,7 @@ use Rattle.track_separator.specs.Parts.{with_word, IsPart}
 use Rattle.track_separator.specs.Waits.{SWaits, SReads, HasEnded, TellsWhole, IsCutOff}
 use Rattle.track_separator.specs.Turns.{SWaitFed, SReadFed}
 use Rattle.track_separator.specs.Lifts.{look_of}
-use Rattle.track_separator.proofs.Shared.{alike_byte_at}
-use Rattle.track_separator.proofs.Told.{reads_within}
-use Rattle.track_separator.proofs.Lifted.{part_alike, first_words, field_stays, no_data_stays, cut_is_no_data}
+use Rattle.track_separator.proofs.Laws.{first_words, byte_stays, field_stays, no_data_stays, cut_is_no_data, reads_within}
 
 -- some bytes of the data field at q have passed, and stand in the content
 pub record IsCopied (words : List ℕ) (p q size passed : ℕ) (separator : Separator) (i : ℕ) (deleted : Bool) (taken : ℕ) (content : List ℕ) : Type 0 where
@@ -150,7 +148,7 @@ byte_given words p size new i deleted taken content false value now =
           let now_passed : taken ≡ passed = omega arith in
           let length_is : length (take (i + 1) words) ≡ i + 1 = length-take-le (i + 1) words (omega arith) in
           let reach = reads_within new (take (i + 1) words) p q deleted size (passed + 1) h.2.2 in
-          let same = alike_byte_at (take (i + 1) words) words (16 * length (take (i + 1) words)) (part_alike (take (i + 1) words) words (first_words (i + 1) words (omega arith))) (q + 64 + 16 * passed) (omega arith) in
+          let same = byte_stays (take (i + 1) words) words (first_words (i + 1) words (omega arith)) (q + 64 + 16 * passed) (omega arith) in
           let place : q + 64 + 16 * passed ≡ q + 64 + 16 * taken = omega arith in
           let here : value ≡ byte_at words (q + 64 + 16 * taken) = h.2.1 ∙ same ∙ ap (byte_at words) place in
           let fits : taken < length content = omega arith in (

@@ -7,8 +7,8 @@ use Rattle.track_model.specs.declared.symbol.Symbol.{Symbol}
 use Rattle.track_model.specs.declared.symbol.Symbol.TheVariants.{Byte, Key, Mark}
 use Rattle.track_model.specs.Layouts.{gap, check_symbols, word_after, symbol_bit, recorded, field_symbols, before_sectors, address_content, data_content, sector_symbols, sectors_symbols, track_symbols, next_symbol, lay}
 use Rattle.track_model.specs.Fields.{content_size}
-use Rattle.track_format.specs.Keys.{key_bytes}
-use Rattle.track_format.specs.Streams.{AsksKey}
+use Rattle.track_format.specs.Keys.{key_bytes, asked_in}
+use Rattle.track_format.specs.Streams.{filled, AsksKey}
 use Rattle.track_format.proofs.Parts.{filler}
 
 pub length-key_bytes : (keys : List Chrn) → length (flat_map key_bytes keys) ≡ 4 * length keys
@@ -27,12 +27,7 @@ key_byte_at (key ∷ keys) d (suc q) r i e small within =
 pub no_key_byte : (keys : List Chrn) (i : ℕ) → length keys ≤ i / 4 → get_or (flat_map key_bytes keys) i 0 ≡ 0
 no_key_byte keys i h = get_or_past (flat_map key_bytes keys) i 0 (omega (arith, length-key_bytes keys))
 
--- the bytes that symbols ask for
-pub asked_in : List Symbol → List ℕ
-asked_in [] = []
-asked_in (Byte byte ∷ rest) = asked_in rest
-asked_in (Key byte ∷ rest) = byte ∷ asked_in rest
-asked_in (Mark cells ∷ rest) = asked_in rest
+-- ---- the bytes that symbols ask for
 
 pub asked-append : (first rest : List Symbol) → asked_in (first ++ rest) ≡ asked_in first ++ asked_in rest
 unfolding asked_in
@@ -108,9 +103,6 @@ asked_same (Key byte ∷ rest) h = absurd (h (byte, refl))
 asked_same (Mark cells ∷ rest) h = refl
 
 -- ---- the next symbols, 4E behind the last
-
-abbrev pub filled : ℕ → List Symbol → List Symbol
-filled count left = take count (left ++ gap count)
 
 filled_enough : (left : List Symbol) (m a b : ℕ) → m ≤ a → m ≤ b → take m (left ++ gap a) ≡ take m (left ++ gap b)
 filled_enough left zero a b h l = refl

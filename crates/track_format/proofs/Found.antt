@@ -1,5 +1,5 @@
 -- The fields of a formatted track, and what a look at each finds.
-use Rattle.std.proofs.Common.{◌≡◌, ℕ, suc, ◌+◌, ◌-◌, ◌*◌, ◌<◌, ◌≤◌, false, List, length, get_or, refl, sym, ap, subst, ◌∙◌, arith, inl, inr}
+use Rattle.std.proofs.Common.{◌≡◌, ℕ, suc, ◌+◌, ◌-◌, ◌*◌, ◌<◌, ◌≤◌, Bool, false, List, length, get_or, refl, sym, ap, subst, ◌∙◌, arith, inl, inr}
 use Rattle.std.proofs.lemmas.List.{get_or_default}
 use Rattle.std.proofs.lemmas.Bool.{cases_lt, cases_order}
 use Rattle.flop_base.specs.declared.key.Chrn.{Chrn}
@@ -7,9 +7,9 @@ use Rattle.track_model.specs.declared.symbol.Symbol.TheVariants.{Byte}
 use Rattle.track_model.specs.declared.Look.TheVariants.{Found}
 use Rattle.track_model.specs.Bytes.{byte_at}
 use Rattle.track_model.specs.Marks.{IsRun, IsAddressMark}
-use Rattle.track_model.specs.Fields.{IsAddressAt, IsSizeCode, content_size, data_cells}
+use Rattle.track_model.specs.Fields.{IsAddressAt, IsDataMark, IsSizeCode, content_size, data_cells}
 use Rattle.track_model.specs.Looks.{LookAt}
-use Rattle.track_model.specs.Sectors.{IsPlain}
+use Rattle.track_model.specs.Sectors.{IsPlain, IsLone}
 use Rattle.track_model.specs.Regular.{HasSizes, HasSpans, HasCleanGaps, HasCleanEnds, IsSpaced, IsRegular}
 use Rattle.track_model.specs.LaidFields.{IsKey}
 use Rattle.track_model.specs.Layouts.{data_content, address_content}
@@ -76,6 +76,33 @@ module _ (n gap3 fill : ℕ) (keys : List Chrn) (d : Chrn) (words : ℕ) (fits :
       let at = address_mark_place p mark in
       let e = at.2 in
       no_run_between at.0 q (omega arith) (omega arith) run
+
+  -- the only data mark of an address field is that of its sector
+  data_mark_place : (i q : ℕ) (deleted : Bool) → 256 ≤ content_size n → IsDataMark it (here i) q deleted → q ≡ there i
+  data_mark_place i q deleted large mark =
+      let found = run_place (content_size n) gap3 fill keys d words fits q mark.run.run in
+      let j = found.1 in
+      let place = found.2 in
+      let after = mark.after in
+      let near = mark.near in
+      elim (cases_order i j) [
+        | inl same ↦
+            let e : from i ≡ from j = ap from same in
+            elim found.4 [ inl a ↦ absurd (omega (arith, a, e)) | inr b ↦ omega (arith, b, e) ]
+        | inr (inl before) ↦
+            let e = apart i j before in
+            absurd (elim found.4 [ inl a ↦ omega (arith, a, e) | inr b ↦ omega (arith, b, e) ])
+        | inr (inr behind) ↦
+            let e = apart j i behind in
+            absurd (elim found.4 [ inl a ↦ omega (arith, a, e) | inr b ↦ omega (arith, b, e) ])
+      ]
+
+  pub lone : (p : ℕ) → 256 ≤ content_size n → IsAddressMark it p → IsLone it p
+  lone p large mark q r deleted other one two =
+      let at = address_mark_place p mark in
+      let first : IsDataMark it (here at.0) q deleted = subst (λ k. IsDataMark it k q deleted) at.2 one in
+      let second : IsDataMark it (here at.0) r other = subst (λ k. IsDataMark it k r other) at.2 two in
+      data_mark_place at.0 q deleted large first ∙ sym (data_mark_place at.0 r other large second)
 
   pub look : (i : ℕ) → i < length keys → fill < 256 → IsSizeCode n → LookAt it (here i) n (Found false (there i + 64))
   look i h fit coded =

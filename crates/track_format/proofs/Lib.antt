@@ -3,7 +3,7 @@ mod Found
 mod Laid
 mod Parts
 mod Placed
-mod Read
+pub mod Read
 mod Runs
 mod Steps
 mod Tracked

@@ -1,3 +1,4 @@
 pub mod Gaps
 pub mod Keys
+pub mod Reads
 pub mod Streams

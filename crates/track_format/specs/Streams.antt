@@ -1,11 +1,11 @@
 -- What a format stream gives next.
-use Rattle.std.specs.Prelude.{◌≡◌, ℕ, ◌+◌, ◌-◌, ◌<◌, ◌≤◌, Bool, List, [], ◌++◌, length, map, drop}
+use Rattle.std.specs.Prelude.{◌≡◌, ℕ, ◌+◌, ◌-◌, ◌<◌, ◌≤◌, Bool, List, [], ◌++◌, length, map, drop, take}
 use Rattle.flop_base.specs.declared.key.Chrn.{Chrn}
 use Rattle.track_model.specs.declared.symbol.Symbol.{Symbol}
 use Rattle.track_model.specs.declared.symbol.Symbol.TheVariants.{Key}
 use Rattle.track_model.specs.Crc.{crc, crc_from}
 use Rattle.track_model.specs.Fields.{after_marks}
-use Rattle.track_model.specs.Layouts.{symbol_byte, before_sectors, field_symbols, address_content, data_content, sectors_symbols, next_symbol}
+use Rattle.track_model.specs.Layouts.{gap, symbol_byte, before_sectors, field_symbols, address_content, data_content, sectors_symbols, next_symbol}
 use Rattle.track_format.specs.declared.stream.Part.{Part}
 use Rattle.track_format.specs.declared.stream.Part.TheVariants.{Start, Address, Data, End}
 use Rattle.track_format.specs.declared.stream.FormatStream.{FormatStream}
@@ -63,6 +63,10 @@ pub record Gives (stream : FormatStream) (last : Bool) (left : List Symbol) : Ty
   pub bit : stream.last ≡ last
   pub within : stream.place < words_of_part stream.part stream.size stream.gap3
   pub part : IsInPart stream.part stream.sectors stream.size stream.gap3 stream.fill stream.place stream.check left
+
+-- the next symbols, so many, with bytes 4E behind the last of those that are left
+abbrev pub filled : ℕ → List Symbol → List Symbol
+filled count left = take count (left ++ gap count)
 
 -- the next symbol is a byte of a key
 abbrev pub AsksKey : List Symbol → Type 0

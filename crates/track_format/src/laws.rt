@@ -1,13 +1,15 @@
 // What is read on a formatted track, and what a torn write leaves of one.
-ghost use Rattle.std.specs.Prelude.{◌≡◌, ◌≢◌, ◌≤◌, ◌↔◌, ℕ, length, All, AllPairs};
+ghost use Rattle.std.specs.Prelude.{◌≡◌, ◌≢◌, ◌≤◌, ◌↔◌, ℕ, length, All, AllPairs, Contains};
 ghost use Rattle.flop_base.specs.declared.key.Chrn.{Chrn};
+ghost use Rattle.track_model.specs.Marks.{IsAddressMark};
 ghost use Rattle.track_model.specs.Fields.{IsAddressAt};
 ghost use Rattle.track_model.specs.Layouts.{lay, Fits};
 ghost use Rattle.track_model.specs.LaidFields.{HasLaidFields, IsKey, HasEndRoom};
 ghost use Rattle.track_model.specs.Windows.{HasFieldFor, IsTidy};
 ghost use Rattle.track_model.specs.Laid.{IsLaid};
 ghost use Rattle.track_model.specs.Regular.{IsSpaced, IsRegular};
-ghost use Rattle.track_model.specs.Sectors.{IsPlain};
+ghost use Rattle.track_model.specs.Sectors.{IsPlain, IsLone};
+ghost use Rattle.track_format.specs.Reads.{HasClearField, AllFilled, HoldsFill};
 
 use flop_base::Chrn;
 
@@ -28,6 +30,23 @@ pub fn lay_reads(_keys: &[Chrn], _n: u8, _gap3: u8, _fill: u8, _words: usize)
     ensures regular { (c h : ℕ) → HasEndRoom (length _keys.now) _n _gap3 _words
         → AllPairs (λ a b. a ≢ b) _keys.now → All (λ key. (key.c ≡ c) × (key.h ≡ h)) _keys.now
         → IsRegular (lay _keys.now _n _gap3 _fill _words) c h }
+{}
+
+/// On a formatted track each asked key has a Clear address field, and no other key has any. The look at each address field
+/// of a key of the asked size finds data that isn't deleted, all of it the fill, and no other data mark is near, so nothing
+/// else is under the key.
+pub fn laid_keys_are_found(_keys: &[Chrn], _n: u8, _gap3: u8, _fill: u8, _words: usize)
+    requires at_least { 1 ≤ _n }
+    requires at_most { _n ≤ 6 }
+    requires fits { Fits _keys.now _n _gap3 _words }
+    requires bytes { All (λ key. IsKey key) _keys.now }
+    ensures clear { All (λ key. HasClearField (lay _keys.now _n _gap3 _fill _words) key) _keys.now }
+    ensures only { (p : ℕ) (key : Chrn) → IsAddressAt (lay _keys.now _n _gap3 _fill _words) p key
+        → Contains _keys.now key }
+    ensures filled { (key : Chrn) → key.n ≡ _n → AllFilled (lay _keys.now _n _gap3 _fill _words) key _fill }
+    ensures lone { (p : ℕ) → IsAddressMark (lay _keys.now _n _gap3 _fill _words) p
+        → IsLone (lay _keys.now _n _gap3 _fill _words) p }
+    ensures holds { (key : Chrn) → key.n ≡ _n → HoldsFill (lay _keys.now _n _gap3 _fill _words) key _fill }
 {}
 
 /// On a Laid track, a regular formatted track or what comes from one by whole windows, no write at the place of an

@@ -8,6 +8,6 @@ mod symbols;
 mod whole;
 
 pub use gap::choose_gap;
-pub use laws::{laid_is_regular, laid_is_tidy, lay_reads};
+pub use laws::{laid_is_regular, laid_is_tidy, laid_keys_are_found, lay_reads};
 pub use stream::FormatStream;
 pub use whole::{LayoutError, layout};

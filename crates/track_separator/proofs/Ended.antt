@@ -17,6 +17,7 @@ right_behind fed cells back p small address =
     let here = address.place in
     record {
       place = here;
+      early = omega arith;
       tail = address.tail;
       full = address.full;
       none = λ q deleted mark. let after = mark.after in let inside = mark.run.sound.inside in omega arith;

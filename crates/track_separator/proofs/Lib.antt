@@ -1,12 +1,13 @@
 mod Bits
-pub mod Shared
-pub mod Runs
-pub mod Next
+mod Shared
+mod Runs
+mod Next
+mod Staged
+pub mod Laws
 mod Hunted
 mod HuntedWord
 mod Started
 mod Waited
 mod Read
 mod Ended
-pub mod Told
-pub mod Lifted
+mod Told

@@ -12,6 +12,7 @@ use Rattle.track_separator.specs.declared.state.Stage.{Stage}
 use Rattle.track_separator.specs.declared.state.Stage.TheVariants.{Waiting, Content}
 use Rattle.track_separator.specs.declared.state.Separator.{Separator}
 use Rattle.track_separator.specs.Register.{HasNoZeroFrom, KeepsFrom, HasTail, IsFull, register_byte}
+use Rattle.track_separator.specs.Parts.{EndsInLast}
 use Rattle.track_separator.specs.Hunts.{HuntsIn}
 
 -- a run at q ended in the last word, and its cells were recorded
@@ -26,9 +27,11 @@ abbrev pub IsMarked : List ℕ → ℕ → ℕ → Bool → Type 0
 IsMarked fed p back true = (q : ℕ) × (p + 160 ≤ q) × IsPending fed q back
 IsMarked fed p back false = (q own : ℕ) → p + 160 ≤ q → IsPending fed q own → ⊥
 
--- a data mark of the address field at p is awaited, and there was none so far
+-- a data mark of the address field at p is awaited: there was none so far, and one can still come, since one that begins
+-- less than 960 cells behind the field is complete at the 1,023rd cell behind it
 pub record IsWaiting (fed : List ℕ) (cells back p since : ℕ) (marked : Bool) : Type 0 where
   pub place : p + 160 + since ≡ 16 * length fed
+  pub early : since ≤ 1022
   pub tail : HasTail fed cells
   pub full : IsFull fed cells p
   pub none : (q : ℕ) (deleted : Bool) → IsDataMark fed p q deleted → ⊥
@@ -73,6 +76,10 @@ pub record HasNoDataMark (fed : List ℕ) (p : ℕ) : Type 0 where
   pub far : p + 160 + 960 + 63 ≤ 16 * length fed
   pub none : (q : ℕ) (deleted : Bool) → IsDataMark fed p q deleted → ⊥
 
+-- the last word has the 1,023rd cell behind the address field at p, where the last data mark that can come would end
+abbrev pub EndsReach : List ℕ → ℕ → Type 0
+EndsReach fed p = EndsInLast fed (p + 160 + 960 + 63)
+
 -- the first data mark is at q, and its field of `size` bytes is over
 pub record HasEnded (fed : List ℕ) (p q : ℕ) (deleted : Bool) (size : ℕ) : Type 0 where
   pub first : IsFirstDataMark fed p q deleted
@@ -90,7 +97,7 @@ IsCutOff fed p size = (q : ℕ) (deleted : Bool) → HasEnded fed p q deleted si
 abbrev pub WaitSeenIn : List ℕ → ℕ → ℕ → ℕ → ℕ → Stage → Seen → Type 0
 WaitSeenIn fed p size cells back stage Nothing = WaitsIn fed cells back p size stage
 WaitSeenIn fed p size cells back stage (Mode deleted) = (q : ℕ) × ReadsIn fed cells back p q deleted size 0 stage
-WaitSeenIn fed p size cells back stage NoData = HasNoDataMark fed p × HuntsIn fed cells back stage
+WaitSeenIn fed p size cells back stage NoData = HasNoDataMark fed p × EndsReach fed p × HuntsIn fed cells back stage
 WaitSeenIn fed p size cells back stage _ = ⊥
 
 abbrev pub SWaitSeen : List ℕ → ℕ → ℕ → Separator → Seen → Type 0

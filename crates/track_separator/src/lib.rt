@@ -5,14 +5,14 @@
 #![tactic(auto)]
 
 mod hunting;
-mod laws;
+mod lifts;
 mod reading;
 mod register;
 mod separator;
 mod state;
 mod waiting;
 
-pub use laws::{
+pub use lifts::{
     address_field_stays, address_mark_stays, clear_field_stood, cut_field_is_none,
     data_field_stays, no_data_mark_stays,
 };

@@ -61,7 +61,8 @@ impl Separator {
 
     /// Goes on to wait, `since` cells behind the end of the address field, where a data mark can still come.
     fn wait_on(&mut self, size: usize, since: u32) -> Seen
-        requires { size ≤ 8192 }
+        requires small { size ≤ 8192 }
+        requires early { since < 1039 }
         ensures { (fed : List ℕ) (p : ℕ) → IsWaitingNext fed self.old.cells p since
             → WaitSeenIn fed p size self.new.cells self.new.back self.new.stage result }
     {

@@ -2,9 +2,8 @@ use Rattle.std.proofs.Common.{◌≡◌, ◌-◌, ◌≤◌, Bool, List, ◌++�
 use Rattle.std.specs.List.{flat_map}
 use Rattle.track_model.specs.declared.symbol.Symbol.{Symbol}
 use Rattle.track_model.specs.Layouts.{lay, recorded}
-use Rattle.track_format.specs.Keys.{key_bytes}
-use Rattle.track_format.specs.Streams.{Gives}
-use Rattle.track_format.proofs.Asked.{asked_in, filled}
+use Rattle.track_format.specs.Keys.{key_bytes, asked_in}
+use Rattle.track_format.specs.Streams.{Gives, filled}
 use Rattle.sector_map.specs.Standard.{track_keys}
 use Rattle.memory_station.proofs.formatting.fill_track.Given as goal
 

@@ -1,5 +1,5 @@
-use Rattle.track_separator.proofs.Lifted.{field_stays}
-use Rattle.track_separator.proofs.laws.data_field_stays.Goals as goal
+use Rattle.track_separator.proofs.Laws.{field_stays}
+use Rattle.track_separator.proofs.lifts.data_field_stays.Goals as goal
 
 pub returns : goal.returns
 returns c =

@@ -1,5 +1,5 @@
-use Rattle.track_separator.proofs.Lifted.{address_stood, no_run_stood}
-use Rattle.track_separator.proofs.laws.clear_field_stood.Goals as goal
+use Rattle.track_separator.proofs.Laws.{address_stood, no_run_stood}
+use Rattle.track_separator.proofs.lifts.clear_field_stood.Goals as goal
 
 pub returns-clause-address : goal.returns-clause-address
 returns-clause-address c =
