@@ -70,8 +70,8 @@ abbrev pub master_clear : Channel → Channel
 master_clear c =
     record c { high_byte_next = false; terminal_count = false; command = 0; masked = true }
 
--- what a write to a port leaves: the table of the ports, from the address at 04 to the page at 81,
--- of which four bits are kept; a mask or a mode for another channel and any other port change nothing
+-- what a write to a port leaves: the table of the ports, from the address at 04 to the page at 81;
+-- a mask or a mode for another channel and any other port change nothing
 unfoldable pub after_write : ℕ → ℕ → Channel → Channel
 after_write port byte c =
     if port == 0x04 then address_written byte c else (
@@ -83,7 +83,7 @@ after_write port byte c =
     if port == 0x0D then master_clear c else (
     if port == 0x0E then record c { masked = false } else (
     if port == 0x0F then record c { masked = has_bit byte 2 } else (
-    if port == 0x81 then record c { page = bit_and byte 0x0F } else
+    if port == 0x81 then record c { page = byte } else
     c)))))))))
 
 -- bit 2 tells that the count ran out; all other bits are 0
@@ -123,9 +123,9 @@ writes_memory c = bit_and c.mode 0x0C == 0x04
 abbrev pub reads_memory : Channel → Bool
 reads_memory c = bit_and c.mode 0x0C == 0x08
 
--- the byte of memory that the next transfer is for
+-- the byte of memory that the next transfer is for, by the low four bits of the page
 abbrev pub place_of : Channel → ℕ
-place_of c = c.page * 65536 + c.address
+place_of c = c.page % 16 * 65536 + c.address
 
 -- the address goes up by one inside its page, and the count down by one; a count of 0 runs out (TC):
 -- the status tells it, and the mask is set

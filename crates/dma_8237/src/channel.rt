@@ -5,7 +5,7 @@ ghost use Rattle.dma_8237.specs.Channel.{power_up, after_write, value_read, afte
 use crate::word::{byte_of, turn, with_byte};
 use std::marker::Model;
 
-/// The bytes that a channel with a page of four bits reaches.
+/// The bytes that four bits of a page and an address reach.
 pub const MEMORY_SIZE: usize = 1_048_576;
 
 // The ports of channel 2 (PC/AT).
@@ -29,6 +29,9 @@ const ALL_MASKS: u16 = 0x0F;
 
 const PAGE: u16 = 0x81;
 
+// The bits of the page that an address uses.
+const ADDRESS_BITS: u8 = 0x0F;
+
 // Bits 3 and 2 of the mode: the type of a transfer.
 const TYPE: u8 = 0x0C;
 
@@ -41,7 +44,8 @@ const FORBIDDEN: u8 = 0x0C;
 /// What a read gives where no register answers.
 const OPEN_BUS: u8 = 0xFF;
 
-/// DMA channel 2 with its page register (8237A data sheet, PC/AT).
+/// DMA channel 2 with its page register (8237A data sheet, PC/AT). A byte of the page register is kept whole, and an
+/// address uses its low four bits.
 #[derive(Drop)]
 pub struct Dma {
     base_address: u16,
@@ -57,7 +61,6 @@ pub struct Dma {
 }
 
 impl Model for Dma {
-    ghost use Rattle.std.specs.Prelude.{◌<◌, ◌^◌};
     ghost use Rattle.dma_8237.specs.Channel.{Channel};
 
     ghost Value = { Channel };
@@ -74,8 +77,6 @@ impl Model for Dma {
       terminal_count = dma.terminal_count;
       page = dma.page;
     } };
-
-    ghost invariant = { λ dma. dma.page < 16 };
 }
 
 impl Dma {
@@ -150,7 +151,7 @@ impl Dma {
             }
             CLEAR_MASKS => self.masked = false,
             ALL_MASKS => self.masked = value & 0x04 != 0,
-            PAGE => self.page = value & 0x0F,
+            PAGE => self.page = value,
             _ => {}
         }
     }
@@ -177,8 +178,9 @@ impl Dma {
             then slice_set ram.old (place_of self.old) byte else ram.old) }
         ensures within { place_of self.old < MEMORY_SIZE }
     {
+        let place = self.place();
         if self.mode & TYPE == TO_MEMORY {
-            ram[self.place()] = byte;
+            ram[place] = byte;
         }
         self.advance()
     }
@@ -194,8 +196,9 @@ impl Dma {
         ensures registers { self.new ≡ after_transfer self.old }
         ensures within { place_of self.old < MEMORY_SIZE }
     {
+        let place = self.place();
         let byte = if self.mode & TYPE == FROM_MEMORY {
-            ram[self.place()]
+            ram[place]
         } else {
             OPEN_BUS
         };
@@ -206,7 +209,7 @@ impl Dma {
         ensures place { result ≡ place_of self.now }
         ensures within { result < MEMORY_SIZE }
     {
-        usize::from(self.page) * 65_536 + usize::from(self.address)
+        usize::from(self.page & ADDRESS_BITS) * 65_536 + usize::from(self.address)
     }
 
     /// Counts one transfer. The address wraps inside its page, and a count of 0 runs out (TC).

@@ -1,8 +1,8 @@
 -- A drive as contracts see it, and what each of its calls may do.
-use Rattle.std.specs.Prelude.{◌≡◌, ◌⊎◌, ℕ, ◌+◌, ◌-◌, ◌<◌, ◌≤◌, min, Bool, true, false, not, ◌&&◌, ◌==◌, nat_lt, nat_le, if◌then◌else◌, List, [], slice_index, Option, Some, None, is_some, IsTrue, IfSome, IsSomeAnd}
+use Rattle.std.specs.Prelude.{◌≡◌, ◌⊎◌, ℕ, ◌+◌, ◌-◌, ◌≤◌, min, Bool, true, false, not, ◌&&◌, ◌==◌, nat_lt, nat_le, if◌then◌else◌, List, [], slice_index, Option, Some, None, is_some, IsTrue, IfSome}
 use Rattle.flop_base.specs.declared.answers.Rate.{Rate}
 use Rattle.flop_base.specs.declared.answers.Rate.TheVariants.{R500}
-use Rattle.flop_base.specs.Counts.{Rose}
+use Rattle.flop_base.specs.Counts.{last_count, Rose, CanTell as CanTellOf, Spends as SpendsOf}
 use Rattle.raw_image.specs.Disk.{Disk, IsDisk, track_of, with_word}
 
 -- a drive: the medium in it or none, the cylinder under its heads, the place that passes them next, its motor, for how many word times the medium has spun up, its change line, its write gate, whether the gate was cut, and its count of faults
@@ -16,10 +16,6 @@ pub record DriveState : Type 0 where
   pub gate : Bool
   pub cut : Bool
   pub faults : ℕ
-
--- the count at which faults are no longer counted
-abbrev pub last_count : ℕ
-last_count = 18446744073709551615
 
 -- how many words a track of the medium has; with no medium none
 abbrev pub track_words : Option Disk → ℕ
@@ -146,9 +142,9 @@ pub record InRange (s : DriveState) : Type 0 where
 
 -- what is left is told only where the count can't reach its last value by it
 abbrev pub CanTell : DriveState → Option ℕ → Type 0
-CanTell s left = IfSome left (λ n. s.faults + n < last_count)
+CanTell s left = CanTellOf s.faults left
 
--- where it is told what is left: the rise and what is left then are at most what was left
-abbrev pub Spends : DriveState → Option ℕ → DriveState → Option ℕ → Type 0
-Spends old None new then_left = Unit {0}
-Spends old (Some n) new then_left = (old.faults + n < last_count) × IsSomeAnd then_left (λ m. new.faults + m ≤ old.faults + n)
+-- where it is told what is left: the rise and what is left then are at most what was left; a drive that doesn't tell it goes on not telling it
+pub record Spends (old : DriveState) (left : Option ℕ) (new : DriveState) (then_left : Option ℕ) : Type 0 where
+  pub tells : CanTell old left
+  pub spends : SpendsOf old.faults left new.faults then_left

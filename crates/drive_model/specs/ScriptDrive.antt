@@ -1,6 +1,7 @@
 -- What a drive with planned faults shows, and when they come.
 use Rattle.std.specs.Prelude.{◌≡◌, ℕ, ◌+◌, Bool, ◌&&◌, nat_lt, min, if◌then◌else◌, List, Option, Some, None}
-use Rattle.drive_model.specs.Drive.{DriveState, last_count, at_speed, can_write}
+use Rattle.flop_base.specs.Counts.{last_count}
+use Rattle.drive_model.specs.Drive.{DriveState, at_speed, can_write}
 use Rattle.drive_model.specs.Fault.{comes, spent, total_left}
 use Rattle.drive_model.specs.Mechanics.{state_of}
 use Rattle.drive_model.specs.declared.fault.Fault.{Fault}

@@ -1,8 +1,8 @@
 // A drive whose faults are planned.
 ghost use Rattle.std.specs.Prelude.{◌≡◌, ◌≤◌, ◌↔◌, IsErr, IsSome, OnOk, IfErr};
 ghost use Rattle.std.specs.Bool.{OnTrue, OnFalse};
-ghost use Rattle.flop_base.specs.Counts.{Rose};
-ghost use Rattle.drive_model.specs.Drive.{last_count, Becomes, InRange, Spends, loaded, unloaded, with_motor, with_gate, moved, passed, written, cut_off, at_index, word_under, Pulses, Reads, Writes};
+ghost use Rattle.flop_base.specs.Counts.{last_count, Rose};
+ghost use Rattle.drive_model.specs.Drive.{Becomes, InRange, Spends, loaded, unloaded, with_motor, with_gate, moved, passed, written, cut_off, at_index, word_under, Pulses, Reads, Writes};
 ghost use Rattle.drive_model.specs.Fault.{comes};
 
 use crate::fault::{Event, take_fault};

@@ -1,5 +1,5 @@
 -- The command table, and what the bytes of a command come to.
-use Rattle.std.specs.Prelude.{◌≤◌, IfSome, ◌==◌, ◌&&◌, ℕ, Bool, true, List, [], ◌∷◌, Option, Some, None, if◌then◌else◌, nat_le, slice_index, length, find}
+use Rattle.std.specs.Prelude.{◌≤◌, IfSome, ◌==◌, ◌&&◌, ℕ, Bool, true, false, List, [], ◌∷◌, Option, Some, None, if◌then◌else◌, nat_le, slice_index, length, find}
 use Rattle.std.specs.Option.{option_map_or}
 use Rattle.flop_base.specs.declared.key.Chrn.{Chrn}
 use Rattle.fdc_commands.specs.declared.command.Command.{Command}
@@ -61,6 +61,11 @@ is_sized command = option_map_or (λ n. nat_le 1 n && nat_le n 6) (size_code com
 -- what a whole command comes to
 abbrev pub whole : Command → Accepted
 whole command = if is_sized command then Ready command else Invalid
+
+-- a command has begun: it has bytes so far
+abbrev pub is_begun : List ℕ → Bool
+is_begun [] = false
+is_begun (_ ∷ _) = true
 
 -- what the bytes so far come to, where their code is in this row
 abbrev pub answer_by : Row → List ℕ → Accepted

@@ -1,7 +1,7 @@
 // A command as it comes, byte after byte.
 ghost use Rattle.std.specs.Prelude.{◌≡◌, [], ◌∷◌, ◌++◌, slice_index};
 ghost use Rattle.std.specs.Option.{option_map_or};
-ghost use Rattle.fdc_commands.specs.Table.{row_of, answer, kept, IfReady, SizeInRange};
+ghost use Rattle.fdc_commands.specs.Table.{row_of, is_begun, answer, kept, IfReady, SizeInRange};
 ghost use Rattle.fdc_commands.specs.Table.{is_sized as is_sized_command, whole as whole_command};
 
 use crate::Command;
@@ -45,6 +45,13 @@ impl CommandBytes {
             bytes: [0; LONGEST],
             count: 0,
         }
+    }
+
+    /// Whether a command has begun.
+    pub fn is_begun(&self) -> bool
+        ensures { result ≡ is_begun self.now }
+    {
+        self.count > 0
     }
 
     /// Takes the next byte of a command. After `Ready` and `Invalid` it stands as new.

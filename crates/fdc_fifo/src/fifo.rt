@@ -49,9 +49,16 @@ impl Fifo {
         requires at_most { threshold ≤ DEPTH }
         ensures { self.new ≡ emptied on threshold }
     {
-        self.bytes.clear();
+        self.clear();
         self.on = on;
         self.threshold = threshold;
+    }
+
+    /// Empties the FIFO, and keeps its mode and its threshold.
+    pub fn clear(&mut self)
+        ensures { self.new ≡ emptied self.old.on self.old.threshold }
+    {
+        self.bytes.clear();
     }
 
     /// Appends a byte, or hands it back where the FIFO is full.

@@ -1,5 +1,5 @@
 -- The seeks of the four drives, device step by device step.
-use Rattle.std.specs.Prelude.{◌≡◌, ◌<◌, ◌+◌, ◌-◌, ◌^◌, ◌==◌, ◌||◌, ◌&&◌, ℕ, Bool, true, false, List, [], ◌∷◌, Option, Some, None, is_some, unwrap_or, option_map, if◌then◌else◌, nat_lt, slice_set, slice_index, slice_index_or, position, length}
+use Rattle.std.specs.Prelude.{◌≡◌, ◌<◌, ◌+◌, ◌-◌, ◌^◌, ◌==◌, ◌||◌, ◌&&◌, ℕ, Bool, true, false, List, [], ◌∷◌, Option, Some, None, is_some, IsSome, IsSomeAnd, IsTrue, IsFalse, not, unwrap_or, option_map, if◌then◌else◌, nat_lt, slice_set, slice_index, slice_index_or, position, length}
 use Rattle.std.specs.Option.{option_map_or, ForSome}
 use Rattle.std.specs.Int.RustNames.{bit_or}
 use Rattle.fdc_registers.specs.St0.{polling, abnormal, seek_end, equipment_check}
@@ -61,6 +61,22 @@ ended old drive cylinder status = record {
   pending = slice_set old.pending drive (Some status);
 }
 
+-- whether a seek has ended
+abbrev pub has_ended : Motion → Bool
+has_ended Ended = true
+has_ended _ = false
+
+-- whether a seek runs: its bit is set, and it hasn't ended
+abbrev pub is_seeking : Seeking → Bool
+is_seeking seeking = option_map_or (λ seek. not (has_ended seek.motion)) seeking.seek false
+
+-- the seek that ran has ended: its drive's bit is still set, and a result of that drive is pending
+pub record EndsSeek (old new : Seeking) : Type 0 where
+  pub ran : IsTrue (is_seeking old)
+  pub over : IsFalse (is_seeking new)
+  pub drive : option_map (λ seek. seek.drive) new.seek ≡ option_map (λ seek. seek.drive) old.seek
+  pub pending : IsSomeAnd new.seek (λ seek. IsSome (slice_index_or new.pending seek.drive None))
+
 -- the next cylinder on the way to the target
 abbrev pub neighbour : ℕ → ℕ → ℕ
 neighbour cylinder target = if nat_lt cylinder target then cylinder + 1 else cylinder - 1
@@ -105,11 +121,6 @@ status_of seeking drive = unwrap_or (slice_index_or seeking.pending drive None) 
 -- cylinder number
 abbrev pub sensed : Seeking → Option (ℕ × ℕ)
 sensed old = option_map (λ drive. (status_of old drive, slice_index old.cylinders drive)) (first_pending old)
-
--- whether a seek has ended
-abbrev pub has_ended : Motion → Bool
-has_ended Ended = true
-has_ended _ = false
 
 -- the seek bit after a drive's result was taken: that drive's is cleared, unless a seek of it runs
 abbrev pub released : ℕ → Option Seek → Option Seek

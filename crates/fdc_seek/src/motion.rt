@@ -1,4 +1,6 @@
 // What a seek does, device step by device step.
+ghost use Rattle.std.specs.Prelude.{◌≡◌};
+ghost use Rattle.fdc_seek.specs.Seeking.{has_ended};
 
 /// A drive's seek, whose bit is set in the main status register.
 #[derive(Clone, Copy, PartialEq, Eq, Debug)]
@@ -16,4 +18,13 @@ pub enum Motion {
     Toward { cylinder: u8, target: u8 },
     /// It has ended, and its bit is still set.
     Ended,
+}
+
+impl Motion {
+    /// Whether the seek has ended.
+    pub(crate) fn has_ended(self) -> bool
+        ensures { result ≡ has_ended self }
+    {
+        matches!(self, Motion::Ended)
+    }
 }

@@ -1,6 +1,6 @@
 // The seeks of the four drives.
-ghost use Rattle.std.specs.Prelude.{◌≡◌, ◌<◌, ◌↔◌, IsTrue, IsSome, slice_index};
-ghost use Rattle.fdc_seek.specs.Seeking.{InRange, at_rest, with_polls, with_motion, ended, pulse_due, stepped};
+ghost use Rattle.std.specs.Prelude.{◌≡◌, ◌<◌, ◌↔◌, IsTrue, IsFalse, IsSome, IsNone, is_some, slice_index};
+ghost use Rattle.fdc_seek.specs.Seeking.{InRange, at_rest, with_polls, with_motion, ended, pulse_due, stepped, is_seeking, EndsSeek};
 ghost use Rattle.fdc_seek.specs.Seeking.{seek_bits, first_pending, sensed, after_sense, released};
 ghost use Rattle.fdc_seek.specs.Seeking.{polled as polled_status, sought as sought_status, recalibrated as recalibrated_status};
 
@@ -40,7 +40,8 @@ impl Model for Seeks {
 impl Seeks {
     /// Four present cylinder numbers of 0, no seek and no pending result.
     pub fn new() -> Seeks
-        ensures { result ≡ at_rest }
+        ensures state { result ≡ at_rest }
+        ensures none_runs { IsFalse (is_seeking result) }
     {
         Seeks {
             cylinders: [0; 4],
@@ -51,14 +52,16 @@ impl Seeks {
 
     /// Makes it as new.
     pub fn reset(&mut self)
-        ensures { self.new ≡ at_rest }
+        ensures state { self.new ≡ at_rest }
+        ensures none_runs { IsFalse (is_seeking self.new) }
     {
         *self = Seeks::new();
     }
 
     /// Makes the results of the poll after a reset pending, one for each drive.
     pub fn poll(&mut self)
-        ensures { self.new ≡ with_polls self.old }
+        ensures state { self.new ≡ with_polls self.old }
+        ensures runs { is_seeking self.new ≡ is_seeking self.old }
     {
         self.pending = [
             Some(polled(0)),
@@ -72,7 +75,8 @@ impl Seeks {
     pub fn recalibrate(&mut self, drive: u8)
         requires drive { drive < 4 }
         requires no_seek { seek_bits self.old ≡ 0 }
-        ensures { self.new ≡ with_motion self.old drive (Motion.Outward 79) }
+        ensures state { self.new ≡ with_motion self.old drive (Motion.Outward 79) }
+        ensures runs { IsTrue (is_seeking self.new) }
     {
         self.go_on(
             drive,
@@ -86,18 +90,23 @@ impl Seeks {
     pub fn seek(&mut self, drive: u8, target: u8)
         requires drive { drive < 4 }
         requires no_seek { seek_bits self.old ≡ 0 }
-        ensures { self.new
+        ensures state { self.new
             ≡ with_motion self.old drive
             (Motion.Toward (slice_index self.old.cylinders drive) target) }
+        ensures runs { IsTrue (is_seeking self.new) }
     {
         let cylinder = self.cylinders[drive as usize];
         self.go_on(drive, Motion::Toward { cylinder, target });
     }
 
-    /// One device step, with the track 0 line as it is before the step: the pulse due, true inward.
+    /// One device step, with the track 0 line as it is before the step: the pulse due, true inward. A seek that runs
+    /// and gives no pulse has ended in this step.
     pub fn pulse(&mut self, track0: bool) -> Option<bool>
         ensures pulse { result ≡ pulse_due self.old track0 }
         ensures state { self.new ≡ stepped self.old track0 }
+        ensures runs { is_seeking self.new ≡ is_some result }
+        ensures ended { EndsSeek self.old self.new
+            ↔ (IsTrue (is_seeking self.old) × IsNone result) }
     {
         let Seek { drive, motion } = self.seek?;
         match motion {
@@ -148,6 +157,16 @@ impl Seeks {
         });
     }
 
+    /// Whether a seek runs: its bit is set, and it hasn't ended.
+    pub fn is_seeking(&self) -> bool
+        ensures { result ≡ is_seeking self.now }
+    {
+        match self.seek {
+            Some(seek) => !seek.motion.has_ended(),
+            None => false,
+        }
+    }
+
     /// The seek bits, bit 0 for drive 0.
     pub fn bits(&self) -> u8
         ensures bits { result ≡ seek_bits self.now }
@@ -178,6 +197,7 @@ impl Seeks {
     pub fn sense(&mut self) -> Option<(u8, u8)>
         ensures sensed { result ≡ sensed self.old }
         ensures state { self.new ≡ after_sense self.old }
+        ensures runs { is_seeking self.new ≡ is_seeking self.old }
     {
         let drive = self.first_pending()?;
         let status = self.pending[drive]?;
