@@ -1,5 +1,5 @@
 -- What a write makes of a disk.
-use Rattle.std.specs.Prelude.{◌≡◌, ℕ, Bool, List}
+use Rattle.std.specs.Prelude.{ℕ, Bool, List}
 use Rattle.flop_base.specs.declared.key.Chrn.{Chrn}
 use Rattle.raw_image.specs.Disk.{Disk, HasTrack, track_of, IsWithTrack}
 use Rattle.track_model.specs.Fields.{IsAddressAt}

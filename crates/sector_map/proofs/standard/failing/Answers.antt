@@ -6,14 +6,14 @@ use Rattle.sector_map.proofs.standard.failing.Goals as goal
 
 pub loop-c-init : goal.loop-c-init
 loop-c-init c =
-    let sectors = c.sectors_at-sectors.result in
+    let sectors = c.sectors-sectors.result in
     let heads = c.args.medium.now.heads in
     subst (HasAdded c.args.medium.now (keys_below sectors heads 0) []) (sym c.new-failed.ensures.items)
     (added_none c.args.medium.now (keys_below sectors heads 0) [] (keys_below-none sectors heads))
 
 pub loop-c-preserved : goal.loop-c-preserved
 loop-c-preserved c =
-    let sectors = c.sectors_at-sectors.result in
+    let sectors = c.sectors-sectors.result in
     let heads = c.args.medium.now.heads in
     let added = c.in_ok-push_cylinder.ensures in
     added_more c.args.medium.now (keys_below sectors heads c.loop-c.c) (cylinder_keys sectors heads c.loop-c.c) (keys_below sectors heads (c.loop-c.c + 1))
@@ -22,9 +22,9 @@ loop-c-preserved c =
 
 pub returns : goal.returns
 returns c =
-    let sectors = c.sectors_at-sectors.result in
+    let sectors = c.sectors-sectors.result in
     let heads = c.args.medium.now.heads in
     let value = c.cylinders-c-end.ensures.value in
     added_all c.args.medium.now (keys_below sectors heads c.loop-c.c) (standard_keys c.args.medium.now) c.loop-c.failed.items
-    (keys_below-all c.args.medium.now sectors c.loop-c.c (c.sectors_at-sectors.ensures.value ∙ ap sectors_at c.rate.ensures) (omega arith))
+    (keys_below-all c.args.medium.now sectors c.loop-c.c (c.sectors-sectors.ensures.value ∙ ap sectors_at c.rate.ensures) (omega arith))
     c.loop-c.invariant
