@@ -11,6 +11,7 @@ use Rattle.track_model.specs.Windows.{window_place, IsTidy}
 use Rattle.sector_map.specs.Disks.{LookOn, IsRegularDisk, Entry, IsOnMap}
 use Rattle.sector_map.specs.Met.{HasLook, AllFound}
 use Rattle.sector_map.specs.Changes.{Change, Written, window_of}
+use Rattle.sector_map.specs.Layings.{Laying}
 
 -- the disk `after` has the protection, shape and rate of the disk, and all its tracks but one of this cylinder and head
 pub record KeepsTracks (disk : Disk) (c h : ℕ) (after : Disk) : Type 0 where
@@ -61,6 +62,10 @@ joined one two = record {
   place = one.place;
   words = max one.words two.words;
 }
+
+-- a laying and a later one on the same cylinder, as one: the longer stands
+abbrev pub joined_laying : Laying → Laying → Laying
+joined_laying one two = record { cylinder = one.cylinder; words = max one.words two.words }
 
 -- the entry of what was written, at the address field at `place`
 abbrev pub entry_of : Written → ℕ → Entry
