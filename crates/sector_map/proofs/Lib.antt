@@ -1,4 +1,11 @@
+pub mod Changed
+mod KeptKeys
+pub mod KeptTracks
+pub mod Laid
 mod Laws
 mod Listed
+pub mod MetTracks
 mod Placed
+pub mod RegularTracks
+pub mod SameDisks
 mod Tracks

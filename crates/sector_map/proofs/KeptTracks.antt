@@ -1,0 +1,90 @@
+-- A disk and one of its tracks replaced.
+use Rattle.std.proofs.Common.{◌≡◌, ◌↔◌, ℕ, ◌<◌, List, refl, sym, ap, subst, ◌∙◌, inl, inr}
+use Rattle.std.proofs.lemmas.Bool.{cases_eq}
+use Rattle.flop_base.specs.declared.answers.Rate.{Rate}
+use Rattle.raw_image.specs.Disk.{Disk, IsDisk, HasTrack, track_of, IsWithTrack}
+use Rattle.sector_map.specs.Met.{unrecorded, met_on}
+use Rattle.sector_map.specs.KeptDisks.{KeepsTracks}
+use Rattle.sector_map.proofs.MetTracks.{on_there, by_met}
+
+module _ (disk after : Disk) (c h : ℕ) (words : List ℕ) (laid : IsWithTrack disk c h words after) where
+  pub has_after : (b g : ℕ) → HasTrack disk b g → HasTrack after b g
+  has_after b g had = (subst (λ n. b < n) (sym laid.cylinders) had.0, subst (λ n. g < n) (sym laid.heads) had.1)
+
+  pub had_before : (b g : ℕ) → HasTrack after b g → HasTrack disk b g
+  had_before b g has = (subst (λ n. b < n) laid.cylinders has.0, subst (λ n. g < n) laid.heads has.1)
+
+  -- a fact of each track
+  pub each_track : (P : ℕ → ℕ → List ℕ → Type 0) → P c h words → ((b g : ℕ) → HasTrack disk b g → P b g (track_of disk b g)) → (b g : ℕ) → HasTrack disk b g → P b g (track_of after b g)
+  each_track P here others b g had =
+      elim (cases_eq b c) [
+        | inl same_c ↦ elim (cases_eq g h) [
+          | inl same_h ↦
+              let at_c = subst (λ k. P k h (track_of after k h)) (sym same_c) (subst (P c h) (sym laid.has) here) in
+              subst (λ k. P b k (track_of after b k)) (sym same_h) at_c
+          | inr other ↦ subst (P b g) (sym (laid.others b g had (λ _ e. other e))) (others b g had)
+        ]
+        | inr other ↦ subst (P b g) (sym (laid.others b g had (λ e _. other e))) (others b g had)
+      ]
+
+  pub with_track_keeps : KeepsTracks disk c h after
+  with_track_keeps = record {
+    valid = laid.valid;
+    protected = laid.protected;
+    cylinders = laid.cylinders;
+    heads = laid.heads;
+    rate = laid.rate;
+    words_per_track = laid.words_per_track;
+    tracks = λ b g. (has_after b g, had_before b g);
+    others = laid.others;
+  }
+
+-- the track that was there
+pub with_itself : (disk : Disk) (c h : ℕ) (words : List ℕ) → IsDisk disk → words ≡ track_of disk c h → IsWithTrack disk c h words disk
+with_itself disk c h words valid is = record {
+  valid = valid;
+  protected = refl;
+  cylinders = refl;
+  heads = refl;
+  rate = refl;
+  words_per_track = refl;
+  has = sym is;
+  others = λ b g has other. refl;
+}
+
+-- a track replaced twice
+pub with_later : (disk middle after : Disk) (c h : ℕ) (one two : List ℕ) → IsWithTrack disk c h one middle → IsWithTrack middle c h two after → IsWithTrack disk c h two after
+with_later disk middle after c h one two first second = record {
+  valid = second.valid;
+  protected = second.protected ∙ first.protected;
+  cylinders = second.cylinders ∙ first.cylinders;
+  heads = second.heads ∙ first.heads;
+  rate = second.rate ∙ first.rate;
+  words_per_track = second.words_per_track ∙ first.words_per_track;
+  has = second.has;
+  others = λ b g had other. second.others b g (has_after disk middle c h one first b g had) other ∙ first.others b g had other;
+}
+
+pub keeps_itself : (disk : Disk) (c h : ℕ) → IsDisk disk → KeepsTracks disk c h disk
+keeps_itself disk c h valid = with_track_keeps disk disk c h (track_of disk c h) (with_itself disk c h (track_of disk c h) valid refl)
+
+pub keeps_both : (disk middle after : Disk) (c h : ℕ) → KeepsTracks disk c h middle → KeepsTracks middle c h after → KeepsTracks disk c h after
+keeps_both disk middle after c h first second = record {
+  valid = second.valid;
+  protected = second.protected ∙ first.protected;
+  cylinders = second.cylinders ∙ first.cylinders;
+  heads = second.heads ∙ first.heads;
+  rate = second.rate ∙ first.rate;
+  words_per_track = second.words_per_track ∙ first.words_per_track;
+  tracks = λ b g. (λ had. (second.tracks b g).0 ((first.tracks b g).0 had), λ has. (first.tracks b g).1 ((second.tracks b g).1 has));
+  others = λ b g had other. second.others b g ((first.tracks b g).0 had) other ∙ first.others b g had other;
+}
+
+-- elsewhere the same is met, whatever the rate
+pub met_elsewhere : (disk : Disk) (c h : ℕ) (after : Disk) (rate : Rate) (b g : ℕ) → KeepsTracks disk c h after → (b ≡ c → g ≡ h → ⊥) → met_on after rate b g ≡ met_on disk rate b g
+met_elsewhere disk c h after rate b g keeps other =
+    by_met disk rate b g (λ track. met_on after rate b g ≡ track)
+    (λ had same. on_there after rate b g ((keeps.tracks b g).0 had) (keeps.rate ∙ same) ∙ keeps.others b g had other)
+    (λ none. by_met after rate b g (λ track. track ≡ unrecorded disk.words_per_track)
+    (λ has same. absurd (none ((keeps.tracks b g).1 has) (sym keeps.rate ∙ same)))
+    (λ _. ap unrecorded keeps.words_per_track))

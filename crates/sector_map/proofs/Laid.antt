@@ -1,0 +1,126 @@
+-- What a laying makes of a disk, and the keys of a format.
+use Rattle.std.proofs.Common.{◌≡◌, ◌↔◌, ℕ, false, ◌+◌, ◌-◌, ◌<◌, ◌≤◌, List, ◌++◌, [], length, take, drop, max, get_or, Contains, refl, sym, ap, subst, ◌∙◌, arith}
+use Rattle.std.specs.List.{range_with_len}
+use Rattle.std.proofs.lemmas.List.{length-append, length-take, length-replicate, take-append-drop, drop_all, take_all, append-nil}
+use Rattle.std.proofs.lemmas.List.FromFn.{length-map-range_with_len, get_or-map-range_with_len}
+use Rattle.flop_base.specs.declared.key.Chrn.{Chrn}
+use Rattle.flop_base.specs.Standard.{sectors_at, standard_code}
+use Rattle.raw_image.specs.Disk.{Disk, IsDisk, HasTrack, track_of, IsWithTrack}
+use Rattle.track_model.specs.Fields.{content_size}
+use Rattle.track_model.specs.declared.symbol.Symbol.{Symbol}
+use Rattle.track_model.specs.declared.symbol.Symbol.TheVariants.{Byte}
+use Rattle.track_model.specs.Layouts.{lay, recorded, track_symbols, gap, laid_words, Fits}
+use Rattle.track_model.specs.Windows.{with_words}
+use Rattle.track_model.proofs.Recorded.{length-recorded}
+use Rattle.track_model.proofs.Splices.{length-with_words, longer_cut}
+use Rattle.sector_map.specs.Standard.{key_of, track_keys}
+use Rattle.sector_map.specs.Layings.{Format, format_keys, formatted, Laying, IsLaying}
+use Rattle.sector_map.specs.KeptDisks.{KeepsTracks, joined_laying}
+use Rattle.sector_map.proofs.RegularTracks.{length-track_of}
+use Rattle.sector_map.proofs.KeptTracks.{each_track, with_track_keeps, with_itself, with_later}
+
+-- ---- the keys of a track
+
+pub length-track_keys : (sectors c h : ℕ) → length (track_keys sectors c h) ≡ sectors
+unfolding track_keys
+length-track_keys sectors c h = length-map-range_with_len (key_of c h) 1 sectors
+
+-- key i has record i + 1
+pub track_key_at : (sectors c h i : ℕ) (d : Chrn) → i < sectors → get_or (track_keys sectors c h) i d ≡ key_of c h (1 + i)
+unfolding track_keys
+track_key_at sectors c h i d within = get_or-map-range_with_len (key_of c h) 1 sectors i (1 + i) d within (omega arith)
+
+pub length-format_keys : (format : Format) → length (format_keys format) ≡ sectors_at format.rate
+length-format_keys format = length-track_keys (sectors_at format.rate) format.c format.h
+
+-- the sectors fit where as many of 512 bytes as the rate has fit
+pub format_fits : (format : Format) (words : ℕ) → Fits (format_keys format) standard_code format.gap3 words ↔ laid_words (sectors_at format.rate) standard_code format.gap3 ≤ words
+format_fits format words =
+    let same = length-format_keys format in
+    let Within : ℕ → Type 0 = λ s. laid_words s standard_code format.gap3 ≤ words in
+    (subst Within same, subst Within (sym same))
+
+-- ---- the formatted track
+
+pub length-lay : (keys : List Chrn) (n gap3 fill words : ℕ) → length (lay keys n gap3 fill words) ≡ words
+unfolding lay
+length-lay keys n gap3 fill words =
+    let symbols : List Symbol = track_symbols keys n gap3 fill in
+    let all : length (symbols ++ gap words) ≡ length symbols + length (gap words) = length-append symbols (gap words) in
+    let behind : length (gap words) ≡ words = length-replicate words (Byte 0x4E) in
+    length-recorded false (take words (symbols ++ gap words)) ∙ omega (arith, length-take words (symbols ++ gap words))
+
+pub length-formatted : (format : Format) (words : ℕ) → length (formatted format words) ≡ words
+length-formatted format words = length-lay (format_keys format) standard_code format.gap3 format.fill words
+
+-- ---- a laying
+
+-- the other tracks stay, and what a disk is besides
+pub laying_keeps_tracks : (format : Format) (disk : Disk) (laying : Laying) (after : Disk) → IsLaying format disk laying after → KeepsTracks disk laying.cylinder format.h after
+laying_keeps_tracks format disk laying after is = with_track_keeps disk after laying.cylinder format.h _ is.laid
+
+all_laid : (track words : List ℕ) (k : ℕ) → k ≡ length words → k ≡ length track → with_words track 0 (take k words) ≡ words
+unfolding with_words
+all_laid track words k all whole =
+    let taken : take k words ≡ words = take_all k words (omega arith) in
+    ap (λ row. row ++ drop (0 + length row) track) taken
+    ∙ ap (λ rest. words ++ rest) (drop_all (0 + length words) track (omega arith))
+    ∙ append-nil words
+
+-- a laying of all words leaves the formatted track
+pub laid_whole : (format : Format) (disk : Disk) (laying : Laying) (after : Disk) → IsDisk disk → IsLaying format disk laying after → laying.words ≡ disk.words_per_track → track_of after laying.cylinder format.h ≡ formatted format disk.words_per_track
+laid_whole format disk laying after valid is whole =
+    is.laid.has
+    ∙ all_laid (track_of disk laying.cylinder format.h) (formatted format disk.words_per_track) laying.words
+    (whole ∙ sym (length-formatted format disk.words_per_track)) (whole ∙ sym (length-track_of disk laying.cylinder format.h valid is.track))
+
+none_laid : (track words : List ℕ) (k : ℕ) → k ≡ 0 → with_words track 0 (take k words) ≡ track
+unfolding with_words
+none_laid track words k none =
+    ap (λ j. take 0 track ++ (take j words ++ drop (0 + length (take j words)) track)) none
+    ∙ take-append-drop 0 track
+
+-- a laying of no words leaves each track as it was
+pub none_lays : (format : Format) (disk : Disk) (laying : Laying) (after : Disk) → IsLaying format disk laying after → laying.words ≡ 0 → (c h : ℕ) → HasTrack disk c h → track_of after c h ≡ track_of disk c h
+none_lays format disk laying after is none =
+    each_track disk after laying.cylinder format.h _ is.laid (λ c h words. words ≡ track_of disk c h)
+    (none_laid (track_of disk laying.cylinder format.h) (formatted format disk.words_per_track) laying.words none) (λ c h had. refl)
+
+-- and a disk comes from itself by one
+pub laying_of_none : (format : Format) (disk : Disk) (laying : Laying) → IsDisk disk → HasTrack disk laying.cylinder format.h → laying.words ≡ 0 → IsLaying format disk laying disk
+laying_of_none format disk laying valid has none = record {
+  track = has;
+  most = omega arith;
+  laid = with_itself disk laying.cylinder format.h _ valid
+      (none_laid (track_of disk laying.cylinder format.h) (formatted format disk.words_per_track) laying.words none);
+}
+
+laid_twice : (track words : List ℕ) (j k : ℕ) → length words ≡ length track → j ≤ length words → k ≤ length words → with_words (with_words track 0 (take j words)) 0 (take k words) ≡ with_words track 0 (take (max j k) words)
+laid_twice track words j k long few more = longer_cut track 0 words j k few more (omega arith)
+
+-- a laying and a later one of the same format on the same cylinder are one from the first disk: the longer stands
+pub layings_join : (format : Format) (disk : Disk) (one : Laying) (middle : Disk) (two : Laying) (after : Disk) → IsDisk disk → IsLaying format disk one middle → IsLaying format middle two after → two.cylinder ≡ one.cylinder → IsLaying format disk (joined_laying one two) after
+layings_join format disk one middle two after valid first second same =
+    let h = format.h in
+    let w = disk.words_per_track in
+    let track = track_of disk one.cylinder h in
+    let words = formatted format w in
+    let row = with_words track 0 (take one.words words) in
+    let Laid : ℕ → List ℕ → List ℕ → Type 0 = λ c r all. IsWithTrack middle c h (with_words r 0 (take two.words all)) after in
+    let there : Laid one.cylinder (track_of middle one.cylinder h) (formatted format middle.words_per_track) = subst (λ c. Laid c (track_of middle c h) (formatted format middle.words_per_track)) same second.laid in
+    let same_layout : formatted format middle.words_per_track ≡ words = ap (λ n. formatted format n) first.laid.words_per_track in
+    let laid : Laid one.cylinder row words = subst (λ r. Laid one.cylinder r words) first.laid.has (subst (Laid one.cylinder (track_of middle one.cylinder h)) same_layout there) in
+    let long : length words ≡ w = length-formatted format w in
+    let track_long : length track ≡ w = length-track_of disk one.cylinder h valid first.track in
+    let few : one.words ≤ w = first.most in
+    let more : two.words ≤ w = subst (λ n. two.words ≤ n) first.laid.words_per_track second.most in
+    record {
+      track = first.track;
+      most = omega arith;
+      laid = subst (λ r. IsWithTrack disk one.cylinder h r after) (laid_twice track words one.words two.words (omega arith) (omega arith) (omega arith))
+          (with_later disk middle after one.cylinder h row _ first.laid laid);
+    }
+
+-- a later laying of all words makes the two whole
+pub joined_laid : (format : Format) (disk : Disk) (one : Laying) (middle : Disk) (two : Laying) → IsLaying format disk one middle → two.words ≡ middle.words_per_track → (joined_laying one two).words ≡ disk.words_per_track
+joined_laid format disk one middle two first whole = let few = first.most in let shape = first.laid.words_per_track in omega arith
