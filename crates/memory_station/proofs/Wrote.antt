@@ -102,7 +102,7 @@ wrote_absent written n before code old new none drives =
       few = omega arith;
       reach = reach_none written (bay_of old n).medium (bay_of new n).medium (ap (λ (b : Bay). b.medium) same);
       becomes = becomes_medium n before before 1 old new drives refl;
-      steady = λ ok. absurd (false≢true ok);
+      steady = λ steady k default h. absurd (omega arith);
       done = λ ok. absurd (false≢true ok);
       refused = record {
         device = absent_device _ written.key code absent;
@@ -226,13 +226,13 @@ module _ (written : Written) (n p commands : ℕ) (d after : Disk) (before : Bay
 
   -- ---- a window that isn't all inside the track
 
-  refused_cut : (changes : List Change) → length changes ≤ 1 → Reaches written (bay_of old n).medium changes (bay_of new n).medium → HasWindowCut (met (bay_of new n) key.c key.h) key → (window_word p + window_words key.n ≤ length track → ⊥) → commands ≤ 2 → WritesDrive written n (Err NoMark) old new
-  refused_cut changes one reach cut outside few = record {
+  refused_cut : (changes : List Change) → length changes ≤ 1 → All (λ change. change.cylinder ≡ key.c) changes → Reaches written (bay_of old n).medium changes (bay_of new n).medium → HasWindowCut (met (bay_of new n) key.c key.h) key → (window_word p + window_words key.n ≤ length track → ⊥) → commands ≤ 2 → WritesDrive written n (Err NoMark) old new
+  refused_cut changes one here_alone reach cut outside few = record {
     changes = changes;
     few = let some = drives.some_tries in omega arith;
     reach = reach;
     becomes = becomes_medium n before (with_medium before (Some after)) commands old new drives refl;
-    steady = λ ok. absurd (false≢true ok);
+    steady = λ steady. here_alone;
     done = λ ok. absurd (false≢true ok);
     refused = record {
       device = tt;
@@ -264,7 +264,7 @@ module _ (written : Written) (n p commands : ℕ) (d after : Disk) (before : Bay
         | inl same ↦
             let bay_same : bay_of new n ≡ before = drives.is ∙ ap (λ m. with_medium before m) (ap (λ f. Some f) same ∙ sym here.medium) in
             let now : met (bay_of new n) key.c key.h ≡ track = ap (λ b. met b key.c key.h) bay_same ∙ here.met_is in
-            refused_cut [] (omega arith)
+            refused_cut [] (omega arith) (λ k default h. absurd (omega arith))
             (reach_none written (bay_of old n).medium (bay_of new n).medium (medium_new ∙ ap (λ f. Some f) same ∙ sym medium_old))
             (subst (λ row. HasWindowCut row key) (sym now) (p, here.address, outside)) outside few
         | inr (k, cut) ↦
@@ -272,7 +272,7 @@ module _ (written : Written) (n p commands : ℕ) (d after : Disk) (before : Bay
             let done = subst Cut is cut in
             let now : met (bay_of new n) key.c key.h ≡ cut_of track p k words = met_after (cut_of track p k words) cut.cut ∙ cut.cut.has in
             let same_length = length-cut track p k words cut.cuttable in
-            refused_cut (record { cylinder = key.c; place = p; words = k } ∷ []) (omega arith) (one_change k done)
+            refused_cut (record { cylinder = key.c; place = p; words = k } ∷ []) (omega arith) (all_one (λ change. change.cylinder ≡ key.c) (record { cylinder = key.c; place = p; words = k }) refl) (one_change k done)
             (subst (λ row. HasWindowCut row key) (sym now) (p, address_stays track p k words cut.cuttable key here.address, λ fits. outside (omega arith))) outside few
       ]
 
@@ -346,7 +346,7 @@ module _ (written : Written) (n p commands : ℕ) (d after : Disk) (before : Bay
           few = let some = drives.some_tries in omega arith;
           reach = one_change all put;
           becomes = becomes_medium n before (with_medium before (Some after)) commands old new drives refl;
-          steady = λ ok steady. all_one (λ change. change.cylinder ≡ key.c) change_of refl;
+          steady = λ steady. all_one (λ change. change.cylinder ≡ key.c) change_of refl;
           done = λ ok. record {
             disk = after;
             medium = medium_new;
@@ -367,7 +367,7 @@ module _ (written : Written) (n p commands : ℕ) (d after : Disk) (before : Bay
           few = let some = drives.some_tries in omega arith;
           reach = one_change all put;
           becomes = becomes_medium n before (with_medium before (Some after)) commands old new drives refl;
-          steady = λ ok. absurd (false≢true ok);
+          steady = λ steady. all_one (λ change. change.cylinder ≡ key.c) change_of refl;
           done = λ ok. absurd (false≢true ok);
           refused = record {
             device = cause.device;
