@@ -13,7 +13,7 @@ use Rattle.track_model.specs.Sectors.{HasNoRunWithin}
 use Rattle.track_separator.specs.declared.state.Separator.{Separator}
 use Rattle.track_separator.specs.Parts.{with_word, IsPart, EndsInLast}
 use Rattle.track_separator.specs.Hunts.{SHunts, SFollows, SAddressed}
-use Rattle.track_separator.specs.Waits.{SWaits, SReads, HasNoDataMark, HasEnded, TellsWhole, IsCutOff}
+use Rattle.track_separator.specs.Waits.{SWaits, SReads, EndsReach, HasNoDataMark, HasEnded, TellsWhole, IsCutOff}
 use Rattle.track_separator.specs.Lifts.{look_of}
 use Rattle.track_separator.proofs.Shared.{AreAlike, alike_back, alike_run, alike_byte_at, alike_bytes_at, alike_address_mark, alike_address_at, alike_data_mark, alike_whole}
 use Rattle.track_separator.proofs.Runs.{runs_apart, run_ends}
@@ -243,6 +243,13 @@ module _ (separator : Separator) (fed : List ℕ) (p size : ℕ) (waits : SWaits
   -- and there was no data mark
   pub waits_mark : (q : ℕ) (deleted : Bool) → IsDataMark fed p q deleted → ⊥
   waits_mark = (waits_at fed separator.cells separator.back p size separator.stage waits).2
+
+-- where no data mark can come from a word on, at most 1,022 cells behind the address field had passed before it
+pub reach_before : (fed : List ℕ) (word p : ℕ) → EndsReach (with_word fed word) p → 16 * length fed ≤ p + 160 + 1022
+reach_before fed word p ends =
+    let size = length-with_word fed word in
+    let last = ends.last in
+    omega arith
 
 module _ (separator : Separator) (fed : List ℕ) (p q : ℕ) (deleted : Bool) (size taken : ℕ) (reads : SReads separator fed p q deleted size taken) where
   -- the field that is read is the one of the first data mark
