@@ -1,10 +1,12 @@
 -- A disk and one of its tracks replaced.
-use Rattle.std.proofs.Common.{◌≡◌, ◌↔◌, ℕ, ◌<◌, List, refl, sym, ap, subst, ◌∙◌, inl, inr}
+use Rattle.std.proofs.Common.{◌≡◌, ◌↔◌, ℕ, ◌<◌, List, Option, Some, length, refl, sym, ap, subst, ◌∙◌, inl, inr}
 use Rattle.std.proofs.lemmas.Bool.{cases_eq}
 use Rattle.flop_base.specs.declared.answers.Rate.{Rate}
 use Rattle.raw_image.specs.Disk.{Disk, IsDisk, HasTrack, track_of, IsWithTrack}
 use Rattle.sector_map.specs.Met.{unrecorded, met_on}
+use Rattle.sector_map.specs.MetTracks.{MeetsTrack}
 use Rattle.sector_map.specs.KeptDisks.{KeepsTracks}
+use Rattle.sector_map.proofs.RegularTracks.{length-track_of}
 use Rattle.sector_map.proofs.MetTracks.{on_there, by_met}
 
 module _ (disk after : Disk) (c h : ℕ) (words : List ℕ) (laid : IsWithTrack disk c h words after) where
@@ -88,3 +90,15 @@ met_elsewhere disk c h after rate b g keeps other =
     (λ none. by_met after rate b g (λ track. track ≡ unrecorded disk.words_per_track)
     (λ has same. absurd (none ((keeps.tracks b g).1 has) (sym keeps.rate ∙ same)))
     (λ _. ap unrecorded keeps.words_per_track))
+
+-- where a track was met, one is met after it
+pub still_meets : (medium : Option Disk) (rate : Rate) (b g : ℕ) (disk : Disk) (c h : ℕ) (after : Disk) (now : Option Disk) → MeetsTrack medium rate b g disk → KeepsTracks disk c h after → now ≡ Some after → MeetsTrack now rate b g after
+still_meets medium rate b g disk c h after now meets keeps is = record {
+  is_in = is;
+  has = (keeps.tracks b g).0 meets.has;
+  same_rate = keeps.rate ∙ meets.same_rate;
+}
+
+pub length-kept : (disk : Disk) (c h : ℕ) (after : Disk) (b g : ℕ) → IsDisk disk → KeepsTracks disk c h after → HasTrack disk b g → length (track_of after b g) ≡ length (track_of disk b g)
+length-kept disk c h after b g valid keeps has =
+    length-track_of after b g keeps.valid ((keeps.tracks b g).0 has) ∙ keeps.words_per_track ∙ sym (length-track_of disk b g valid has)

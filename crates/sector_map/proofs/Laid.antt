@@ -18,6 +18,7 @@ use Rattle.sector_map.specs.Layings.{Format, format_keys, formatted, Laying, IsL
 use Rattle.sector_map.specs.KeptDisks.{KeepsTracks, joined_laying}
 use Rattle.sector_map.proofs.RegularTracks.{length-track_of}
 use Rattle.sector_map.proofs.KeptTracks.{each_track, with_track_keeps, with_itself, with_later}
+use Rattle.sector_map.proofs.SameDisks.{same_disk}
 
 -- ---- the keys of a track
 
@@ -80,11 +81,12 @@ none_laid track words k none =
     ap (λ j. take 0 track ++ (take j words ++ drop (0 + length (take j words)) track)) none
     ∙ take-append-drop 0 track
 
--- a laying of no words leaves each track as it was
-pub none_lays : (format : Format) (disk : Disk) (laying : Laying) (after : Disk) → IsLaying format disk laying after → laying.words ≡ 0 → (c h : ℕ) → HasTrack disk c h → track_of after c h ≡ track_of disk c h
-none_lays format disk laying after is none =
-    each_track disk after laying.cylinder format.h _ is.laid (λ c h words. words ≡ track_of disk c h)
-    (none_laid (track_of disk laying.cylinder format.h) (formatted format disk.words_per_track) laying.words none) (λ c h had. refl)
+-- a laying of no words leaves the disk as it was
+pub none_lays : (format : Format) (disk : Disk) (laying : Laying) (after : Disk) → IsDisk disk → IsLaying format disk laying after → laying.words ≡ 0 → after ≡ disk
+none_lays format disk laying after valid is none =
+    same_disk disk laying.cylinder format.h after valid (laying_keeps_tracks format disk laying after is)
+    (each_track disk after laying.cylinder format.h _ is.laid (λ c h words. words ≡ track_of disk c h)
+    (none_laid (track_of disk laying.cylinder format.h) (formatted format disk.words_per_track) laying.words none) (λ c h had. refl))
 
 -- and a disk comes from itself by one
 pub laying_of_none : (format : Format) (disk : Disk) (laying : Laying) → IsDisk disk → HasTrack disk laying.cylinder format.h → laying.words ≡ 0 → IsLaying format disk laying disk

@@ -7,6 +7,7 @@ use Rattle.track_model.specs.declared.Look.TheVariants.{Found}
 use Rattle.track_model.specs.Fields.{IsAddressAt, content_at, content_size}
 use Rattle.track_model.specs.Looks.{LookAt, HasAddressMark}
 use Rattle.track_model.specs.Sectors.{IsSector}
+use Rattle.track_model.specs.Regular.{IsRegular}
 use Rattle.track_model.specs.Windows.{window_place, IsTidy}
 use Rattle.sector_map.specs.Disks.{LookOn, IsRegularDisk, Entry, IsOnMap}
 use Rattle.sector_map.specs.Met.{HasLook, AllFound}
@@ -39,8 +40,9 @@ IsSafeChange written disk change =
     IsTidy (track_of disk change.cylinder written.key.h) change.place written.deleted written.content
     ⊎ IsWholeChange written change
 
--- the track `after` has an address mark where the track has one, the same address fields, and the data of all keys but one
+-- the track `after` is regular where the track is, and has its address fields and the data of all keys but one
 pub record KeepsOtherKeys (track : List ℕ) (key : Chrn) (after : List ℕ) : Type 0 where
+  pub regular : (c h : ℕ) → IsRegular track c h → IsRegular after c h
   pub marks : HasAddressMark track ↔ HasAddressMark after
   pub addresses : (p : ℕ) (any : Chrn) → IsAddressAt track p any ↔ IsAddressAt after p any
   pub looks : (other : Chrn) (look : Look) → other ≢ key → HasLook track other look ↔ HasLook after other look
@@ -78,17 +80,14 @@ entry_of written place = record {
   content = written.content;
 }
 
--- the disk has what was written, at the address field at `place`, and nothing else under that key
-pub record HasWritten (written : Written) (place : ℕ) (disk : Disk) : Type 0 where
-  pub entry : IsOnMap disk (entry_of written place)
-  pub look : LookAt (track_of disk written.key.c written.key.h) place written.key.n
-      (Found written.deleted (window_place place + 256))
-  pub content : written.content
-      ≡ content_at (track_of disk written.key.c written.key.h) (window_place place + 256) written.key.n
-  pub sector : IsSector (track_of disk written.key.c written.key.h) written.key written.deleted written.content
-  pub one_place : (p : ℕ) → IsAddressAt (track_of disk written.key.c written.key.h) p written.key → p ≡ place
-  pub one_look : (look : Look) → HasLook (track_of disk written.key.c written.key.h) written.key look
+-- the track has what was written, behind the address field at `place`, and nothing else under that key
+pub record HasWritten (written : Written) (place : ℕ) (track : List ℕ) : Type 0 where
+  pub address : IsAddressAt track place written.key
+  pub look : LookAt track place written.key.n (Found written.deleted (window_place place + 256))
+  pub content : written.content ≡ content_at track (window_place place + 256) written.key.n
+  pub sector : IsSector track written.key written.deleted written.content
+  pub one_place : (p : ℕ) → IsAddressAt track p written.key → p ≡ place
+  pub one_look : (look : Look) → HasLook track written.key look
       → look ≡ Found written.deleted (window_place place + 256)
-  pub one_content : (deleted : Bool) (content : List ℕ)
-      → IsSector (track_of disk written.key.c written.key.h) written.key deleted content
+  pub one_content : (deleted : Bool) (content : List ℕ) → IsSector track written.key deleted content
       → (deleted ≡ written.deleted) × (content ≡ written.content)
