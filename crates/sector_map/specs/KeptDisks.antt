@@ -1,6 +1,7 @@
 -- What a change or a laying keeps of a disk.
 use Rattle.std.specs.Prelude.{◌≡◌, ◌≢◌, ◌↔◌, ℕ, ◌+◌, ◌^◌, ◌<◌, Bool, List, length, max, slice_index, ◌⊎◌}
 use Rattle.flop_base.specs.declared.key.Chrn.{Chrn}
+use Rattle.flop_base.specs.declared.answers.Rate.{Rate}
 use Rattle.raw_image.specs.Disk.{Disk, IsDisk, HasTrack, track_of}
 use Rattle.track_model.specs.declared.Look.{Look}
 use Rattle.track_model.specs.declared.Look.TheVariants.{Found}
@@ -12,7 +13,7 @@ use Rattle.track_model.specs.Windows.{window_place, IsTidy}
 use Rattle.sector_map.specs.Disks.{LookOn, IsRegularDisk, Entry, IsOnMap}
 use Rattle.sector_map.specs.Met.{HasLook, AllFound}
 use Rattle.sector_map.specs.Changes.{Change, Written, window_of}
-use Rattle.sector_map.specs.Layings.{Laying}
+use Rattle.sector_map.specs.Layings.{Format, Laying}
 
 -- the disk `after` has the protection, shape and rate of the disk, and all its tracks but one of this cylinder and head
 pub record KeepsTracks (disk : Disk) (c h : ℕ) (after : Disk) : Type 0 where
@@ -24,6 +25,14 @@ pub record KeepsTracks (disk : Disk) (c h : ℕ) (after : Disk) : Type 0 where
   pub words_per_track : after.words_per_track ≡ disk.words_per_track
   pub tracks : (b g : ℕ) → HasTrack disk b g ↔ HasTrack after b g
   pub others : (b g : ℕ) → HasTrack disk b g → (b ≡ c → g ≡ h → ⊥) → track_of after b g ≡ track_of disk b g
+
+-- a content with its mark under a key
+abbrev pub written_under : Chrn → Bool → List ℕ → Written
+written_under key deleted content = record { key = key; deleted = deleted; content = content }
+
+-- a change of this cylinder, place and count of words
+abbrev pub change_at : ℕ → ℕ → ℕ → Change
+change_at cylinder place words = record { cylinder = cylinder; place = place; words = words }
 
 -- what is written is a content for its key: bytes, as many as the size code says
 pub record FitsKey (written : Written) : Type 0 where
@@ -64,6 +73,14 @@ joined one two = record {
   place = one.place;
   words = max one.words two.words;
 }
+
+-- the format of a cylinder and head at a rate, with a gap 3 and a fill
+abbrev pub format_at : ℕ → ℕ → Rate → ℕ → ℕ → Format
+format_at c h rate gap3 fill = record { c = c; h = h; rate = rate; gap3 = gap3; fill = fill }
+
+-- a laying of this cylinder and count of words
+abbrev pub laying_at : ℕ → ℕ → Laying
+laying_at cylinder words = record { cylinder = cylinder; words = words }
 
 -- a laying and a later one on the same cylinder, as one: the longer stands
 abbrev pub joined_laying : Laying → Laying → Laying
