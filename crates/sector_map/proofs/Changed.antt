@@ -10,10 +10,11 @@ use Rattle.track_model.specs.Looks.{LookAt}
 use Rattle.track_model.specs.Sectors.{IsSector}
 use Rattle.track_model.specs.Regular.{IsRegular}
 use Rattle.track_model.specs.Kept.{KeepsOthers}
-use Rattle.track_model.specs.Windows.{window_word, window_place, with_words, cut_of, IsCuttable, IsFieldFor}
+use Rattle.track_model.specs.Windows.{window_word, window_words, window_place, with_words, cut_of, IsCuttable, IsFieldFor}
 use Rattle.track_model.proofs.Frames.{same_address_at}
 use Rattle.track_model.proofs.Splices.{same_before, length-with_words, longer_cut}
 use Rattle.track_model.proofs.Unique.{one_look_at}
+use Rattle.track_model.proofs.Written.{length-window}
 use Rattle.track_model.proofs.Kept as cuts
 use Rattle.sector_map.specs.Disks.{IsRegularDisk, IsOnMap}
 use Rattle.sector_map.specs.Met.{HasLook}
@@ -60,6 +61,15 @@ module _ (written : Written) (p : ℕ) (track : List ℕ) (address : IsAddressAt
         same_found track written.key.n deleted written.deleted place (window_place p + 256) content written.content
         (look_is q (Found deleted place) other seen) same content_is;
   }
+
+-- ---- the window
+
+pub length-window_of : (written : Written) → FitsKey written → length (window_of written) ≡ window_words written.key.n
+length-window_of written fits = let size = fits.size in omega (arith, length-window written.deleted written.content)
+
+-- where a whole window stands, it is inside the track
+pub whole_inside : (written : Written) (disk : Disk) (change : Change) (after : Disk) → IsChange written disk change after → FitsKey written → IsWholeChange written change → window_word change.place + window_words written.key.n ≤ length (track_of disk change.cylinder written.key.h)
+whole_inside written disk change after is fits whole = let inside = is.cuttable.inside in omega (arith, length-window_of written fits)
 
 -- ---- any disk
 
