@@ -8,6 +8,7 @@ use Rattle.track_model.specs.Fields.{IsAddressAt, content_at}
 use Rattle.track_model.specs.Looks.{LookAt, LookFirst, LookFor, HasAddressMark}
 use Rattle.track_model.specs.Sectors.{IsSector}
 use Rattle.track_model.specs.Kept.{KeepsOthers}
+use Rattle.track_model.specs.Regular.{IsRegular}
 use Rattle.track_model.proofs.Unique.{one_key}
 use Rattle.sector_map.specs.Disks.{LookOn, Entry, IsOnMap}
 use Rattle.sector_map.specs.Met.{HasLook, AllFound}
@@ -91,10 +92,11 @@ module _ (track : List ℕ) (key : Chrn) (after : List ℕ) (keeps : KeepsPlaces
   look_for_on BadCrc found = first_on BadCrc found
   look_for_on (Found deleted place) found = first_on (Found deleted place) found
 
-pub other_keys : (track : List ℕ) (key : Chrn) (after : List ℕ) → KeepsPlaces track key after → KeepsOtherKeys track key after
-other_keys track key after keeps =
+pub other_keys : (track : List ℕ) (key : Chrn) (after : List ℕ) → ((c h : ℕ) → IsRegular track c h → IsRegular after c h) → KeepsPlaces track key after → KeepsOtherKeys track key after
+other_keys track key after regular keeps =
     let back = places_back track key after keeps in
     record {
+      regular = regular;
       marks = keeps.marks;
       addresses = keeps.addresses;
       looks = λ other look differs. (look_on track key after keeps other differs look, look_on after key track back other differs look);

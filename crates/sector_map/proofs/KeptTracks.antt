@@ -1,11 +1,20 @@
 -- A disk and one of its tracks replaced.
-use Rattle.std.proofs.Common.{◌≡◌, ◌↔◌, ℕ, ◌<◌, List, refl, sym, ap, subst, ◌∙◌, inl, inr}
+use Rattle.std.proofs.Common.{◌≡◌, ◌↔◌, ℕ, ◌<◌, List, Option, Some, length, refl, sym, ap, subst, ◌∙◌, inl, inr}
 use Rattle.std.proofs.lemmas.Bool.{cases_eq}
+use Rattle.flop_base.specs.declared.key.Chrn.{Chrn}
 use Rattle.flop_base.specs.declared.answers.Rate.{Rate}
 use Rattle.raw_image.specs.Disk.{Disk, IsDisk, HasTrack, track_of, IsWithTrack}
-use Rattle.sector_map.specs.Met.{unrecorded, met_on}
+use Rattle.track_model.specs.declared.Look.{Look}
+use Rattle.track_model.specs.declared.Look.TheVariants.{Found}
+use Rattle.track_model.specs.Fields.{IsAddressAt, content_at}
+use Rattle.track_model.specs.Looks.{LookAt, LookFor}
+use Rattle.track_model.specs.Regular.{IsRegular}
+use Rattle.sector_map.specs.Disks.{LookOn, IsRegularDisk, Entry, IsOnMap}
+use Rattle.sector_map.specs.Met.{unrecorded, met_on, met_in}
+use Rattle.sector_map.specs.MetTracks.{MeetsTrack}
 use Rattle.sector_map.specs.KeptDisks.{KeepsTracks}
-use Rattle.sector_map.proofs.MetTracks.{on_there, by_met}
+use Rattle.sector_map.proofs.RegularTracks.{length-track_of}
+use Rattle.sector_map.proofs.MetTracks.{on_there, by_met, in_is_on}
 
 module _ (disk after : Disk) (c h : ℕ) (words : List ℕ) (laid : IsWithTrack disk c h words after) where
   pub has_after : (b g : ℕ) → HasTrack disk b g → HasTrack after b g
@@ -88,3 +97,65 @@ met_elsewhere disk c h after rate b g keeps other =
     (λ none. by_met after rate b g (λ track. track ≡ unrecorded disk.words_per_track)
     (λ has same. absurd (none ((keeps.tracks b g).1 has) (sym keeps.rate ∙ same)))
     (λ _. ap unrecorded keeps.words_per_track))
+
+-- where a track was met, one is met after it
+pub still_meets : (medium : Option Disk) (rate : Rate) (b g : ℕ) (disk : Disk) (c h : ℕ) (after : Disk) (now : Option Disk) → MeetsTrack medium rate b g disk → KeepsTracks disk c h after → now ≡ Some after → MeetsTrack now rate b g after
+still_meets medium rate b g disk c h after now meets keeps is = record {
+  is_in = is;
+  has = (keeps.tracks b g).0 meets.has;
+  same_rate = keeps.rate ∙ meets.same_rate;
+}
+
+pub length-kept : (disk : Disk) (c h : ℕ) (after : Disk) (b g : ℕ) → IsDisk disk → KeepsTracks disk c h after → HasTrack disk b g → length (track_of after b g) ≡ length (track_of disk b g)
+length-kept disk c h after b g valid keeps has =
+    length-track_of after b g keeps.valid ((keeps.tracks b g).0 has) ∙ keeps.words_per_track ∙ sym (length-track_of disk b g valid has)
+
+-- ---- what is on the other tracks
+
+pub elsewhere_met : (disk : Disk) (c h : ℕ) (after : Disk) (medium now : Option Disk) (rate : Rate) (b g : ℕ) → KeepsTracks disk c h after → medium ≡ Some disk → now ≡ Some after → (b ≡ c → g ≡ h → ⊥) → met_in now rate b g ≡ met_in medium rate b g
+elsewhere_met disk c h after medium now rate b g keeps was is other =
+    in_is_on now rate b g after is ∙ met_elsewhere disk c h after rate b g keeps other ∙ sym (in_is_on medium rate b g disk was)
+
+module _ (disk : Disk) (c h : ℕ) (after : Disk) (keeps : KeepsTracks disk c h after) where
+  pub elsewhere_looked : (key : Chrn) (look : Look) → (key.c ≡ c → key.h ≡ h → ⊥) → LookOn disk key look ↔ LookOn after key look
+  elsewhere_looked key look other = (
+    λ on. record {
+      there = λ has.
+          let had = (keeps.tracks key.c key.h).1 has in
+          subst (λ track. LookFor track key look) (sym (keeps.others key.c key.h had other)) (on.there had);
+      absent = λ none. on.absent (λ had. none ((keeps.tracks key.c key.h).0 had));
+    },
+    λ on. record {
+      there = λ had. subst (λ track. LookFor track key look) (keeps.others key.c key.h had other) (on.there ((keeps.tracks key.c key.h).0 had));
+      absent = λ none. on.absent (λ has. none ((keeps.tracks key.c key.h).1 has));
+    },
+  )
+
+  on_map : (from to : Disk) (entry : Entry) → HasTrack to entry.cylinder entry.head → track_of to entry.cylinder entry.head ≡ track_of from entry.cylinder entry.head → IsOnMap from entry → IsOnMap to entry
+  on_map from to entry has same on = record {
+    track = has;
+    address = subst (λ track. IsAddressAt track entry.place entry.key) (sym same) on.address;
+    content = subst (λ track. (place : ℕ) × LookAt track entry.place entry.key.n (Found entry.deleted place) × (entry.content ≡ content_at track place entry.key.n)) (sym same) on.content;
+  }
+
+  pub elsewhere_on_map : (entry : Entry) → (entry.cylinder ≡ c → entry.head ≡ h → ⊥) → IsOnMap disk entry ↔ IsOnMap after entry
+  elsewhere_on_map entry other = (
+    λ on. on_map disk after entry ((keeps.tracks entry.cylinder entry.head).0 on.track) (keeps.others entry.cylinder entry.head on.track other) on,
+    λ on.
+        let had = (keeps.tracks entry.cylinder entry.head).1 on.track in
+        on_map after disk entry had (sym (keeps.others entry.cylinder entry.head had other)) on,
+  )
+
+  -- a regular disk stays so where that track is regular
+  pub stays_regular : IsRegularDisk disk → IsRegular (track_of after c h) c h → IsRegularDisk after
+  stays_regular regular here b g has =
+      let had = (keeps.tracks b g).1 has in
+      elim (cases_eq b c) [
+        | inl same_c ↦ elim (cases_eq g h) [
+          | inl same_h ↦
+              let at_c = subst (λ k. IsRegular (track_of after k h) k h) (sym same_c) here in
+              subst (λ k. IsRegular (track_of after b k) b k) (sym same_h) at_c
+          | inr other ↦ subst (λ track. IsRegular track b g) (sym (keeps.others b g had (λ _ e. other e))) (regular b g had)
+        ]
+        | inr other ↦ subst (λ track. IsRegular track b g) (sym (keeps.others b g had (λ e _. other e))) (regular b g had)
+      ]

@@ -1,5 +1,5 @@
 -- What a laying makes of a disk, and the keys of a format.
-use Rattle.std.proofs.Common.{◌≡◌, ◌↔◌, ℕ, false, ◌+◌, ◌-◌, ◌<◌, ◌≤◌, List, ◌++◌, [], length, take, drop, max, get_or, Contains, refl, sym, ap, subst, ◌∙◌, arith}
+use Rattle.std.proofs.Common.{◌≡◌, ◌↔◌, ℕ, false, ◌+◌, ◌-◌, ◌<◌, ◌≤◌, List, ◌++◌, [], length, take, drop, max, get_or, All, refl, sym, ap, subst, ◌∙◌, arith}
 use Rattle.std.specs.List.{range_with_len}
 use Rattle.std.proofs.lemmas.List.{length-append, length-take, length-replicate, take-append-drop, drop_all, take_all, append-nil}
 use Rattle.std.proofs.lemmas.List.FromFn.{length-map-range_with_len, get_or-map-range_with_len}
@@ -18,6 +18,7 @@ use Rattle.sector_map.specs.Layings.{Format, format_keys, formatted, Laying, IsL
 use Rattle.sector_map.specs.KeptDisks.{KeepsTracks, joined_laying}
 use Rattle.sector_map.proofs.RegularTracks.{length-track_of}
 use Rattle.sector_map.proofs.KeptTracks.{each_track, with_track_keeps, with_itself, with_later}
+use Rattle.sector_map.proofs.SameDisks.{same_disk}
 
 -- ---- the keys of a track
 
@@ -29,6 +30,19 @@ length-track_keys sectors c h = length-map-range_with_len (key_of c h) 1 sectors
 pub track_key_at : (sectors c h i : ℕ) (d : Chrn) → i < sectors → get_or (track_keys sectors c h) i d ≡ key_of c h (1 + i)
 unfolding track_keys
 track_key_at sectors c h i d within = get_or-map-range_with_len (key_of c h) 1 sectors i (1 + i) d within (omega arith)
+
+-- what holds of each record from 1 on holds of each key, and the other way round
+pub all_track_keys : (sectors c h : ℕ) (P : Chrn → Type 0) → ((r : ℕ) → 1 ≤ r → r ≤ sectors → P (key_of c h r)) → All P (track_keys sectors c h)
+all_track_keys sectors c h P each i d below =
+    let within : i < sectors = omega (arith, length-track_keys sectors c h) in
+    subst P (sym (track_key_at sectors c h i d within)) (each (1 + i) (omega arith) (omega arith))
+
+pub each_track_key : (sectors c h : ℕ) (P : Chrn → Type 0) → All P (track_keys sectors c h) → (r : ℕ) → 1 ≤ r → r ≤ sectors → P (key_of c h r)
+each_track_key sectors c h P all r least most =
+    let record_is : 1 + (r - 1) ≡ r = omega arith in
+    let d = key_of c h r in
+    subst (λ k. P (key_of c h k)) record_is
+    (subst P (track_key_at sectors c h (r - 1) d (omega arith)) (all (r - 1) d (omega (arith, length-track_keys sectors c h))))
 
 pub length-format_keys : (format : Format) → length (format_keys format) ≡ sectors_at format.rate
 length-format_keys format = length-track_keys (sectors_at format.rate) format.c format.h
@@ -80,11 +94,12 @@ none_laid track words k none =
     ap (λ j. take 0 track ++ (take j words ++ drop (0 + length (take j words)) track)) none
     ∙ take-append-drop 0 track
 
--- a laying of no words leaves each track as it was
-pub none_lays : (format : Format) (disk : Disk) (laying : Laying) (after : Disk) → IsLaying format disk laying after → laying.words ≡ 0 → (c h : ℕ) → HasTrack disk c h → track_of after c h ≡ track_of disk c h
-none_lays format disk laying after is none =
-    each_track disk after laying.cylinder format.h _ is.laid (λ c h words. words ≡ track_of disk c h)
-    (none_laid (track_of disk laying.cylinder format.h) (formatted format disk.words_per_track) laying.words none) (λ c h had. refl)
+-- a laying of no words leaves the disk as it was
+pub none_lays : (format : Format) (disk : Disk) (laying : Laying) (after : Disk) → IsDisk disk → IsLaying format disk laying after → laying.words ≡ 0 → after ≡ disk
+none_lays format disk laying after valid is none =
+    same_disk disk laying.cylinder format.h after valid (laying_keeps_tracks format disk laying after is)
+    (each_track disk after laying.cylinder format.h _ is.laid (λ c h words. words ≡ track_of disk c h)
+    (none_laid (track_of disk laying.cylinder format.h) (formatted format disk.words_per_track) laying.words none) (λ c h had. refl))
 
 -- and a disk comes from itself by one
 pub laying_of_none : (format : Format) (disk : Disk) (laying : Laying) → IsDisk disk → HasTrack disk laying.cylinder format.h → laying.words ≡ 0 → IsLaying format disk laying disk

@@ -1,4 +1,5 @@
 pub mod Changed
+pub mod Joined
 mod KeptKeys
 pub mod KeptTracks
 pub mod Laid

@@ -33,6 +33,9 @@ cases_rate R250 R250 = inl refl
 cases_rate R500 R250 = inr (λ e. false≢true (same_rates R500 R250 e))
 cases_rate R250 R500 = inr (λ e. false≢true (same_rates R250 R500 e))
 
+pub rates_exactly : (a b : Rate) → IsTrue (same_rate a b) ↔ (a ≡ b)
+rates_exactly a b = (rates_same a b, same_rates a b)
+
 -- ---- where nothing is recorded
 
 zero_at : (n k : ℕ) → get_or {A = ℕ} (replicate n 0) k 0 ≡ 0
@@ -98,8 +101,8 @@ module _ (disk : Disk) (rate : Rate) (c h : ℕ) where
 
 -- ---- a medium, or none
 
-met_is_on : (medium : Option Disk) (rate : Rate) (c h : ℕ) (disk : Disk) → medium ≡ Some disk → met_in medium rate c h ≡ met_on disk rate c h
-met_is_on medium rate c h disk is = ap (λ (m : Option Disk). option_map_or (λ d. met_on d rate c h) m (unrecorded 64)) is
+pub in_is_on : (medium : Option Disk) (rate : Rate) (c h : ℕ) (disk : Disk) → medium ≡ Some disk → met_in medium rate c h ≡ met_on disk rate c h
+in_is_on medium rate c h disk is = ap (λ (m : Option Disk). option_map_or (λ d. met_on d rate c h) m (unrecorded 64)) is
 
 -- where no medium is in
 pub nothing_in : (medium : Option Disk) (rate : Rate) (c h : ℕ) → medium ≡ None → HasNothing (met_in medium rate c h)
@@ -110,11 +113,11 @@ nothing_in medium rate c h none =
 -- where the disk has no such track, or another rate
 pub nothing_there : (medium : Option Disk) (rate : Rate) (c h : ℕ) (disk : Disk) → medium ≡ Some disk → (HasTrack disk c h → disk.rate ≡ rate → ⊥) → HasNothing (met_in medium rate c h)
 nothing_there medium rate c h disk is not =
-    subst HasNothing (sym (met_is_on medium rate c h disk is)) (on_nothing disk rate c h not)
+    subst HasNothing (sym (in_is_on medium rate c h disk is)) (on_nothing disk rate c h not)
 
 -- where it has the track at this rate
 pub met_track : (medium : Option Disk) (rate : Rate) (c h : ℕ) (disk : Disk) → MeetsTrack medium rate c h disk → met_in medium rate c h ≡ track_of disk c h
-met_track medium rate c h disk meets = met_is_on medium rate c h disk meets.is_in ∙ on_there disk rate c h meets.has meets.same_rate
+met_track medium rate c h disk meets = in_is_on medium rate c h disk meets.is_in ∙ on_there disk rate c h meets.has meets.same_rate
 
 pub length-met_track : (medium : Option Disk) (rate : Rate) (c h : ℕ) (disk : Disk) → IsDisk disk → MeetsTrack medium rate c h disk → length (met_in medium rate c h) ≡ disk.words_per_track
 length-met_track medium rate c h disk valid meets = ap length (met_track medium rate c h disk meets) ∙ length-track_of disk c h valid meets.has

@@ -1,17 +1,19 @@
 -- What a change or a laying keeps of a disk.
 use Rattle.std.specs.Prelude.{◌≡◌, ◌≢◌, ◌↔◌, ℕ, ◌+◌, ◌^◌, ◌<◌, Bool, List, length, max, slice_index, ◌⊎◌}
 use Rattle.flop_base.specs.declared.key.Chrn.{Chrn}
+use Rattle.flop_base.specs.declared.answers.Rate.{Rate}
 use Rattle.raw_image.specs.Disk.{Disk, IsDisk, HasTrack, track_of}
 use Rattle.track_model.specs.declared.Look.{Look}
 use Rattle.track_model.specs.declared.Look.TheVariants.{Found}
 use Rattle.track_model.specs.Fields.{IsAddressAt, content_at, content_size}
 use Rattle.track_model.specs.Looks.{LookAt, HasAddressMark}
 use Rattle.track_model.specs.Sectors.{IsSector}
+use Rattle.track_model.specs.Regular.{IsRegular}
 use Rattle.track_model.specs.Windows.{window_place, IsTidy}
 use Rattle.sector_map.specs.Disks.{LookOn, IsRegularDisk, Entry, IsOnMap}
 use Rattle.sector_map.specs.Met.{HasLook, AllFound}
 use Rattle.sector_map.specs.Changes.{Change, Written, window_of}
-use Rattle.sector_map.specs.Layings.{Laying}
+use Rattle.sector_map.specs.Layings.{Format, Laying}
 
 -- the disk `after` has the protection, shape and rate of the disk, and all its tracks but one of this cylinder and head
 pub record KeepsTracks (disk : Disk) (c h : ℕ) (after : Disk) : Type 0 where
@@ -23,6 +25,14 @@ pub record KeepsTracks (disk : Disk) (c h : ℕ) (after : Disk) : Type 0 where
   pub words_per_track : after.words_per_track ≡ disk.words_per_track
   pub tracks : (b g : ℕ) → HasTrack disk b g ↔ HasTrack after b g
   pub others : (b g : ℕ) → HasTrack disk b g → (b ≡ c → g ≡ h → ⊥) → track_of after b g ≡ track_of disk b g
+
+-- a content with its mark under a key
+abbrev pub written_under : Chrn → Bool → List ℕ → Written
+written_under key deleted content = record { key = key; deleted = deleted; content = content }
+
+-- a change of this cylinder, place and count of words
+abbrev pub change_at : ℕ → ℕ → ℕ → Change
+change_at cylinder place words = record { cylinder = cylinder; place = place; words = words }
 
 -- what is written is a content for its key: bytes, as many as the size code says
 pub record FitsKey (written : Written) : Type 0 where
@@ -39,8 +49,9 @@ IsSafeChange written disk change =
     IsTidy (track_of disk change.cylinder written.key.h) change.place written.deleted written.content
     ⊎ IsWholeChange written change
 
--- the track `after` has an address mark where the track has one, the same address fields, and the data of all keys but one
+-- the track `after` is regular where the track is, and has its address fields and the data of all keys but one
 pub record KeepsOtherKeys (track : List ℕ) (key : Chrn) (after : List ℕ) : Type 0 where
+  pub regular : (c h : ℕ) → IsRegular track c h → IsRegular after c h
   pub marks : HasAddressMark track ↔ HasAddressMark after
   pub addresses : (p : ℕ) (any : Chrn) → IsAddressAt track p any ↔ IsAddressAt after p any
   pub looks : (other : Chrn) (look : Look) → other ≢ key → HasLook track other look ↔ HasLook after other look
@@ -63,6 +74,14 @@ joined one two = record {
   words = max one.words two.words;
 }
 
+-- the format of a cylinder and head at a rate, with a gap 3 and a fill
+abbrev pub format_at : ℕ → ℕ → Rate → ℕ → ℕ → Format
+format_at c h rate gap3 fill = record { c = c; h = h; rate = rate; gap3 = gap3; fill = fill }
+
+-- a laying of this cylinder and count of words
+abbrev pub laying_at : ℕ → ℕ → Laying
+laying_at cylinder words = record { cylinder = cylinder; words = words }
+
 -- a laying and a later one on the same cylinder, as one: the longer stands
 abbrev pub joined_laying : Laying → Laying → Laying
 joined_laying one two = record { cylinder = one.cylinder; words = max one.words two.words }
@@ -78,17 +97,14 @@ entry_of written place = record {
   content = written.content;
 }
 
--- the disk has what was written, at the address field at `place`, and nothing else under that key
-pub record HasWritten (written : Written) (place : ℕ) (disk : Disk) : Type 0 where
-  pub entry : IsOnMap disk (entry_of written place)
-  pub look : LookAt (track_of disk written.key.c written.key.h) place written.key.n
-      (Found written.deleted (window_place place + 256))
-  pub content : written.content
-      ≡ content_at (track_of disk written.key.c written.key.h) (window_place place + 256) written.key.n
-  pub sector : IsSector (track_of disk written.key.c written.key.h) written.key written.deleted written.content
-  pub one_place : (p : ℕ) → IsAddressAt (track_of disk written.key.c written.key.h) p written.key → p ≡ place
-  pub one_look : (look : Look) → HasLook (track_of disk written.key.c written.key.h) written.key look
+-- the track has what was written, behind the address field at `place`, and nothing else under that key
+pub record HasWritten (written : Written) (place : ℕ) (track : List ℕ) : Type 0 where
+  pub address : IsAddressAt track place written.key
+  pub look : LookAt track place written.key.n (Found written.deleted (window_place place + 256))
+  pub content : written.content ≡ content_at track (window_place place + 256) written.key.n
+  pub sector : IsSector track written.key written.deleted written.content
+  pub one_place : (p : ℕ) → IsAddressAt track p written.key → p ≡ place
+  pub one_look : (look : Look) → HasLook track written.key look
       → look ≡ Found written.deleted (window_place place + 256)
-  pub one_content : (deleted : Bool) (content : List ℕ)
-      → IsSector (track_of disk written.key.c written.key.h) written.key deleted content
+  pub one_content : (deleted : Bool) (content : List ℕ) → IsSector track written.key deleted content
       → (deleted ≡ written.deleted) × (content ≡ written.content)

@@ -1,0 +1,72 @@
+// What a write or a format keeps of a medium: laws over its states before and after.
+ghost use Rattle.std.specs.Prelude.{◌≡◌, length};
+ghost use Rattle.raw_image.specs.Disk.{Disk, track_of};
+ghost use Rattle.track_model.specs.Fields.{content_size};
+ghost use Rattle.track_model.specs.Writing.{window};
+ghost use Rattle.sector_map.specs.Disks.{IsRegularDisk, IsOnMap};
+ghost use Rattle.sector_map.specs.Changes.{Change, IsChange};
+ghost use Rattle.sector_map.specs.Layings.{Laying, IsLaying, formatted};
+ghost use Rattle.sector_map.specs.KeptDisks.{KeepsTracks, IsSafeChange, KeepsSectors, HasWritten, entry_of, written_under, change_at, joined, format_at, laying_at, joined_laying};
+
+use flop_base::{Chrn, Rate};
+use raw_image::Medium;
+
+/// A law: the first `words` words of a window, written behind an address field of a regular medium, leave it regular and
+/// its other sectors as they were. The premise `safe` is that all words are written, or that no write of this window that
+/// stops short brings up an address mark. All words give the content back, and that alone under the key. A later write of
+/// the same window makes one change of the two.
+pub fn change_keeps(
+    _medium: &Medium,
+    _after: &Medium,
+    _key: Chrn,
+    _deleted: bool,
+    _content: &[u8],
+    _cylinder: u8,
+    _place: usize,
+    _words: usize,
+)
+    requires regular { IsRegularDisk _medium.now }
+    requires size { length _content.now ≡ content_size _key.n }
+    requires change { IsChange (written_under _key _deleted _content.now) _medium.now
+        (change_at _cylinder _place _words) _after.now }
+    requires safe { IsSafeChange (written_under _key _deleted _content.now) _medium.now
+        (change_at _cylinder _place _words) }
+    ensures tracks { KeepsTracks _medium.now _cylinder _key.h _after.now }
+    ensures sectors { KeepsSectors _medium.now _key _after.now }
+    ensures written { _words ≡ length (window _deleted _content.now)
+        → HasWritten (written_under _key _deleted _content.now) _place
+        (track_of _after.now _key.c _key.h) }
+    ensures entry { _words ≡ length (window _deleted _content.now)
+        → IsOnMap _after.now (entry_of (written_under _key _deleted _content.now) _place) }
+    ensures later { (change : Change) (last : Disk)
+        → IsChange (written_under _key _deleted _content.now) _after.now change last
+        → IsChange (written_under _key _deleted _content.now) _medium.now
+        (joined (change_at _cylinder _place _words) change) last }
+{}
+
+/// A law: the first `words` words of a formatted track, put on a medium, leave its other tracks as they were. All words
+/// are the formatted track, and a later format of the same cylinder makes one laying of the two.
+pub fn laying_keeps(
+    medium: &Medium,
+    _after: &Medium,
+    _c: u8,
+    _h: u8,
+    _rate: Rate,
+    _gap3: u8,
+    _fill: u8,
+    _cylinder: u8,
+    _words: u16,
+)
+    requires laying { IsLaying (format_at _c _h _rate _gap3 _fill) medium.now
+        (laying_at _cylinder _words) _after.now }
+    ensures tracks { KeepsTracks medium.now _cylinder _h _after.now }
+    ensures whole { _words ≡ medium.now.words_per_track → track_of _after.now _cylinder _h
+        ≡ formatted (format_at _c _h _rate _gap3 _fill) medium.now.words_per_track }
+    ensures later { (laying : Laying) (last : Disk) → laying.cylinder ≡ _cylinder
+        → IsLaying (format_at _c _h _rate _gap3 _fill) _after.now laying last
+        → IsLaying (format_at _c _h _rate _gap3 _fill) medium.now
+        (joined_laying (laying_at _cylinder _words) laying) last }
+{
+    // A medium that is read is known to be valid.
+    let _length = medium.words();
+}
