@@ -3,20 +3,107 @@ ghost use Rattle.std.specs.Prelude.{◌≡◌, None};
 
 use flop_base::{LoadError, PutError, Shelf, Sink, StoreError};
 use std::alloc::Global;
-use std::io::{ErrorKind, Read};
+use std::fs::{OpenFile, OpenOptions, Permissions};
+use std::io::{ErrorKind, Read, Write};
+use std::os::unix::fs::{OpenOptionsExt, PermissionsExt};
 use std::rt::Files;
-use std::{fs, io};
+use std::{fs, io, str};
 
-// Where a file is written before it takes its name. No job or word of the program names it, since it begins with a dot.
-const PART: &str = ".floppy-part";
+// How many names are tried for a new file. As many leftovers of programs that were killed fill them.
+const PARTS: u16 = 1000;
 
-// Writes a file beside the old one, which it replaces when it is whole: a full disk leaves the old one as it was.
-fn replace_file(rt: &impl Files, name: &str, bytes: &[u8]) -> io::Result<()> {
-    let written = fs::write(rt, PART, bytes).and_then(|()| fs::rename(rt, PART, name));
-    if written.is_err() {
-        let _ = fs::remove_file(rt, PART);
+// Who may read and write a file where none was before, less what the user's mask takes.
+const NEW_MODE: u32 = 0o666;
+
+/// The name that a new file has while it is written: `.floppy-part-000` to `.floppy-part-999`.
+/// No job or word of the program says it, since names don't begin with a dot.
+#[derive(Drop)]
+struct PartName {
+    bytes: [u8; 16],
+}
+
+impl PartName {
+    fn new(number: u16) -> PartName {
+        let mut bytes = *b".floppy-part-000";
+        bytes[13] = last_digit(number / 100);
+        bytes[14] = last_digit(number / 10);
+        bytes[15] = last_digit(number);
+        PartName { bytes }
     }
-    written
+
+    fn text(&self) -> io::Result<&str> {
+        str::from_utf8(&self.bytes).map_err(|_| ErrorKind::InvalidFilename.into())
+    }
+}
+
+fn last_digit(number: u16) -> u8 {
+    b'0' + (number % 10) as u8
+}
+
+// Who may read, write and run the file under a name, where one is there. A link gives what it leads to.
+fn mode_of(rt: &impl Files, name: &str) -> io::Result<Option<u32>> {
+    match fs::metadata(rt, name) {
+        Ok(old) => Ok(Some(old.permissions().mode() & 0o777)),
+        Err(error) if error.kind() == ErrorKind::NotFound => Ok(None),
+        Err(error) => Err(error),
+    }
+}
+
+// Opens a file that wasn't there, so it is this call's own: what has the name, another program's new file
+// or the leftover of one that was killed, is passed over.
+fn create_part<R: Files>(rt: &R, mode: u32) -> io::Result<(R::File, PartName)> {
+    for number in 0..PARTS {
+        let part = PartName::new(number);
+        let created = OpenOptions::new()
+            .write(true)
+            .create_new(true)
+            .mode(mode)
+            .open(rt, part.text()?);
+        match created {
+            Ok(file) => return Ok((file, part)),
+            Err(error) if error.kind() == ErrorKind::AlreadyExists => {}
+            Err(error) => return Err(error),
+        }
+    }
+    Err(ErrorKind::AlreadyExists.into())
+}
+
+// Writes the file whole and closes it. A write that fails late, as at the close, whose answer is lost, is
+// found by the sync, which comes first; and the bytes are on the disk before the file has its name.
+fn fill_part(
+    mut file: impl OpenFile + Write + Drop,
+    mode: Option<u32>,
+    bytes: &[u8],
+) -> io::Result<()> {
+    // The user's mask counts for a file that is new, and not for one in an old one's place.
+    if let Some(mode) = mode {
+        file.set_permissions(Permissions::from_mode(mode))?;
+    }
+    file.write_all(bytes)?;
+    file.sync_all()
+}
+
+// Has the folder's names on the disk.
+fn sync_folder(rt: &impl Files) -> io::Result<()> {
+    fs::open(rt, ".")?.sync_all()
+}
+
+// Writes a file beside the old one, which it replaces when it is whole. A failure leaves the old one as it was, and
+// takes away the new one, which no other program has.
+fn replace_file(rt: &impl Files, name: &str, bytes: &[u8]) -> io::Result<()> {
+    let mode = mode_of(rt, name)?;
+    let (file, part) = create_part(rt, mode.unwrap_or(NEW_MODE))?;
+    let part = part.text()?;
+    let replaced = match fill_part(file, mode, bytes) {
+        Ok(()) => fs::rename(rt, part, name),
+        Err(error) => Err(error),
+    };
+    // Once it has its name the new file stands, so a folder that can't be synced is no error of the store.
+    let _ = match replaced {
+        Ok(()) => sync_folder(rt),
+        Err(_) => fs::remove_file(rt, part),
+    };
+    replaced
 }
 
 /// The files of the current folder.
