@@ -6,20 +6,24 @@ use Rattle.flop_base.specs.declared.answers.Status.TheVariants as status
 use Rattle.flop_base.specs.Shelf.{Files}
 use Rattle.flop_base.specs.Sink.{grown, GrowsByPart}
 use Rattle.flop_base.specs.declared.answers.Status.{Status}
-use Rattle.std.specs.Prelude.{All, Vec, IfSome, IsSomeAnd, Ok, Err}
+use Rattle.std.specs.Prelude.{All, Vec, IfSome, IsSomeAnd, Result, Ok, Err}
 use Rattle.std.specs.declared.alloc.Global.{Global}
 use Rattle.flop_base.specs.Shelf.{Loads}
 use Rattle.flop_base.specs.declared.answers.LoadError.{LoadError}
 use Rattle.flop_base.specs.declared.answers.LoadError.TheVariants as load
+use Rattle.floppy_jobs.specs.Lines.{ReadsText}
+use Rattle.floppy_jobs.specs.Texts.{job_of as parsed_of}
+use Rattle.floppy_jobs.specs.declared.lines.JobError.{JobError}
+use Rattle.floppy_jobs.specs.declared.lines.JobError.TheVariants as lines
 use Rattle.floppy_jobs.specs.declared.request.Request.{Request}
 use Rattle.floppy_jobs.specs.declared.request.Request.TheVariants as request
 use Rattle.floppy_jobs.specs.Valid.{IsRequest}
 use Rattle.floppy_session.specs.Tries.{HasTries}
 use Rattle.sector_model.specs.declared.reply.Reply.{Reply}
 use Rattle.sector_model.specs.States.{State}
-use Rattle.sector_model.specs.Texts.{reply_text, stop_text, stop_status}
+use Rattle.sector_model.specs.Texts.{reply_text, stop_text, stop_status, bad_line_text}
 use Rattle.sector_model.specs.Runs.{Taken, requests_of, course_text, has_refusal}
-use Rattle.sector_model.specs.Plays.{World, Played, Stopped, CutOff, EndStopped, Prints, Tells, TellsAlone, IsText, Plays, There, Missing, TooLong, Faulty, Starved, whole_status}
+use Rattle.sector_model.specs.Plays.{World, PlaysRequests, PlaysParsed, Played, Stopped, CutOff, EndStopped, Prints, Tells, TellsAlone, IsText, Plays, There, Missing, TooLong, Faulty, Starved, whole_status}
 use Rattle.floppy_tools.specs.Turns.{world, IsTurn, HasRun, HasPlayed, Breaks, AtStop, AtPut, EndsAs, InWhole, AtStore, PlaysOrStarves, AsParsed, Starving, Misses}
 use Rattle.sector_model.specs.Ties.{IsJob, accesses_of_job}
 use Rattle.sector_model.proofs.PlayTies.{play_ties, alone_ties, play_accesses}
@@ -128,6 +132,23 @@ has_tries (request.SetRate bay rate) valid = tt
 pub all_have_tries : (requests : List Request) → All IsRequest requests → All HasTries requests
 all_have_tries requests valid = λ k d within. has_tries (get_or requests k d) (valid k d within)
 
+-- a text that spells requests
+pub parsed_plays : (old new : World) (text : List ℕ) (given requests : List Request) (ended : Status) → parsed_of text ≡ Ok requests → given ≡ requests → HasPlayed old given new ended → PlaysOrStarves old text new ended
+parsed_plays old new text given requests ended spelled same played =
+    AsParsed played.0
+    (subst (λ (parsed : Result (List Request) ℕ). PlaysParsed old parsed played.0 new ended) (sym spelled)
+    (subst (λ (rs : List Request). PlaysRequests old rs played.0 new ended) same played.1))
+
+-- what a reading answered that found a bad line
+pub read_bad : {A : Type 0} (items : A → List Request) (error : JobError) (said : Result (List Request) ℕ) (line : ℕ) → ReadsText items (Err error) said → error ≡ lines.BadLine line → said ≡ Err line
+read_bad items error said line reads is = subst (λ (e : JobError). ReadsText items (Err e) said) is reads
+
+-- a text with a bad line
+pub unparsed_tells : (old new : World) (text : List ℕ) (line : ℕ) (ended : Status) → parsed_of text ≡ Err line → Tells old (bad_line_text line) status.BadJob new ended → PlaysOrStarves old text new ended
+unparsed_tells old new text line ended spelled tells =
+    AsParsed []
+    (subst (λ (parsed : Result (List Request) ℕ). PlaysParsed old parsed [] new ended) (sym spelled) (record { nothing = refl; tells = tells }))
+
 -- a play whose text was read
 pub as_text : (old new : World) (job text : List ℕ) (ended : Status) → IsText old.files job text → PlaysOrStarves old text new ended → (course : List Taken) × Plays old job course new ended
 as_text old new job text ended told (AsParsed course plays) = (course, There (record { text = text; told = told; plays = plays }))
@@ -146,6 +167,19 @@ as_missed None state report after job load.TooLong ended loads missed = ([], Too
 as_missed (Some files) state report after job load.TooLong ended loads missed = ([], TooLong loads (record { nothing = refl; tells = record { state = refl; files = refl; prints = missed } }))
 as_missed told state report after job load.Failed ended loads missed = ([], Faulty refl (record { same = ap (world state told) missed.0; status = missed.1 }))
 as_missed told state report after job load.NoMemory ended loads missed = ([], Starved refl (record { same = ap (world state told) missed.0; status = missed.1 }))
+
+-- a file that was loaded, and a text that was played
+pub text_plays : (state : State) (told loaded : Option Files) (report : Option (List ℕ)) (new : World) (job text : List ℕ) (bytes : Vec ℕ Global) (ended : Status) → loaded ≡ told → text ≡ bytes.items → IfSome told (λ files. Loads files job 4194304 (Ok bytes)) → PlaysOrStarves (world state loaded report) text new ended → (course : List Taken) × Plays (world state told report) job course new ended
+text_plays state told loaded report new job text bytes ended stays same loads plays =
+    as_text (world state told report) new job bytes.items ended (loaded_text told job bytes loads)
+    (subst (λ (files : Option Files). PlaysOrStarves (world state files report) bytes.items new ended) stays
+    (subst (λ (read : List ℕ). PlaysOrStarves (world state loaded report) read new ended) same plays))
+
+-- a file that wasn't loaded
+pub missed_plays : (state : State) (told loaded : Option Files) (report after : Option (List ℕ)) (job : List ℕ) (error : LoadError) (ended : Status) → loaded ≡ told → IfSome told (λ files. Loads files job 4194304 (Err error)) → Misses error job report after ended → (course : List Taken) × Plays (world state told report) job course (world state loaded after) ended
+missed_plays state told loaded report after job error ended stays loads missed =
+    subst (λ (files : Option Files). (course : List Taken) × Plays (world state told report) job course (world state files after) ended) (sym stays)
+    (as_missed told state report after job error ended loads missed)
 
 -- words that name a job
 pub plays_named : (words : List (List ℕ)) (named : Option (List ℕ)) (job : List ℕ) (old new : World) (ended : Status) → job_of words ≡ named → named ≡ Some job → ((course : List Taken) × Plays old job course new ended) → Programs words old new ended
