@@ -7,7 +7,7 @@ use std::marker::Model;
 
 /// A bay's gate: closed at first and from each change of the diskette on, until the user of the bay acknowledges
 /// that another diskette may be in. Contracts see whether it is acknowledged.
-#[derive(Drop)]
+#[derive(Clone, Copy)]
 pub struct Gate {
     acknowledged: bool,
 }

@@ -1,5 +1,6 @@
 pub mod Stations
 pub mod Orders
+pub mod Asked
 pub mod Reads
 pub mod Writes
 pub mod Formats

@@ -1,10 +1,12 @@
 //! The sector model: what a station with two diskette bays does, call by call, and what a session and a job make of it,
-//! said of sectors on disks and of bytes in memory. The crate has definitions, the types of a session's answers, and the
-//! trait of stations; no controller, no register and no cell buffer is in it.
+//! said of sectors on disks and of bytes in memory. The crate has definitions, the types of a session's answers, the trait of
+//! stations, and the tests of what can be asked for; no controller, no register and no cell buffer is in it.
 #![tactic(auto)]
 
+mod orders;
 mod reply;
 mod station;
 
+pub use orders::{crosses_page, is_place, is_sector_request, most_format_gap};
 pub use reply::{Reason, Reply, Stop};
 pub use station::Station;

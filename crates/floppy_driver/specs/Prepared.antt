@@ -1,0 +1,26 @@
+-- How an attempt is prepared.
+use Rattle.std.specs.Prelude.{◌≡◌, ℕ, Bool, true, false, Some, None}
+use Rattle.bay_model.specs.Bays.{in_bay}
+use Rattle.bay_model.specs.Counters.{FaultsRoseBy, FaultsRoseLess}
+use Rattle.retry_plan.specs.declared.Prepare.{Prepare}
+use Rattle.retry_plan.specs.declared.Prepare.TheVariants as prepare
+use Rattle.single_commands.specs.Rigs.{Rig}
+use Rattle.single_commands.specs.Heads.{MovesHeads}
+use Rattle.floppy_driver.specs.declared.driver.Notes.{Notes}
+
+-- the heads of a drive were prepared for a cylinder
+pub record IsPrepared (old : Rig) (notes : Notes) (bay target : ℕ) (way : Prepare) (ready : Bool) (new : Rig) (after : Notes) : Type 0 where
+  pub moves : MovesHeads old bay new
+  -- of the notes the known cylinder alone changed
+  pub notes_are : after ≡ record notes { known = after.known }
+  -- ready: the controller's number is the target, and the heads stand there too where no fault came and, if by steps alone,
+  -- they stood at the controller's number before
+  pub known : ready ≡ true → after.known ≡ Some target
+  pub number : ready ≡ true → in_bay new.numbers bay ≡ target
+  pub surely : ready ≡ true → way ≡ prepare.RecalibrateAndSeek → FaultsRoseLess 1 bay old.counters new.counters
+      → in_bay new.cylinders bay ≡ target
+  pub stepped : ready ≡ true → in_bay old.cylinders bay ≡ in_bay old.numbers bay
+      → FaultsRoseLess 1 bay old.counters new.counters → in_bay new.cylinders bay ≡ target
+  -- or track 0 wasn't reached twice
+  pub unknown : ready ≡ false → after.known ≡ None
+  pub lost : ready ≡ false → FaultsRoseBy 77 bay old.counters new.counters

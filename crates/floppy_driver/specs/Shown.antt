@@ -1,0 +1,43 @@
+-- What a driver and its machine show together.
+use Rattle.std.specs.Prelude.{◌≡◌, ℕ, ◌==◌, ◌&&◌, Bool, not, List, Option, Some, None, if◌then◌else◌}
+use Rattle.flop_base.specs.declared.answers.Rate.{Rate}
+use Rattle.flop_base.specs.declared.answers.Rate.TheVariants.{R500}
+use Rattle.raw_image.specs.Disk.{Disk}
+use Rattle.bay_model.specs.Counters.{DriveCounts, Counters}
+use Rattle.sector_model.specs.Stations.{Bay, StationState}
+use Rattle.single_commands.specs.Rigs.{Rig}
+use Rattle.floppy_driver.specs.declared.driver.Notes.{Notes}
+use Rattle.floppy_driver.specs.declared.driver.Driver.{Driver}
+
+-- the notes on a bay
+abbrev pub notes_of : Driver → ℕ → Notes
+notes_of driver bay = if bay == 0 then driver.first else driver.second
+
+-- a bay is held where it was acknowledged and its change line is clear since
+abbrev pub is_held : Notes → Bool → Bool
+is_held notes changed = notes.gate && not changed
+
+-- a bay by the notes on it
+abbrev pub bay_shown : Notes → Option Disk → Bool → Bay
+bay_shown notes medium changed = record {
+  medium = medium;
+  acknowledged = if is_held notes changed then Some notes.kept else None;
+  rate = if is_held notes changed then notes.rate else R500;
+}
+
+-- counters with these spare drives waiting
+abbrev pub with_waiting : Counters → List DriveCounts → Counters
+with_waiting counters waiting = record counters { spares = waiting }
+
+-- the station that driver and machine are, with so many spare drives waiting
+abbrev pub shown : Driver → Rig → ℕ → List DriveCounts → StationState
+shown driver rig spares waiting = record {
+  bays = record {
+    first = bay_shown driver.first rig.media.first rig.changes.first;
+    second = bay_shown driver.second rig.media.second rig.changes.second;
+  };
+  memory = rig.memory;
+  spares = spares;
+  tries = driver.tries;
+  counters = with_waiting rig.counters waiting;
+}

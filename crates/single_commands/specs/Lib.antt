@@ -1,0 +1,4 @@
+pub mod Rigs
+pub mod Heads
+pub mod Reading
+pub mod Writing

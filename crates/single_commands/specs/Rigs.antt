@@ -1,0 +1,68 @@
+-- A machine as its driver sees it, between two commands.
+use Rattle.std.specs.Prelude.{◌≡◌, ℕ, ◌+◌, ◌-◌, ◌<◌, ◌≤◌, ◌^◌, Bool, true, false, List, length, slice_index, Option, IfSome, ◌⊎◌}
+use Rattle.raw_image.specs.Disk.{Disk, IsDisk}
+use Rattle.flop_base.specs.declared.answers.Rate.{Rate}
+use Rattle.bay_model.specs.Bays.{Two, in_bay, with_bay}
+use Rattle.bay_model.specs.Counters.{Counters, GoesOn, IsDriven}
+use Rattle.bay_model.specs.Memory.{user_bytes}
+use Rattle.sector_map.specs.Met.{met_in}
+
+pub record Rig : Type 0 where
+  -- the medium in each bay
+  pub media : Two (Option Disk)
+  -- the cylinder under the heads of each drive
+  pub cylinders : Two ℕ
+  -- the cylinder number that the controller keeps of each drive
+  pub numbers : Two ℕ
+  -- the change line of each drive: set from an exchange of the medium on, until a pulse with a medium in
+  pub changes : Two Bool
+  -- the medium of each drive is at speed
+  pub spun : Two Bool
+  -- user memory
+  pub memory : List ℕ
+  -- the page of memory behind it, which is the driver's
+  pub page : List ℕ
+  pub counters : Counters
+
+-- the bytes of the driver's page
+abbrev pub page_bytes : ℕ
+page_bytes = 65536
+
+-- the bytes of a memory
+pub record AreBytes (memory : List ℕ) (count : ℕ) : Type 0 where
+  pub length : length memory ≡ count
+  pub bytes : (k : ℕ) → slice_index memory k < 2 ^ 8
+
+-- the ranges of a machine
+pub record IsSound (rig : Rig) : Type 0 where
+  pub first : IfSome rig.media.first IsDisk
+  pub second : IfSome rig.media.second IsDisk
+  pub memory : AreBytes rig.memory user_bytes
+  pub page : AreBytes rig.page page_bytes
+  pub first_cylinder : rig.cylinders.first ≤ 82
+  pub second_cylinder : rig.cylinders.second ≤ 82
+
+-- what a command at this rate meets of the track under a head
+abbrev pub track_under : Rig → ℕ → Rate → ℕ → List ℕ
+track_under rig bay rate head = met_in (in_bay rig.media bay) rate (in_bay rig.cylinders bay) head
+
+-- a drive that is at speed stays so
+pub record StaysSpun (old new : Two Bool) : Type 0 where
+  pub first : old.first ≡ true → new.first ≡ true
+  pub second : old.second ≡ true → new.second ≡ true
+
+-- heads, numbers and change lines stay
+pub record HeadsStay (old new : Rig) : Type 0 where
+  pub cylinders : new.cylinders ≡ old.cylinders
+  pub numbers : new.numbers ≡ old.numbers
+  pub changes : new.changes ≡ old.changes
+  pub spun : StaysSpun old.spun new.spun
+
+-- a call that asked and changed nothing, with no data command
+pub record OnlyAsks (old new : Rig) : Type 0 where
+  pub heads : HeadsStay old new
+  pub media : new.media ≡ old.media
+  pub memory : new.memory ≡ old.memory
+  pub page : new.page ≡ old.page
+  pub counts : GoesOn old.counters new.counters
+  pub driven : IsDriven 0 old.counters new.counters
