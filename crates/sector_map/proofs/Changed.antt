@@ -17,10 +17,10 @@ use Rattle.track_model.proofs.Unique.{one_look_at}
 use Rattle.track_model.proofs.Written.{length-window}
 use Rattle.track_model.proofs.Kept as cuts
 use Rattle.sector_map.specs.Disks.{IsRegularDisk, IsOnMap}
-use Rattle.sector_map.specs.Met.{HasLook}
+use Rattle.sector_map.specs.Met.{HasLook, IsClearAddress}
 use Rattle.sector_map.specs.Changes.{Change, Written, window_of, IsChange}
 use Rattle.sector_map.specs.KeptDisks.{KeepsTracks, FitsKey, IsWholeChange, IsSafeChange, KeepsOtherKeys, KeepsSectors, HasWritten, entry_of}
-use Rattle.sector_map.proofs.RegularTracks.{length-track_of, spaced_from, key_cylinder, one_address, window_in_disk}
+use Rattle.sector_map.proofs.RegularTracks.{spaced_from, clear_address, key_cylinder}
 use Rattle.sector_map.proofs.KeptTracks.{has_after, had_before, each_track, with_track_keeps, with_itself, with_later}
 use Rattle.sector_map.proofs.KeptKeys.{KeepsPlaces, places_kept, places_same, places_back, other_keys, looked_on, entry_on}
 
@@ -43,7 +43,7 @@ same_found words n a b p q first second same one two =
     let place : p ≡ q = cc same in
     (deleted, one ∙ ap (λ r. content_at words r n) place ∙ sym two)
 
-module _ (written : Written) (p : ℕ) (track : List ℕ) (address : IsAddressAt track p written.key) (found : LookAt track p written.key.n (Found written.deleted (window_place p + 256))) (content_is : written.content ≡ content_at track (window_place p + 256) written.key.n) (one : (q : ℕ) → IsAddressAt track q written.key → q ≡ p) where
+module _ (written : Written) (p : ℕ) (track : List ℕ) (address : IsAddressAt track p written.key) (found : LookAt track p written.key.n (Found written.deleted (window_place p + 256))) (content_is : written.content ≡ content_at track (window_place p + 256) written.key.n) (one : (q : ℕ) → IsAddressAt track q written.key → q ≡ p) (clear : IsClearAddress track written.key p) where
   look_is : (q : ℕ) (look : Look) → IsAddressAt track q written.key → LookAt track q written.key.n look → look ≡ Found written.deleted (window_place p + 256)
   look_is q look other seen =
       one_look_at track p written.key.n look (Found written.deleted (window_place p + 256))
@@ -55,6 +55,8 @@ module _ (written : Written) (p : ℕ) (track : List ℕ) (address : IsAddressAt
     look = found;
     content = content_is;
     sector = (p, window_place p + 256, address, found, content_is);
+    clear = (p, clear);
+    all_found = λ q other. (written.deleted, window_place p + 256, subst (λ r. LookAt track r written.key.n (Found written.deleted (window_place p + 256))) (sym (one q other)) found);
     one_place = one;
     one_look = λ look (q, other, seen). look_is q look other seen;
     one_content = λ deleted content (q, place, other, seen, same).
@@ -125,9 +127,10 @@ module _ (written : Written) (disk : Disk) (change : Change) (after : Disk) (is 
       row_written : HasWritten written change.place row
       row_written =
           let address = address_in_cut track change.place change.words (window_of written) is.cuttable written.key is.address in
-          let distinct = ((row_keeps (inr whole)).regular c h regular).keys.distinct in
+          let still = (row_keeps (inr whole)).regular c h regular in
           written_from written change.place row address row_found row_content
-          (λ p other. distinct p change.place written.key other address)
+          (λ p other. still.keys.distinct p change.place written.key other address)
+          (clear_address row c h change.place written.key still address)
 
       pub change_is_written : HasWritten written change.place (track_of after change.cylinder written.key.h)
       change_is_written = subst (HasWritten written change.place) (sym is.cut.has) row_written

@@ -69,9 +69,9 @@ disk_from protected cylinders heads rate words_per_track words = record {
 
 pub same_disk : (disk : Disk) (c h : ℕ) (after : Disk) → IsDisk disk → KeepsTracks disk c h after → ((b g : ℕ) → HasTrack disk b g → track_of after b g ≡ track_of disk b g) → after ≡ disk
 same_disk disk c h after valid keeps same =
-    ap (λ x. disk_from x after.cylinders after.heads after.rate after.words_per_track after.words) keeps.protected
-    ∙ ap (λ x. disk_from disk.protected x after.heads after.rate after.words_per_track after.words) keeps.cylinders
-    ∙ ap (λ x. disk_from disk.protected disk.cylinders x after.rate after.words_per_track after.words) keeps.heads
-    ∙ ap (λ x. disk_from disk.protected disk.cylinders disk.heads x after.words_per_track after.words) keeps.rate
-    ∙ ap (λ x. disk_from disk.protected disk.cylinders disk.heads disk.rate x after.words) keeps.words_per_track
-    ∙ ap (λ x. disk_from disk.protected disk.cylinders disk.heads disk.rate disk.words_per_track x) (same_words disk after valid keeps.valid keeps.cylinders keeps.heads keeps.words_per_track same)
+    ap (λ x. disk_from x after.cylinders after.heads after.rate after.words_per_track after.words) keeps.alike.protected
+    ∙ ap (λ x. disk_from disk.protected x after.heads after.rate after.words_per_track after.words) keeps.alike.cylinders
+    ∙ ap (λ x. disk_from disk.protected disk.cylinders x after.rate after.words_per_track after.words) keeps.alike.heads
+    ∙ ap (λ x. disk_from disk.protected disk.cylinders disk.heads x after.words_per_track after.words) keeps.alike.rate
+    ∙ ap (λ x. disk_from disk.protected disk.cylinders disk.heads disk.rate x after.words) keeps.alike.words_per_track
+    ∙ ap (λ x. disk_from disk.protected disk.cylinders disk.heads disk.rate disk.words_per_track x) (same_words disk after valid keeps.alike.valid keeps.alike.cylinders keeps.alike.heads keeps.alike.words_per_track same)

@@ -1,5 +1,5 @@
 -- What a change or a laying keeps of a disk.
-use Rattle.std.specs.Prelude.{◌≡◌, ◌≢◌, ◌↔◌, ℕ, ◌+◌, ◌^◌, ◌<◌, Bool, List, length, max, slice_index, ◌⊎◌}
+use Rattle.std.specs.Prelude.{◌≡◌, ◌≢◌, ◌↔◌, ℕ, ◌+◌, ◌^◌, ◌<◌, ◌≤◌, Bool, List, length, max, slice_index, ◌⊎◌}
 use Rattle.flop_base.specs.declared.key.Chrn.{Chrn}
 use Rattle.flop_base.specs.declared.answers.Rate.{Rate}
 use Rattle.raw_image.specs.Disk.{Disk, IsDisk, HasTrack, track_of}
@@ -9,21 +9,24 @@ use Rattle.track_model.specs.Fields.{IsAddressAt, content_at, content_size}
 use Rattle.track_model.specs.Looks.{LookAt, HasAddressMark}
 use Rattle.track_model.specs.Sectors.{IsSector}
 use Rattle.track_model.specs.Regular.{IsRegular}
-use Rattle.track_model.specs.Windows.{window_place, IsTidy}
+use Rattle.track_model.specs.Windows.{window_word, window_words, window_place, IsTidy}
 use Rattle.sector_map.specs.Disks.{LookOn, IsRegularDisk, Entry, IsOnMap}
-use Rattle.sector_map.specs.Met.{HasLook, AllFound}
+use Rattle.sector_map.specs.Met.{HasNoClearMark, HasClearAddress, HasLook, AllFound}
 use Rattle.sector_map.specs.Changes.{Change, Written, window_of}
 use Rattle.sector_map.specs.Layings.{Format, Laying}
 
--- the disk `after` has the protection, shape and rate of the disk, and all its tracks but one of this cylinder and head
-pub record KeepsTracks (disk : Disk) (c h : ℕ) (after : Disk) : Type 0 where
+-- the disk `after` has the protection, the shape and the rate of the disk
+pub record AreAlike (disk after : Disk) : Type 0 where
   pub valid : IsDisk after
   pub protected : after.protected ≡ disk.protected
   pub cylinders : after.cylinders ≡ disk.cylinders
   pub heads : after.heads ≡ disk.heads
   pub rate : after.rate ≡ disk.rate
   pub words_per_track : after.words_per_track ≡ disk.words_per_track
-  pub tracks : (b g : ℕ) → HasTrack disk b g ↔ HasTrack after b g
+
+-- and all its tracks but one of this cylinder and head
+pub record KeepsTracks (disk : Disk) (c h : ℕ) (after : Disk) : Type 0 where
+  pub alike : AreAlike disk after
   pub others : (b g : ℕ) → HasTrack disk b g → (b ≡ c → g ≡ h → ⊥) → track_of after b g ≡ track_of disk b g
 
 -- a content with its mark under a key
@@ -97,12 +100,21 @@ entry_of written place = record {
   content = written.content;
 }
 
+-- a key can be written on a track: one address field has it, which is Clear, and whose window is inside the track
+pub record IsWritable (track : List ℕ) (key : Chrn) : Type 0 where
+  pub marked : HasNoClearMark track → ⊥
+  pub clear : HasClearAddress track key
+  pub one_place : (p q : ℕ) → IsAddressAt track p key → IsAddressAt track q key → p ≡ q
+  pub inside : (p : ℕ) → IsAddressAt track p key → window_word p + window_words key.n ≤ length track
+
 -- the track has what was written, behind the address field at `place`, and nothing else under that key
 pub record HasWritten (written : Written) (place : ℕ) (track : List ℕ) : Type 0 where
   pub address : IsAddressAt track place written.key
   pub look : LookAt track place written.key.n (Found written.deleted (window_place place + 256))
   pub content : written.content ≡ content_at track (window_place place + 256) written.key.n
   pub sector : IsSector track written.key written.deleted written.content
+  pub clear : HasClearAddress track written.key
+  pub all_found : AllFound track written.key
   pub one_place : (p : ℕ) → IsAddressAt track p written.key → p ≡ place
   pub one_look : (look : Look) → HasLook track written.key look
       → look ≡ Found written.deleted (window_place place + 256)
