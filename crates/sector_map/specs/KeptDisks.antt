@@ -12,7 +12,7 @@ use Rattle.track_model.specs.Regular.{IsRegular}
 use Rattle.track_model.specs.Windows.{window_word, window_words, window_place, IsTidy}
 use Rattle.sector_map.specs.Disks.{LookOn, IsRegularDisk, Entry, IsOnMap}
 use Rattle.sector_map.specs.Met.{HasNoClearMark, HasClearAddress, HasLook, AllFound}
-use Rattle.sector_map.specs.Changes.{Change, Written, window_of}
+use Rattle.sector_map.specs.Changes.{Change, Written, window_of, IsChange}
 use Rattle.sector_map.specs.Layings.{Format, Laying}
 
 -- the disk `after` has the protection, the shape and the rate of the disk
@@ -76,6 +76,14 @@ joined one two = record {
   place = one.place;
   words = max one.words two.words;
 }
+
+-- after any number of writes behind the address field at `place`, on the key's cylinder: the disk is as it was, or as one
+-- safe change there makes it
+abbrev pub IsSameOrChanged : Written → ℕ → Disk → Disk → Type 0
+IsSameOrChanged written place disk after =
+    (after ≡ disk)
+    ⊎ ((words : ℕ) × IsChange written disk (change_at written.key.c place words) after
+    × IsSafeChange written disk (change_at written.key.c place words))
 
 -- the format of a cylinder and head at a rate, with a gap 3 and a fill
 abbrev pub format_at : ℕ → ℕ → Rate → ℕ → ℕ → Format
