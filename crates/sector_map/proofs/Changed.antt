@@ -64,6 +64,14 @@ module _ (written : Written) (p : ℕ) (track : List ℕ) (address : IsAddressAt
         (look_is q (Found deleted place) other seen) same content_is;
   }
 
+-- a sector of a track of the disk is on its map
+pub entry_from : (written : Written) (p : ℕ) (disk : Disk) → HasTrack disk written.key.c written.key.h → HasWritten written p (track_of disk written.key.c written.key.h) → IsOnMap disk (entry_of written p)
+entry_from written p disk has is = record {
+  track = has;
+  address = is.address;
+  content = (window_place p + 256, is.look, is.content);
+}
+
 -- ---- the window
 
 pub length-window_of : (written : Written) → FitsKey written → length (window_of written) ≡ window_words written.key.n
@@ -189,9 +197,8 @@ module _ (written : Written) (disk : Disk) (change : Change) (after : Disk) (is 
             (change_is_written change.cylinder written.key.h (regular change.cylinder written.key.h is.track) fits whole)
 
         pub written_on_map : IsOnMap after (entry_of written change.place)
-        written_on_map = record {
-          track = subst (λ c. HasTrack after c written.key.h) (sym change_cylinder)
-              (has_after disk after change.cylinder written.key.h row is.cut change.cylinder written.key.h is.track);
-          address = disk_is_written.address;
-          content = (window_place change.place + 256, disk_is_written.look, disk_is_written.content);
-        }
+        written_on_map =
+            entry_from written change.place after
+            (subst (λ c. HasTrack after c written.key.h) (sym change_cylinder)
+            (has_after disk after change.cylinder written.key.h row is.cut change.cylinder written.key.h is.track))
+            disk_is_written

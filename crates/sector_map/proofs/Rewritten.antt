@@ -6,10 +6,10 @@ use Rattle.track_model.specs.Regular.{IsRegular}
 use Rattle.track_model.specs.Windows.{IsTidy}
 use Rattle.sector_map.specs.Disks.{IsRegularDisk}
 use Rattle.sector_map.specs.Changes.{Change, Written, IsChange}
-use Rattle.sector_map.specs.KeptDisks.{AreAlike, KeepsTracks, FitsKey, IsWholeChange, IsSafeChange, KeepsOtherKeys, KeepsSectors, IsSameOrChanged, change_at, joined}
+use Rattle.sector_map.specs.KeptDisks.{AreAlike, KeepsTracks, FitsKey, IsWholeChange, IsSafeChange, KeepsOtherKeys, KeepsSectors, HasWritten, IsSameOrChanged, change_at, joined}
 use Rattle.sector_map.proofs.KeptTracks.{keeps_itself}
 use Rattle.sector_map.proofs.KeptKeys.{other_keys_same}
-use Rattle.sector_map.proofs.Changed.{change_keeps_tracks, change_keeps_address, change_keeps_keys, change_keeps_sectors, change_cylinder}
+use Rattle.sector_map.proofs.Changed.{change_keeps_tracks, change_keeps_address, change_keeps_keys, change_keeps_sectors, change_cylinder, change_is_written}
 use Rattle.sector_map.proofs.Joined.{joined_safe, join_on_track, same_place_again}
 
 -- a disk keeps its own sectors
@@ -71,3 +71,25 @@ rewritten_more written place disk middle change after c h regular here fits safe
       join_on_track written disk one middle change after first is fits before c h regular cylinder,
       joined_safe written disk one middle change after is before,
     )
+
+-- on a regular disk each is on that cylinder
+pub rewritten_cylinder : (written : Written) (place : ℕ) (disk middle : Disk) (change : Change) (after : Disk)
+    → IsRegularDisk disk → FitsKey written → IsSameOrChanged written place disk middle → IsChange written middle change after
+    → change.cylinder ≡ written.key.c
+rewritten_cylinder written place disk middle change after regular fits so_far is =
+    let still = (rewritten_keeps_sectors written place disk middle regular fits so_far).regular in
+    sym (change_cylinder written middle change after is still)
+
+-- a whole window is there after it, and nothing else under its key
+pub rewritten_whole : (written : Written) (place : ℕ) (disk middle : Disk) (change : Change) (after : Disk) (c h : ℕ)
+    → IsRegular (track_of disk written.key.c written.key.h) c h → IsAddressAt (track_of disk written.key.c written.key.h) place written.key → FitsKey written
+    → IsSameOrChanged written place disk middle → change.cylinder ≡ written.key.c → IsChange written middle change after
+    → IsWholeChange written change → HasWritten written place (track_of after written.key.c written.key.h)
+rewritten_whole written place disk middle change after c h regular here fits so_far cylinder is whole =
+    let key = written.key in
+    let still = (rewritten_keeps_keys written place disk middle c h regular fits so_far).regular c h regular in
+    let there : IsRegular (track_of middle change.cylinder key.h) c h = subst (λ b. IsRegular (track_of middle b key.h) c h) (sym cylinder) still in
+    let done : HasWritten written change.place (track_of after change.cylinder key.h) = change_is_written written middle change after is c h there fits whole in
+    let later : IsAddressAt (track_of middle key.c key.h) change.place key = subst (λ b. IsAddressAt (track_of middle b key.h) change.place key) cylinder is.address in
+    let at : change.place ≡ place = still.keys.distinct change.place place key later (rewritten_keeps_address written place disk middle here so_far) in
+    subst (λ q. HasWritten written q (track_of after key.c key.h)) at (subst (λ b. HasWritten written change.place (track_of after b key.h)) cylinder done)
