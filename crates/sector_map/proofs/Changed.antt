@@ -1,27 +1,26 @@
 -- What a change makes of a disk.
-use Rattle.std.proofs.Common.{◌≡◌, ◌≢◌, ◌↔◌, ℕ, ◌+◌, ◌^◌, ◌<◌, ◌≤◌, ◌⊎◌, Bool, List, ◌++◌, [], length, take, drop, max, get_or, refl, sym, ap, subst, ◌∙◌, arith, inl, inr}
-use Rattle.std.proofs.lemmas.List.{length-take, take-append-drop}
+use Rattle.std.proofs.Common.{◌≡◌, ℕ, ◌+◌, ◌≤◌, Bool, List, length, take, sym, ap, subst, ◌∙◌, arith, inr}
+use Rattle.std.proofs.lemmas.List.{length-take}
 use Rattle.flop_base.specs.declared.key.Chrn.{Chrn}
-use Rattle.raw_image.specs.Disk.{Disk, IsDisk, HasTrack, track_of, IsWithTrack}
+use Rattle.raw_image.specs.Disk.{Disk, HasTrack, track_of}
 use Rattle.track_model.specs.declared.Look.{Look}
 use Rattle.track_model.specs.declared.Look.TheVariants.{Found}
 use Rattle.track_model.specs.Fields.{IsAddressAt, content_at}
 use Rattle.track_model.specs.Looks.{LookAt}
-use Rattle.track_model.specs.Sectors.{IsSector}
 use Rattle.track_model.specs.Regular.{IsRegular}
 use Rattle.track_model.specs.Kept.{KeepsOthers}
-use Rattle.track_model.specs.Windows.{window_word, window_words, window_place, with_words, cut_of, IsCuttable, IsFieldFor}
+use Rattle.track_model.specs.Windows.{window_word, window_words, window_place, cut_of, IsCuttable, IsFieldFor}
 use Rattle.track_model.proofs.Frames.{same_address_at}
-use Rattle.track_model.proofs.Splices.{same_before, length-with_words, longer_cut}
+use Rattle.track_model.proofs.Splices.{same_before, length-with_words}
 use Rattle.track_model.proofs.Unique.{one_look_at}
 use Rattle.track_model.proofs.Written.{length-window}
 use Rattle.track_model.proofs.Kept as cuts
 use Rattle.sector_map.specs.Disks.{IsRegularDisk, IsOnMap}
-use Rattle.sector_map.specs.Met.{HasLook, IsClearAddress}
+use Rattle.sector_map.specs.Met.{IsClearAddress}
 use Rattle.sector_map.specs.Changes.{Change, Written, window_of, IsChange}
 use Rattle.sector_map.specs.KeptDisks.{KeepsTracks, FitsKey, IsWholeChange, IsSafeChange, KeepsOtherKeys, KeepsSectors, HasWritten, entry_of}
 use Rattle.sector_map.proofs.RegularTracks.{spaced_from, clear_address, key_cylinder}
-use Rattle.sector_map.proofs.KeptTracks.{has_after, had_before, each_track, with_track_keeps, with_itself, with_later}
+use Rattle.sector_map.proofs.KeptTracks.{has_after, had_before, each_track, with_track_keeps}
 use Rattle.sector_map.proofs.KeptKeys.{KeepsPlaces, places_kept, places_same, places_back, other_keys, looked_on, entry_on}
 
 -- ---- one track

@@ -1,18 +1,16 @@
 -- What a laying makes of a disk, and the keys of a format.
-use Rattle.std.proofs.Common.{◌≡◌, ◌↔◌, ℕ, false, ◌+◌, ◌-◌, ◌<◌, ◌≤◌, List, ◌++◌, [], length, take, drop, max, get_or, All, refl, sym, ap, subst, ◌∙◌, arith}
-use Rattle.std.specs.List.{range_with_len}
+use Rattle.std.proofs.Common.{◌≡◌, ◌↔◌, ℕ, false, ◌+◌, ◌-◌, ◌<◌, ◌≤◌, List, ◌++◌, length, take, drop, max, get_or, All, refl, sym, ap, subst, ◌∙◌, arith}
 use Rattle.std.proofs.lemmas.List.{length-append, length-take, length-replicate, take-append-drop, drop_all, take_all, append-nil}
 use Rattle.std.proofs.lemmas.List.FromFn.{length-map-range_with_len, get_or-map-range_with_len}
 use Rattle.flop_base.specs.declared.key.Chrn.{Chrn}
 use Rattle.flop_base.specs.Standard.{sectors_at, standard_code}
 use Rattle.raw_image.specs.Disk.{Disk, IsDisk, HasTrack, track_of, IsWithTrack}
-use Rattle.track_model.specs.Fields.{content_size}
 use Rattle.track_model.specs.declared.symbol.Symbol.{Symbol}
 use Rattle.track_model.specs.declared.symbol.Symbol.TheVariants.{Byte}
-use Rattle.track_model.specs.Layouts.{lay, recorded, track_symbols, gap, laid_words, Fits}
+use Rattle.track_model.specs.Layouts.{lay, track_symbols, gap, laid_words, Fits}
 use Rattle.track_model.specs.Windows.{with_words}
 use Rattle.track_model.proofs.Recorded.{length-recorded}
-use Rattle.track_model.proofs.Splices.{length-with_words, longer_cut}
+use Rattle.track_model.proofs.Splices.{longer_cut}
 use Rattle.sector_map.specs.Standard.{key_of, track_keys}
 use Rattle.sector_map.specs.Layings.{Format, format_keys, formatted, Laying, IsLaying, CanFormat}
 use Rattle.sector_map.specs.KeptDisks.{AreAlike, KeepsTracks, joined_laying}

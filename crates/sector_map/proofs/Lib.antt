@@ -11,3 +11,4 @@ pub mod RegularTracks
 pub mod Rewritten
 pub mod SameDisks
 mod Tracks
+pub mod WholeWindows

@@ -1,16 +1,16 @@
 -- Writes of one thing, one after the other.
-use Rattle.std.proofs.Common.{◌≡◌, ◌↔◌, ℕ, ◌⊎◌, max, refl, sym, subst, ◌∙◌, inl, inr}
-use Rattle.raw_image.specs.Disk.{Disk, IsDisk, HasTrack, track_of}
+use Rattle.std.proofs.Common.{◌≡◌, ℕ, ◌⊎◌, max, sym, subst, inl, inr}
+use Rattle.raw_image.specs.Disk.{Disk, IsDisk, track_of}
 use Rattle.track_model.specs.Fields.{IsAddressAt}
 use Rattle.track_model.specs.Regular.{IsRegular}
 use Rattle.track_model.specs.Windows.{IsTidy}
 use Rattle.sector_map.specs.Disks.{IsRegularDisk}
 use Rattle.sector_map.specs.Changes.{Change, Written, IsChange}
-use Rattle.sector_map.specs.KeptDisks.{AreAlike, KeepsTracks, FitsKey, IsWholeChange, IsSafeChange, KeepsOtherKeys, KeepsSectors, HasWritten, IsSameOrChanged, change_at, joined}
+use Rattle.sector_map.specs.KeptDisks.{KeepsTracks, FitsKey, IsWholeChange, KeepsOtherKeys, KeepsSectors, HasWritten, IsSameOrChanged, change_at}
 use Rattle.sector_map.proofs.KeptTracks.{keeps_itself}
 use Rattle.sector_map.proofs.KeptKeys.{other_keys_same}
 use Rattle.sector_map.proofs.Changed.{change_keeps_tracks, change_keeps_address, change_keeps_keys, change_keeps_sectors, change_cylinder, change_is_written}
-use Rattle.sector_map.proofs.Joined.{joined_safe, join_on_track, same_place_again}
+use Rattle.sector_map.proofs.Joined.{joined_safe, join_on_track}
 
 -- a disk keeps its own sectors
 sectors_itself : (written : Written) (disk : Disk) → IsRegularDisk disk → KeepsSectors disk written.key disk
