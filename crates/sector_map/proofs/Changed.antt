@@ -18,7 +18,8 @@ use Rattle.track_model.proofs.Kept as cuts
 use Rattle.sector_map.specs.Disks.{IsRegularDisk, IsOnMap}
 use Rattle.sector_map.specs.Met.{IsClearAddress}
 use Rattle.sector_map.specs.Changes.{Change, Written, window_of, IsChange}
-use Rattle.sector_map.specs.KeptDisks.{KeepsTracks, FitsKey, IsWholeChange, IsSafeChange, KeepsOtherKeys, KeepsSectors, HasWritten, entry_of}
+use Rattle.sector_map.specs.KeptDisks.{KeepsTracks, KeepsOtherKeys, KeepsSectors}
+use Rattle.sector_map.specs.ChangedDisks.{FitsKey, IsWholeChange, IsSafeChange, HasWritten, entry_of}
 use Rattle.sector_map.proofs.RegularTracks.{spaced_from, clear_address, key_cylinder}
 use Rattle.sector_map.proofs.KeptTracks.{has_after, had_before, each_track, with_track_keeps}
 use Rattle.sector_map.proofs.KeptKeys.{KeepsPlaces, places_kept, places_same, places_back, other_keys, looked_on, entry_on}

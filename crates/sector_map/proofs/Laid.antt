@@ -13,7 +13,8 @@ use Rattle.track_model.proofs.Recorded.{length-recorded}
 use Rattle.track_model.proofs.Splices.{longer_cut}
 use Rattle.sector_map.specs.Standard.{key_of, track_keys}
 use Rattle.sector_map.specs.Layings.{Format, format_keys, formatted, Laying, IsLaying, CanFormat}
-use Rattle.sector_map.specs.KeptDisks.{AreAlike, KeepsTracks, joined_laying}
+use Rattle.sector_map.specs.KeptDisks.{AreAlike, KeepsTracks}
+use Rattle.sector_map.specs.LaidDisks.{joined_laying}
 use Rattle.sector_map.proofs.RegularTracks.{length-track_of}
 use Rattle.sector_map.proofs.KeptTracks.{alike_tracks, each_track, with_track_keeps, with_itself, with_later}
 use Rattle.sector_map.proofs.SameDisks.{same_disk}

@@ -18,7 +18,7 @@ use Rattle.track_model.proofs.Splices
 use Rattle.track_model.proofs.WindowMarks.{marked, byte_in, byte_behind, run_in, word_12, word_13, word_14}
 use Rattle.track_model.proofs.Written.{length-sync_and_marks, length-window}
 use Rattle.sector_map.specs.Changes.{Change, Written, window_of, IsChange}
-use Rattle.sector_map.specs.KeptDisks.{FitsKey, IsWholeChange}
+use Rattle.sector_map.specs.ChangedDisks.{FitsKey, IsWholeChange}
 use Rattle.sector_map.proofs.Changed.{change_keeps_address}
 
 not_zero : (deleted : Bool) (rest : List ℕ) (i : ℕ) → 12 ≤ i → i < 16 + length rest → get_or (marked (data_byte deleted ∷ rest)) i 0 ≡ 0 → ⊥
