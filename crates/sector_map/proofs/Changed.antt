@@ -1,27 +1,27 @@
 -- What a change makes of a disk.
-use Rattle.std.proofs.Common.{◌≡◌, ◌≢◌, ◌↔◌, ℕ, ◌+◌, ◌^◌, ◌<◌, ◌≤◌, ◌⊎◌, Bool, List, ◌++◌, [], length, take, drop, max, get_or, refl, sym, ap, subst, ◌∙◌, arith, inl, inr}
-use Rattle.std.proofs.lemmas.List.{length-take, take-append-drop}
+use Rattle.std.proofs.Common.{◌≡◌, ℕ, ◌+◌, ◌≤◌, Bool, List, length, take, sym, ap, subst, ◌∙◌, arith, inr}
+use Rattle.std.proofs.lemmas.List.{length-take}
 use Rattle.flop_base.specs.declared.key.Chrn.{Chrn}
-use Rattle.raw_image.specs.Disk.{Disk, IsDisk, HasTrack, track_of, IsWithTrack}
+use Rattle.raw_image.specs.Disk.{Disk, HasTrack, track_of}
 use Rattle.track_model.specs.declared.Look.{Look}
 use Rattle.track_model.specs.declared.Look.TheVariants.{Found}
 use Rattle.track_model.specs.Fields.{IsAddressAt, content_at}
 use Rattle.track_model.specs.Looks.{LookAt}
-use Rattle.track_model.specs.Sectors.{IsSector}
 use Rattle.track_model.specs.Regular.{IsRegular}
 use Rattle.track_model.specs.Kept.{KeepsOthers}
-use Rattle.track_model.specs.Windows.{window_word, window_words, window_place, with_words, cut_of, IsCuttable, IsFieldFor}
+use Rattle.track_model.specs.Windows.{window_word, window_words, window_place, cut_of, IsCuttable, IsFieldFor}
 use Rattle.track_model.proofs.Frames.{same_address_at}
-use Rattle.track_model.proofs.Splices.{same_before, length-with_words, longer_cut}
+use Rattle.track_model.proofs.Splices.{same_before, length-with_words}
 use Rattle.track_model.proofs.Unique.{one_look_at}
 use Rattle.track_model.proofs.Written.{length-window}
 use Rattle.track_model.proofs.Kept as cuts
 use Rattle.sector_map.specs.Disks.{IsRegularDisk, IsOnMap}
-use Rattle.sector_map.specs.Met.{HasLook}
+use Rattle.sector_map.specs.Met.{IsClearAddress}
 use Rattle.sector_map.specs.Changes.{Change, Written, window_of, IsChange}
-use Rattle.sector_map.specs.KeptDisks.{KeepsTracks, FitsKey, IsWholeChange, IsSafeChange, KeepsOtherKeys, KeepsSectors, HasWritten, entry_of}
-use Rattle.sector_map.proofs.RegularTracks.{length-track_of, spaced_from, key_cylinder, one_address, window_in_disk}
-use Rattle.sector_map.proofs.KeptTracks.{has_after, had_before, each_track, with_track_keeps, with_itself, with_later}
+use Rattle.sector_map.specs.KeptDisks.{KeepsTracks, KeepsOtherKeys, KeepsSectors}
+use Rattle.sector_map.specs.ChangedDisks.{FitsKey, IsWholeChange, IsSafeChange, HasWritten, entry_of}
+use Rattle.sector_map.proofs.RegularTracks.{spaced_from, clear_address, key_cylinder}
+use Rattle.sector_map.proofs.KeptTracks.{has_after, had_before, each_track, with_track_keeps}
 use Rattle.sector_map.proofs.KeptKeys.{KeepsPlaces, places_kept, places_same, places_back, other_keys, looked_on, entry_on}
 
 -- ---- one track
@@ -43,7 +43,7 @@ same_found words n a b p q first second same one two =
     let place : p ≡ q = cc same in
     (deleted, one ∙ ap (λ r. content_at words r n) place ∙ sym two)
 
-module _ (written : Written) (p : ℕ) (track : List ℕ) (address : IsAddressAt track p written.key) (found : LookAt track p written.key.n (Found written.deleted (window_place p + 256))) (content_is : written.content ≡ content_at track (window_place p + 256) written.key.n) (one : (q : ℕ) → IsAddressAt track q written.key → q ≡ p) where
+module _ (written : Written) (p : ℕ) (track : List ℕ) (address : IsAddressAt track p written.key) (found : LookAt track p written.key.n (Found written.deleted (window_place p + 256))) (content_is : written.content ≡ content_at track (window_place p + 256) written.key.n) (one : (q : ℕ) → IsAddressAt track q written.key → q ≡ p) (clear : IsClearAddress track written.key p) where
   look_is : (q : ℕ) (look : Look) → IsAddressAt track q written.key → LookAt track q written.key.n look → look ≡ Found written.deleted (window_place p + 256)
   look_is q look other seen =
       one_look_at track p written.key.n look (Found written.deleted (window_place p + 256))
@@ -55,12 +55,22 @@ module _ (written : Written) (p : ℕ) (track : List ℕ) (address : IsAddressAt
     look = found;
     content = content_is;
     sector = (p, window_place p + 256, address, found, content_is);
+    clear = (p, clear);
+    all_found = λ q other. (written.deleted, window_place p + 256, subst (λ r. LookAt track r written.key.n (Found written.deleted (window_place p + 256))) (sym (one q other)) found);
     one_place = one;
     one_look = λ look (q, other, seen). look_is q look other seen;
     one_content = λ deleted content (q, place, other, seen, same).
         same_found track written.key.n deleted written.deleted place (window_place p + 256) content written.content
         (look_is q (Found deleted place) other seen) same content_is;
   }
+
+-- a sector of a track of the disk is on its map
+pub entry_from : (written : Written) (p : ℕ) (disk : Disk) → HasTrack disk written.key.c written.key.h → HasWritten written p (track_of disk written.key.c written.key.h) → IsOnMap disk (entry_of written p)
+entry_from written p disk has is = record {
+  track = has;
+  address = is.address;
+  content = (window_place p + 256, is.look, is.content);
+}
 
 -- ---- the window
 
@@ -125,9 +135,10 @@ module _ (written : Written) (disk : Disk) (change : Change) (after : Disk) (is 
       row_written : HasWritten written change.place row
       row_written =
           let address = address_in_cut track change.place change.words (window_of written) is.cuttable written.key is.address in
-          let distinct = ((row_keeps (inr whole)).regular c h regular).keys.distinct in
+          let still = (row_keeps (inr whole)).regular c h regular in
           written_from written change.place row address row_found row_content
-          (λ p other. distinct p change.place written.key other address)
+          (λ p other. still.keys.distinct p change.place written.key other address)
+          (clear_address row c h change.place written.key still address)
 
       pub change_is_written : HasWritten written change.place (track_of after change.cylinder written.key.h)
       change_is_written = subst (HasWritten written change.place) (sym is.cut.has) row_written
@@ -186,9 +197,8 @@ module _ (written : Written) (disk : Disk) (change : Change) (after : Disk) (is 
             (change_is_written change.cylinder written.key.h (regular change.cylinder written.key.h is.track) fits whole)
 
         pub written_on_map : IsOnMap after (entry_of written change.place)
-        written_on_map = record {
-          track = subst (λ c. HasTrack after c written.key.h) (sym change_cylinder)
-              (has_after disk after change.cylinder written.key.h row is.cut change.cylinder written.key.h is.track);
-          address = disk_is_written.address;
-          content = (window_place change.place + 256, disk_is_written.look, disk_is_written.content);
-        }
+        written_on_map =
+            entry_from written change.place after
+            (subst (λ c. HasTrack after c written.key.h) (sym change_cylinder)
+            (has_after disk after change.cylinder written.key.h row is.cut change.cylinder written.key.h is.track))
+            disk_is_written

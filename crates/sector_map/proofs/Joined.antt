@@ -8,7 +8,7 @@ use Rattle.track_model.specs.Windows.{window_word, with_words, cut_of, IsCuttabl
 use Rattle.track_model.proofs.Splices.{longer_cut}
 use Rattle.sector_map.specs.Disks.{IsRegularDisk}
 use Rattle.sector_map.specs.Changes.{Change, Written, window_of, IsChange}
-use Rattle.sector_map.specs.KeptDisks.{FitsKey, IsWholeChange, IsSafeChange, joined}
+use Rattle.sector_map.specs.ChangedDisks.{FitsKey, IsWholeChange, IsSafeChange, joined}
 use Rattle.sector_map.proofs.RegularTracks.{length-track_of, window_inside}
 use Rattle.sector_map.proofs.KeptTracks.{each_track, with_itself, with_later}
 use Rattle.sector_map.proofs.SameDisks.{same_disk}

@@ -105,6 +105,9 @@ other_keys track key after regular keeps =
           (sector_on track key after keeps other differs deleted content, sector_on after key track back other differs deleted content);
     }
 
+pub other_keys_same : (track : List ℕ) (key : Chrn) → KeepsOtherKeys track key track
+other_keys_same track key = other_keys track key track (λ c h regular. regular) (places_same track key)
+
 -- ---- on disks with the same tracks
 
 module _ (disk after : Disk) (key : Chrn) (has : (c h : ℕ) → HasTrack disk c h → HasTrack after c h) (had : (c h : ℕ) → HasTrack after c h → HasTrack disk c h) (keeps : (c h : ℕ) → HasTrack disk c h → KeepsPlaces (track_of disk c h) key (track_of after c h)) where

@@ -12,7 +12,7 @@ use Rattle.track_model.specs.Regular.{IsRegular}
 use Rattle.sector_map.specs.Disks.{LookOn, IsRegularDisk, Entry, IsOnMap}
 use Rattle.sector_map.specs.Met.{unrecorded, met_on, met_in}
 use Rattle.sector_map.specs.MetTracks.{MeetsTrack}
-use Rattle.sector_map.specs.KeptDisks.{KeepsTracks}
+use Rattle.sector_map.specs.KeptDisks.{AreAlike, KeepsTracks}
 use Rattle.sector_map.proofs.RegularTracks.{length-track_of}
 use Rattle.sector_map.proofs.MetTracks.{on_there, by_met, in_is_on}
 
@@ -38,15 +38,58 @@ module _ (disk after : Disk) (c h : ℕ) (words : List ℕ) (laid : IsWithTrack 
 
   pub with_track_keeps : KeepsTracks disk c h after
   with_track_keeps = record {
-    valid = laid.valid;
-    protected = laid.protected;
-    cylinders = laid.cylinders;
-    heads = laid.heads;
-    rate = laid.rate;
-    words_per_track = laid.words_per_track;
-    tracks = λ b g. (has_after b g, had_before b g);
+    alike = record {
+      valid = laid.valid;
+      protected = laid.protected;
+      cylinders = laid.cylinders;
+      heads = laid.heads;
+      rate = laid.rate;
+      words_per_track = laid.words_per_track;
+    };
     others = laid.others;
   }
+
+-- ---- disks of one shape
+
+pub alike_itself : (disk : Disk) → IsDisk disk → AreAlike disk disk
+alike_itself disk valid = record {
+  valid = valid;
+  protected = refl;
+  cylinders = refl;
+  heads = refl;
+  rate = refl;
+  words_per_track = refl;
+}
+
+pub alike_both : (disk middle after : Disk) → AreAlike disk middle → AreAlike middle after → AreAlike disk after
+alike_both disk middle after first second = record {
+  valid = second.valid;
+  protected = second.protected ∙ first.protected;
+  cylinders = second.cylinders ∙ first.cylinders;
+  heads = second.heads ∙ first.heads;
+  rate = second.rate ∙ first.rate;
+  words_per_track = second.words_per_track ∙ first.words_per_track;
+}
+
+pub alike_tracks : (disk after : Disk) (b g : ℕ) → AreAlike disk after → HasTrack disk b g ↔ HasTrack after b g
+alike_tracks disk after b g alike = (
+  λ had. (subst (λ n. b < n) (sym alike.cylinders) had.0, subst (λ n. g < n) (sym alike.heads) had.1),
+  λ has. (subst (λ n. b < n) alike.cylinders has.0, subst (λ n. g < n) alike.heads has.1),
+)
+
+pub length-alike : (disk after : Disk) (b g : ℕ) → IsDisk disk → AreAlike disk after → HasTrack disk b g → length (track_of after b g) ≡ length (track_of disk b g)
+length-alike disk after b g valid alike has =
+    length-track_of after b g alike.valid ((alike_tracks disk after b g alike).0 has) ∙ alike.words_per_track ∙ sym (length-track_of disk b g valid has)
+
+-- where a track was met, one is met on such a disk
+pub still_meets : (medium : Option Disk) (rate : Rate) (c h : ℕ) (disk after : Disk) (now : Option Disk) → MeetsTrack medium rate c h disk → AreAlike disk after → now ≡ Some after → MeetsTrack now rate c h after
+still_meets medium rate c h disk after now meets alike is = record {
+  is_in = is;
+  has = (alike_tracks disk after c h alike).0 meets.has;
+  same_rate = alike.rate ∙ meets.same_rate;
+}
+
+-- ---- a track replaced
 
 -- the track that was there
 pub with_itself : (disk : Disk) (c h : ℕ) (words : List ℕ) → IsDisk disk → words ≡ track_of disk c h → IsWithTrack disk c h words disk
@@ -75,40 +118,22 @@ with_later disk middle after c h one two first second = record {
 }
 
 pub keeps_itself : (disk : Disk) (c h : ℕ) → IsDisk disk → KeepsTracks disk c h disk
-keeps_itself disk c h valid = with_track_keeps disk disk c h (track_of disk c h) (with_itself disk c h (track_of disk c h) valid refl)
+keeps_itself disk c h valid = record { alike = alike_itself disk valid; others = λ b g has other. refl }
 
 pub keeps_both : (disk middle after : Disk) (c h : ℕ) → KeepsTracks disk c h middle → KeepsTracks middle c h after → KeepsTracks disk c h after
 keeps_both disk middle after c h first second = record {
-  valid = second.valid;
-  protected = second.protected ∙ first.protected;
-  cylinders = second.cylinders ∙ first.cylinders;
-  heads = second.heads ∙ first.heads;
-  rate = second.rate ∙ first.rate;
-  words_per_track = second.words_per_track ∙ first.words_per_track;
-  tracks = λ b g. (λ had. (second.tracks b g).0 ((first.tracks b g).0 had), λ has. (first.tracks b g).1 ((second.tracks b g).1 has));
-  others = λ b g had other. second.others b g ((first.tracks b g).0 had) other ∙ first.others b g had other;
+  alike = alike_both disk middle after first.alike second.alike;
+  others = λ b g had other. second.others b g ((alike_tracks disk middle b g first.alike).0 had) other ∙ first.others b g had other;
 }
 
 -- elsewhere the same is met, whatever the rate
 pub met_elsewhere : (disk : Disk) (c h : ℕ) (after : Disk) (rate : Rate) (b g : ℕ) → KeepsTracks disk c h after → (b ≡ c → g ≡ h → ⊥) → met_on after rate b g ≡ met_on disk rate b g
 met_elsewhere disk c h after rate b g keeps other =
     by_met disk rate b g (λ track. met_on after rate b g ≡ track)
-    (λ had same. on_there after rate b g ((keeps.tracks b g).0 had) (keeps.rate ∙ same) ∙ keeps.others b g had other)
+    (λ had same. on_there after rate b g ((alike_tracks disk after b g keeps.alike).0 had) (keeps.alike.rate ∙ same) ∙ keeps.others b g had other)
     (λ none. by_met after rate b g (λ track. track ≡ unrecorded disk.words_per_track)
-    (λ has same. absurd (none ((keeps.tracks b g).1 has) (sym keeps.rate ∙ same)))
-    (λ _. ap unrecorded keeps.words_per_track))
-
--- where a track was met, one is met after it
-pub still_meets : (medium : Option Disk) (rate : Rate) (b g : ℕ) (disk : Disk) (c h : ℕ) (after : Disk) (now : Option Disk) → MeetsTrack medium rate b g disk → KeepsTracks disk c h after → now ≡ Some after → MeetsTrack now rate b g after
-still_meets medium rate b g disk c h after now meets keeps is = record {
-  is_in = is;
-  has = (keeps.tracks b g).0 meets.has;
-  same_rate = keeps.rate ∙ meets.same_rate;
-}
-
-pub length-kept : (disk : Disk) (c h : ℕ) (after : Disk) (b g : ℕ) → IsDisk disk → KeepsTracks disk c h after → HasTrack disk b g → length (track_of after b g) ≡ length (track_of disk b g)
-length-kept disk c h after b g valid keeps has =
-    length-track_of after b g keeps.valid ((keeps.tracks b g).0 has) ∙ keeps.words_per_track ∙ sym (length-track_of disk b g valid has)
+    (λ has same. absurd (none ((alike_tracks disk after b g keeps.alike).1 has) (sym keeps.alike.rate ∙ same)))
+    (λ _. ap unrecorded keeps.alike.words_per_track))
 
 -- ---- what is on the other tracks
 
@@ -121,13 +146,13 @@ module _ (disk : Disk) (c h : ℕ) (after : Disk) (keeps : KeepsTracks disk c h 
   elsewhere_looked key look other = (
     λ on. record {
       there = λ has.
-          let had = (keeps.tracks key.c key.h).1 has in
+          let had = (alike_tracks disk after key.c key.h keeps.alike).1 has in
           subst (λ track. LookFor track key look) (sym (keeps.others key.c key.h had other)) (on.there had);
-      absent = λ none. on.absent (λ had. none ((keeps.tracks key.c key.h).0 had));
+      absent = λ none. on.absent (λ had. none ((alike_tracks disk after key.c key.h keeps.alike).0 had));
     },
     λ on. record {
-      there = λ had. subst (λ track. LookFor track key look) (keeps.others key.c key.h had other) (on.there ((keeps.tracks key.c key.h).0 had));
-      absent = λ none. on.absent (λ has. none ((keeps.tracks key.c key.h).1 has));
+      there = λ had. subst (λ track. LookFor track key look) (keeps.others key.c key.h had other) (on.there ((alike_tracks disk after key.c key.h keeps.alike).0 had));
+      absent = λ none. on.absent (λ has. none ((alike_tracks disk after key.c key.h keeps.alike).1 has));
     },
   )
 
@@ -140,16 +165,16 @@ module _ (disk : Disk) (c h : ℕ) (after : Disk) (keeps : KeepsTracks disk c h 
 
   pub elsewhere_on_map : (entry : Entry) → (entry.cylinder ≡ c → entry.head ≡ h → ⊥) → IsOnMap disk entry ↔ IsOnMap after entry
   elsewhere_on_map entry other = (
-    λ on. on_map disk after entry ((keeps.tracks entry.cylinder entry.head).0 on.track) (keeps.others entry.cylinder entry.head on.track other) on,
+    λ on. on_map disk after entry ((alike_tracks disk after entry.cylinder entry.head keeps.alike).0 on.track) (keeps.others entry.cylinder entry.head on.track other) on,
     λ on.
-        let had = (keeps.tracks entry.cylinder entry.head).1 on.track in
+        let had = (alike_tracks disk after entry.cylinder entry.head keeps.alike).1 on.track in
         on_map after disk entry had (sym (keeps.others entry.cylinder entry.head had other)) on,
   )
 
   -- a regular disk stays so where that track is regular
   pub stays_regular : IsRegularDisk disk → IsRegular (track_of after c h) c h → IsRegularDisk after
   stays_regular regular here b g has =
-      let had = (keeps.tracks b g).1 has in
+      let had = (alike_tracks disk after b g keeps.alike).1 has in
       elim (cases_eq b c) [
         | inl same_c ↦ elim (cases_eq g h) [
           | inl same_h ↦

@@ -1,23 +1,22 @@
 -- What a laying makes of a disk, and the keys of a format.
-use Rattle.std.proofs.Common.{◌≡◌, ◌↔◌, ℕ, false, ◌+◌, ◌-◌, ◌<◌, ◌≤◌, List, ◌++◌, [], length, take, drop, max, get_or, All, refl, sym, ap, subst, ◌∙◌, arith}
-use Rattle.std.specs.List.{range_with_len}
+use Rattle.std.proofs.Common.{◌≡◌, ◌↔◌, ℕ, false, ◌+◌, ◌-◌, ◌<◌, ◌≤◌, List, ◌++◌, length, take, drop, max, get_or, All, refl, sym, ap, subst, ◌∙◌, arith}
 use Rattle.std.proofs.lemmas.List.{length-append, length-take, length-replicate, take-append-drop, drop_all, take_all, append-nil}
 use Rattle.std.proofs.lemmas.List.FromFn.{length-map-range_with_len, get_or-map-range_with_len}
 use Rattle.flop_base.specs.declared.key.Chrn.{Chrn}
 use Rattle.flop_base.specs.Standard.{sectors_at, standard_code}
 use Rattle.raw_image.specs.Disk.{Disk, IsDisk, HasTrack, track_of, IsWithTrack}
-use Rattle.track_model.specs.Fields.{content_size}
 use Rattle.track_model.specs.declared.symbol.Symbol.{Symbol}
 use Rattle.track_model.specs.declared.symbol.Symbol.TheVariants.{Byte}
-use Rattle.track_model.specs.Layouts.{lay, recorded, track_symbols, gap, laid_words, Fits}
+use Rattle.track_model.specs.Layouts.{lay, track_symbols, gap, laid_words, Fits}
 use Rattle.track_model.specs.Windows.{with_words}
 use Rattle.track_model.proofs.Recorded.{length-recorded}
-use Rattle.track_model.proofs.Splices.{length-with_words, longer_cut}
+use Rattle.track_model.proofs.Splices.{longer_cut}
 use Rattle.sector_map.specs.Standard.{key_of, track_keys}
-use Rattle.sector_map.specs.Layings.{Format, format_keys, formatted, Laying, IsLaying}
-use Rattle.sector_map.specs.KeptDisks.{KeepsTracks, joined_laying}
+use Rattle.sector_map.specs.Layings.{Format, format_keys, formatted, Laying, IsLaying, CanFormat}
+use Rattle.sector_map.specs.KeptDisks.{AreAlike, KeepsTracks}
+use Rattle.sector_map.specs.LaidDisks.{joined_laying}
 use Rattle.sector_map.proofs.RegularTracks.{length-track_of}
-use Rattle.sector_map.proofs.KeptTracks.{each_track, with_track_keeps, with_itself, with_later}
+use Rattle.sector_map.proofs.KeptTracks.{alike_tracks, each_track, with_track_keeps, with_itself, with_later}
 use Rattle.sector_map.proofs.SameDisks.{same_disk}
 
 -- ---- the keys of a track
@@ -87,6 +86,26 @@ laid_whole format disk laying after valid is whole =
     is.laid.has
     ∙ all_laid (track_of disk laying.cylinder format.h) (formatted format disk.words_per_track) laying.words
     (whole ∙ sym (length-formatted format disk.words_per_track)) (whole ∙ sym (length-track_of disk laying.cylinder format.h valid is.track))
+
+-- also as the track of a disk like it
+pub laid_whole_from : (format : Format) (first disk : Disk) (laying : Laying) (after : Disk) → AreAlike first disk → IsLaying format disk laying after → laying.words ≡ disk.words_per_track → track_of after laying.cylinder format.h ≡ formatted format first.words_per_track
+laid_whole_from format first disk laying after alike is whole =
+    laid_whole format disk laying after alike.valid is whole ∙ ap (λ n. formatted format n) alike.words_per_track
+
+-- a disk can be formatted so where a disk like it can
+pub can_format_alike : (format : Format) (disk after : Disk) → AreAlike disk after → CanFormat format disk ↔ CanFormat format after
+can_format_alike format disk after alike = (
+  λ can. record {
+    track = (alike_tracks disk after format.c format.h alike).0 can.track;
+    rate = alike.rate ∙ can.rate;
+    fits = subst (Fits (format_keys format) standard_code format.gap3) (sym alike.words_per_track) can.fits;
+  },
+  λ can. record {
+    track = (alike_tracks disk after format.c format.h alike).1 can.track;
+    rate = sym alike.rate ∙ can.rate;
+    fits = subst (Fits (format_keys format) standard_code format.gap3) alike.words_per_track can.fits;
+  },
+)
 
 none_laid : (track words : List ℕ) (k : ℕ) → k ≡ 0 → with_words track 0 (take k words) ≡ track
 unfolding with_words

@@ -8,5 +8,7 @@ mod Listed
 pub mod MetTracks
 mod Placed
 pub mod RegularTracks
+pub mod Rewritten
 pub mod SameDisks
 mod Tracks
+pub mod WholeWindows

@@ -1,5 +1,5 @@
 -- The tracks of a disk, and what is known of a regular one.
-use Rattle.std.proofs.Common.{◌≡◌, ℕ, ◌+◌, ◌*◌, ◌<◌, ◌≤◌, List, length, take, drop, arith}
+use Rattle.std.proofs.Common.{◌≡◌, ℕ, ◌+◌, ◌*◌, ◌<◌, ◌≤◌, List, length, drop, arith}
 use Rattle.std.proofs.lemmas.List.{length-take, length-drop}
 use Rattle.std.proofs.lemmas.Nat.{mul-add-lt}
 use Rattle.flop_base.specs.declared.key.Chrn.{Chrn}
@@ -11,6 +11,7 @@ use Rattle.track_model.specs.Regular.{IsSpaced, IsRegular}
 use Rattle.track_model.proofs.Sectored.{plain_clear}
 use Rattle.sector_map.specs.Disks.{IsRegularDisk}
 use Rattle.sector_map.specs.Met.{IsClearAddress}
+use Rattle.sector_map.specs.ChangedDisks.{IsWritable}
 
 -- a track of a disk has as many words as the disk says
 pub length-track_of : (disk : Disk) (c h : ℕ) → IsDisk disk → HasTrack disk c h → length (track_of disk c h) ≡ disk.words_per_track
@@ -42,7 +43,16 @@ clear_address track c h p key regular address = record {
 pub window_inside : (track : List ℕ) (c h p : ℕ) (key : Chrn) → IsRegular track c h → IsAddressAt track p key → window_word p + window_words key.n ≤ length track
 window_inside track c h p key regular address = let inside = regular.spans.inside p key address in omega arith
 
--- and so of each track of a regular disk
+-- so its keys can be written
+pub regular_writable : (track : List ℕ) (c h p : ℕ) (key : Chrn) → IsRegular track c h → IsAddressAt track p key → IsWritable track key
+regular_writable track c h p key regular address = record {
+  marked = λ none. none p (clear_address track c h p key regular address).clear;
+  clear = (p, clear_address track c h p key regular address);
+  one_place = λ q r. regular.keys.distinct q r key;
+  inside = λ q. window_inside track c h q key regular;
+}
+
+-- the window is inside each track of a regular disk
 pub window_in_disk : (disk : Disk) (c h p : ℕ) (key : Chrn) → IsDisk disk → IsRegularDisk disk → HasTrack disk c h → IsAddressAt (track_of disk c h) p key → window_word p + window_words key.n ≤ disk.words_per_track
 window_in_disk disk c h p key valid regular has address =
     omega (arith, length-track_of disk c h valid has, window_inside (track_of disk c h) c h p key (regular c h has) address)

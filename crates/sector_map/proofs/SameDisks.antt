@@ -1,5 +1,5 @@
 -- Disks of one shape with the same tracks are the same.
-use Rattle.std.proofs.Common.{◌≡◌, ℕ, zero, ◌+◌, ◌*◌, ◌/◌, ◌%◌, ◌<◌, ◌≤◌, Bool, List, length, take, drop, get_or, refl, sym, ap, subst, ◌∙◌, arith}
+use Rattle.std.proofs.Common.{◌≡◌, ℕ, ◌+◌, ◌*◌, ◌/◌, ◌%◌, ◌<◌, Bool, List, length, drop, get_or, sym, ap, subst, ◌∙◌, arith}
 use Rattle.std.proofs.lemmas.List.{get_or-take, get_or-drop, ext_get_or}
 use Rattle.std.proofs.lemmas.Nat.{div-add-mod', div_below, mod_below}
 use Rattle.flop_base.specs.declared.answers.Rate.{Rate}
@@ -48,14 +48,14 @@ same_words a b first second e f g same =
     let long : length b.words ≡ length a.words = second.count ∙ ap (λ n. n * b.heads * b.words_per_track) e ∙ ap (λ n. a.cylinders * n * b.words_per_track) f ∙ ap (λ n. a.cylinders * a.heads * n) g ∙ sym first.count in
     ext_get_or 0 b.words a.words long
     (λ k below.
-        let at = place_of a k first (omega arith) in
-        let within : at.i < b.words_per_track = subst (λ n. at.i < n) (sym g) at.within in
-        let there : k ≡ track_start b at.c at.h + at.i = at.is ∙ ap (λ s. s + at.i) (sym (same_start a b at.c at.h f g)) in
-        ap (λ j. get_or b.words j 0) there
-        ∙ sym (word_of_track b at.c at.h at.i within)
-        ∙ ap (λ track. get_or track at.i 0) (same at.c at.h at.has)
-        ∙ word_of_track a at.c at.h at.i at.within
-        ∙ ap (λ j. get_or a.words j 0) (sym at.is))
+    let at = place_of a k first (omega arith) in
+    let within : at.i < b.words_per_track = subst (λ n. at.i < n) (sym g) at.within in
+    let there : k ≡ track_start b at.c at.h + at.i = at.is ∙ ap (λ s. s + at.i) (sym (same_start a b at.c at.h f g)) in
+    ap (λ j. get_or b.words j 0) there
+    ∙ sym (word_of_track b at.c at.h at.i within)
+    ∙ ap (λ track. get_or track at.i 0) (same at.c at.h at.has)
+    ∙ word_of_track a at.c at.h at.i at.within
+    ∙ ap (λ j. get_or a.words j 0) (sym at.is))
 
 abbrev disk_from : Bool → ℕ → ℕ → Rate → ℕ → List ℕ → Disk
 disk_from protected cylinders heads rate words_per_track words = record {
@@ -69,9 +69,9 @@ disk_from protected cylinders heads rate words_per_track words = record {
 
 pub same_disk : (disk : Disk) (c h : ℕ) (after : Disk) → IsDisk disk → KeepsTracks disk c h after → ((b g : ℕ) → HasTrack disk b g → track_of after b g ≡ track_of disk b g) → after ≡ disk
 same_disk disk c h after valid keeps same =
-    ap (λ x. disk_from x after.cylinders after.heads after.rate after.words_per_track after.words) keeps.protected
-    ∙ ap (λ x. disk_from disk.protected x after.heads after.rate after.words_per_track after.words) keeps.cylinders
-    ∙ ap (λ x. disk_from disk.protected disk.cylinders x after.rate after.words_per_track after.words) keeps.heads
-    ∙ ap (λ x. disk_from disk.protected disk.cylinders disk.heads x after.words_per_track after.words) keeps.rate
-    ∙ ap (λ x. disk_from disk.protected disk.cylinders disk.heads disk.rate x after.words) keeps.words_per_track
-    ∙ ap (λ x. disk_from disk.protected disk.cylinders disk.heads disk.rate disk.words_per_track x) (same_words disk after valid keeps.valid keeps.cylinders keeps.heads keeps.words_per_track same)
+    ap (λ x. disk_from x after.cylinders after.heads after.rate after.words_per_track after.words) keeps.alike.protected
+    ∙ ap (λ x. disk_from disk.protected x after.heads after.rate after.words_per_track after.words) keeps.alike.cylinders
+    ∙ ap (λ x. disk_from disk.protected disk.cylinders x after.rate after.words_per_track after.words) keeps.alike.heads
+    ∙ ap (λ x. disk_from disk.protected disk.cylinders disk.heads x after.words_per_track after.words) keeps.alike.rate
+    ∙ ap (λ x. disk_from disk.protected disk.cylinders disk.heads disk.rate x after.words) keeps.alike.words_per_track
+    ∙ ap (λ x. disk_from disk.protected disk.cylinders disk.heads disk.rate disk.words_per_track x) (same_words disk after valid keeps.alike.valid keeps.alike.cylinders keeps.alike.heads keeps.alike.words_per_track same)

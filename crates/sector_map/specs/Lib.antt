@@ -1,7 +1,9 @@
+pub mod ChangedDisks
 pub mod Changes
 pub mod Disks
 pub mod Failing
 pub mod KeptDisks
+pub mod LaidDisks
 pub mod Layings
 pub mod Met
 pub mod MetTracks

@@ -6,7 +6,9 @@ ghost use Rattle.track_model.specs.Writing.{window};
 ghost use Rattle.sector_map.specs.Disks.{IsRegularDisk, IsOnMap};
 ghost use Rattle.sector_map.specs.Changes.{Change, IsChange};
 ghost use Rattle.sector_map.specs.Layings.{Laying, IsLaying, formatted};
-ghost use Rattle.sector_map.specs.KeptDisks.{KeepsTracks, IsSafeChange, KeepsSectors, HasWritten, entry_of, written_under, change_at, joined, format_at, laying_at, joined_laying};
+ghost use Rattle.sector_map.specs.KeptDisks.{KeepsTracks, KeepsSectors};
+ghost use Rattle.sector_map.specs.ChangedDisks.{IsSafeChange, HasWritten, entry_of, written_under, change_at, joined};
+ghost use Rattle.sector_map.specs.LaidDisks.{format_at, laying_at, joined_laying};
 
 use flop_base::{Chrn, Rate};
 use raw_image::Medium;

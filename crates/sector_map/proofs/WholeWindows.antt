@@ -1,0 +1,147 @@
+-- A whole window on any track: its data field is intact, whichever the track's other fields.
+use Rattle.std.proofs.Common.{◌≡◌, ℕ, suc, ◌+◌, ◌-◌, ◌*◌, ◌/◌, ◌%◌, ◌^◌, ◌<◌, ◌≤◌, Bool, true, List, ◌∷◌, ◌++◌, length, get_or, refl, sym, ap, subst, ◌∙◌, arith, inl, inr}
+use Rattle.std.proofs.lemmas.Bool.{cases_lt, cases_eq}
+use Rattle.std.proofs.lemmas.List.{get_or_append_left, get_or-append-add, length-append, take_all}
+use Rattle.std.proofs.lemmas.List.FromFn.{fill_by_all}
+use Rattle.raw_image.specs.Disk.{Disk, track_of}
+use Rattle.track_model.specs.Cells.{cells_at}
+use Rattle.track_model.specs.Bytes.{byte_at, legal}
+use Rattle.track_model.specs.Crc.{crc}
+use Rattle.track_model.specs.Marks.{data_byte, IsSound, IsRun}
+use Rattle.track_model.specs.Fields.{after_marks, content_size, content_at, data_cells, IsDataMark, IsWhole}
+use Rattle.track_model.specs.Sectors.{IsUnder}
+use Rattle.track_model.specs.Writing.{sync_and_marks, check_bytes, window}
+use Rattle.track_model.specs.Windows.{window_word, with_words}
+use Rattle.track_model.proofs.CrcSteps.{crc_below}
+use Rattle.track_model.proofs.OwnField.{legal_not_zero}
+use Rattle.track_model.proofs.Splices
+use Rattle.track_model.proofs.WindowMarks.{marked, byte_in, byte_behind, run_in, word_12, word_13, word_14}
+use Rattle.track_model.proofs.Written.{length-sync_and_marks, length-window}
+use Rattle.sector_map.specs.Changes.{Change, Written, window_of, IsChange}
+use Rattle.sector_map.specs.ChangedDisks.{FitsKey, IsWholeChange}
+use Rattle.sector_map.proofs.Changed.{change_keeps_address}
+
+not_zero : (deleted : Bool) (rest : List ℕ) (i : ℕ) → 12 ≤ i → i < 16 + length rest → get_or (marked (data_byte deleted ∷ rest)) i 0 ≡ 0 → ⊥
+not_zero deleted rest i low high zero =
+    let words : List ℕ = marked (data_byte deleted ∷ rest) in
+    elim (cases_lt i 15) [
+      | inr h ↦
+          let place : i ≡ length sync_and_marks + (i - 15) = omega (arith, length-sync_and_marks) in
+          let word = get_or-append-add sync_and_marks (legal true (data_byte deleted ∷ rest)) (i - 15) 0 in
+          legal_not_zero true (data_byte deleted ∷ rest) (i - 15) (omega arith) (sym word ∙ ap (λ j. get_or words j 0) (sym place) ∙ zero)
+      | inl h ↦
+          elim (cases_eq i 12) [
+            | inl e ↦ absurd (let is = word_12 deleted rest in let z = ap (λ j. get_or words j 0) e in omega arith)
+            | inr a ↦
+                elim (cases_eq i 13) [
+                  | inl e ↦ absurd (let is = word_13 deleted rest in let z = ap (λ j. get_or words j 0) e in omega arith)
+                  | inr b ↦
+                      let e : i ≡ 14 = omega arith in
+                      absurd (let is = word_14 deleted rest in let z = ap (λ j. get_or words j 0) e in omega arith)
+                ]
+          ]
+    ]
+
+module _ (track : List ℕ) (start : ℕ) (deleted : Bool) (content : List ℕ) (n : ℕ) (sized : length content ≡ content_size n) (bytes : (j : ℕ) → get_or content j 0 < 2 ^ 8) (fits : start + length (window deleted content) ≤ length track) where
+  abbrev check : ℕ
+  check = crc (after_marks (data_byte deleted ∷ content))
+
+  abbrev rest : List ℕ
+  rest = content ++ check_bytes check
+
+  abbrev row : List ℕ
+  row = with_words track start (window deleted content)
+
+  long_rest : length rest ≡ content_size n + 2
+  long_rest = omega (arith, length-append content (check_bytes check))
+
+  long : length (window deleted content) ≡ content_size n + 18
+  long = omega (arith, length-window deleted content)
+
+  cells_in : (q i : ℕ) → q ≡ 16 * start + i → i + 16 ≤ 16 * length (window deleted content) → cells_at row q ≡ cells_at (marked (data_byte deleted ∷ rest)) i
+  cells_in = Splices.cells_of track start (window deleted content) fits
+
+  row_run : IsRun row (16 * start + 192)
+  row_run =
+      let run = run_in deleted rest in
+      record {
+        first = cells_in (16 * start + 192) 192 refl (omega (arith, long)) ∙ run.0;
+        second = cells_in (16 * start + 192 + 16) 208 (omega arith) (omega (arith, long)) ∙ run.1;
+        third = cells_in (16 * start + 192 + 32) 224 (omega arith) (omega (arith, long)) ∙ run.2;
+      }
+
+  row_mark : byte_at row (16 * start + 192 + 48) ≡ data_byte deleted
+  row_mark =
+      Splices.byte_of track start (window deleted content) fits (16 * start + 192 + 48) 240 (omega arith) (omega (arith, long))
+      ∙ byte_behind deleted rest
+
+  row_sound : (m : ℕ) → 192 + m ≤ 16 * length (window deleted content) → IsSound row (16 * start + 192) m
+  row_sound m h = record {
+    inside = omega (arith, Splices.length-with_words track start (window deleted content) fits);
+    no_zero = λ q low high zero.
+        let i = q / 16 - start in
+        let place : q / 16 ≡ start + i = omega arith in
+        let word = Splices.with_words_at track start (window deleted content) fits (q / 16) i place (omega (arith, long)) in
+        not_zero deleted rest i (omega arith) (omega (arith, long, long_rest)) (sym word ∙ zero);
+  }
+
+  row_rest : (q j : ℕ) → q ≡ 16 * start + 256 + 16 * j → j < length rest → get_or rest j 0 < 2 ^ 8 → byte_at row q ≡ get_or rest j 0
+  row_rest q j e h small =
+      Splices.byte_of track start (window deleted content) fits q (256 + 16 * j) (omega arith) (omega (arith, long, long_rest))
+      ∙ byte_in (data_byte deleted ∷ rest) (256 + 16 * j) (suc j) (omega arith) (omega arith) small
+
+  row_content : content ≡ content_at row (16 * start + 192 + 64) n
+  row_content =
+      fill_by_all (λ i. byte_at row (16 * start + 192 + 64 + 16 * i)) content (content_size n) 0 sized
+      (λ j h.
+      let left = get_or_append_left content (check_bytes check) 0 j (omega arith) in
+      let small = bytes j in
+      sym (row_rest (16 * start + 192 + 64 + 16 * j) j (omega arith) (omega (arith, long_rest)) (omega (arith, left)) ∙ left))
+
+  high : get_or rest (content_size n) 0 ≡ check / 256
+  high =
+      let place : content_size n ≡ length content + 0 = omega arith in
+      ap (λ j. get_or rest j 0) place ∙ get_or-append-add content (check_bytes check) 0 0
+
+  low : get_or rest (content_size n + 1) 0 ≡ check % 256
+  low =
+      let place : content_size n + 1 ≡ length content + 1 = omega arith in
+      ap (λ j. get_or rest j 0) place ∙ get_or-append-add content (check_bytes check) 1 0
+
+  row_check : (q : ℕ) → q ≡ 16 * start + 256 + 16 * content_size n → 256 * byte_at row q + byte_at row (q + 16) ≡ check
+  row_check q e =
+      let below = crc_below (after_marks (data_byte deleted ∷ content)) in
+      let upper = row_rest q (content_size n) e (omega (arith, long_rest)) (omega (arith, high, below)) in
+      let lower = row_rest (q + 16) (content_size n + 1) (omega arith) (omega (arith, long_rest)) (omega (arith, low)) in
+      omega (arith, upper, lower, high, low)
+
+  row_mark_of : (p : ℕ) → start ≡ window_word p → IsDataMark row p (16 * start + 192) deleted
+  row_mark_of p at = record {
+    after = omega arith;
+    near = omega arith;
+    run = record { run = row_run; mark = row_mark; sound = row_sound 64 (omega (arith, long)) };
+  }
+
+  row_whole : IsWhole row (16 * start + 192) n content
+  row_whole = record {
+    sound = row_sound (data_cells n) (omega (arith, long));
+    content_is = row_content;
+    check = row_check (16 * start + 192 + 64 + 16 * content_size n) (omega arith) ∙ sym (ap (λ b. crc (after_marks (b ∷ content))) row_mark);
+  }
+
+-- on any disk a whole window is read behind its address field, if by any of its data marks
+pub change_is_under : (written : Written) (disk : Disk) (change : Change) (after : Disk) → IsChange written disk change after → FitsKey written → IsWholeChange written change → IsUnder (track_of after change.cylinder written.key.h) written.key written.deleted written.content
+change_is_under written disk change after is fits whole =
+    let track = track_of disk change.cylinder written.key.h in
+    let start = window_word change.place in
+    let most = is.cuttable.inside in
+    let inside : start + length (window_of written) ≤ length track = omega arith in
+    let row_is : with_words track start (window_of written) ≡ track_of after change.cylinder written.key.h = ap (λ words. with_words track start words) (sym (take_all change.words (window_of written) (omega arith))) ∙ sym is.cut.has in (
+      change.place,
+      16 * start + 192,
+      change_keeps_address written disk change after is,
+      subst (λ words. IsDataMark words change.place (16 * start + 192) written.deleted) row_is
+          (row_mark_of track start written.deleted written.content written.key.n fits.size fits.bytes inside change.place refl),
+      subst (λ words. IsWhole words (16 * start + 192) written.key.n written.content) row_is
+          (row_whole track start written.deleted written.content written.key.n fits.size fits.bytes inside),
+    )

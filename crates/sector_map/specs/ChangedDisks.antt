@@ -1,0 +1,84 @@
+-- Changes of a disk: whole and safe ones, several as one, and what is there after them.
+use Rattle.std.specs.Prelude.{◌≡◌, ℕ, ◌+◌, ◌^◌, ◌<◌, ◌≤◌, Bool, List, length, max, slice_index, ◌⊎◌}
+use Rattle.flop_base.specs.declared.key.Chrn.{Chrn}
+use Rattle.raw_image.specs.Disk.{Disk, track_of}
+use Rattle.track_model.specs.declared.Look.{Look}
+use Rattle.track_model.specs.declared.Look.TheVariants.{Found}
+use Rattle.track_model.specs.Fields.{IsAddressAt, content_at, content_size}
+use Rattle.track_model.specs.Looks.{LookAt}
+use Rattle.track_model.specs.Sectors.{IsSector}
+use Rattle.track_model.specs.Windows.{window_word, window_words, window_place, IsTidy}
+use Rattle.sector_map.specs.Disks.{Entry}
+use Rattle.sector_map.specs.Met.{HasNoClearMark, HasClearAddress, HasLook, AllFound}
+use Rattle.sector_map.specs.Changes.{Change, Written, window_of, IsChange}
+
+-- a content with its mark under a key
+abbrev pub written_under : Chrn → Bool → List ℕ → Written
+written_under key deleted content = record { key = key; deleted = deleted; content = content }
+
+-- a change of this cylinder, place and count of words
+abbrev pub change_at : ℕ → ℕ → ℕ → Change
+change_at cylinder place words = record { cylinder = cylinder; place = place; words = words }
+
+-- the entry of what was written, at the address field at `place`
+abbrev pub entry_of : Written → ℕ → Entry
+entry_of written place = record {
+  cylinder = written.key.c;
+  head = written.key.h;
+  place = place;
+  key = written.key;
+  deleted = written.deleted;
+  content = written.content;
+}
+
+-- what is written is a content for its key: bytes, as many as the size code says
+pub record FitsKey (written : Written) : Type 0 where
+  pub size : length written.content ≡ content_size written.key.n
+  pub bytes : (k : ℕ) → slice_index written.content k < 2 ^ 8
+
+-- the whole window stands
+abbrev pub IsWholeChange : Written → Change → Type 0
+IsWholeChange written change = change.words ≡ length (window_of written)
+
+-- the track is Tidy there, so that a write may stop anywhere, or the whole window stands
+abbrev pub IsSafeChange : Written → Disk → Change → Type 0
+IsSafeChange written disk change =
+    IsTidy (track_of disk change.cylinder written.key.h) change.place written.deleted written.content
+    ⊎ IsWholeChange written change
+
+-- a change and a later one at the same address field, as one: the longer stands
+abbrev pub joined : Change → Change → Change
+joined one two = record {
+  cylinder = one.cylinder;
+  place = one.place;
+  words = max one.words two.words;
+}
+
+-- after any number of writes behind the address field at `place`, on the key's cylinder: the disk is as it was, or as one
+-- safe change there makes it
+abbrev pub IsSameOrChanged : Written → ℕ → Disk → Disk → Type 0
+IsSameOrChanged written place disk after =
+    (after ≡ disk)
+    ⊎ ((words : ℕ) × IsChange written disk (change_at written.key.c place words) after
+    × IsSafeChange written disk (change_at written.key.c place words))
+
+-- a key can be written on a track: one address field has it, which is Clear, and whose window is inside the track
+pub record IsWritable (track : List ℕ) (key : Chrn) : Type 0 where
+  pub marked : HasNoClearMark track → ⊥
+  pub clear : HasClearAddress track key
+  pub one_place : (p q : ℕ) → IsAddressAt track p key → IsAddressAt track q key → p ≡ q
+  pub inside : (p : ℕ) → IsAddressAt track p key → window_word p + window_words key.n ≤ length track
+
+-- the track has what was written, behind the address field at `place`, and nothing else under that key
+pub record HasWritten (written : Written) (place : ℕ) (track : List ℕ) : Type 0 where
+  pub address : IsAddressAt track place written.key
+  pub look : LookAt track place written.key.n (Found written.deleted (window_place place + 256))
+  pub content : written.content ≡ content_at track (window_place place + 256) written.key.n
+  pub sector : IsSector track written.key written.deleted written.content
+  pub clear : HasClearAddress track written.key
+  pub all_found : AllFound track written.key
+  pub one_place : (p : ℕ) → IsAddressAt track p written.key → p ≡ place
+  pub one_look : (look : Look) → HasLook track written.key look
+      → look ≡ Found written.deleted (window_place place + 256)
+  pub one_content : (deleted : Bool) (content : List ℕ) → IsSector track written.key deleted content
+      → (deleted ≡ written.deleted) × (content ≡ written.content)
