@@ -18,6 +18,8 @@ impl Model for Gate {
     ghost Value = { Bool };
 
     ghost view = { λ gate. gate.acknowledged };
+
+    ghost inverse = { λ is. record { acknowledged = is } };
 }
 
 impl Gate {

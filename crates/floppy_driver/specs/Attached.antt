@@ -24,3 +24,8 @@ pub record IsNoted (notes : Notes) (medium : Option Disk) (changed spun : Bool) 
 pub record IsAttached (driver : Driver) (rig : Rig) : Type 0 where
   pub first : IsNoted driver.first rig.media.first rig.changes.first rig.spun.first rig.numbers.first rig.cylinders.first rig.counters.drives.first.faults
   pub second : IsNoted driver.second rig.media.second rig.changes.second rig.spun.second rig.numbers.second rig.cylinders.second rig.counters.drives.second.faults
+
+-- a machine can be set up where each empty drive has its change line set
+pub record CanSetUp (rig : Rig) : Type 0 where
+  pub first : rig.media.first ≡ None → rig.changes.first ≡ true
+  pub second : rig.media.second ≡ None → rig.changes.second ≡ true

@@ -1,5 +1,5 @@
 -- What a driver and its machine show together.
-use Rattle.std.specs.Prelude.{◌≡◌, ℕ, ◌==◌, ◌&&◌, Bool, not, List, Option, Some, None, if◌then◌else◌}
+use Rattle.std.specs.Prelude.{◌≡◌, ℕ, ◌==◌, ◌&&◌, Bool, false, not, List, Option, Some, None, if◌then◌else◌}
 use Rattle.flop_base.specs.declared.answers.Rate.{Rate}
 use Rattle.flop_base.specs.declared.answers.Rate.TheVariants.{R500}
 use Rattle.raw_image.specs.Disk.{Disk}
@@ -41,3 +41,13 @@ shown driver rig spares waiting = record {
   tries = driver.tries;
   counters = with_waiting rig.counters waiting;
 }
+
+-- the driver with other notes on a bay
+abbrev pub with_notes : Driver → ℕ → Notes → Driver
+with_notes driver bay notes = if bay == 0 then record driver { first = notes } else record driver { second = notes }
+
+-- a driver that has just set a machine up: no bay is acknowledged, and three attempts are made
+pub record IsFreshDriver (driver : Driver) : Type 0 where
+  pub first : driver.first.gate ≡ false
+  pub second : driver.second.gate ≡ false
+  pub tries : driver.tries ≡ 3

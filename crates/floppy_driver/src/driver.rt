@@ -1,8 +1,8 @@
 // What a driver notes of each bay.
-ghost use Rattle.std.specs.Prelude.{◌≡◌, ◌≤◌, ◌&&◌, ◌-◌, not, None, List};
+ghost use Rattle.std.specs.Prelude.{◌≡◌, ◌≤◌, ◌<◌, List, ℕ, Option, Some, None, not};
 ghost use Rattle.flop_base.specs.declared.answers.Rate.TheVariants.{R500};
-ghost use Rattle.bay_model.specs.Counters.{DriveCounts, GoesOn};
 ghost use Rattle.bay_model.specs.Bays.{in_bay};
+ghost use Rattle.bay_model.specs.Counters.{DriveCounts, GoesOn};
 
 use change_line::Gate;
 use flop_base::{Code, Rate};
@@ -20,6 +20,21 @@ pub(crate) struct Notes {
     pub known: Option<u8>,
 }
 
+impl Notes {
+    /// Of a bay that isn't acknowledged.
+    pub(crate) fn new() -> Notes
+        ensures gate { result.gate ≡ false }
+        ensures known { result.known ≡ None }
+    {
+        Notes {
+            gate: Gate::new(),
+            kept: 0,
+            rate: Rate::R500,
+            known: None,
+        }
+    }
+}
+
 /// A driver of two bays. It holds no machine: each call is given the one that it was set up with.
 #[derive(Drop)]
 pub struct Driver {
@@ -28,4 +43,130 @@ pub struct Driver {
     pub(crate) tries: u8,
     ghost some_tries: { 1 ≤ tries },
     ghost few_tries: { tries ≤ 10 },
+}
+
+impl Driver {
+    ghost use Rattle.floppy_driver.specs.Shown.{shown, notes_of, with_notes, is_held, IsFreshDriver};
+    ghost use Rattle.floppy_driver.specs.Attached.{IsAttached, CanSetUp};
+    ghost use Rattle.single_commands.specs.Rigs.{OnlyAsks};
+    ghost use Rattle.sector_model.specs.Calls.{RatesTo, SetsTries, TellsChange};
+
+    /// Sets a machine up, whose empty drives have their change lines set.
+    pub fn set_up<C: Commands>(machine: &mut C) -> Driver
+        requires empty { CanSetUp (C.rig machine.old) }
+        ensures fresh { IsFreshDriver result }
+        ensures asks { OnlyAsks (C.rig machine.old) (C.rig machine.new) }
+        ensures idle { C.is_idle machine.new }
+        ensures attached { IsAttached result (C.rig machine.new) }
+    {
+        machine.reset();
+        Driver {
+            first: Notes::new(),
+            second: Notes::new(),
+            tries: START_TRIES,
+        }
+    }
+
+    /// The notes on a bay.
+    pub(crate) fn notes(&self, bay: u8) -> Notes
+        ensures { result ≡ notes_of self.now bay }
+    {
+        if bay == 0 { self.first } else { self.second }
+    }
+
+    /// Sets the notes on a bay.
+    pub(crate) fn set_notes(&mut self, bay: u8, notes: Notes)
+        ensures { self.new ≡ with_notes self.old bay notes }
+    {
+        if bay == 0 {
+            self.first = notes;
+        } else {
+            self.second = notes;
+        }
+    }
+
+    /// Whether a bay is held: it was acknowledged, and its change line is clear.
+    pub(crate) fn is_held<C: Commands>(&mut self, machine: &mut C, bay: u8) -> bool
+        requires idle { C.is_idle machine.old }
+        requires bay { bay ≤ 1 }
+        requires attached { IsAttached self.old (C.rig machine.old) }
+        ensures held { result ≡ is_held (notes_of self.old bay) (in_bay (C.rig machine.old).changes bay) }
+        ensures shown { (spares : ℕ) (waiting : List DriveCounts) → shown self.new (C.rig machine.old) spares waiting
+            ≡ shown self.old (C.rig machine.old) spares waiting }
+        ensures asks { OnlyAsks (C.rig machine.old) (C.rig machine.new) }
+        ensures idle { C.is_idle machine.new }
+        ensures attached { IsAttached self.new (C.rig machine.new) }
+    {
+        let changed = machine.is_changed(bay);
+        let mut notes = self.notes(bay);
+        notes.gate.see(changed);
+        self.set_notes(bay, notes);
+        notes.gate.is_acknowledged()
+    }
+
+    /// Whether the medium was exchanged, or its bay not acknowledged.
+    pub fn changed<C: Commands>(&mut self, machine: &mut C, bay: u8) -> bool
+        requires idle { C.is_idle machine.old }
+        requires bay { bay ≤ 1 }
+        requires attached { IsAttached self.old (C.rig machine.old) }
+        ensures step { (spares : ℕ) (waiting : List DriveCounts) → TellsChange
+            (shown self.old (C.rig machine.old) spares waiting) bay result
+            (shown self.new (C.rig machine.new) spares waiting) }
+        ensures counts { GoesOn (C.rig machine.old).counters (C.rig machine.new).counters }
+        ensures idle { C.is_idle machine.new }
+        ensures attached { IsAttached self.new (C.rig machine.new) }
+    {
+        !self.is_held(machine, bay)
+    }
+
+    /// The rate that is noted of a bay, which is the bay's where it is acknowledged.
+    pub fn rate(&self, bay: u8) -> Rate
+        requires { bay ≤ 1 }
+        ensures { result ≡ (notes_of self.now bay).rate }
+    {
+        self.notes(bay).rate
+    }
+
+    /// Sets the rate of an acknowledged bay.
+    pub fn set_rate<C: Commands>(
+        &mut self,
+        machine: &mut C,
+        bay: u8,
+        rate: Rate,
+    ) -> Result<(), Code>
+        requires idle { C.is_idle machine.old }
+        requires attached { IsAttached self.old (C.rig machine.old) }
+        ensures step { (spares : ℕ) (waiting : List DriveCounts) → RatesTo
+            (shown self.old (C.rig machine.old) spares waiting) bay rate result
+            (shown self.new (C.rig machine.new) spares waiting) }
+        ensures counts { GoesOn (C.rig machine.old).counters (C.rig machine.new).counters }
+        ensures idle { C.is_idle machine.new }
+        ensures attached { IsAttached self.new (C.rig machine.new) }
+    {
+        if bay > 1 {
+            return Err(Code::BadRequest);
+        }
+        if !self.is_held(machine, bay) {
+            return Err(Code::Changed);
+        }
+        let notes = self.notes(bay);
+        self.set_notes(bay, Notes { rate, ..notes });
+        Ok(())
+    }
+
+    /// The number of attempts of a call.
+    pub fn tries(&self) -> u8
+        ensures { result ≡ self.now.tries }
+    {
+        self.tries
+    }
+
+    /// Sets the number of attempts of the calls after it.
+    pub fn set_tries(&mut self, tries: u8)
+        requires least { 1 ≤ tries }
+        requires most { tries ≤ 10 }
+        ensures { self.new ≡ record self.old { tries = tries } }
+    {
+        self.tries = tries;
+    }
 }

@@ -1,0 +1,83 @@
+// Acknowledging a change of the medium.
+ghost use Rattle.std.specs.Prelude.{◌≡◌, ◌≤◌, List, ℕ};
+ghost use Rattle.bay_model.specs.Counters.{DriveCounts, GoesOn};
+
+use crate::driver::{Driver, Notes};
+use crate::preparing::go_to_track_0;
+use change_line::Gate;
+use flop_base::{Code, Rate};
+use single_commands::Commands;
+
+/// How often a change line is looked at behind pulses, and how often each rate is tried.
+const ROUNDS: u8 = 3;
+
+/// The rate at which an address field is found on cylinder 0 under head 0, R500 where none is found.
+fn find_rate<C: Commands>(machine: &mut C, bay: u8) -> Rate {
+    for _ in 0..ROUNDS {
+        if machine.read_id(bay, 0, Rate::R500).is_ok() {
+            return Rate::R500;
+        }
+        if machine.read_id(bay, 0, Rate::R250).is_ok() {
+            return Rate::R250;
+        }
+    }
+    Rate::R500
+}
+
+impl Driver {
+    ghost use Rattle.floppy_driver.specs.Shown.{shown};
+    ghost use Rattle.floppy_driver.specs.Attached.{IsAttached};
+    ghost use Rattle.sector_model.specs.Calls.{Acks};
+
+    /// Acknowledges that another medium may be in, and finds its rate: `NotReady` where no medium is in, or its drive lost
+    /// pulse after pulse.
+    pub fn ack<C: Commands>(&mut self, machine: &mut C, bay: u8) -> Result<(), Code>
+        requires idle { C.is_idle machine.old }
+        requires attached { IsAttached self.old (C.rig machine.old) }
+        ensures step { (spares : ℕ) (waiting : List DriveCounts) → Acks
+            (shown self.old (C.rig machine.old) spares waiting) bay result
+            (shown self.new (C.rig machine.new) spares waiting) }
+        ensures counts { GoesOn (C.rig machine.old).counters (C.rig machine.new).counters }
+        ensures idle { C.is_idle machine.new }
+        ensures attached { IsAttached self.new (C.rig machine.new) }
+    {
+        if bay > 1 {
+            return Err(Code::BadRequest);
+        }
+        machine.start_motor(bay);
+        for _ in 0..ROUNDS {
+            let reached = clear_change(machine, bay);
+            if !machine.is_changed(bay) {
+                self.hold(machine, bay, reached);
+                return Ok(());
+            }
+        }
+        self.set_notes(bay, Notes::new());
+        Err(Code::NotReady)
+    }
+
+    /// Holds a bay whose change line is clear, with its heads at track 0 where that was reached.
+    fn hold<C: Commands>(&mut self, machine: &mut C, bay: u8, reached: bool) {
+        let rate = find_rate(machine, bay);
+        let mut gate = Gate::new();
+        gate.acknowledge();
+        let kept = machine.faults(bay);
+        let known = if reached { Some(0) } else { None };
+        self.set_notes(
+            bay,
+            Notes {
+                gate,
+                kept,
+                rate,
+                known,
+            },
+        );
+    }
+}
+
+/// Steps in and out, so that the change line clears where a medium is in; whether the heads then stand at track 0.
+fn clear_change<C: Commands>(machine: &mut C, bay: u8) -> bool {
+    go_to_track_0(machine, bay);
+    machine.seek(bay, 1);
+    go_to_track_0(machine, bay)
+}

@@ -1,0 +1,79 @@
+// Reading a sector.
+ghost use Rattle.std.specs.Prelude.{◌≡◌, ◌≤◌, List, ℕ};
+ghost use Rattle.bay_model.specs.Counters.{DriveCounts, GoesOn};
+
+use crate::driver::Driver;
+use flop_base::{Chrn, Code, sector_size};
+use retry_plan::preparation;
+use sector_model::{crosses_page, is_sector_request};
+use single_commands::Commands;
+
+impl Driver {
+    ghost use Rattle.floppy_driver.specs.Shown.{shown};
+    ghost use Rattle.floppy_driver.specs.Attached.{IsAttached};
+    ghost use Rattle.sector_model.specs.Reads.{Reads};
+
+    /// Reads the sector of a key to user memory; true where it is marked deleted.
+    pub fn read<C: Commands>(
+        &mut self,
+        machine: &mut C,
+        bay: u8,
+        key: Chrn,
+        address: u32,
+    ) -> Result<bool, Code>
+        requires idle { C.is_idle machine.old }
+        requires attached { IsAttached self.old (C.rig machine.old) }
+        ensures step { (spares : ℕ) (waiting : List DriveCounts) → Reads
+            (shown self.old (C.rig machine.old) spares waiting) bay key address result
+            (shown self.new (C.rig machine.new) spares waiting) }
+        ensures counts { GoesOn (C.rig machine.old).counters (C.rig machine.new).counters }
+        ensures idle { C.is_idle machine.new }
+        ensures attached { IsAttached self.new (C.rig machine.new) }
+    {
+        if !is_sector_request(bay, key, address) {
+            return Err(Code::BadRequest);
+        }
+        if crosses_page(address, sector_size(key.n)) {
+            return Err(Code::Page);
+        }
+        if !self.is_held(machine, bay) {
+            return Err(Code::Changed);
+        }
+        self.read_in_attempts(machine, bay, key, address)
+    }
+
+    /// Reads in as many attempts as it takes, and no more than are set.
+    fn read_in_attempts<C: Commands>(
+        &mut self,
+        machine: &mut C,
+        bay: u8,
+        key: Chrn,
+        address: u32,
+    ) -> Result<bool, Code> {
+        let mut last = Code::Seek;
+        for attempt in 1..self.tries + 1 {
+            match self.read_once(machine, bay, key, address, attempt) {
+                Ok(deleted) => return Ok(deleted),
+                Err(code) => last = code,
+            }
+        }
+        Err(last)
+    }
+
+    /// One attempt.
+    fn read_once<C: Commands>(
+        &mut self,
+        machine: &mut C,
+        bay: u8,
+        key: Chrn,
+        address: u32,
+        attempt: u8,
+    ) -> Result<bool, Code> {
+        let notes = self.notes(bay);
+        let way = preparation(self.tries, attempt, notes.known.is_some());
+        if !self.prepare(machine, bay, key.c, way) {
+            return Err(Code::Seek);
+        }
+        machine.read(bay, key, notes.rate, address)
+    }
+}
