@@ -64,6 +64,27 @@ fn dma_reads_memory(rt: HostRuntime) -> Result<(), Fail> {
 }
 
 #[test]
+fn dma_page_reads_back_whole(rt: HostRuntime) -> Result<(), Fail> {
+    let mut ram = vec![in rt.alloc(); 0u8; MEMORY_SIZE]?;
+    ram[0x12345] = 0xC3;
+    let mut dma = Dma::new();
+    for (port, value) in [
+        (0x81, 0xF1),
+        (0x04, 0x45),
+        (0x04, 0x23),
+        (0x0B, 0x4A),
+        (0x0E, 0x00),
+    ] {
+        dma.port_write(port, value);
+    }
+    assert_eq!(rt; dma.port_read(0x81), 0xF1);
+    assert!(rt; dma.grants());
+    // An address uses the low four bits of the page.
+    assert_eq!(rt; dma.move_out(&ram), (0xC3, true));
+    Ok(())
+}
+
+#[test]
 fn fifo_has_room_for_sixteen_bytes(rt: HostRuntime) -> Result<(), Fail> {
     let mut fifo = Fifo::new(rt.alloc()).map_err(|_| "no memory")?;
     fifo.set(true, 8);
@@ -74,6 +95,11 @@ fn fifo_has_room_for_sixteen_bytes(rt: HostRuntime) -> Result<(), Fail> {
     assert_eq!(rt; fifo.len(), 16);
     assert!(rt; fifo.wants(true, false, false));
     assert!(rt; !fifo.wants(false, true, false));
+    fifo.clear();
+    assert!(rt; fifo.is_empty());
+    // It is still on.
+    assert_eq!(rt; fifo.push(1), Ok(()));
+    assert_eq!(rt; fifo.push(2), Ok(()));
     Ok(())
 }
 

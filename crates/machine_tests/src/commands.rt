@@ -44,6 +44,9 @@ fn an_unknown_code_is_invalid_at_once(rt: HostRuntime) {
     let mut bytes = CommandBytes::new();
     assert_eq!(rt; bytes.accept(0xFF), Accepted::Invalid);
     assert_eq!(rt; bytes.accept(0x10), Accepted::Ready(Command::Version));
+    assert!(rt; !bytes.is_begun());
+    assert_eq!(rt; bytes.accept(0x03), Accepted::More);
+    assert!(rt; bytes.is_begun());
 }
 
 #[test]
@@ -72,7 +75,9 @@ fn a_seek_gives_its_pulses_and_then_ends(rt: HostRuntime) {
         assert_eq!(rt; seeks.pulse(false), Some(true));
         assert!(rt; !seeks.is_pending());
     }
+    assert!(rt; seeks.is_seeking());
     assert_eq!(rt; seeks.pulse(false), None);
+    assert!(rt; !seeks.is_seeking());
     assert_eq!(rt; seeks.bits(), 0x01);
     assert_eq!(rt; seeks.sense(), Some((0x20, 3)));
     assert_eq!(rt; seeks.bits(), 0);

@@ -1,6 +1,6 @@
 // Drives: one of a test's own type, spinning up, and each planned fault once.
 ghost use Rattle.std.specs.Prelude.{◌≤◌, None};
-ghost use Rattle.drive_model.specs.Drive.{last_count};
+ghost use Rattle.flop_base.specs.Counts.{last_count};
 
 use drive_model::{Drive, Fault, PlainDrive, ScriptDrive, Turn};
 use flop_base::Rate;
