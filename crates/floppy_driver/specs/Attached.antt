@@ -9,14 +9,14 @@ use Rattle.floppy_driver.specs.declared.driver.Driver.{Driver}
 
 -- the notes on a bay agree with its drive: its medium, change line, speed, the controller's number, the cylinder under the
 -- heads, and the count of faults
-pub record IsNoted (notes : Notes) (medium : Option Disk) (changed spun : Bool) (number cylinder faults : ℕ) : Type 0 where
+pub record IsNoted (notes : Notes) (medium : Option Disk) (changed at_speed : Bool) (pcn cylinder faults : ℕ) : Type 0 where
   -- an empty drive has its change line set
   pub empty : medium ≡ None → changed ≡ true
   -- a held bay is at speed, and its drive had the kept count at least
-  pub spun : is_held notes changed ≡ true → spun ≡ true
+  pub spun : is_held notes changed ≡ true → at_speed ≡ true
   pub kept : is_held notes changed ≡ true → notes.kept ≤ faults
   -- a known cylinder is the controller's number, and the heads stand there where no fault came since the bay was acknowledged
-  pub number : (c : ℕ) → notes.known ≡ Some c → number ≡ c
+  pub number : (c : ℕ) → notes.known ≡ Some c → pcn ≡ c
   pub range : (c : ℕ) → notes.known ≡ Some c → c ≤ 79
   pub stands : (c : ℕ) → notes.known ≡ Some c → is_held notes changed ≡ true → faults ≡ notes.kept → faults < last_count
       → cylinder ≡ c

@@ -1,5 +1,5 @@
 // What a driver notes of each bay.
-ghost use Rattle.std.specs.Prelude.{◌≡◌, ◌≤◌, ◌<◌, List, ℕ, Option, Some, None, not};
+ghost use Rattle.std.specs.Prelude.{◌≡◌, ◌≤◌, ◌<◌, List, ℕ, Option, Some, None, not, false};
 ghost use Rattle.flop_base.specs.declared.answers.Rate.TheVariants.{R500};
 ghost use Rattle.bay_model.specs.Bays.{in_bay};
 ghost use Rattle.bay_model.specs.Counters.{DriveCounts, GoesOn};
@@ -48,7 +48,7 @@ pub struct Driver {
 impl Driver {
     ghost use Rattle.floppy_driver.specs.Shown.{shown, notes_of, with_notes, is_held, IsFreshDriver};
     ghost use Rattle.floppy_driver.specs.Attached.{IsAttached, CanSetUp};
-    ghost use Rattle.single_commands.specs.Rigs.{OnlyAsks};
+    ghost use Rattle.single_commands.specs.Rigs.{Rig, OnlyAsks};
     ghost use Rattle.sector_model.specs.Calls.{RatesTo, SetsTries, TellsChange};
 
     /// Sets a machine up, whose empty drives have their change lines set.
@@ -165,7 +165,9 @@ impl Driver {
     pub fn set_tries(&mut self, tries: u8)
         requires least { 1 ≤ tries }
         requires most { tries ≤ 10 }
-        ensures { self.new ≡ record self.old { tries = tries } }
+        ensures step { (rig : Rig) (spares : ℕ) (waiting : List DriveCounts) → SetsTries
+            (shown self.old rig spares waiting) tries (shown self.new rig spares waiting) }
+        ensures attached { (rig : Rig) → IsAttached self.old rig → IsAttached self.new rig }
     {
         self.tries = tries;
     }

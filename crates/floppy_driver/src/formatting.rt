@@ -113,7 +113,7 @@ fn read_back_all<C: Commands>(
             n: SIZE_CODE,
         };
         machine.read_back(bay, key, rate)?;
-        if !is_page_filled(machine, fill, sector_size(SIZE_CODE)) {
+        if !is_page_filled(machine, fill, sector_size(SIZE_CODE) as u16) {
             return Err(Code::BadCrc);
         }
     }
@@ -121,9 +121,9 @@ fn read_back_all<C: Commands>(
 }
 
 /// Whether so many bytes of the driver's page are the fill byte.
-fn is_page_filled<C: Commands>(machine: &C, fill: u8, count: usize) -> bool {
+fn is_page_filled<C: Commands>(machine: &C, fill: u8, count: u16) -> bool {
     for i in 0..count {
-        if machine.page(i as u16) != fill {
+        if machine.page(i) != fill {
             return false;
         }
     }

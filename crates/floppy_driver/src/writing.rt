@@ -82,7 +82,7 @@ impl Driver {
         }
         machine.write(bay, key, notes.rate, address, deleted)?;
         let marked = machine.read_back(bay, key, notes.rate)?;
-        if marked == deleted && is_page_alike(machine, address, sector_size(key.n)) {
+        if marked == deleted && is_page_alike(machine, address, sector_size(key.n) as u16) {
             Ok(())
         } else {
             Err(Code::BadCrc)
@@ -91,9 +91,9 @@ impl Driver {
 }
 
 /// Whether the driver's page begins with so many bytes of user memory.
-fn is_page_alike<C: Commands>(machine: &C, address: u32, count: usize) -> bool {
+fn is_page_alike<C: Commands>(machine: &C, address: u32, count: u16) -> bool {
     for i in 0..count {
-        if machine.page(i as u16) != machine.memory(address + i as u32) {
+        if machine.page(i) != machine.memory(address + u32::from(i)) {
             return false;
         }
     }
