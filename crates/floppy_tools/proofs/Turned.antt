@@ -1,5 +1,5 @@
 -- Requests that were run and told, one after the other.
-use Rattle.std.proofs.Common.{◌≡◌, ℕ, ◌+◌, ◌<◌, ◌≤◌, suc, Bool, true, false, List, [], ◌∷◌, ◌++◌, length, take, drop, get_or, refl, ap, ◌∙◌, sym, subst, drop-cons, Option, Some, None}
+use Rattle.std.proofs.Common.{◌≡◌, ℕ, ◌+◌, ◌<◌, ◌≤◌, suc, Bool, false, List, [], ◌∷◌, ◌++◌, length, take, drop, get_or, refl, ap, ◌∙◌, sym, subst, drop-cons, Option, Some, None}
 use Rattle.std.specs.Prelude.{◌||◌}
 use Rattle.std.proofs.lemmas.List.{take-append-drop, take_more}
 use Rattle.flop_base.specs.declared.answers.Status.TheVariants as status
@@ -19,10 +19,9 @@ use Rattle.floppy_jobs.specs.declared.request.Request.{Request}
 use Rattle.floppy_jobs.specs.declared.request.Request.TheVariants as request
 use Rattle.floppy_jobs.specs.Valid.{IsRequest}
 use Rattle.floppy_session.specs.Tries.{HasTries}
-use Rattle.sector_model.specs.declared.reply.Reply.{Reply}
 use Rattle.sector_model.specs.States.{State}
 use Rattle.sector_model.specs.Texts.{reply_text, stop_text, stop_status, bad_line_text}
-use Rattle.sector_model.specs.Runs.{Taken, requests_of, course_text, has_refusal}
+use Rattle.sector_model.specs.Runs.{Taken, course_text, has_refusal}
 use Rattle.sector_model.specs.Plays.{World, PlaysRequests, PlaysParsed, Played, Stopped, CutOff, EndStopped, Prints, Tells, TellsAlone, IsText, Plays, There, Missing, TooLong, Faulty, Starved, whole_status}
 use Rattle.floppy_tools.specs.Turns.{world, IsTurn, HasRun, HasPlayed, Breaks, AtStop, AtPut, EndsAs, InWhole, AtStore, PlaysOrStarves, AsParsed, Starving, Misses}
 use Rattle.sector_model.specs.Ties.{IsJob, accesses_of_job}
@@ -61,56 +60,67 @@ parted requests i asked within item =
 
 -- a play that a request broke off
 pub broken : (old mid new : World) (requests : List Request) (i : ℕ) (asked : Request) (refused : Bool) (ended : Status) → HasRun old (take i requests) refused mid → i < length requests → asked ≡ get_or requests i asked → Breaks mid asked new ended → HasPlayed old requests new ended
-broken old mid new requests i asked refused ended so_far within item (AtStop cause stops prints) = (so_far.course, Stopped (record {
-  asked = asked;
-  later = drop (suc i) requests;
-  mid = mid.state;
-  files = mid.files;
-  cause = cause;
-  run = so_far.run;
-  all = parted requests i asked within item ∙ ap (λ (before : List Request). before ++ asked ∷ drop (suc i) requests) so_far.all;
-  stops = stops;
-  prints = subst (λ (r : Option (List ℕ)). Prints r (stop_text cause) (stop_status cause) new.report ended) so_far.report prints;
-}))
+broken old mid new requests i asked refused ended so_far within item (AtStop cause stops prints) = (
+  so_far.course,
+  Stopped (record {
+    asked = asked;
+    later = drop (suc i) requests;
+    mid = mid.state;
+    files = mid.files;
+    cause = cause;
+    run = so_far.run;
+    all = parted requests i asked within item ∙ ap (λ (before : List Request). before ++ asked ∷ drop (suc i) requests) so_far.all;
+    stops = stops;
+    prints = subst (λ (r : Option (List ℕ)). Prints r (stop_text cause) (stop_status cause) new.report ended) so_far.report prints;
+  }),
+)
 broken old mid new requests i asked refused ended so_far within item (AtPut answer step part fault) =
-    let last : Taken = record { asked = asked; answer = answer; after = new.state } in
-    (so_far.course ++ last ∷ [], CutOff (record {
-      before = so_far.course;
-      last = last;
-      later = drop (suc i) requests;
-      mid = mid.state;
-      files = mid.files;
-      run = so_far.run;
-      step = step;
-      after = refl;
-      course_is = refl;
-      all = parted requests i asked within item ∙ ap (λ (before : List Request). before ++ asked ∷ drop (suc i) requests) so_far.all;
-      part = subst (λ (r : Option (List ℕ)). GrowsByPart r (reply_text asked answer) new.report) so_far.report part;
-      fault = fault;
-    }))
+    let last : Taken = record { asked = asked; answer = answer; after = new.state } in (
+      so_far.course ++ last ∷ [],
+      CutOff (record {
+        before = so_far.course;
+        last = last;
+        later = drop (suc i) requests;
+        mid = mid.state;
+        files = mid.files;
+        run = so_far.run;
+        step = step;
+        after = refl;
+        course_is = refl;
+        all = parted requests i asked within item ∙ ap (λ (before : List Request). before ++ asked ∷ drop (suc i) requests) so_far.all;
+        part = subst (λ (r : Option (List ℕ)). GrowsByPart r (reply_text asked answer) new.report) so_far.report part;
+        fault = fault;
+      }),
+    )
 
 -- all requests were run, and then the end came
 pub run-ends : (old mid new : World) (requests : List Request) (refused : Bool) (ended : Status) → HasRun old requests refused mid → new.report ≡ mid.report → EndsAs mid.state mid.files refused new.state new.files ended → HasPlayed old requests new ended
-run-ends old mid new requests refused ended so_far report (InWhole ends whole) = (so_far.course, Played (record {
-  mid = mid.state;
-  files = mid.files;
-  run = so_far.run;
-  all = so_far.all;
-  stored = ends;
-  report = report ∙ so_far.report;
-  status = whole ∙ ap whole_status so_far.is_refused;
-}))
-run-ends old mid new requests refused ended so_far report (AtStore cause only stops at) = (so_far.course, EndStopped (record {
-  mid = mid.state;
-  files = mid.files;
-  cause = cause;
-  run = so_far.run;
-  all = so_far.all;
-  only = only;
-  stops = stops;
-  report = report ∙ so_far.report;
-  status = at;
-}))
+run-ends old mid new requests refused ended so_far report (InWhole ends whole) = (
+  so_far.course,
+  Played (record {
+    mid = mid.state;
+    files = mid.files;
+    run = so_far.run;
+    all = so_far.all;
+    stored = ends;
+    report = report ∙ so_far.report;
+    status = whole ∙ ap whole_status so_far.is_refused;
+  }),
+)
+run-ends old mid new requests refused ended so_far report (AtStore cause only stops at) = (
+  so_far.course,
+  EndStopped (record {
+    mid = mid.state;
+    files = mid.files;
+    cause = cause;
+    run = so_far.run;
+    all = so_far.all;
+    only = only;
+    stops = stops;
+    report = report ∙ so_far.report;
+    status = at;
+  }),
+)
 
 -- a parser gives a number of attempts from 1 to 10
 has_tries : (asked : Request) → IsRequest asked → HasTries asked

@@ -1,5 +1,5 @@
 -- What a course's counts come to.
-use Rattle.std.proofs.Common.{arith, ◌≡◌, ℕ, zero, suc, ◌+◌, ◌-◌, ◌<◌, ◌≤◌, Bool, true, false, All, List, [], ◌∷◌, ◌++◌, refl, ap, ◌∙◌, sym, subst, Option, Some, None}
+use Rattle.std.proofs.Common.{arith, ◌≡◌, ℕ, zero, suc, ◌+◌, ◌≤◌, Bool, true, false, All, List, [], ◌∷◌, refl, ap, ◌∙◌, sym, subst, Option, Some}
 use Rattle.std.proofs.lemmas.Bool.{true≢false, leb-true, eqb-false}
 use Rattle.std.specs.Prelude.{◌==◌, if◌then◌else◌, MatchOption}
 use Rattle.flop_base.specs.Counts.{Spends}
@@ -169,6 +169,7 @@ entered_spent counters (request.Tries tries) answer none = none
 module _ (old new : Counters) (none : HasNothingLeft old) (goes : GoesOn old new) where
   first_stays : (new.drives.first.faults ≡ old.drives.first.faults) × IsSpent new.drives.first
   first_stays = spent_stays old.drives.first new.drives.first none.first goes.first
+
   second_stays : (new.drives.second.faults ≡ old.drives.second.faults) × IsSpent new.drives.second
   second_stays = spent_stays old.drives.second new.drives.second none.second goes.second
 

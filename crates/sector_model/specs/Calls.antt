@@ -1,5 +1,5 @@
 -- The other calls of a station: acknowledgement, rate, attempts, media, drives, memory.
-use Rattle.std.specs.Prelude.{◌≡◌, ℕ, ◌+◌, ◌-◌, ◌<◌, ◌≤◌, ◌∷◌, slice_set, Option, Some, None, IsSome, Result, Ok, Err, IsOk, IfErr, MatchOption, MatchBool, Bool, not, ◌⊎◌}
+use Rattle.std.specs.Prelude.{◌≡◌, ℕ, ◌-◌, ◌≤◌, slice_set, Option, Some, None, IsSome, Result, Ok, Err, IsOk, IfErr, MatchOption, MatchBool, Bool, not, ◌⊎◌}
 use Rattle.flop_base.specs.declared.answers.Rate.{Rate}
 use Rattle.flop_base.specs.declared.answers.Rate.TheVariants.{R500, R250}
 use Rattle.flop_base.specs.declared.answers.Code.{Code}

@@ -3,7 +3,7 @@ use Rattle.std.specs.Prelude.{◌≡◌, ℕ, ◌+◌, ◌-◌, ◌<◌, ◌≤�
 use Rattle.std.specs.Option.{option_map_or}
 use Rattle.flop_base.specs.Counts.{last_count, RoseBy}
 use Rattle.flop_base.specs.Shelf.{Files, file_at}
-use Rattle.bay_model.specs.Bays.{in_bay, with_bay}
+use Rattle.bay_model.specs.Bays.{with_bay}
 use Rattle.bay_model.specs.Counters.{DriveCounts, Counters, faults_of, IsUndisturbed}
 use Rattle.floppy_jobs.specs.Texts.{job_of}
 use Rattle.floppy_jobs.specs.declared.request.Request.{Request}

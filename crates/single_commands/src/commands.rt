@@ -109,7 +109,14 @@ pub trait Commands: Drop {
         ensures idle { is_idle self.new };
 
     /// Writes user memory to the record of a key on the track under its head.
-    fn write(&mut self, bay: u8, key: Chrn, rate: Rate, address: u32, deleted: bool) -> Result<(), Code>
+    fn write(
+        &mut self,
+        bay: u8,
+        key: Chrn,
+        rate: Rate,
+        address: u32,
+        deleted: bool,
+    ) -> Result<(), Code>
         requires idle { is_idle self.old }
         requires bay { bay ≤ 1 }
         requires head { key.h ≤ 1 }

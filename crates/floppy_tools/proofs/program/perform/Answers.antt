@@ -1,7 +1,7 @@
 use Rattle.std.proofs.Common.{sym, refl}
 use Rattle.floppy_session.specs.Session.{state_of}
 use Rattle.floppy_tools.specs.Turns.{world}
-use Rattle.floppy_tools.proofs.Turned.{plays_named, tells_alone, named_accesses}
+use Rattle.floppy_tools.proofs.Turned.{plays_named, named_accesses}
 use Rattle.floppy_tools.proofs.program.perform.Goals as goal
 
 pub returns-in-Some-clause-accesses : goal.returns-in-Some-clause-accesses
