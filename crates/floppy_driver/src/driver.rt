@@ -48,14 +48,14 @@ pub struct Driver {
 impl Driver {
     ghost use Rattle.floppy_driver.specs.Shown.{shown, notes_of, with_notes, is_held, IsFreshDriver};
     ghost use Rattle.floppy_driver.specs.Attached.{IsAttached, CanSetUp};
-    ghost use Rattle.single_commands.specs.Rigs.{Rig, OnlyAsks};
+    ghost use Rattle.single_commands.specs.Rigs.{Rig, IsReset, OnlyAsks};
     ghost use Rattle.sector_model.specs.Calls.{RatesTo, SetsTries, TellsChange};
 
     /// Sets a machine up, whose empty drives have their change lines set.
     pub fn set_up<C: Commands>(machine: &mut C) -> Driver
         requires empty { CanSetUp (C.rig machine.old) }
         ensures fresh { IsFreshDriver result }
-        ensures asks { OnlyAsks (C.rig machine.old) (C.rig machine.new) }
+        ensures resets { IsReset (C.rig machine.old) (C.rig machine.new) }
         ensures idle { C.is_idle machine.new }
         ensures attached { IsAttached result (C.rig machine.new) }
     {

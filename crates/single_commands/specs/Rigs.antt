@@ -58,6 +58,16 @@ pub record HeadsStay (old new : Rig) : Type 0 where
   pub changes : new.changes ≡ old.changes
   pub spun : StaysSpun old.spun new.spun
 
+-- the controller was reset: the numbers that it keeps and the speed of media may be others, and nothing else is
+pub record IsReset (old new : Rig) : Type 0 where
+  pub media : new.media ≡ old.media
+  pub cylinders : new.cylinders ≡ old.cylinders
+  pub changes : new.changes ≡ old.changes
+  pub memory : new.memory ≡ old.memory
+  pub page : new.page ≡ old.page
+  pub counts : GoesOn old.counters new.counters
+  pub driven : IsDriven 0 old.counters new.counters
+
 -- a call that asked and changed nothing, with no data command
 pub record OnlyAsks (old new : Rig) : Type 0 where
   pub heads : HeadsStay old new

@@ -7,7 +7,7 @@ ghost use Rattle.bay_model.specs.Memory.{user_bytes, bytes_from};
 ghost use Rattle.track_model.specs.Fields.{IsSizeCode, content_size};
 ghost use Rattle.sector_map.specs.Changes.{Change};
 ghost use Rattle.sector_map.specs.Layings.{Laying};
-ghost use Rattle.single_commands.specs.Rigs.{Rig, IsSound, OnlyAsks, page_bytes};
+ghost use Rattle.single_commands.specs.Rigs.{Rig, IsSound, IsReset, OnlyAsks};
 ghost use Rattle.single_commands.specs.Heads.{Recalibrates, Seeks};
 ghost use Rattle.single_commands.specs.Reading.{ReadsData, ReadsBack, ReadsId};
 ghost use Rattle.single_commands.specs.Writing.{WritesData, FormatsTrack};
@@ -25,9 +25,9 @@ pub trait Commands: Drop {
     /// The controller is idle and as a driver has set it up.
     ghost is_idle: { Self → Type 0 };
 
-    /// Sets the machine up for the other calls.
+    /// Resets the controller and sets the machine up for the other calls.
     fn reset(&mut self)
-        ensures asks { OnlyAsks (rig self.old) (rig self.new) }
+        ensures resets { IsReset (rig self.old) (rig self.new) }
         ensures idle { is_idle self.new };
 
     /// The change line of a drive.
