@@ -1,5 +1,5 @@
 -- A format of the medium in a bay.
-use Rattle.std.proofs.Common.{◌≡◌, ℕ, ◌+◌, ◌*◌, ◌≤◌, ◌↔◌, ◌++◌, ◌∷◌, [], List, length, take, drop, Option, Some, None, Result, Ok, Err, IsOk, IfErr, IsTrue, Bool, refl, sym, ap, ◌∙◌, subst, arith}
+use Rattle.std.proofs.Common.{◌≡◌, ℕ, ◌+◌, ◌*◌, ◌≤◌, ◌↔◌, ◌++◌, ◌∷◌, [], List, length, take, drop, Option, Some, None, Result, Ok, Err, IsOk, IfErr, refl, sym, ap, ◌∙◌, subst, arith}
 use Rattle.std.proofs.lemmas.Bool.{false≢true}
 use Rattle.std.proofs.lemmas.List.{take_all}
 use Rattle.std.proofs.lemmas.List.Elements.{All-nil, All-cons}
@@ -137,28 +137,27 @@ module _ (format : Format) (n sectors : ℕ) (before : Bay) (old new : StationSt
         (after, medium_new, laid_whole format d laying after valid is_laying refl)
 
     -- the medium can be formatted where the sectors fit
-    fits_exactly : (fit : Bool) → (IsTrue fit ↔ laid_words sectors 2 format.gap3 ≤ k) → IsTrue fit ↔ IsFormattable format (bay_of old n).medium
-    fits_exactly fit exactly =
+    fits_exactly : (answer : Result (Unit {0}) Code) → (IsOk answer ↔ laid_words sectors 2 format.gap3 ≤ k) → IsOk answer ↔ IsFormattable format (bay_of old n).medium
+    fits_exactly answer fits =
         let Within : ℕ → ℕ → Type 0 = λ s w. laid_words s 2 format.gap3 ≤ w in (
-          λ yes. (
+          λ ok. (
             d,
             medium_old,
             record {
               track = meets.has;
               rate = rate;
-              fits = (format_fits format d.words_per_track).1 (subst (λ s. Within s d.words_per_track) count (subst (Within sectors) long (exactly.0 yes)));
+              fits = (format_fits format d.words_per_track).1 (subst (λ s. Within s d.words_per_track) count (subst (Within sectors) long (fits.0 ok)));
             },
           ),
           λ (disk, is_in, can).
               let within = (format_fits format disk.words_per_track).0 can.fits in
               let here = subst (λ (e : Disk). Within (sectors_at format.rate) e.words_per_track) (one_medium (bay_of old n).medium disk d is_in medium_old) within in
-              exactly.1 (subst (Within sectors) (sym long) (subst (λ s. Within s d.words_per_track) (sym count) here)),
+              fits.1 (subst (Within sectors) (sym long) (subst (λ s. Within s d.words_per_track) (sym count) here)),
         )
 
-    pub formatted_laid : (answer : Result (Unit {0}) Code) (fit : Bool) → (IsTrue fit ↔ laid_words sectors 2 format.gap3 ≤ k) → (IsOk answer ↔ IsTrue fit) → IfErr answer (λ code. code ≡ NoMark) → FormatsDrive format n answer old new
-    formatted_laid answer fit fits told no_mark =
-        let can = fits_exactly fit fits in
-        let exactly : IsOk answer ↔ IsFormattable format (bay_of old n).medium = (λ ok. can.0 (told.0 ok), λ is_can. told.1 (can.1 is_can)) in
+    pub formatted_laid : (answer : Result (Unit {0}) Code) → (IsOk answer ↔ laid_words sectors 2 format.gap3 ≤ k) → IfErr answer (λ code. code ≡ NoMark) → FormatsDrive format n answer old new
+    formatted_laid answer fits no_mark =
+        let exactly = fits_exactly answer fits in
         record {
           layings = laying ∷ [];
           few = let some = drives.some_tries in omega arith;
