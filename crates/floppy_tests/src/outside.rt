@@ -1,9 +1,10 @@
 // Shelves and sinks: those in memory, whose calls fail where they are told to, and those of the system.
 
 use flop_base::{
-    Bytes, Chrn, Code, FileShelf, LoadError, MemShelf, MemSink, Name, PutError, Shelf, Sink,
-    Status, StoreError, StreamSink, sector_size,
+    Bytes, Chrn, Code, LoadError, MemShelf, MemSink, Name, PutError, Shelf, Sink, Status,
+    StoreError, sector_size,
 };
+use flop_outside::{FileShelf, StreamSink};
 use std::fs;
 use std::test::Fail;
 

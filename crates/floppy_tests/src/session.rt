@@ -64,7 +64,9 @@ fn is_refused(reply: &Reply, code: Code) -> bool {
 fn a_session_sets_the_tries_and_the_rate(rt: HostRuntime) -> Result<(), Fail> {
     let alloc = rt.alloc();
     let mut shelf = shelf(alloc, Rate::R250)?;
-    let mut session = Session::new(alloc, MemoryStation::new(alloc, 0)?);
+    let mut station = MemoryStation::new(alloc, 0)?;
+    assert!(rt; station.changed(0));
+    let mut session = Session::new(alloc, station);
     let rate = Rate::R500;
     let faster = Request::SetRate { bay: 0, rate };
     let refused = session.run(&mut shelf, &faster).ok().ok_or("no stop")?;
@@ -90,5 +92,13 @@ fn a_session_sets_the_tries_and_the_rate(rt: HostRuntime) -> Result<(), Fail> {
     assert_eq!(rt; session.station().rate(0), Rate::R500);
     let refused = session.run(&mut shelf, &READ).ok().ok_or("no stop")?;
     assert!(rt; is_refused(&refused, Code::NoMark));
+    // The station tells of an exchange of the medium until it is acknowledged.
+    let mut station = session.into_station();
+    assert!(rt; !station.changed(0));
+    let medium = station.eject(0).ok_or("a medium is in")?;
+    assert!(rt; station.insert(0, medium).is_ok());
+    assert!(rt; station.changed(0));
+    assert!(rt; station.ack(0).is_ok());
+    assert!(rt; !station.changed(0));
     Ok(())
 }

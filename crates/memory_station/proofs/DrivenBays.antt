@@ -1,5 +1,5 @@
 -- What a call that works on one bay leaves of the station.
-use Rattle.std.proofs.Common.{◌≡◌, ℕ, ◌≤◌, Option, sym, ap, ◌∙◌, arith}
+use Rattle.std.proofs.Common.{◌≡◌, ℕ, ◌≤◌, Option, Some, sym, ap, ◌∙◌, arith}
 use Rattle.raw_image.specs.Disk.{Disk}
 use Rattle.bay_model.specs.Counters.{Counters, IsDriven}
 use Rattle.sector_model.specs.Stations.{StationState, Bay, Becomes, bay_of, set_bay}
@@ -25,3 +25,10 @@ pub becomes_medium : (n : ℕ) (before after : Bay) (commands : ℕ) (old new : 
 becomes_medium n before after commands old new drives same =
     becomes_bay n before after (with_medium (bay_of old n) (bay_of new n).medium) commands old new drives
     (same ∙ ap (λ b. with_medium b after.medium) (sym drives.was) ∙ ap (λ m. with_medium (bay_of old n) m) (ap (λ (b : Bay). b.medium) (sym drives.is)))
+
+-- one medium is in a bay
+pub one_medium : (medium : Option Disk) (a b : Disk) → medium ≡ Some a → medium ≡ Some b → a ≡ b
+one_medium medium a b first second = same_some a b (sym first ∙ second)
+  where
+    same_some : (x y : Disk) → Some x ≡ Some y → x ≡ y
+    same_some x y e = cc e

@@ -2,11 +2,10 @@ mod Acked
 mod DrivenBays
 mod FormatKeys
 mod Formatted
-mod Kept
 mod Looked
-mod MetTracks
 mod Putting
 mod ReadStep
+mod Recorded
 mod Started
 mod StationSteps
 mod Wrote

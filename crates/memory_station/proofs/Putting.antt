@@ -1,24 +1,14 @@
 -- A window put on a track, and a content read back.
 use Rattle.std.proofs.Common.{◌≡◌, ℕ, ◌+◌, ◌-◌, ◌*◌, ◌<◌, ◌≤◌, ◌==◌, Bool, true, false, MatchBool, List, ◌++◌, length, take, drop, get_or, min, refl, sym, ap, ◌∙◌, subst, arith, inr}
 use Rattle.std.proofs.lemmas.Bool.{eqb-true, eqb-false}
-use Rattle.std.proofs.lemmas.List.{ext_get_or, length-take, length-drop}
+use Rattle.std.proofs.lemmas.List.{ext_get_or}
 use Rattle.std.proofs.lemmas.List.FromFn.{length-map-range_with_len, get_or-map-range_with_len}
-use Rattle.std.proofs.lemmas.Nat.{mul-add-lt}
-use Rattle.raw_image.specs.Disk.{Disk, IsDisk, HasTrack, IsWithTrack, track_of, track_start}
-use Rattle.raw_image.proofs.Tracks.{rows_apart}
+use Rattle.raw_image.specs.Disk.{Disk, IsDisk, HasTrack, IsWithTrack, track_of}
 use Rattle.track_model.specs.Bytes.{byte_at}
 use Rattle.track_model.specs.Fields.{content_at, content_size}
 use Rattle.track_model.specs.Windows.{window_word, with_words, cut_of}
+use Rattle.sector_map.proofs.RegularTracks.{length-track_of}
 use Rattle.memory_station.specs.Put.{IsCutTo, PutsWindow}
-
--- a track of a disk has as many words as the disk says
-pub long_track : (d : Disk) (c h : ℕ) → IsDisk d → HasTrack d c h → length (track_of d c h) ≡ d.words_per_track
-long_track d c h valid has =
-    let w = d.words_per_track in
-    let row : c * d.heads + h < d.cylinders * d.heads = omega (arith, mul-add-lt c d.heads h d.cylinders has.0 has.1) in
-    let fits : track_start d c h + w ≤ d.cylinders * d.heads * w = rows_apart (c * d.heads + h) (d.cylinders * d.heads) w row in
-    let count = valid.count in
-    omega (arith, length-take w (drop (track_start d c h) d.words), length-drop (track_start d c h) d.words)
 
 match_bool : (b : Bool) (P Q : Type 0) → (b ≡ true → P) → (b ≡ false → Q) → MatchBool b P Q
 match_bool true P Q at_true at_false = at_true refl
@@ -31,7 +21,7 @@ cut_is track words p start k at = ap (λ s. take s track ++ (take k words ++ dro
 module _ (d : Disk) (c h p start cut : ℕ) (words : List ℕ) (after : Disk) (valid : IsDisk d) (has : HasTrack d c h) (at : start ≡ window_word p) (within : start ≤ d.words_per_track) (cut_to : cut ≡ min (length words) (d.words_per_track - start)) where
   pub put_cut : IsWithTrack d c h (take start (track_of d c h) ++ (take cut words ++ drop (start + length (take cut words)) (track_of d c h))) after → PutsWindow d c h p words (cut == length words) after
   put_cut set =
-      let long = long_track d c h valid has in
+      let long = length-track_of d c h valid has in
       let done : IsCutTo d c h p cut words after =
       record {
         cuttable = record { most = omega arith; inside = omega arith };

@@ -18,6 +18,7 @@ use Rattle.bay_model.specs.Memory.{with_bytes, SameOutside}
 use Rattle.sector_model.specs.Stations.{StationState, Bay, met}
 use Rattle.sector_model.specs.Orders.{IsDeviceRefusal}
 use Rattle.sector_map.specs.Met.{AllFound}
+use Rattle.sector_map.proofs.MetTracks.{nothing_from}
 use Rattle.sector_model.specs.Reads.{IsRead, IsReadCause, IsReadRefused, ReadsDrive}
 use Rattle.memory_station.specs.Counted.{HasSent}
 use Rattle.memory_station.specs.Answers.{ReadsField, RefusedAs, IsRefusedLook}
@@ -76,12 +77,12 @@ module _ (track : List ℕ) (key : Chrn) (tries n : ℕ) (code : Code) (old new 
   cause_of : (looked : Look) → LookFor track key looked → RefusedAs looked code → IsReadCause track key tries n code old new
   cause_of look.NoMark is refused = record {
     device = subst IsDeviceRefusal (sym refused) tt;
-    no_mark = λ e quiet. inl (λ p clear. is (p, clear.mark));
+    no_mark = λ e quiet. inl (nothing_from track is).clear_marks;
     not_found = λ e. absurd (cc (refused, e));
     bad_data = λ e. absurd (cc (refused, e));
     overrun = λ e. absurd (cc (refused, e));
     lost = λ e. absurd (cc (refused, e));
-    never = λ clear all quiet. is (clear.0, clear.1.clear.mark);
+    never = λ clear all quiet. (nothing_from track is).clear_addresses key clear;
   }
   cause_of look.NoSector is refused = record {
     device = subst IsDeviceRefusal (sym refused) tt;
@@ -135,9 +136,9 @@ module _ (bays : Two Bay) (memory after : List ℕ) (spares tries n address : �
         place = under.0;
         mark = under.1;
         content = content;
-        medium = at.medium;
-        same_rate = at.same_rate;
-        track = at.has;
+        medium = at.meets.is_in;
+        same_rate = at.meets.same_rate;
+        track = at.meets.has;
         address_field = under.2;
         data_mark = under.3;
         whole = under.4;

@@ -1,5 +1,5 @@
 -- A station before the first request.
-use Rattle.std.proofs.Common.{◌≡◌, ℕ, ap, All, List, length, replicate, Some, None, ◌∙◌, sym, subst, lit<, arith}
+use Rattle.std.proofs.Common.{◌≡◌, ℕ, ap, All, List, length, replicate, None, ◌∙◌, sym, subst, lit<, arith}
 use Rattle.std.proofs.lemmas.List.{length-replicate, get_or-replicate}
 use Rattle.bay_model.specs.Bays.{Two, both}
 use Rattle.sector_model.specs.Stations as model

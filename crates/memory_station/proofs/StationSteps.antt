@@ -1,5 +1,5 @@
 -- The steps of a station in memory.
-use Rattle.std.proofs.Common.{◌≡◌, ℕ, zero, suc, ◌+◌, ◌-◌, ◌<◌, ◌≤◌, ◌==◌, ◌∷◌, Bool, true, false, if◌then◌else◌, List, take, drop, replicate, Option, Some, None, is_some, Result, MatchOption, MatchBool, refl, sym, ap, ◌∙◌, subst, arith}
+use Rattle.std.proofs.Common.{◌≡◌, ℕ, zero, suc, ◌+◌, ◌-◌, ◌≤◌, ◌==◌, ◌∷◌, Bool, true, false, if◌then◌else◌, List, take, drop, replicate, Option, Some, None, is_some, Result, MatchOption, MatchBool, refl, sym, ap, ◌∙◌, subst, arith}
 use Rattle.std.proofs.lemmas.Bool.{false≢true, le-leb}
 use Rattle.raw_image.specs.Disk.{Disk}
 use Rattle.flop_base.specs.declared.answers.Code.{Code}

@@ -1,43 +1,41 @@
 -- A write to the medium in a bay.
-use Rattle.std.proofs.Common.{◌≡◌, ℕ, zero, suc, All, ◌+◌, ◌*◌, ◌^◌, ◌<◌, ◌≤◌, ◌⊎◌, ◌∷◌, [], false, List, length, get_or, Option, Some, None, Result, Ok, Err, IsOk, refl, sym, ap, ◌∙◌, subst, arith, inl, inr}
+use Rattle.std.proofs.Common.{◌≡◌, ℕ, ◌+◌, ◌*◌, ◌≤◌, ◌⊎◌, ◌∷◌, [], false, All, List, length, Option, Some, None, Result, Ok, Err, IsOk, IfErr, refl, sym, ap, ◌∙◌, subst, arith, inl, inr}
 use Rattle.std.proofs.lemmas.Bool.{false≢true}
+use Rattle.std.proofs.lemmas.List.Elements.{All-nil, All-cons}
+use Rattle.flop_base.specs.Counts.{RoseBy}
 use Rattle.flop_base.specs.declared.key.Chrn.{Chrn}
 use Rattle.flop_base.specs.declared.answers.Code.{Code}
 use Rattle.flop_base.specs.declared.answers.Code.TheVariants.{NoMark, NotFound, Overrun, BadCrc, Seek}
-use Rattle.raw_image.specs.Disk.{Disk, HasTrack, IsWithTrack, track_of}
+use Rattle.raw_image.specs.Disk.{Disk, IsDisk, track_of}
 use Rattle.track_model.specs.declared.Look.{Look}
 use Rattle.track_model.specs.declared.Look.TheVariants as look
-use Rattle.track_model.specs.Fields.{IsAddressAt, content_size, content_at}
+use Rattle.track_model.specs.Fields.{IsAddressAt}
 use Rattle.track_model.specs.Looks.{LookAt, HasAddressMark}
 use Rattle.track_model.specs.Sectors.{IsSector}
 use Rattle.track_model.specs.Regular.{IsRegular}
-use Rattle.track_model.specs.Windows.{window_word, window_place, window_words, cut_of, IsFieldFor}
-use Rattle.track_model.specs.Kept.{KeepsOthers}
-use Rattle.track_model.proofs.Kept as cuts
+use Rattle.track_model.specs.Windows.{window_word, window_words}
 use Rattle.track_model.proofs.Sectored.{sector_under}
-use Rattle.track_model.proofs.Unique.{one_look_at}
-use Rattle.track_model.proofs.Written.{length-window}
-use Rattle.sector_map.specs.Disks.{IsRegularDisk, IsOnMap}
-use Rattle.flop_base.specs.Counts.{RoseBy}
 use Rattle.bay_model.specs.Counters.{IsDriven}
+use Rattle.sector_map.specs.Disks.{IsRegularDisk}
+use Rattle.sector_map.specs.Met.{HasLook}
+use Rattle.sector_map.specs.MetTracks.{MeetsTrack}
+use Rattle.sector_map.specs.Changes.{Change, Written, window_of, IsChange}
+use Rattle.sector_map.specs.KeptDisks.{KeepsTracks, FitsKey, KeepsSectors, HasWritten, change_at}
+use Rattle.sector_map.proofs.MetTracks.{nothing_from, met_track, one_met}
+use Rattle.sector_map.proofs.KeptTracks.{still_meets, length-kept}
+use Rattle.sector_map.proofs.RegularTracks.{window_inside, one_address}
+use Rattle.sector_map.proofs.Changed.{length-window_of, change_keeps_tracks, change_keeps_address, change_is_written, change_keeps_sectors, written_on_map}
 use Rattle.sector_model.specs.Stations.{StationState, Bay, bay_of, met}
 use Rattle.sector_model.specs.Orders.{IsDeviceRefusal}
-use Rattle.sector_map.specs.Met.{HasLook}
-use Rattle.sector_map.specs.Changes.{Change, Written, window_of, IsChange}
-use Rattle.sector_model.specs.Writes.{Reaches, IsLastWhole, HasWindowCut, HasOtherContent, entry_of, ChangesAlone, KeepsRegular, WritesDrive}
+use Rattle.sector_model.specs.Writes.{Reaches, IsLastWhole, HasWindowCut, HasOtherContent, IsWritten, IsWriteCause, ChangesAlone, KeepsRegular, WritesDrive}
 use Rattle.memory_station.specs.Driven.{Drives}
-use Rattle.memory_station.specs.Put.{IsCutTo, PutsWindow, RefusedBack, ReadsBack, HasFieldAt, IsAbsent, IsHere}
-use Rattle.memory_station.proofs.DrivenBays.{fewer_driven, with_medium, becomes_medium}
-use Rattle.memory_station.proofs.MetTracks.{met_there}
-use Rattle.memory_station.proofs.Kept.{spaced_from, window_inside, length-cut, address_stays, regular_after, map_kept, has_after}
-
-same_some : (a b : Disk) → Some a ≡ Some b → a ≡ b
-same_some a b e = cc
+use Rattle.memory_station.specs.Put.{IsCutTo, PutsWindow, RefusedBack, ReadsBack, HasFieldAt, IsAbsent}
+use Rattle.memory_station.proofs.DrivenBays.{fewer_driven, with_medium, becomes_medium, one_medium}
 
 -- no change
 reach_none : (written : Written) (m n : Option Disk) → n ≡ m → Reaches written m [] n
 reach_none written None None e = (refl, e)
-reach_none written (Some d) (Some f) e = same_some f d e
+reach_none written (Some d) (Some f) e = one_medium (Some f) f d refl e
 reach_none written None (Some f) e = absurd (cc e)
 reach_none written (Some d) None e = absurd (cc e)
 
@@ -47,16 +45,6 @@ reach_one written m n d after change e f is =
     let From : Option Disk → Type 0 = λ o. Reaches written o (change ∷ []) n in
     let To : Option Disk → Type 0 = λ o. Reaches written (Some d) (change ∷ []) o in
     subst From (sym e) (subst To (sym f) (after, is, refl))
-
--- a fact of the only element
-all_one : (P : Change → Type 0) (x : Change) → P x → All P (x ∷ [])
-all_one P x fact zero d h = fact
-all_one P x fact (suc k) d h = absurd (omega arith)
-
--- an address field stays behind a window that was put on its track
-pub address_after : (d after : Disk) (c h p k : ℕ) (words : List ℕ) (key : Chrn) → IsCutTo d c h p k words after → IsAddressAt (track_of d c h) p key → IsAddressAt (track_of after c h) p key
-address_after d after c h p k words key put address =
-    subst (λ row. IsAddressAt row p key) (sym put.cut.has) (address_stays (track_of d c h) p k words put.cuttable key address)
 
 -- ---- no address field of the key
 
@@ -102,11 +90,11 @@ wrote_absent written n before code old new none drives =
       few = omega arith;
       reach = reach_none written (bay_of old n).medium (bay_of new n).medium (ap (λ (b : Bay). b.medium) same);
       becomes = becomes_medium n before before 1 old new drives refl;
-      steady = λ steady k default h. absurd (omega arith);
+      steady = λ steady. All-nil (λ change. change.cylinder ≡ c);
       done = λ ok. absurd (false≢true ok);
       refused = record {
         device = absent_device _ written.key code absent;
-        no_mark = λ is quiet. inl (λ p clear. absent_mark _ written.key code now is (p, clear.mark));
+        no_mark = λ is quiet. inl (nothing_from _ (absent_mark _ written.key code now is)).clear_marks;
         not_found = λ is quiet. (absent_found _ written.key code now is, λ clear. now.none clear.0 clear.1.address);
         bad_data = λ is quiet. absurd (absent_only _ written.key code BadCrc absent is (λ e. cc e) (λ e. cc e));
         overrun = λ is. absurd (absent_only _ written.key code Overrun absent is (λ e. cc e) (λ e. cc e));
@@ -160,28 +148,35 @@ back_cause track p written look.NoMark code address is refused = absurd refused
 back_cause track p written look.NoSector code address is refused = absurd refused
 
 -- what was written isn't refused
-back_never : (track : List ℕ) (p place : ℕ) (written : Written) (looked : Look) (code : Code) → LookAt track p written.key.n looked → RefusedBack track written.key.n written.deleted written.content looked code → LookAt track p written.key.n (look.Found written.deleted place) → written.content ≡ content_at track place written.key.n → ⊥
-back_never track p place written looked code is refused found same =
+back_never : (track : List ℕ) (p : ℕ) (written : Written) (looked : Look) (code : Code) → IsAddressAt track p written.key → LookAt track p written.key.n looked → RefusedBack track written.key.n written.deleted written.content looked code → HasWritten written p track → ⊥
+back_never track p written looked code address seen refused has =
     let Refused : Look → Type 0 = λ l. RefusedBack track written.key.n written.deleted written.content l code in
-    let other = subst Refused (one_look_at track p written.key.n looked (look.Found written.deleted place) is found) refused in
-    other.1 (refl, sym same)
+    let other = subst Refused (has.one_look looked (p, address, seen)) refused in
+    other.1 (refl, sym has.content)
 
 -- ---- an address field of the key
+
+-- a medium is in the bay, and its track of the key has an address field of the key at a place
+pub record IsHere (bay : Bay) (key : Chrn) (p : ℕ) (disk : Disk) : Type 0 where
+  pub meets : MeetsTrack bay.medium bay.rate key.c key.h disk
+  pub valid : IsDisk disk
+  pub address : IsAddressAt (track_of disk key.c key.h) p key
 
 pub field_here : (bay : Bay) (key : Chrn) (p : ℕ) (d : Disk) → HasFieldAt bay key p → bay.medium ≡ Some d → IsHere bay key p d
 field_here bay key p d field is =
     let found = field.recorded in
-    let same : found.disk ≡ d = same_some found.disk d (sym found.medium ∙ is) in
-    subst (IsHere bay key p) same (record {
-      medium = found.medium;
+    subst (IsHere bay key p) (one_met bay.medium bay.rate key.c key.h d found.disk is found.meets) (record {
+      meets = found.meets;
       valid = found.valid;
-      same_rate = found.same_rate;
-      has = found.has;
-      met_is = found.met_is ∙ found.is;
       address = subst (λ track. IsAddressAt track p key) found.is field.address;
     })
 
-module _ (written : Written) (n p commands : ℕ) (d after : Disk) (before : Bay) (old new : StationState) (here : IsHere before written.key p d) (drives : Drives n before commands (with_medium before (Some after)) old new) where
+-- what was put there is a change of the disk
+pub change_here : (written : Written) (p k : ℕ) (d after : Disk) (before : Bay) → IsHere before written.key p d → IsCutTo d written.key.c written.key.h p k (window_of written) after → IsChange written d (change_at written.key.c p k) after
+change_here written p k d after before here put =
+    record { track = here.meets.has; address = here.address; cuttable = put.cuttable; cut = put.cut }
+
+module _ (written : Written) (fits : FitsKey written) (n p commands : ℕ) (d after : Disk) (before : Bay) (old new : StationState) (here : IsHere before written.key p d) (drives : Drives n before commands (with_medium before (Some after)) old new) where
   abbrev key : Chrn
   key = written.key
 
@@ -192,37 +187,29 @@ module _ (written : Written) (n p commands : ℕ) (d after : Disk) (before : Bay
   track_after = track_of after key.c key.h
 
   medium_old : (bay_of old n).medium ≡ Some d
-  medium_old = ap (λ (b : Bay). b.medium) drives.was ∙ here.medium
+  medium_old = ap (λ (b : Bay). b.medium) drives.was ∙ here.meets.is_in
 
   medium_new : (bay_of new n).medium ≡ Some after
   medium_new = ap (λ (b : Bay). b.medium) drives.is
 
   met_old : met (bay_of old n) key.c key.h ≡ track
-  met_old = ap (λ b. met b key.c key.h) drives.was ∙ here.met_is
+  met_old = ap (λ b. met b key.c key.h) drives.was ∙ met_track before.medium before.rate key.c key.h d here.meets
 
   address_old : IsAddressAt (met (bay_of old n) key.c key.h) p key
   address_old = subst (λ row. IsAddressAt row p key) (sym met_old) here.address
 
-  rate_old : d.rate ≡ (bay_of old n).rate
-  rate_old = here.same_rate ∙ ap (λ (b : Bay). b.rate) (sym drives.was)
-
-  rate_new : d.rate ≡ (bay_of new n).rate
-  rate_new = here.same_rate ∙ ap (λ (b : Bay). b.rate) (sym drives.is)
+  regular_track : IsRegular (met (bay_of old n) key.c key.h) key.c key.h → IsRegular track key.c key.h
+  regular_track = subst (λ row. IsRegular row key.c key.h) met_old
 
   few_commands : commands ≤ 2 → IsDriven (2 * old.tries) old.counters new.counters
   few_commands few = fewer_driven commands (2 * old.tries) old.counters new.counters (let some = drives.some_tries in omega arith) drives.sent.driven
 
-  -- a fact of the disk that was in is one of this disk
+  -- a fact of the disk that was in, and one of this disk
   of_disk : (P : Disk → Type 0) → (disk : Disk) → (bay_of old n).medium ≡ Some disk → P d → P disk
-  of_disk P disk is fact = subst P (same_some d disk (sym medium_old ∙ is)) fact
+  of_disk P disk is fact = subst P (one_medium (bay_of old n).medium d disk medium_old is) fact
 
   regular_here : (disk : Disk) → (bay_of old n).medium ≡ Some disk → IsRegularDisk disk → IsRegularDisk d
-  regular_here disk is regular = subst IsRegularDisk (same_some disk d (sym is ∙ medium_old)) regular
-
-  one_change : (k : ℕ) → IsCutTo d key.c key.h p k (window_of written) after → Reaches written (bay_of old n).medium (record { cylinder = key.c; place = p; words = k } ∷ []) (bay_of new n).medium
-  one_change k cut =
-      reach_one written (bay_of old n).medium (bay_of new n).medium d after _ medium_old medium_new
-      (record { track = here.has; address = here.address; cuttable = cut.cuttable; cut = cut.cut })
+  regular_here disk is regular = subst IsRegularDisk (one_medium (bay_of old n).medium disk d is medium_old) regular
 
   -- ---- a window that isn't all inside the track
 
@@ -241,145 +228,132 @@ module _ (written : Written) (n p commands : ℕ) (d after : Disk) (before : Bay
       bad_data = λ is. absurd (cc is);
       overrun = λ is. absurd (cc is);
       lost = λ is. absurd (cc is);
-      never = λ regular q address tidy quiet.
-          outside (window_inside track key.c key.h p key (subst (λ row. IsRegular row key.c key.h) met_old regular) here.address);
+      never = λ regular q address tidy quiet. outside (window_inside track key.c key.h p key (regular_track regular) here.address);
     };
     regular = λ disk is regular. record {
       none = λ no. absurd (no p address_old);
-      one = λ q address tidy. absurd (outside (window_inside track key.c key.h p key (regular_here disk is regular key.c key.h here.has) here.address));
+      one = λ q address tidy. absurd (outside (window_inside track key.c key.h p key (regular_here disk is regular key.c key.h here.meets.has) here.address));
     };
     driven = few_commands few;
   }
 
-  -- what is met after a change of the track
-  met_after : (row : List ℕ) → IsWithTrack d key.c key.h row after → met (bay_of new n) key.c key.h ≡ track_after
-  met_after row laid =
-      met_there (bay_of new n) after key.c key.h medium_new (has_after d after key.c key.h row laid key.c key.h here.has) (laid.rate ∙ rate_new)
+  -- ---- a window, or its beginning, that was put on the track
 
-  pub wrote_cut : (words : List ℕ) → words ≡ window_of written → length written.content ≡ content_size key.n → PutsWindow d key.c key.h p words false after → commands ≤ 2 → WritesDrive written n (Err NoMark) old new
-  wrote_cut words is size put few =
-      let long : length words ≡ window_words key.n = omega (arith, ap length is, length-window written.deleted written.content) in
-      let outside : window_word p + window_words key.n ≤ length track → ⊥ = λ fits. put.0 (omega arith) in
+  module _ (k : ℕ) (put : IsCutTo d key.c key.h p k (window_of written) after) where
+    abbrev change : Change
+    change = change_at key.c p k
+
+    is_change : IsChange written d change after
+    is_change = change_here written p k d after before here put
+
+    keeps : KeepsTracks d key.c key.h after
+    keeps = change_keeps_tracks written d change after is_change
+
+    address_now : IsAddressAt track_after p key
+    address_now = change_keeps_address written d change after is_change
+
+    meets_now : MeetsTrack (Some after) before.rate key.c key.h after
+    meets_now = still_meets before.medium before.rate key.c key.h d key.c key.h after (Some after) here.meets keeps refl
+
+    met_now : met (bay_of new n) key.c key.h ≡ track_after
+    met_now = ap (λ b. met b key.c key.h) drives.is ∙ met_track (Some after) before.rate key.c key.h after meets_now
+
+    one_change : Reaches written (bay_of old n).medium (change ∷ []) (bay_of new n).medium
+    one_change = reach_one written (bay_of old n).medium (bay_of new n).medium d after change medium_old medium_new is_change
+
+    only_here : All (λ one. one.cylinder ≡ key.c) (change ∷ [])
+    only_here = All-cons (λ one. one.cylinder ≡ key.c) change [] refl (All-nil (λ one. one.cylinder ≡ key.c))
+
+    cut_now : (window_word p + window_words key.n ≤ length track → ⊥) → HasWindowCut (met (bay_of new n) key.c key.h) key
+    cut_now outside =
+        subst (λ row. HasWindowCut row key) (sym met_now)
+        (p, address_now, λ inside. outside (omega (arith, length-kept d key.c key.h after key.c key.h here.valid keeps here.meets.has)))
+
+  pub wrote_cut : (words : List ℕ) → words ≡ window_of written → PutsWindow d key.c key.h p words false after → commands ≤ 2 → WritesDrive written n (Err NoMark) old new
+  wrote_cut words is put few =
+      let outside : window_word p + window_words key.n ≤ length track → ⊥ = λ inside. put.0 (omega (arith, ap length is, length-window_of written fits)) in
       elim put.1 [
         | inl same ↦
-            let bay_same : bay_of new n ≡ before = drives.is ∙ ap (λ m. with_medium before m) (ap (λ f. Some f) same ∙ sym here.medium) in
-            let now : met (bay_of new n) key.c key.h ≡ track = ap (λ b. met b key.c key.h) bay_same ∙ here.met_is in
-            refused_cut [] (omega arith) (λ k default h. absurd (omega arith))
+            let bay_same : bay_of new n ≡ before = drives.is ∙ ap (λ m. with_medium before m) (ap (λ f. Some f) same ∙ sym here.meets.is_in) in
+            let now : met (bay_of new n) key.c key.h ≡ track = ap (λ b. met b key.c key.h) bay_same ∙ met_track before.medium before.rate key.c key.h d here.meets in
+            refused_cut [] (omega arith) (All-nil (λ one. one.cylinder ≡ key.c))
             (reach_none written (bay_of old n).medium (bay_of new n).medium (medium_new ∙ ap (λ f. Some f) same ∙ sym medium_old))
             (subst (λ row. HasWindowCut row key) (sym now) (p, here.address, outside)) outside few
         | inr (k, cut) ↦
             let Cut : List ℕ → Type 0 = λ row. IsCutTo d key.c key.h p k row after in
             let done = subst Cut is cut in
-            let now : met (bay_of new n) key.c key.h ≡ cut_of track p k words = met_after (cut_of track p k words) cut.cut ∙ cut.cut.has in
-            let same_length = length-cut track p k words cut.cuttable in
-            refused_cut (record { cylinder = key.c; place = p; words = k } ∷ []) (omega arith) (all_one (λ change. change.cylinder ≡ key.c) (record { cylinder = key.c; place = p; words = k }) refl) (one_change k done)
-            (subst (λ row. HasWindowCut row key) (sym now) (p, address_stays track p k words cut.cuttable key here.address, λ fits. outside (omega arith))) outside few
+            refused_cut (change k done ∷ []) (omega arith) (only_here k done) (one_change k done) (cut_now k done outside) outside few
       ]
 
   -- ---- a window that is all inside the track
 
-  module _ (size : length written.content ≡ content_size key.n) (bytes : (j : ℕ) → get_or written.content j 0 < 2 ^ 8) (put : IsCutTo d key.c key.h p (length (window_of written)) (window_of written) after) (both : commands ≡ 2) where
+  module _ (put : IsCutTo d key.c key.h p (length (window_of written)) (window_of written) after) (both : commands ≡ 2) where
     abbrev all : ℕ
     all = length (window_of written)
 
-    abbrev laid_row : List ℕ
-    laid_row = cut_of track p all (window_of written)
+    abbrev whole : Change
+    whole = change all put
 
-    abbrev change_of : Change
-    change_of = record { cylinder = key.c; place = p; words = all }
+    keeps_sectors : IsRegularDisk d → KeepsSectors d key after
+    keeps_sectors regular = change_keeps_sectors written d whole after (is_change all put) regular fits (inr refl)
 
-    has_now : HasTrack after key.c key.h
-    has_now = has_after d after key.c key.h laid_row put.cut key.c key.h here.has
-
-    met_now : met (bay_of new n) key.c key.h ≡ track_after
-    met_now = met_after laid_row put.cut
-
-    address_now : IsAddressAt track_after p key
-    address_now = subst (λ row. IsAddressAt row p key) (sym put.cut.has) (address_stays track p all (window_of written) put.cuttable key here.address)
-
-    field_for : IsFieldFor track p key written.content
-    field_for = record { address = here.address; size = size }
-
-    -- on a regular track it is found
-    module _ (regular : IsRegular track key.c key.h) where
-      keeps : KeepsOthers track laid_row p
-      keeps = cuts.cut_kept track p key written.deleted written.content all (spaced_from track key.c key.h regular) field_for (omega arith) (inr refl)
-
-      found_now : LookAt track_after p key.n (look.Found written.deleted (window_place p + 256))
-      found_now =
-          subst (λ row. LookAt row p key.n (look.Found written.deleted (window_place p + 256))) (sym put.cut.has)
-          (cuts.cut_found track p key written.deleted written.content all (spaced_from track key.c key.h regular) field_for bytes refl)
-
-      content_now : written.content ≡ content_at track_after (window_place p + 256) key.n
-      content_now =
-          subst (λ row. written.content ≡ content_at row (window_place p + 256) key.n) (sym put.cut.has)
-          (cuts.cut_content track p key written.deleted written.content all (spaced_from track key.c key.h regular) field_for bytes refl)
-
-    alone : (answer : Result (Unit {0}) Code) → IsRegularDisk d → (IsOk answer → IsOnMap after (entry_of written p)) → ChangesAlone written n p d answer old new
-    alone answer regular entry = record {
+    alone : (answer : Result (Unit {0}) Code) → IsRegularDisk d → ChangesAlone written n p d answer old new
+    alone answer regular = record {
       after = after;
       words = all;
       medium = medium_new;
       cuttable = put.cuttable;
       cut = put.cut;
-      regular = regular_after d after key.c key.h p laid_row key here.has put.cut here.address (keeps (regular key.c key.h here.has)) regular;
-      others = map_kept d after key.c key.h p laid_row key here.has put.cut here.address (keeps (regular key.c key.h here.has));
-      entry = λ ok quiet. entry ok;
+      regular = (keeps_sectors regular).regular;
+      others = (keeps_sectors regular).entries;
+      entry = λ ok quiet. written_on_map written d whole after (is_change all put) regular fits refl;
     }
 
-    keeps_regular : (answer : Result (Unit {0}) Code) → (IsOk answer → IsOnMap after (entry_of written p)) → (disk : Disk) → (bay_of old n).medium ≡ Some disk → IsRegularDisk disk → KeepsRegular written n disk answer old new
-    keeps_regular answer entry disk is regular =
+    keeps_regular : (answer : Result (Unit {0}) Code) → (disk : Disk) → (bay_of old n).medium ≡ Some disk → IsRegularDisk disk → KeepsRegular written n disk answer old new
+    keeps_regular answer disk is regular =
         of_disk (λ e. KeepsRegular written n e answer old new) disk is (record {
           none = λ no. absurd (no p address_old);
           one = λ q address tidy.
+              let here_regular = regular_here disk is regular in
               let here_too = subst (λ row. IsAddressAt row q key) met_old address in
-              let same : p ≡ q = (regular_here disk is regular key.c key.h here.has).keys.distinct p q key here.address here_too in
-              subst (λ r. ChangesAlone written n r d answer old new) same (alone answer (regular_here disk is regular) entry);
+              subst (λ r. ChangesAlone written n r d answer old new) (one_address d key.c key.h p q key here_regular here.meets.has here.address here_too) (alone answer here_regular);
         })
+
+    wrote : (answer : Result (Unit {0}) Code) → (IsOk answer → IsWritten written n (whole ∷ []) old new) → IfErr answer (λ code. IsWriteCause written (met (bay_of old n) key.c key.h) (met (bay_of new n) key.c key.h) (whole ∷ []) n code old new) → WritesDrive written n answer old new
+    wrote answer done refused = record {
+      changes = whole ∷ [];
+      few = let some = drives.some_tries in omega arith;
+      reach = one_change all put;
+      becomes = becomes_medium n before (with_medium before (Some after)) commands old new drives refl;
+      steady = λ steady. only_here all put;
+      done = done;
+      refused = refused;
+      regular = keeps_regular answer;
+      driven = few_commands (omega arith);
+    }
 
     pub wrote_whole : (answer : Result (Unit {0}) Code) → ReadsBack track_after p key.n written.deleted written.content answer → WritesDrive written n answer old new
     wrote_whole (Ok unit) (place, seen, is) =
-        let sector : IsSector track_after key written.deleted written.content = (p, place, address_now, seen, is) in
-        let on : IsOnMap after (entry_of written p) = record { track = has_now; address = address_now; content = (place, seen, is) } in
-        record {
-          changes = change_of ∷ [];
-          few = let some = drives.some_tries in omega arith;
-          reach = one_change all put;
-          becomes = becomes_medium n before (with_medium before (Some after)) commands old new drives refl;
-          steady = λ steady. all_one (λ change. change.cylinder ≡ key.c) change_of refl;
-          done = λ ok. record {
-            disk = after;
-            medium = medium_new;
-            same_rate = put.cut.rate ∙ rate_old;
-            under = (key.c, has_now, sector_under track_after key written.deleted written.content sector);
-            last = λ quiet. ([], change_of, refl, refl, sector);
-            commands = subst (λ k. RoseBy k old.counters.data_commands new.counters.data_commands) both drives.sent.rose;
-          };
-          refused = tt;
-          regular = keeps_regular (Ok unit) (λ ok. on);
-          driven = few_commands (omega arith);
-        }
+        let sector : IsSector track_after key written.deleted written.content = (p, place, address_now all put, seen, is) in
+        wrote (Ok unit) (λ ok. record {
+          disk = after;
+          medium = medium_new;
+          same_rate = (meets_now all put).same_rate ∙ ap (λ (b : Bay). b.rate) (sym drives.was);
+          under = (key.c, (meets_now all put).has, sector_under track_after key written.deleted written.content sector);
+          last = λ quiet. ([], whole, refl, refl, sector);
+          commands = subst (λ k. RoseBy k old.counters.data_commands new.counters.data_commands) both drives.sent.rose;
+        }) tt
     wrote_whole (Err code) (looked, seen, refused) =
-        let cause = back_cause track_after p written looked code address_now seen refused in
-        let last : IsLastWhole written (change_of ∷ []) = ([], change_of, refl, refl) in
-        record {
-          changes = change_of ∷ [];
-          few = let some = drives.some_tries in omega arith;
-          reach = one_change all put;
-          becomes = becomes_medium n before (with_medium before (Some after)) commands old new drives refl;
-          steady = λ steady. all_one (λ change. change.cylinder ≡ key.c) change_of refl;
-          done = λ ok. absurd (false≢true ok);
-          refused = record {
-            device = cause.device;
-            no_mark = λ is quiet. inr (inr (last, subst (λ row. HasLook row key look.NoData) (sym met_now) (cause.no_mark is)));
-            not_found = λ is. absurd (cause.not_found is);
-            bad_data = λ is quiet. (last, subst (λ row. HasLook row key look.BadCrc ⊎ HasOtherContent row written) (sym met_now) (cause.bad_data is));
-            overrun = λ is. absurd (cause.overrun is);
-            lost = λ is. absurd (cause.lost is);
-            never = λ regular q address tidy quiet.
-                let here_regular = subst (λ row. IsRegular row key.c key.h) met_old regular in
-                back_never track_after p (window_place p + 256) written looked code seen refused (found_now here_regular) (content_now here_regular);
-          };
-          regular = keeps_regular (Err code) (λ ok. absurd (false≢true ok));
-          driven = few_commands (omega arith);
-        }
+        let cause = back_cause track_after p written looked code (address_now all put) seen refused in
+        let last : IsLastWhole written (whole ∷ []) = ([], whole, refl, refl) in
+        wrote (Err code) (λ ok. absurd (false≢true ok)) (record {
+          device = cause.device;
+          no_mark = λ is quiet. inr (inr (last, subst (λ row. HasLook row key look.NoData) (sym (met_now all put)) (cause.no_mark is)));
+          not_found = λ is. absurd (cause.not_found is);
+          bad_data = λ is quiet. (last, subst (λ row. HasLook row key look.BadCrc ⊎ HasOtherContent row written) (sym (met_now all put)) (cause.bad_data is));
+          overrun = λ is. absurd (cause.overrun is);
+          lost = λ is. absurd (cause.lost is);
+          never = λ regular q address tidy quiet.
+              back_never track_after p written looked code (address_now all put) seen refused
+              (change_is_written written d whole after (is_change all put) key.c key.h (regular_track regular) fits refl);
+        })

@@ -1,9 +1,9 @@
 -- A window that is put on a track and read back.
-use Rattle.std.specs.Prelude.{◌≡◌, ℕ, ◌+◌, ◌≤◌, Bool, List, length, Some, Result, Ok, Err, MatchBool, ◌⊎◌}
+use Rattle.std.specs.Prelude.{◌≡◌, ℕ, ◌+◌, ◌≤◌, Bool, List, length, Result, Ok, Err, MatchBool, ◌⊎◌}
 use Rattle.flop_base.specs.declared.key.Chrn.{Chrn}
 use Rattle.flop_base.specs.declared.answers.Code.{Code}
 use Rattle.flop_base.specs.declared.answers.Code.TheVariants as code
-use Rattle.raw_image.specs.Disk.{Disk, IsDisk, HasTrack, IsWithTrack, track_of}
+use Rattle.raw_image.specs.Disk.{Disk, IsWithTrack, track_of}
 use Rattle.track_model.specs.declared.Look.{Look}
 use Rattle.track_model.specs.declared.Look.TheVariants as look
 use Rattle.track_model.specs.Fields.{IsAddressAt, content_at}
@@ -50,12 +50,3 @@ pub record HasFieldAt (bay : model.Bay) (key : Chrn) (p : ℕ) : Type 0 where
 pub record IsAbsent (track : List ℕ) (key : Chrn) (answer : Code) : Type 0 where
   pub none : (p : ℕ) → IsAddressAt track p key → ⊥
   pub by_code : ((answer ≡ code.NoMark) × (HasAddressMark track → ⊥)) ⊎ ((answer ≡ code.NotFound) × HasAddressMark track)
-
--- a medium is in the bay, and its track of the key has an address field of the key at a place
-pub record IsHere (bay : model.Bay) (key : Chrn) (p : ℕ) (disk : Disk) : Type 0 where
-  pub medium : bay.medium ≡ Some disk
-  pub valid : IsDisk disk
-  pub same_rate : disk.rate ≡ bay.rate
-  pub has : HasTrack disk key.c key.h
-  pub met_is : model.met bay key.c key.h ≡ track_of disk key.c key.h
-  pub address : IsAddressAt (track_of disk key.c key.h) p key

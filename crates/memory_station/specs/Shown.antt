@@ -1,7 +1,8 @@
 -- What a station in memory shows of itself.
 use Rattle.std.specs.Prelude.{◌≡◌, ℕ, List, Some, None, if◌then◌else◌}
-use Rattle.raw_image.specs.Disk.{Disk, IsDisk, HasTrack, track_of}
+use Rattle.raw_image.specs.Disk.{Disk, IsDisk, track_of}
 use Rattle.track_model.specs.Cells.{IsTrackSized}
+use Rattle.sector_map.specs.MetTracks.{MeetsTrack}
 use Rattle.bay_model.specs.Bays.{Two}
 use Rattle.sector_model.specs.Stations as model
 use Rattle.sector_model.specs.Stations.{StationState, met}
@@ -28,20 +29,15 @@ shown_of station = record {
   counters = counters_of station.spares station.counts;
 }
 
+-- the medium in a bay has this track at the rate of the bay
+abbrev pub HasTrackMet : model.Bay → ℕ → ℕ → Type 0
+HasTrackMet bay c h = (disk : Disk) × MeetsTrack bay.medium bay.rate c h disk
+
 -- a track that the medium in a bay has at the rate of the bay
 pub record IsRecorded (bay : model.Bay) (c h : ℕ) (track : List ℕ) : Type 0 where
   pub disk : Disk
-  pub medium : bay.medium ≡ Some disk
+  pub meets : MeetsTrack bay.medium bay.rate c h disk
   pub valid : IsDisk disk
-  pub same_rate : disk.rate ≡ bay.rate
-  pub has : HasTrack disk c h
   pub is : track ≡ track_of disk c h
   pub met_is : met bay c h ≡ track
   pub sized : IsTrackSized track
-
--- the medium in a bay has this track at the rate of the bay
-pub record HasTrackMet (bay : model.Bay) (c h : ℕ) : Type 0 where
-  pub disk : Disk
-  pub medium : bay.medium ≡ Some disk
-  pub same_rate : disk.rate ≡ bay.rate
-  pub has : HasTrack disk c h

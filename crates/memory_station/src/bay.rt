@@ -1,7 +1,7 @@
 // A bay: its medium, whether it is acknowledged, and its rate.
 ghost use Rattle.std.specs.Prelude.{◌≡◌, ◌↔◌, false, IsTrue, MatchOption};
 ghost use Rattle.std.specs.Option.{option_map_or};
-ghost use Rattle.track_model.specs.Looks.{HasAddressMark};
+ghost use Rattle.sector_map.specs.MetTracks.{HasNothing};
 ghost use Rattle.sector_model.specs.Stations.{fresh_bay, met};
 ghost use Rattle.memory_station.specs.Shown.{bay_shown, IsRecorded};
 
@@ -47,7 +47,7 @@ impl Bay {
 
     /// The track of a cylinder and a head, where the medium has it at the rate of the bay; else nothing is recorded there.
     pub fn track(&self, c: u8, h: u8) -> Option<&[u16]>
-        ensures { MatchOption result (HasAddressMark (met (bay_shown self.now) c h) → ⊥)
+        ensures { MatchOption result (HasNothing (met (bay_shown self.now) c h))
             (λ track. IsRecorded (bay_shown self.now) c h track.now) }
     {
         let Some(medium) = &self.medium else {

@@ -1,5 +1,5 @@
 // Formatting a track of the medium in a bay.
-ghost use Rattle.std.specs.Prelude.{◌≡◌, ◌+◌, ◌*◌, ◌≤◌, ◌↔◌, ℕ, IsTrue, length, slice_index};
+ghost use Rattle.std.specs.Prelude.{◌≡◌, ◌+◌, ◌*◌, ◌≤◌, ◌↔◌, ℕ, IsTrue, IsOk, IfErr, length, slice_index};
 ghost use Rattle.std.specs.List.{flat_map};
 ghost use Rattle.track_model.specs.Layouts.{lay, laid_words};
 ghost use Rattle.track_format.specs.Keys.{key_bytes};
@@ -16,11 +16,16 @@ use flop_base::Code;
 use flop_base::standard::SIZE_CODE;
 use track_format::FormatStream;
 
-/// Whether so many sectors of 512 bytes fit on a track of so many words.
-fn fits(sectors: u8, gap3: u8, words: usize) -> bool
-    ensures { IsTrue result ↔ laid_words sectors 2 gap3 ≤ words }
+/// The answer of a format of a track of so many words: whether so many sectors of 512 bytes fit on it.
+fn format_answer(sectors: u8, gap3: u8, words: usize) -> Result<(), Code>
+    ensures fits { IsOk result ↔ laid_words sectors 2 gap3 ≤ words }
+    ensures refused { IfErr result (λ code. code ≡ Code.NoMark) }
 {
-    146 + usize::from(sectors) * (574 + usize::from(gap3)) <= words
+    if 146 + usize::from(sectors) * (574 + usize::from(gap3)) <= words {
+        Ok(())
+    } else {
+        Err(Code::NoMark)
+    }
 }
 
 /// Byte `i` of the keys one after the other, 0 behind the last.
@@ -76,12 +81,11 @@ impl Bay {
             n result.answer old new }
     {
         let sectors = self.rate.sectors();
-        let refused = Outcome {
-            answer: Err(Code::NoMark),
-            commands: 1 + sectors,
-        };
         if !self.has_track(c, h) {
-            return refused;
+            return Outcome {
+                answer: Err(Code::NoMark),
+                commands: 1 + sectors,
+            };
         }
         let Some(medium) = &mut self.medium else {
             unreachable!();
@@ -90,13 +94,9 @@ impl Bay {
         let track = &mut words[..length];
         fill_track(track, sectors, c, h, gap3, fill);
         medium.set_words(c, h, 0, track);
-        if fits(sectors, gap3, length) {
-            Outcome {
-                answer: Ok(()),
-                commands: 1 + sectors,
-            }
-        } else {
-            refused
+        Outcome {
+            answer: format_answer(sectors, gap3, length),
+            commands: 1 + sectors,
         }
     }
 }

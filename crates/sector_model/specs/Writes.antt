@@ -17,6 +17,7 @@ use Rattle.bay_model.specs.Memory.{bytes_from}
 use Rattle.sector_model.specs.Stations.{StationState, Becomes, bay_of, set_bay, met, IsSteady}
 use Rattle.sector_model.specs.Orders.{write_refusal, IsRefusedAtOnce, IsDeviceRefusal}
 use Rattle.sector_map.specs.Changes.{Change, Written, window_of, IsChange}
+use Rattle.sector_map.specs.KeptDisks.{entry_of}
 use Rattle.sector_map.specs.Met.{HasNoClearMark, HasClearAddress, HasLook}
 use Rattle.sector_model.specs.Reads.{spoilable}
 
@@ -81,17 +82,6 @@ pub record IsWriteCause (written : Written) (before track : List ℕ) (changes :
       → (p : ℕ) → IsAddressAt before p written.key
       → (IsTidy before p written.deleted written.content ⊎ IsUndisturbed bay old.counters new.counters)
       → DisturbedLess (spoilable old.tries) bay old.counters new.counters → ⊥
-
--- the entry of a sector on the map
-abbrev pub entry_of : Written → ℕ → Entry
-entry_of written place = record {
-  cylinder = written.key.c;
-  head = written.key.h;
-  place = place;
-  key = written.key;
-  deleted = written.deleted;
-  content = written.content;
-}
 
 -- a regular disk after a write behind the one address field of the key, at p: that field alone changed
 pub record ChangesAlone (written : Written) (bay p : ℕ) (disk : Disk) (answer : Result (Unit {0}) Code) (old new : StationState) : Type 0 where

@@ -7,7 +7,7 @@ use Rattle.track_format.specs.Keys.{key_bytes}
 use Rattle.track_format.specs.Streams.{KeyIs}
 use Rattle.track_format.proofs.Asked.{asked-track, asked_same, laid_start, laid_more, laid_all, asked_byte, asked_more}
 use Rattle.sector_map.specs.Standard.{track_keys}
-use Rattle.memory_station.proofs.FormatKeys.{length-track_keys}
+use Rattle.sector_map.proofs.Laid.{length-track_keys}
 use Rattle.memory_station.proofs.formatting.fill_track.Goals as goal
 use Rattle.memory_station.proofs.formatting.fill_track.Goals.{then-needs_byte, else-needs_byte}
 

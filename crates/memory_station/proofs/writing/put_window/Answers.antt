@@ -1,11 +1,12 @@
 use Rattle.std.proofs.Common.{◌∙◌, ap, ◌-◌, length, min, arith}
-use Rattle.memory_station.proofs.Putting.{put_cut, long_track}
+use Rattle.sector_map.proofs.RegularTracks.{length-track_of}
+use Rattle.memory_station.proofs.Putting.{put_cut}
 use Rattle.memory_station.proofs.writing.put_window.Goals as goal
 
 pub window_word-start-requires : goal.window_word-start-requires
 window_word-start-requires c =
     let inside = c.requires.address.sound.inside in
-    omega (arith, long_track c.args.medium.now c.args.key.c c.args.key.h c.words.ensures.valid c.requires.track)
+    omega (arith, length-track_of c.args.medium.now c.args.key.c c.args.key.h c.words.ensures.valid c.requires.track)
 
 pub returns : goal.returns
 returns c =

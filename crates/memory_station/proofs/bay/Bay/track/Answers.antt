@@ -1,18 +1,22 @@
 use Rattle.std.proofs.Common.{sym, ◌∙◌}
 use Rattle.std.proofs.lemmas.Bool.{false≢true}
+use Rattle.sector_map.proofs.MetTracks.{nothing_in, nothing_there}
 use Rattle.memory_station.specs.Shown.{bay_shown}
-use Rattle.memory_station.proofs.MetTracks.{none_met, off_met, given_track}
+use Rattle.memory_station.proofs.Recorded.{given_track}
 use Rattle.memory_station.proofs.bay.Bay.track.Goals as goal
 
 pub returns-in_default : goal.returns-in_default
-returns-in_default c = none_met (bay_shown c.args.self.now) c.args.c c.args.h c.in_default.is
+returns-in_default c =
+    let bay = bay_shown c.args.self.now in
+    nothing_in bay.medium bay.rate c.args.c c.args.h c.in_default.is
 
 pub returns-then-not-same_rate : goal.returns-then-not-same_rate
 returns-then-not-same_rate c =
-    off_met (bay_shown c.args.self.now) c.in-Some.medium c.args.c c.args.h c.in-Some.is
+    let bay = bay_shown c.args.self.now in
+    nothing_there bay.medium bay.rate c.args.c c.args.h c.in-Some.medium c.in-Some.is
     (λ has same. absurd (false≢true (sym c.if-not-same_rate.true ∙ c.same_rate.ensures.1 (c.rate.ensures ∙ same))))
 
 pub returns : goal.returns
 returns c =
     given_track (bay_shown c.args.self.now) c.in-Some.medium c.args.c c.args.h c.in-Some.is c.track.result c.track.ensures.valid
-    (sym c.rate.ensures ∙ c.same_rate.ensures.0 c.if-not-same_rate.false) c.track.ensures.found c.track.ensures.track c.track.ensures.length
+    (sym c.rate.ensures ∙ c.same_rate.ensures.0 c.if-not-same_rate.false) c.track.ensures.found c.track.ensures.track
