@@ -15,7 +15,7 @@ use Rattle.track_model.specs.Windows.{with_words}
 use Rattle.bay_model.specs.Counters.{IsDriven}
 use Rattle.sector_map.specs.Standard.{track_keys}
 use Rattle.sector_map.specs.Layings.{Format, formatted, Laying, IsLaying, IsFormattable}
-use Rattle.sector_map.specs.KeptDisks.{laying_at}
+use Rattle.sector_map.specs.LaidDisks.{laying_at}
 use Rattle.sector_map.specs.MetTracks.{MeetsTrack}
 use Rattle.sector_map.proofs.Laid.{format_fits, length-formatted, laid_whole}
 use Rattle.sector_map.proofs.MetTracks.{one_met}

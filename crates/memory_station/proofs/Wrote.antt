@@ -20,9 +20,10 @@ use Rattle.sector_map.specs.Disks.{IsRegularDisk}
 use Rattle.sector_map.specs.Met.{HasLook}
 use Rattle.sector_map.specs.MetTracks.{MeetsTrack}
 use Rattle.sector_map.specs.Changes.{Change, Written, window_of, IsChange}
-use Rattle.sector_map.specs.KeptDisks.{KeepsTracks, FitsKey, KeepsSectors, HasWritten, change_at}
+use Rattle.sector_map.specs.ChangedDisks.{FitsKey, HasWritten, change_at}
+use Rattle.sector_map.specs.KeptDisks.{KeepsTracks, KeepsSectors}
 use Rattle.sector_map.proofs.MetTracks.{nothing_from, met_track, one_met}
-use Rattle.sector_map.proofs.KeptTracks.{still_meets, length-kept}
+use Rattle.sector_map.proofs.KeptTracks.{still_meets, length-alike}
 use Rattle.sector_map.proofs.RegularTracks.{window_inside, one_address}
 use Rattle.sector_map.proofs.Changed.{length-window_of, change_keeps_tracks, change_keeps_address, change_is_written, change_keeps_sectors, written_on_map}
 use Rattle.sector_model.specs.Stations.{StationState, Bay, bay_of, met}
@@ -253,7 +254,7 @@ module _ (written : Written) (fits : FitsKey written) (n p commands : ℕ) (d af
     address_now = change_keeps_address written d change after is_change
 
     meets_now : MeetsTrack (Some after) before.rate key.c key.h after
-    meets_now = still_meets before.medium before.rate key.c key.h d key.c key.h after (Some after) here.meets keeps refl
+    meets_now = still_meets before.medium before.rate key.c key.h d after (Some after) here.meets (keeps).alike refl
 
     met_now : met (bay_of new n) key.c key.h ≡ track_after
     met_now = ap (λ b. met b key.c key.h) drives.is ∙ met_track (Some after) before.rate key.c key.h after meets_now
@@ -267,7 +268,7 @@ module _ (written : Written) (fits : FitsKey written) (n p commands : ℕ) (d af
     cut_now : (window_word p + window_words key.n ≤ length track → ⊥) → HasWindowCut (met (bay_of new n) key.c key.h) key
     cut_now outside =
         subst (λ row. HasWindowCut row key) (sym met_now)
-        (p, address_now, λ inside. outside (omega (arith, length-kept d key.c key.h after key.c key.h here.valid keeps here.meets.has)))
+        (p, address_now, λ inside. outside (omega (arith, length-alike d after key.c key.h here.valid (keeps).alike here.meets.has)))
 
   pub wrote_cut : (words : List ℕ) → words ≡ window_of written → PutsWindow d key.c key.h p words false after → commands ≤ 2 → WritesDrive written n (Err NoMark) old new
   wrote_cut words is put few =

@@ -1,5 +1,4 @@
 pub mod Answers
-pub mod Asked
 pub mod Counted
 pub mod Driven
 pub mod Put

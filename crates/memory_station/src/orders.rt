@@ -1,42 +1,12 @@
 // Which refusal comes before a command reaches a drive.
 ghost use Rattle.std.specs.Prelude.{◌≡◌, ◌+◌, ◌≤◌, None, true, IsTrue};
-ghost use Rattle.bay_model.specs.Memory.{user_bytes};
-ghost use Rattle.track_model.specs.Fields.{content_size};
-ghost use Rattle.sector_model.specs.Orders.{is_place, is_sector_request, crosses_page, is_acknowledged, is_protected, is_format_request, read_refusal, write_refusal, format_refusal, rate_refusal};
+ghost use Rattle.sector_model.specs.Orders.{is_acknowledged, is_protected, is_format_request, read_refusal, write_refusal, format_refusal, rate_refusal};
 ghost use Rattle.memory_station.specs.Shown.{shown_of};
-ghost use Rattle.memory_station.specs.Asked.{IsAsked, IsFormatAsked};
+ghost use Rattle.sector_model.specs.Asked.{IsAsked, IsFormatAsked};
 
 use crate::station::MemoryStation;
-use bay_model::USER_BYTES;
-use flop_base::{Chrn, Code, Rate, sector_size};
-
-/// A cylinder and a head of a drive.
-fn is_place(c: u8, h: u8) -> bool
-    ensures { result ≡ is_place c h }
-{
-    c <= 79 && h <= 1
-}
-
-/// Whether a read or a write of this key can be asked for, at this address.
-fn is_sector_request(bay: u8, key: Chrn, address: u32) -> bool
-    ensures value { result ≡ is_sector_request bay key address }
-    ensures asked { IsTrue result → IsAsked bay key address }
-{
-    if bay > 1 || !is_place(key.c, key.h) || key.n < 1 || key.n > 6 || key.r < 1 {
-        return false;
-    }
-    address as usize + sector_size(key.n) <= USER_BYTES as usize
-}
-
-/// Whether the first and the last byte of a range of user memory lie in different pages of 65,536 bytes.
-fn crosses_page(address: u32, count: usize) -> bool
-    requires some { 1 ≤ count }
-    requires within { address + count ≤ user_bytes }
-    ensures { result ≡ crosses_page address count }
-{
-    let first = address as usize;
-    first / 65_536 != (first + count - 1) / 65_536
-}
+use flop_base::{Chrn, Code, sector_size};
+use sector_model::{crosses_page, is_place, is_sector_request, most_format_gap};
 
 impl MemoryStation {
     /// Whether a bay is acknowledged.
@@ -95,10 +65,7 @@ impl MemoryStation {
         if bay > 1 || !is_place(c, h) || gap3 < 16 {
             return false;
         }
-        match self.bays.get(bay).rate {
-            Rate::R500 => gap3 <= 112,
-            Rate::R250 => gap3 <= 104,
-        }
+        gap3 <= most_format_gap(self.bays.get(bay).rate)
     }
 
     /// The refusal of a format.

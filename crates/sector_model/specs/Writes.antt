@@ -17,7 +17,7 @@ use Rattle.bay_model.specs.Memory.{bytes_from}
 use Rattle.sector_model.specs.Stations.{StationState, Becomes, bay_of, set_bay, met, IsSteady}
 use Rattle.sector_model.specs.Orders.{write_refusal, IsRefusedAtOnce, IsDeviceRefusal}
 use Rattle.sector_map.specs.Changes.{Change, Written, window_of, IsChange}
-use Rattle.sector_map.specs.KeptDisks.{entry_of}
+use Rattle.sector_map.specs.ChangedDisks.{entry_of}
 use Rattle.sector_map.specs.Met.{HasNoClearMark, HasClearAddress, HasLook}
 use Rattle.sector_model.specs.Reads.{spoilable}
 
