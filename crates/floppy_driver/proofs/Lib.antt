@@ -1,2 +1,3 @@
 mod Asking
+mod Prepared
 pub mod Shows

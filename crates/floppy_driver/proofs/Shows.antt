@@ -266,7 +266,7 @@ noted_later notes medium medium' line line' spun spun' pcn pcn' cylinder cylinde
       stands = λ c e h counted below. let k = noted.kept (held h) in place ∙ noted.stands c e (held h) (omega arith) (omega arith);
     }
 
-spun_at : (old new : Two Bool) (bay : ℕ) → StaysSpun old new → in_bay old bay ≡ true → in_bay new bay ≡ true
+pub spun_at : (old new : Two Bool) (bay : ℕ) → StaysSpun old new → in_bay old bay ≡ true → in_bay new bay ≡ true
 spun_at old new bay stays = by_bay (bay == 0)
   where
     by_bay : (is_first : Bool) → (if is_first then old.first else old.second) ≡ true → (if is_first then new.first else new.second) ≡ true
