@@ -1,3 +1,6 @@
 mod Asking
-mod Prepared
+pub mod Attempts
+pub mod Prepared
+pub mod ReadOnce
+pub mod ReadTries
 pub mod Shows

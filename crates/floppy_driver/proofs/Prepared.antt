@@ -59,17 +59,16 @@ module _ (driver after : Driver) (old new : Rig) (bay : ℕ) (in_range : bay ≤
       })
 
   -- where heads were known to stand, they stood at the controller's number, if no fault came since the bay was acknowledged
-  pub stood_at_number : IsSome (notes_of driver bay).known → faults_of old.counters bay ≡ (notes_of driver bay).kept → faults_of old.counters bay < last_count → in_bay old.cylinders bay ≡ in_bay old.numbers bay
+  stood_at_number : IsSome (notes_of driver bay).known → faults_of old.counters bay ≡ (notes_of driver bay).kept → faults_of old.counters bay < last_count → in_bay old.cylinders bay ≡ in_bay old.numbers bay
   stood_at_number known = at (notes_of driver bay).known refl known
     where
       at : (o : Option ℕ) → (notes_of driver bay).known ≡ o → IsSome o → faults_of old.counters bay ≡ (notes_of driver bay).kept → faults_of old.counters bay < last_count → in_bay old.cylinders bay ≡ in_bay old.numbers bay
       at (Some c) is some counted below = noted.stands c is held counted below ∙ sym (noted.number c is)
       at None is some counted below = absurd (cc some)
 
-  -- the heads are ready
-  pub attached_ready : (target : ℕ) (way : Prepare) (shown : Notes) → target ≤ 79 → (way ≡ prepare.Seek → IsSome (notes_of driver bay).known) → after ≡ with_notes driver bay (record (notes_of driver bay) { known = Some target }) → IsPrepared old (notes_of driver bay) bay target way true new shown → IsAttached after new
-  attached_ready target way shown most known is prepared =
-      attached_at target most is (prepared.number refl) (λ counted below. by_way way refl counted below)
+  -- the heads of a bay stand at the target where no fault came since it was acknowledged
+  pub prepared_stands : (target : ℕ) (way : Prepare) (shown : Notes) → (way ≡ prepare.Seek → IsSome (notes_of driver bay).known) → IsPrepared old (notes_of driver bay) bay target way true new shown → faults_of new.counters bay ≡ (notes_of driver bay).kept → faults_of new.counters bay < last_count → in_bay new.cylinders bay ≡ target
+  prepared_stands target way shown known prepared = by_way way refl
     where
       by_way : (w : Prepare) → way ≡ w → faults_of new.counters bay ≡ (notes_of driver bay).kept → faults_of new.counters bay < last_count → in_bay new.cylinders bay ≡ target
       by_way prepare.Seek is_way counted below =
@@ -80,3 +79,7 @@ module _ (driver after : Driver) (old new : Rig) (bay : ℕ) (in_range : bay ≤
           let k = noted.kept held in
           let f = faults_go_on old.counters new.counters bay moves.counts in
           prepared.surely refl is_way (omega arith, below)
+
+  pub attached_ready : (target : ℕ) (way : Prepare) (shown : Notes) → target ≤ 79 → (way ≡ prepare.Seek → IsSome (notes_of driver bay).known) → after ≡ with_notes driver bay (record (notes_of driver bay) { known = Some target }) → IsPrepared old (notes_of driver bay) bay target way true new shown → IsAttached after new
+  attached_ready target way shown most known is prepared =
+      attached_at target most is (prepared.number refl) (prepared_stands target way shown known prepared)
