@@ -1,7 +1,10 @@
+mod Acked
 mod Asking
 pub mod Attempts
 pub mod Prepared
+mod RateFound
 pub mod ReadOnce
-pub mod ReadTries
 mod ReadStep
+pub mod ReadTries
 pub mod Shows
+mod Worked

@@ -3,3 +3,4 @@ pub mod Attached
 pub mod Prepared
 pub mod Attempts
 pub mod Readings
+pub mod Acknowledged
