@@ -1,3 +1,6 @@
 pub mod Shown
 pub mod Attached
 pub mod Prepared
+pub mod Attempts
+pub mod Readings
+pub mod Acknowledged

@@ -1,0 +1,10 @@
+mod Acked
+mod Asking
+pub mod Attempts
+pub mod Prepared
+mod RateFound
+pub mod ReadOnce
+mod ReadStep
+pub mod ReadTries
+pub mod Shows
+mod Worked
