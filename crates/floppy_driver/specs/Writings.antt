@@ -1,0 +1,124 @@
+-- An attempt at a write, and what several attempts made.
+use Rattle.std.specs.Option.{option_map_or}
+use Rattle.std.specs.Prelude.{true, false, ◌≡◌, ℕ, ◌+◌, ◌-◌, ◌*◌, ◌==◌, ◌<◌, ◌≤◌, Bool, List, length, slice_index, All, Option, Some, Result, IsOk, IfErr, MatchOption, ◌⊎◌, if◌then◌else◌}
+use Rattle.flop_base.specs.Counts.{RoseBy}
+use Rattle.flop_base.specs.declared.key.Chrn.{Chrn}
+use Rattle.flop_base.specs.declared.answers.Rate.{Rate}
+use Rattle.flop_base.specs.declared.answers.Code.{Code}
+use Rattle.flop_base.specs.declared.answers.Code.TheVariants.{NoMark, NotFound, Overrun, BadCrc, Seek}
+use Rattle.raw_image.specs.Disk.{Disk, IsDisk, HasTrack, track_of}
+use Rattle.track_model.specs.declared.Look.TheVariants as look
+use Rattle.track_model.specs.Fields.{IsAddressAt}
+use Rattle.track_model.specs.Looks.{HasAddressMark}
+use Rattle.track_model.specs.Sectors.{IsSector, IsUnder}
+use Rattle.track_model.specs.Windows.{window_word, window_words, cut_of, IsCuttable, IsTidy}
+use Rattle.track_model.specs.Regular.{IsRegular}
+use Rattle.bay_model.specs.Bays.{in_bay}
+use Rattle.bay_model.specs.Counters.{Counters, IsFaultless, FaultsRoseLess, FaultsRoseBy, IsUndisturbed, DisturbedLess, GoesOn, IsDriven, faults_of}
+use Rattle.sector_map.specs.Met.{HasNoClearMark, HasClearAddress, HasLook}
+use Rattle.sector_map.specs.Disks.{IsRegularDisk}
+use Rattle.sector_map.specs.Changes.{Change, Written, window_of, IsChange}
+use Rattle.sector_map.specs.KeptDisks.{AreAlike}
+use Rattle.sector_map.specs.ChangedDisks.{FitsKey, IsWholeChange, IsSameOrChanged}
+use Rattle.sector_model.specs.Stations.{StationState, Becomes, Stays, bay_of, set_bay, met, IsSteady}
+use Rattle.sector_model.specs.Orders.{IsDeviceRefusal}
+use Rattle.single_commands.specs.Rigs.{Rig, IsSound, HeadsStay, track_under}
+use Rattle.single_commands.specs.Writing.{ChangesMedium}
+use Rattle.floppy_driver.specs.declared.driver.Driver.{Driver}
+use Rattle.floppy_driver.specs.Shown.{notes_of, is_held}
+use Rattle.floppy_driver.specs.Attached.{IsAttached}
+use Rattle.sector_model.specs.Writes.{Reaches, IsLastWhole, HasWindowCut, HasOtherContent}
+
+-- the first bytes of two memories are alike, from 0 in the page and from an address in the other
+abbrev pub AreBytesAlike : List ℕ → List ℕ → ℕ → ℕ → Type 0
+AreBytesAlike page memory address count = (k : ℕ) → k < count → slice_index page k ≡ slice_index memory (address + k)
+
+-- ---- a write that is read back, at the cylinder under the heads
+
+-- the whole window was written
+abbrev pub WroteWhole : Written → Option Change → Type 0
+WroteWhole written change = MatchOption change ⊥ (IsWholeChange written)
+
+-- why it was refused, by what is met on the track after it
+pub record IsMissCause (written : Written) (track : List ℕ) (change : Option Change) (bay : ℕ) (code : Code) (old new : Counters) : Type 0 where
+  pub device : IsDeviceRefusal code
+  pub no_mark : code ≡ NoMark → IsUndisturbed bay old new
+      → (HasNoClearMark track ⊎ HasWindowCut track written.key
+      ⊎ (WroteWhole written change × HasLook track written.key look.NoData))
+  pub not_found : code ≡ NotFound → IsUndisturbed bay old new
+      → HasAddressMark track × (HasClearAddress track written.key → ⊥)
+  pub bad_data : code ≡ BadCrc → IsUndisturbed bay old new
+      → WroteWhole written change × (HasLook track written.key look.BadCrc ⊎ HasOtherContent track written)
+  pub overrun : code ≡ Overrun → RoseBy 1 old.stalls new.stalls
+  pub lost : code ≡ Seek → FaultsRoseBy 77 bay old new
+
+-- what was written was read back, on this cylinder
+pub record IsReadBack (written : Written) (medium : Option Disk) (rate : Rate) (cylinder : ℕ) (change : Option Change) (bay : ℕ) (old new : Counters) : Type 0 where
+  pub disk : Disk
+  pub is_in : medium ≡ Some disk
+  pub same_rate : disk.rate ≡ rate
+  pub track : HasTrack disk cylinder written.key.h
+  pub under : IsUnder (track_of disk cylinder written.key.h) written.key written.deleted written.content
+  pub whole : IsFaultless bay old new → WroteWhole written change
+  pub sector : IsFaultless bay old new
+      → IsSector (track_of disk cylinder written.key.h) written.key written.deleted written.content
+  -- one fault came in the write or in the reading back
+  pub nearly : FaultsRoseLess 2 bay old new
+      → WroteWhole written change
+      ⊎ IsSector (track_of disk cylinder written.key.h) written.key written.deleted written.content
+  pub commands : RoseBy 2 old.data_commands new.data_commands
+
+-- the medium in the bay was changed so, or not at all
+pub record WritesChecked (old : Rig) (bay : ℕ) (rate : Rate) (written : Written) (answer : Result (Unit {0}) Code) (new : Rig) : Type 0 where
+  pub change : Option Change
+  pub heads : HeadsStay old new
+  pub other_medium : in_bay new.media (1 - bay) ≡ in_bay old.media (1 - bay)
+  pub memory : new.memory ≡ old.memory
+  pub counts : GoesOn old.counters new.counters
+  pub driven : IsDriven 2 old.counters new.counters
+  pub does : MatchOption change (new.media ≡ old.media) (λ one. ChangesMedium old bay rate written one new)
+  pub done : IsOk answer
+      → IsReadBack written (in_bay new.media bay) rate (in_bay old.cylinders bay) change bay old.counters new.counters
+  pub refused : IfErr answer (λ code.
+      IsMissCause written (track_under new bay rate written.key.h) change bay code old.counters new.counters)
+
+-- ---- one attempt
+
+-- a bay whose medium can be written
+pub record CanWrite (driver : Driver) (rig : Rig) (bay : ℕ) : Type 0 where
+  pub sound : IsSound rig
+  pub held : is_held (notes_of driver bay) (in_bay rig.changes bay) ≡ true
+  pub unprotected : option_map_or (λ disk. disk.protected) (in_bay rig.media bay) false ≡ false
+  pub attached : IsAttached driver rig
+
+-- such an attempt recalibrates, so that it stands on the cylinder where no fault comes
+abbrev pub RecalibratesAt : ℕ → ℕ → Type 0
+RecalibratesAt tries attempt = (tries ≡ 1) ⊎ (2 ≤ attempt)
+
+-- the medium in the bay was changed behind an address field of the key
+pub record ChangesBay (written : Written) (bay : ℕ) (change : Change) (old new : StationState) : Type 0 where
+  pub before : Disk
+  pub after : Disk
+  pub was : (bay_of old bay).medium ≡ Some before
+  pub is : (bay_of new bay).medium ≡ Some after
+  pub same_rate : before.rate ≡ (bay_of old bay).rate
+  pub makes : IsChange written before change after
+  pub whole : IsUndisturbed bay old.counters new.counters
+      → window_word change.place + window_words written.key.n ≤ before.words_per_track
+      → IsWholeChange written change
+
+-- one attempt at a write, on this cylinder: the medium in the bay was changed so, or not at all
+pub record TriesWrite (recalibrates : Type 0) (written : Written) (bay : ℕ) (answer : Result (Unit {0}) Code) (old new : StationState) : Type 0 where
+  pub cylinder : ℕ
+  pub change : Option Change
+  pub becomes : Becomes (set_bay old bay (record (bay_of old bay) { medium = (bay_of new bay).medium })) new
+  pub does : MatchOption change ((bay_of new bay).medium ≡ (bay_of old bay).medium) (λ one. ChangesBay written bay one old new)
+  pub here : MatchOption change (Unit {0}) (λ one. one.cylinder ≡ cylinder)
+  pub steady : IsSteady old bay new → cylinder ≡ written.key.c
+  pub surely : recalibrates → IsFaultless bay old.counters new.counters → cylinder ≡ written.key.c
+  pub done : IsOk answer
+      → IsReadBack written (bay_of new bay).medium (bay_of old bay).rate cylinder change bay old.counters new.counters
+  pub refused : IfErr answer (λ code.
+      IsMissCause written (met (bay_of new bay) cylinder written.key.h) change bay code old.counters new.counters)
+  pub counts : GoesOn old.counters new.counters
+  pub driven : IsDriven 2 old.counters new.counters
