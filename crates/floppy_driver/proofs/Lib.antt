@@ -1,3 +1,7 @@
+mod Asking
+pub mod Attempts
+pub mod Prepared
 pub mod Shows
 pub mod Rising
 mod CheckedWrites
+mod WriteAttempts

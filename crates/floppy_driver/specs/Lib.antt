@@ -1,4 +1,5 @@
 pub mod Shown
 pub mod Attached
 pub mod Prepared
+pub mod Attempts
 pub mod Writings

@@ -22,11 +22,10 @@ use Rattle.sector_map.specs.KeptDisks.{AreAlike}
 use Rattle.sector_map.specs.ChangedDisks.{FitsKey, IsWholeChange, IsSameOrChanged}
 use Rattle.sector_model.specs.Stations.{StationState, Becomes, Stays, bay_of, set_bay, met, IsSteady}
 use Rattle.sector_model.specs.Orders.{IsDeviceRefusal}
-use Rattle.single_commands.specs.Rigs.{Rig, IsSound, HeadsStay, track_under}
+use Rattle.single_commands.specs.Rigs.{Rig, HeadsStay, track_under}
 use Rattle.single_commands.specs.Writing.{ChangesMedium}
 use Rattle.floppy_driver.specs.declared.driver.Driver.{Driver}
-use Rattle.floppy_driver.specs.Shown.{notes_of, is_held}
-use Rattle.floppy_driver.specs.Attached.{IsAttached}
+use Rattle.floppy_driver.specs.Attempts.{CanTry}
 use Rattle.sector_model.specs.Writes.{Reaches, IsLastWhole, HasWindowCut, HasOtherContent}
 
 -- the first bytes of two memories are alike, from 0 in the page and from an address in the other
@@ -84,16 +83,10 @@ pub record WritesChecked (old : Rig) (bay : ℕ) (rate : Rate) (written : Writte
 
 -- ---- one attempt
 
--- a bay whose medium can be written
+-- a bay in which an attempt can be made, with a medium that isn't protected
 pub record CanWrite (driver : Driver) (rig : Rig) (bay : ℕ) : Type 0 where
-  pub sound : IsSound rig
-  pub held : is_held (notes_of driver bay) (in_bay rig.changes bay) ≡ true
+  pub ready : CanTry driver rig bay
   pub unprotected : option_map_or (λ disk. disk.protected) (in_bay rig.media bay) false ≡ false
-  pub attached : IsAttached driver rig
-
--- such an attempt recalibrates, so that it stands on the cylinder where no fault comes
-abbrev pub RecalibratesAt : ℕ → ℕ → Type 0
-RecalibratesAt tries attempt = (tries ≡ 1) ⊎ (2 ≤ attempt)
 
 -- the medium in the bay was changed behind an address field of the key
 pub record ChangesBay (written : Written) (bay : ℕ) (change : Change) (old new : StationState) : Type 0 where
@@ -108,14 +101,14 @@ pub record ChangesBay (written : Written) (bay : ℕ) (change : Change) (old new
       → IsWholeChange written change
 
 -- one attempt at a write, on this cylinder: the medium in the bay was changed so, or not at all
-pub record TriesWrite (recalibrates : Type 0) (written : Written) (bay : ℕ) (answer : Result (Unit {0}) Code) (old new : StationState) : Type 0 where
+pub record TriesWrite (sure : Type 0) (written : Written) (bay : ℕ) (answer : Result (Unit {0}) Code) (old new : StationState) : Type 0 where
   pub cylinder : ℕ
   pub change : Option Change
   pub becomes : Becomes (set_bay old bay (record (bay_of old bay) { medium = (bay_of new bay).medium })) new
   pub does : MatchOption change ((bay_of new bay).medium ≡ (bay_of old bay).medium) (λ one. ChangesBay written bay one old new)
   pub here : MatchOption change (Unit {0}) (λ one. one.cylinder ≡ cylinder)
   pub steady : IsSteady old bay new → cylinder ≡ written.key.c
-  pub surely : recalibrates → IsFaultless bay old.counters new.counters → cylinder ≡ written.key.c
+  pub surely : sure → IsFaultless bay old.counters new.counters → cylinder ≡ written.key.c
   pub done : IsOk answer
       → IsReadBack written (bay_of new bay).medium (bay_of old bay).rate cylinder change bay old.counters new.counters
   pub refused : IfErr answer (λ code.

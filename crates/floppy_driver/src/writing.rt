@@ -19,7 +19,8 @@ impl Driver {
     ghost use Rattle.floppy_driver.specs.Shown.{shown};
     ghost use Rattle.floppy_driver.specs.Attached.{IsAttached};
     ghost use Rattle.sector_model.specs.Writes.{WritesTo};
-    ghost use Rattle.floppy_driver.specs.Writings.{CanWrite, RecalibratesAt, TriesWrite};
+    ghost use Rattle.floppy_driver.specs.Attempts.{IsSure};
+    ghost use Rattle.floppy_driver.specs.Writings.{CanWrite, TriesWrite};
 
     /// Writes user memory to the sector of a key, marked deleted or not, and reads it back.
     pub fn write<C: Commands>(
@@ -89,7 +90,7 @@ impl Driver {
         requires from_first { 1 ≤ attempt }
         requires to_last { attempt ≤ self.old.tries }
         requires ready { CanWrite self.old (C.rig machine.old) bay }
-        ensures attempt { (spares : ℕ) (waiting : List DriveCounts) → TriesWrite (RecalibratesAt self.old.tries attempt)
+        ensures attempt { (spares : ℕ) (waiting : List DriveCounts) → TriesWrite (IsSure self.old.tries attempt)
             (record { key = key; deleted = deleted; content = bytes_from (C.rig machine.old).memory address (content_size key.n) })
             bay result
             (shown self.old (C.rig machine.old) spares waiting) (shown self.new (C.rig machine.new) spares waiting) }
