@@ -5,3 +5,5 @@ pub mod Shows
 pub mod Rising
 mod CheckedWrites
 mod WriteAttempts
+mod WriteChanges
+mod WriteTracks
