@@ -7,3 +7,5 @@ mod CheckedWrites
 mod WriteAttempts
 mod WriteChanges
 mod WriteTracks
+mod WriteSteps
+mod WriteEnds

@@ -1,5 +1,4 @@
-use Rattle.floppy_driver.proofs.WriteTracks.{never_refused}
-use Rattle.floppy_driver.proofs.WriteChanges.{few_more}
+use Rattle.floppy_driver.proofs.WriteEnds.{tried_none, ends_tried, ends_done}
 use Rattle.floppy_driver.proofs.WriteAttempts.{tries_lost, tries_once, can_write_prepared, can_write_once}
 use Rattle.floppy_driver.proofs.driver.Driver.write_once.Goals as goal
 
