@@ -9,3 +9,4 @@ mod WriteChanges
 mod WriteTracks
 mod WriteSteps
 mod WriteEnds
+mod WriteLoops

@@ -14,7 +14,7 @@ use Rattle.track_model.specs.Sectors.{IsSector, IsUnder}
 use Rattle.track_model.specs.Windows.{window_word, window_words, IsCut, IsTidy}
 use Rattle.track_model.specs.Regular.{IsRegular}
 use Rattle.bay_model.specs.Bays.{in_bay}
-use Rattle.bay_model.specs.Counters.{Counters, IsFaultless, FaultsRoseLess, FaultsRoseBy, IsUndisturbed, DisturbedLess, GoesOn, IsDriven, faults_of}
+use Rattle.bay_model.specs.Counters.{DriveCounts, Counters, IsFaultless, FaultsRoseLess, FaultsRoseBy, IsUndisturbed, DisturbedLess, GoesOn, IsDriven, faults_of}
 use Rattle.sector_map.specs.Met.{HasNoClearMark, HasClearAddress, HasLook}
 use Rattle.sector_map.specs.Disks.{IsRegularDisk}
 use Rattle.sector_map.specs.Changes.{Change, Written, window_of, IsChange}
@@ -25,8 +25,9 @@ use Rattle.sector_model.specs.Orders.{IsDeviceRefusal}
 use Rattle.single_commands.specs.Rigs.{Rig, HeadsStay, track_under}
 use Rattle.single_commands.specs.Writing.{ChangesMedium}
 use Rattle.floppy_driver.specs.declared.driver.Driver.{Driver}
+use Rattle.floppy_driver.specs.Shown.{shown, HasAsked}
 use Rattle.floppy_driver.specs.Attempts.{CanTry, IsSure, sure_attempts}
-use Rattle.sector_model.specs.Writes.{Reaches, IsLastWhole, HasWindowCut, HasOtherContent}
+use Rattle.sector_model.specs.Writes.{Reaches, IsLastWhole, HasWindowCut, HasOtherContent, written_from}
 
 -- the first bytes of two memories are alike, from 0 in the page and from an address in the other
 abbrev pub AreBytesAlike : List ℕ → List ℕ → ℕ → ℕ → Type 0
@@ -192,3 +193,12 @@ pub record HasTriedWrite (written : Written) (bay : ℕ) (start : StationState) 
       → (p : ℕ) → IsAddressAt (met (bay_of start bay) written.key.c written.key.h) p written.key
       → IsSpared written p (met (bay_of start bay) written.key.c written.key.h) bay start now
       → DisturbedLess (sure_attempts start.tries count) bay start.counters now.counters → ⊥
+
+-- between two attempts of a call: so many were made since it began with this driver and this machine
+pub record BetweenWrites (first : Driver) (from : Rig) (bay : ℕ) (key : Chrn) (address : ℕ) (deleted : Bool) (count : ℕ) (code : Code) (driver : Driver) (rig : Rig) : Type 0 where
+  pub tries : driver.tries ≡ first.tries
+  pub memory : rig.memory ≡ from.memory
+  pub counts : GoesOn from.counters rig.counters
+  pub ready : CanWrite driver rig bay
+  pub tried : (start : StationState) (spares : ℕ) (waiting : List DriveCounts) → HasAsked start (shown first from spares waiting)
+      → HasTriedWrite (written_from start key address deleted) bay start count code (shown driver rig spares waiting)

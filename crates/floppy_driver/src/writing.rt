@@ -16,9 +16,10 @@ use sector_model::{crosses_page, is_sector_request};
 use single_commands::Commands;
 
 impl Driver {
-    ghost use Rattle.floppy_driver.specs.Shown.{shown};
+    ghost use Rattle.floppy_driver.specs.Shown.{shown, HasAsked};
     ghost use Rattle.floppy_driver.specs.Attached.{IsAttached};
-    ghost use Rattle.sector_model.specs.Writes.{WritesTo};
+    ghost use Rattle.sector_model.specs.Stations.{StationState};
+    ghost use Rattle.sector_model.specs.Writes.{WritesTo, WritesDrive, written_from};
     ghost use Rattle.floppy_driver.specs.Attempts.{IsSure};
     ghost use Rattle.floppy_driver.specs.Writings.{CanWrite, TriesWrite};
 
@@ -63,7 +64,19 @@ impl Driver {
         key: Chrn,
         address: u32,
         deleted: bool,
-    ) -> Result<(), Code> {
+    ) -> Result<(), Code>
+        requires idle { C.is_idle machine.old }
+        requires asked { IsAsked bay key address }
+        requires page { address / 65536 ≡ (address + content_size key.n - 1) / 65536 }
+        requires ready { CanWrite self.old (C.rig machine.old) bay }
+        ensures step { (start : StationState) (spares : ℕ) (waiting : List DriveCounts)
+            → HasAsked start (shown self.old (C.rig machine.old) spares waiting)
+            → WritesDrive (written_from start key address deleted) bay result start
+            (shown self.new (C.rig machine.new) spares waiting) }
+        ensures counts { GoesOn (C.rig machine.old).counters (C.rig machine.new).counters }
+        ensures idle { C.is_idle machine.new }
+        ensures ready { CanWrite self.new (C.rig machine.new) bay }
+    {
         let mut last = Code::Seek;
         for attempt in 1..self.tries + 1 {
             match self.write_once(machine, bay, key, address, deleted, attempt) {
@@ -96,6 +109,7 @@ impl Driver {
             (shown self.old (C.rig machine.old) spares waiting) (shown self.new (C.rig machine.new) spares waiting) }
         ensures tries { self.new.tries ≡ self.old.tries }
         ensures memory { (C.rig machine.new).memory ≡ (C.rig machine.old).memory }
+        ensures counts { GoesOn (C.rig machine.old).counters (C.rig machine.new).counters }
         ensures idle { C.is_idle machine.new }
         ensures ready { CanWrite self.new (C.rig machine.new) bay }
     {
