@@ -1,14 +1,14 @@
 -- What the attempts of a call have in common.
-use Rattle.std.proofs.Common.{◌≡◌, ◌↔◌, ℕ, ◌+◌, ◌-◌, ◌<◌, ◌≤◌, ◌⊎◌, IsTrue, Bool, true, false, List, Option, Some, None, IsSome, min, max, refl, sym, ap, ◌∙◌, subst, arith, inl, inr}
+use Rattle.std.proofs.Common.{◌≡◌, ◌↔◌, ℕ, ◌+◌, ◌≤◌, IsTrue, Bool, true, List, Some, IsSome, refl, sym, ap, ◌∙◌, subst, arith, inl, inr}
 use Rattle.std.proofs.lemmas.Bool.{cases_lt}
 use Rattle.retry_plan.specs.declared.Prepare.{Prepare}
 use Rattle.retry_plan.specs.declared.Prepare.TheVariants as prepare
 use Rattle.bay_model.specs.Bays.{Two, in_bay}
 use Rattle.bay_model.specs.Counters.{DriveCounts, Counters, faults_of, DisturbedLess, IsUndisturbed, GoesOn}
 use Rattle.bay_model.proofs.Counted.{faults_go_on}
-use Rattle.single_commands.specs.Rigs.{Rig, IsSound}
+use Rattle.single_commands.specs.Rigs.{Rig, IsSound, OnlyAsks}
 use Rattle.single_commands.specs.Reading.{SendsRead}
-use Rattle.sector_model.specs.Stations.{Bay, StationState, Becomes, Stays, bay_of, IsSteady}
+use Rattle.sector_model.specs.Stations.{Bay, StationState, IsSteady}
 use Rattle.sector_model.specs.Reads.{spoilable}
 use Rattle.floppy_driver.specs.declared.driver.Notes.{Notes}
 use Rattle.floppy_driver.specs.declared.driver.Driver.{Driver}
@@ -16,7 +16,7 @@ use Rattle.floppy_driver.specs.Shown.{notes_of, is_held, shown, with_notes, HasA
 use Rattle.floppy_driver.specs.Attached.{IsAttached}
 use Rattle.floppy_driver.specs.Prepared.{IsPrepared}
 use Rattle.floppy_driver.specs.Attempts.{CanTry, IsSure, sure_attempts}
-use Rattle.floppy_driver.proofs.Shows.{held_bay, held_bay_shown, held_lines_stay, moved_shown, known_shown, waiting_goes_on, waiting_driven, noted_at, attached_read, disturbed_less_more}
+use Rattle.floppy_driver.proofs.Shows.{held_bay_shown, held_lines_stay, moved_shown, known_shown, waiting_goes_on, waiting_driven, noted_at, attached_asked, attached_read, disturbed_less_more}
 use Rattle.floppy_driver.proofs.Prepared.{prepared_stands}
 
 -- ---- how many attempts can be spoilt
@@ -38,11 +38,11 @@ pub spoilt_more : (tries count bay : ℕ) (a b c : Counters) → 1 ≤ tries →
 spoilt_more tries count bay a b c some one two all spoilt sure =
     elim (cases_lt count 1) [
       | inl first ↦ elim (cases_lt 1 tries) [
-          | inl many ↦
-              let none : sure_attempts tries (count + 1) ≡ sure_attempts tries 0 = omega arith in
-              λ less. spoilt_none tries bay a c all (subst (λ (n : ℕ). DisturbedLess n bay a c) none less)
-          | inr single ↦ one_more (omega arith) (inl (omega arith))
-        ]
+        | inl many ↦
+            let none : sure_attempts tries (count + 1) ≡ sure_attempts tries 0 = omega arith in
+            λ less. spoilt_none tries bay a c all (subst (λ (n : ℕ). DisturbedLess n bay a c) none less)
+        | inr single ↦ one_more (omega arith) (inl (omega arith))
+      ]
       | inr later ↦ one_more (omega arith) (inr (omega arith))
     ]
   where
@@ -65,6 +65,14 @@ last_sure tries some =
 
 pub held_spun : (driver : Driver) (rig : Rig) (bay : ℕ) → CanTry driver rig bay → in_bay rig.spun bay ≡ true
 held_spun driver rig bay can = (noted_at driver rig bay can.attached).spun can.held
+
+pub can_try_asked : (driver : Driver) (old new : Rig) (bay : ℕ) → CanTry driver old bay → OnlyAsks old new → IsSound new → CanTry driver new bay
+can_try_asked driver old new bay can asks sound = record {
+  in_range = can.in_range;
+  held = ap (λ (t : Two Bool). is_held (notes_of driver bay) (in_bay t bay)) asks.heads.changes ∙ can.held;
+  attached = attached_asked driver old new asks can.attached;
+  sound = sound;
+}
 
 pub can_try_read : (driver : Driver) (old new : Rig) (bay : ℕ) → CanTry driver old bay → SendsRead old new → IsSound new → CanTry driver new bay
 can_try_read driver old new bay can sends sound = record {

@@ -2,4 +2,5 @@ pub mod Shown
 pub mod Attached
 pub mod Prepared
 pub mod Attempts
-pub mod Writings
+pub mod Readings
+pub mod Acknowledged
