@@ -8,3 +8,12 @@ mod ReadStep
 pub mod ReadTries
 pub mod Shows
 mod Worked
+pub mod Rising
+mod CheckedWrites
+mod WriteAttempts
+mod WriteChanges
+mod WriteTracks
+mod WriteSteps
+mod WriteEnds
+mod WriteLoops
+mod WriteStep

@@ -4,3 +4,4 @@ pub mod Prepared
 pub mod Attempts
 pub mod Readings
 pub mod Acknowledged
+pub mod Writings
