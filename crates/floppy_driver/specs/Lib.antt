@@ -1,3 +1,4 @@
 pub mod Shown
 pub mod Attached
 pub mod Prepared
+pub mod Formattings

@@ -1,6 +1,10 @@
 // Formatting a track.
-ghost use Rattle.std.specs.Prelude.{◌≡◌, ◌≤◌, List, ℕ};
+ghost use Rattle.std.specs.Prelude.{◌≡◌, ◌≤◌, ◌↔◌, IsTrue, true, List, ℕ};
+ghost use Rattle.flop_base.specs.Standard.{sectors_at};
+ghost use Rattle.track_model.specs.Fields.{IsSizeCode};
+ghost use Rattle.bay_model.specs.Bays.{in_bay};
 ghost use Rattle.bay_model.specs.Counters.{DriveCounts, GoesOn};
+ghost use Rattle.single_commands.specs.Rigs.{IsSound, track_under};
 
 use crate::driver::Driver;
 use flop_base::standard::SIZE_CODE;
@@ -12,9 +16,20 @@ use single_commands::Commands;
 /// The least gap 3.
 const LEAST_GAP: u8 = 16;
 
+/// What is asked of a format, at the rate of the bay.
+#[derive(Clone, Copy)]
+struct Asked {
+    c: u8,
+    h: u8,
+    rate: Rate,
+    gap3: u8,
+    fill: u8,
+}
+
 impl Driver {
     ghost use Rattle.floppy_driver.specs.Shown.{shown};
     ghost use Rattle.floppy_driver.specs.Attached.{IsAttached};
+    ghost use Rattle.floppy_driver.specs.Formattings.{format_of, IsAsked, IsWritable, FormatsIn, HasOnlyMedium};
     ghost use Rattle.sector_model.specs.Formats.{FormatsTo};
 
     /// Formats a track with the records of the bay's rate, and reads each back.
@@ -54,7 +69,14 @@ impl Driver {
         if machine.is_protected(bay) {
             return Err(Code::Protected);
         }
-        self.format_in_attempts(machine, bay, c, h, gap3, fill)
+        let asked = Asked {
+            c,
+            h,
+            rate,
+            gap3,
+            fill,
+        };
+        self.format_in_attempts(machine, bay, asked)
     }
 
     /// Formats in as many attempts as it takes, and no more than are set.
@@ -62,14 +84,25 @@ impl Driver {
         &mut self,
         machine: &mut C,
         bay: u8,
-        c: u8,
-        h: u8,
-        gap3: u8,
-        fill: u8,
-    ) -> Result<(), Code> {
+        asked: Asked,
+    ) -> Result<(), Code>
+        requires idle { C.is_idle machine.old }
+        requires bay { bay ≤ 1 }
+        requires asked { IsAsked (format_of asked) }
+        requires writable { IsWritable self.old bay (C.rig machine.old) }
+        ensures formats { FormatsIn self.old.tries (format_of asked) bay result
+            (in_bay (C.rig machine.old).media bay) (in_bay (C.rig machine.new).media bay)
+            (C.rig machine.old).counters (C.rig machine.new).counters }
+        ensures medium { (spares : ℕ) (waiting : List DriveCounts) → HasOnlyMedium
+            (shown self.old (C.rig machine.old) spares waiting) bay (in_bay (C.rig machine.new).media bay)
+            (shown self.new (C.rig machine.new) spares waiting) }
+        ensures counts { GoesOn (C.rig machine.old).counters (C.rig machine.new).counters }
+        ensures idle { C.is_idle machine.new }
+        ensures attached { IsAttached self.new (C.rig machine.new) }
+    {
         let mut last = Code::Seek;
         for _ in 0..self.tries {
-            match self.format_once(machine, bay, c, h, gap3, fill) {
+            match self.format_once(machine, bay, asked) {
                 Ok(()) => return Ok(()),
                 Err(code) => last = code,
             }
@@ -82,46 +115,95 @@ impl Driver {
         &mut self,
         machine: &mut C,
         bay: u8,
-        c: u8,
-        h: u8,
-        gap3: u8,
-        fill: u8,
-    ) -> Result<(), Code> {
-        let rate = self.notes(bay).rate;
-        if !self.prepare(machine, bay, c, Prepare::RecalibrateAndSeek) {
+        asked: Asked,
+    ) -> Result<(), Code>
+        requires idle { C.is_idle machine.old }
+        requires bay { bay ≤ 1 }
+        requires asked { IsAsked (format_of asked) }
+        requires writable { IsWritable self.old bay (C.rig machine.old) }
+        ensures formats { FormatsIn 1 (format_of asked) bay result
+            (in_bay (C.rig machine.old).media bay) (in_bay (C.rig machine.new).media bay)
+            (C.rig machine.old).counters (C.rig machine.new).counters }
+        ensures medium { (spares : ℕ) (waiting : List DriveCounts) → HasOnlyMedium
+            (shown self.old (C.rig machine.old) spares waiting) bay (in_bay (C.rig machine.new).media bay)
+            (shown self.new (C.rig machine.new) spares waiting) }
+        ensures counts { GoesOn (C.rig machine.old).counters (C.rig machine.new).counters }
+        ensures writable { IsWritable self.new bay (C.rig machine.new) }
+        ensures tries { self.new.tries ≡ self.old.tries }
+        ensures idle { C.is_idle machine.new }
+    {
+        if !self.prepare(machine, bay, asked.c, Prepare::RecalibrateAndSeek) {
             return Err(Code::Seek);
         }
-        machine.format(bay, c, h, rate, gap3, fill)?;
-        read_back_all(machine, bay, c, h, rate, fill)
+        machine.format(
+            bay,
+            asked.c,
+            asked.h,
+            asked.rate,
+            asked.gap3,
+            asked.fill,
+        )?;
+        read_back_all(machine, bay, asked)
     }
 }
 
+ghost use Rattle.floppy_driver.specs.Formattings.{format_of, IsAsked, IsFilled, HoldsRecord, HoldsRecords, ReadsRecords};
+
 /// Reads each record of a formatted track back; the first that fails, or has another byte than the fill, is the answer.
-fn read_back_all<C: Commands>(
-    machine: &mut C,
-    bay: u8,
-    c: u8,
-    h: u8,
-    rate: Rate,
-    fill: u8,
-) -> Result<(), Code> {
-    for r in 1..rate.sectors() + 1 {
+fn read_back_all<C: Commands>(machine: &mut C, bay: u8, asked: Asked) -> Result<(), Code>
+    requires idle { C.is_idle machine.old }
+    requires bay { bay ≤ 1 }
+    requires asked { IsAsked (format_of asked) }
+    requires spun { in_bay (C.rig machine.old).spun bay ≡ true }
+    requires sound { IsSound (C.rig machine.old) }
+    ensures reads { ReadsRecords (C.rig machine.old) bay (sectors_at asked.rate)
+        (HoldsRecords (track_under (C.rig machine.old) bay asked.rate asked.h) asked.c asked.h (sectors_at asked.rate) asked.fill)
+        result (C.rig machine.new) }
+    ensures sound { IsSound (C.rig machine.new) }
+    ensures idle { C.is_idle machine.new }
+{
+    for r in 1..asked.rate.sectors() + 1 {
         let key = Chrn {
-            c,
-            h,
+            c: asked.c,
+            h: asked.h,
             r,
             n: SIZE_CODE,
         };
-        machine.read_back(bay, key, rate)?;
-        if !is_page_filled(machine, fill, sector_size(SIZE_CODE) as u16) {
-            return Err(Code::BadCrc);
-        }
+        read_back_filled(machine, bay, key, asked.rate, asked.fill)?;
     }
     Ok(())
 }
 
+/// Reads a record back; one that has another byte than the fill is damaged.
+fn read_back_filled<C: Commands>(
+    machine: &mut C,
+    bay: u8,
+    key: Chrn,
+    rate: Rate,
+    fill: u8,
+) -> Result<(), Code>
+    requires idle { C.is_idle machine.old }
+    requires bay { bay ≤ 1 }
+    requires head { key.h ≤ 1 }
+    requires coded { IsSizeCode key.n }
+    requires spun { in_bay (C.rig machine.old).spun bay ≡ true }
+    ensures reads { ReadsRecords (C.rig machine.old) bay 1
+        (HoldsRecord (track_under (C.rig machine.old) bay rate key.h) key fill) result (C.rig machine.new) }
+    ensures sound { IsSound (C.rig machine.new) }
+    ensures idle { C.is_idle machine.new }
+{
+    machine.read_back(bay, key, rate)?;
+    if is_page_filled(machine, fill, sector_size(key.n) as u16) {
+        Ok(())
+    } else {
+        Err(Code::BadCrc)
+    }
+}
+
 /// Whether so many bytes of the driver's page are the fill byte.
-fn is_page_filled<C: Commands>(machine: &C, fill: u8, count: u16) -> bool {
+fn is_page_filled<C: Commands>(machine: &C, fill: u8, count: u16) -> bool
+    ensures { IsTrue result ↔ IsFilled (C.rig machine.now).page count fill }
+{
     for i in 0..count {
         if machine.page(i) != fill {
             return false;
