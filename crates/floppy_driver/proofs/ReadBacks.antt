@@ -1,5 +1,5 @@
 -- Reading a record back to the driver's page.
-use Rattle.std.proofs.Common.{◌≡◌, ℕ, zero, ◌+◌, ◌<◌, ◌≤◌, ◌⊎◌, Bool, true, false, List, ◌++◌, length, take, drop, replicate, get_or, Result, Ok, Err, refl, sym, ap, ◌∙◌, subst, arith, inl, inr}
+use Rattle.std.proofs.Common.{◌≡◌, ℕ, zero, ◌+◌, ◌<◌, ◌≤◌, ◌⊎◌, Bool, true, false, List, ◌++◌, length, take, drop, replicate, get_or, Option, Result, Ok, Err, refl, sym, ap, ◌∙◌, subst, arith, inl, inr}
 use Rattle.std.proofs.lemmas.Bool.{false≢true}
 use Rattle.std.proofs.lemmas.List.{get_or_append_left, get_or-replicate}
 use Rattle.flop_base.specs.declared.key.Chrn.{Chrn}
@@ -12,13 +12,16 @@ use Rattle.track_model.specs.declared.Look.TheVariants as look
 use Rattle.track_model.specs.Fields.{content_size, content_at}
 use Rattle.track_model.specs.Sectors.{IsSector}
 use Rattle.track_model.proofs.Unique.{one_look_at}
-use Rattle.bay_model.specs.Bays.{in_bay}
+use Rattle.bay_model.specs.Bays.{Two, in_bay}
+use Rattle.bay_model.proofs.Counted.{goes_on_after, faults_go_on}
+use Rattle.sector_map.specs.Met.{met_in}
+use Rattle.sector_map.specs.Standard.{key_of}
 use Rattle.bay_model.specs.Counters.{Counters, GoesOn, IsUndisturbed, IsFaultless}
 use Rattle.bay_model.specs.Memory.{with_bytes}
 use Rattle.sector_map.proofs.MetTracks.{met_track}
-use Rattle.single_commands.specs.Rigs.{Rig, track_under}
+use Rattle.single_commands.specs.Rigs.{Rig, HeadsStay, track_under}
 use Rattle.single_commands.specs.Reading.{IsReadReason, ReadsBack, FindsField}
-use Rattle.floppy_driver.specs.Formattings.{IsFilled, HoldsRecord, IsReadBackMiss, ReadsRecords}
+use Rattle.floppy_driver.specs.Formattings.{IsFilled, HoldsRecord, HoldsRecords, ReadsRecords}
 
 -- a read of a record that is there has no reason to fail
 no_reason : (track : List ℕ) (key : Chrn) (fill : ℕ) (code : Code) → HoldsRecord track key fill → IsReadReason track key code → ⊥
@@ -112,3 +115,55 @@ module _ (old : Rig) (bay : ℕ) (key : Chrn) (rate : Rate) (fill : ℕ) where
         disturbed = λ holds quiet. other (page_filled holds quiet);
       };
     }
+
+-- ---- one record after the other
+
+-- what is met stays where neither the medium nor the heads change
+same_under : (old new : Rig) (bay : ℕ) (rate : Rate) (h : ℕ) → HeadsStay old new → new.media ≡ old.media → track_under new bay rate h ≡ track_under old bay rate h
+same_under old new bay rate h heads media =
+    ap (λ (m : Two (Option Disk)). met_in (in_bay m bay) rate (in_bay new.cylinders bay) h) media
+    ∙ ap (λ (c : Two ℕ). met_in (in_bay old.media bay) rate (in_bay c bay) h) heads.cylinders
+
+pub heads_stay_after : (a b c : Rig) → HeadsStay a b → HeadsStay b c → HeadsStay a c
+heads_stay_after a b c one two = record {
+  cylinders = two.cylinders ∙ one.cylinders;
+  numbers = two.numbers ∙ one.numbers;
+  changes = two.changes ∙ one.changes;
+  spun = record { first = λ e. two.spun.first (one.spun.first e); second = λ e. two.spun.second (one.spun.second e) };
+}
+
+undisturbed_later : (bay : ℕ) (a b c : Counters) → GoesOn a b → GoesOn b c → IsUndisturbed bay a c → IsUndisturbed bay b c
+undisturbed_later bay a b c one two quiet =
+    let f = faults_go_on a b bay one in
+    let s = one.stalls in
+    let q = quiet.together in
+    record { faults = quiet.faults; stalls = quiet.stalls; together = omega arith }
+
+-- the record behind those that were read back could not be
+pub reads_failed : (old middle new : Rig) (bay so_far most : ℕ) (there next : Type 0) (code : Code) → so_far + 1 ≤ most → (there → next) → ReadsRecords old bay so_far there (Ok tt) middle → ReadsRecords middle bay 1 next (Err code) new → ReadsRecords old bay most there (Err code) new
+reads_failed old middle new bay so_far most there next code within has first second = record {
+  heads = heads_stay_after old middle new first.heads second.heads;
+  media = second.media ∙ first.media;
+  memory = second.memory ∙ first.memory;
+  counts = goes_on_after old.counters middle.counters new.counters first.counts second.counts;
+  driven = record {
+    most_commands = let f = first.driven.most_commands in let s = second.driven.most_commands in omega arith;
+    interrupts =
+        let f = first.driven.interrupts in
+        let s = second.driven.interrupts in
+        let d = first.counts.data_commands in
+        let e = second.counts.data_commands in
+        omega arith;
+    past_driver = second.driven.past_driver ∙ first.driven.past_driver;
+  };
+  commands = λ ok. absurd (false≢true ok);
+  refused = record {
+    coded = second.refused.coded;
+    overrun = λ e. let rose = second.refused.overrun e in let s = first.counts.stalls in omega arith;
+    disturbed = λ holds quiet. second.refused.disturbed (has holds) (undisturbed_later bay old.counters middle.counters new.counters first.counts second.counts quiet);
+  };
+}
+
+pub held_next : (old middle : Rig) (bay : ℕ) (rate : Rate) (c h last fill r : ℕ) → HeadsStay old middle → middle.media ≡ old.media → 1 ≤ r → r ≤ last → HoldsRecords (track_under old bay rate h) c h last fill → HoldsRecord (track_under middle bay rate h) (key_of c h r) fill
+held_next old middle bay rate c h last fill r heads media some most holds =
+    subst (λ (words : List ℕ). HoldsRecord words (key_of c h r) fill) (sym (same_under old middle bay rate h heads media)) (holds r some most)

@@ -1,41 +1,24 @@
-use Rattle.std.proofs.Common.{rules, ◌≡◌, ◌≤◌, ◌↔◌, IsTrue, true, List, ℕ, ◌+◌, ◌-◌, ◌*◌, ◌<◌, length, ◌/◌, ◌%◌, Bool, false, nat_eq, nat_lt, [], ◌∷◌, ◌++◌, slice_index_or, slice_set, bit_and, bit_or, Fits, w8, w32, w64, Bor, MutBor}
+use Rattle.std.proofs.Common.{arith, ◌-◌}
+use Rattle.std.proofs.lemmas.Result.{err_from_is_err_and}
 use Rattle.flop_base.specs.Standard.{sectors_at}
-use Rattle.track_model.specs.Fields.{IsSizeCode}
-use Rattle.bay_model.specs.Bays.{in_bay}
-use Rattle.bay_model.specs.Counters.{DriveCounts, GoesOn}
-use Rattle.single_commands.specs.Rigs.{IsSound, track_under}
-use Rattle.floppy_driver.specs.Formattings.{format_of, IsAsked, IsFilled, HoldsRecord, HoldsRecords, ReadsRecords}
+use Rattle.single_commands.specs.Rigs.{track_under}
+use Rattle.sector_map.specs.Standard.{key_of}
+use Rattle.floppy_driver.specs.Formattings.{HoldsRecord, HoldsRecords}
+use Rattle.floppy_driver.proofs.ReadBacks.{reads_failed, held_next}
 use Rattle.floppy_driver.proofs.formatting.read_back_all.Goals as goal
 
--- src/formatting.rt:165:5
-pub loop-r-init : goal.loop-r-init
-loop-r-init g c = ?
-
--- src/formatting.rt:172:9
-pub read_back_filled-requires-clause-idle : goal.read_back_filled-requires-clause-idle
-read_back_filled-requires-clause-idle g c = ?
-
--- src/formatting.rt:172:9
-pub read_back_filled-requires-clause-spun : goal.read_back_filled-requires-clause-spun
-read_back_filled-requires-clause-spun g c = ?
-
--- src/formatting.rt:172:9
-pub returns-in_err-read_back_filled-clause-reads :
-    goal.returns-in_err-read_back_filled-clause-reads
-returns-in_err-read_back_filled-clause-reads g c = ?
-
--- src/formatting.rt:165:5
-pub loop-r-preserved : goal.loop-r-preserved
-loop-r-preserved g c = ?
-
--- src/formatting.rt:153:1
-pub returns-clause-reads : goal.returns-clause-reads
-returns-clause-reads g c = ?
-
--- src/formatting.rt:153:1
-pub returns-clause-sound : goal.returns-clause-sound
-returns-clause-sound g c = ?
-
--- src/formatting.rt:153:1
-pub returns-clause-idle : goal.returns-clause-idle
-returns-clause-idle g c = ?
+pub returns-in_err-read_back_filled-clause-reads : goal.returns-in_err-read_back_filled-clause-reads
+returns-in_err-read_back_filled-clause-reads g c =
+    let p = err_from_is_err_and c.from_residual.result c.from_residual.ensures.1 in
+    let asked = c.args.asked in
+    let old = g.C.Commands.rig c.args.machine.now in
+    let middle = g.C.Commands.rig c.loop-r.machine in
+    let new = g.C.Commands.rig c.read_back_filled.new.machine in
+    let so_far = c.loop-r.invariant.reads in
+    rw (p.1, p.2)
+    (reads_failed old middle new c.args.bay (c.loop-r.r - 1) (sectors_at asked.rate)
+    (HoldsRecords (track_under old c.args.bay asked.rate asked.h) asked.c asked.h (sectors_at asked.rate) asked.fill)
+    (HoldsRecord (track_under middle c.args.bay asked.rate asked.h) (key_of asked.c asked.h c.loop-r.r) asked.fill)
+    c.in_err-read_back_filled.field-0.0 (omega arith)
+    (held_next old middle c.args.bay asked.rate asked.c asked.h (sectors_at asked.rate) asked.fill c.loop-r.r so_far.heads so_far.media (omega arith) (omega arith))
+    so_far c.in_err-read_back_filled.ensures.reads)
