@@ -1,1 +1,4 @@
+mod Attempts
+mod LaidTracks
 mod ReadBacks
+pub mod Shows

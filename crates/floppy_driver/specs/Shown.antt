@@ -3,8 +3,8 @@ use Rattle.std.specs.Prelude.{◌≡◌, ℕ, ◌==◌, ◌&&◌, Bool, false, n
 use Rattle.flop_base.specs.declared.answers.Rate.{Rate}
 use Rattle.flop_base.specs.declared.answers.Rate.TheVariants.{R500}
 use Rattle.raw_image.specs.Disk.{Disk}
-use Rattle.bay_model.specs.Counters.{DriveCounts, Counters}
-use Rattle.sector_model.specs.Stations.{Bay, StationState}
+use Rattle.bay_model.specs.Counters.{DriveCounts, Counters, GoesOn, IsDriven}
+use Rattle.sector_model.specs.Stations.{Bay, StationState, Stays}
 use Rattle.single_commands.specs.Rigs.{Rig}
 use Rattle.floppy_driver.specs.declared.driver.Notes.{Notes}
 use Rattle.floppy_driver.specs.declared.driver.Driver.{Driver}
@@ -51,3 +51,9 @@ pub record IsFreshDriver (driver : Driver) : Type 0 where
   pub first : driver.first.gate ≡ false
   pub second : driver.second.gate ≡ false
   pub tries : driver.tries ≡ 3
+
+-- the station was asked something: nothing but its counters changed, and no data command was sent
+pub record HasAsked (old new : StationState) : Type 0 where
+  pub stays : Stays old new
+  pub counts : GoesOn old.counters new.counters
+  pub idle : IsDriven 0 old.counters new.counters
