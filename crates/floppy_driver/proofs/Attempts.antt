@@ -1,5 +1,5 @@
 -- One attempt of a format.
-use Rattle.std.proofs.Common.{◌≡◌, ◌↔◌, ℕ, zero, suc, ◌+◌, ◌*◌, ◌<◌, ◌≤◌, ◌⊎◌, Bool, true, false, List, [], All, Option, Some, None, IfSome, MatchOption, Result, Ok, Err, IsOk, IfErr, refl, sym, ap, ◌∙◌, subst, arith, inl, inr}
+use Rattle.std.proofs.Common.{◌≡◌, ◌↔◌, ℕ, zero, suc, ◌+◌, ◌*◌, ◌<◌, ◌≤◌, ◌⊎◌, Bool, true, false, List, [], All, Option, Some, None, IfSome, MatchOption, Result, Ok, Err, IsOk, IsErr, IfErr, refl, sym, ap, ◌∙◌, subst, arith, inl, inr}
 use Rattle.std.specs.Prelude.{◌==◌, if◌then◌else◌}
 use Rattle.std.proofs.lemmas.Bool.{false≢true}
 use Rattle.flop_base.specs.Standard.{sectors_at}
@@ -181,3 +181,139 @@ module _ (old middle laid : Rig) (notes after : Notes) (bay : ℕ) (format : For
     begins place cause disk was has rate =
         let made = whole place cause disk was has rate in
         (made.new, made.is, made.track)
+
+  -- the command was refused
+  module _ (laying : Option Laying) (code : Code) (formats : FormatsTrack middle bay format laying (Err code) laid) where
+    abbrev refusal : Result (Unit {0}) Code
+    refusal = Err code
+
+    unformattable : IsUndisturbed bay old.counters laid.counters → IsFormattable format was_in → ⊥
+    unformattable quiet can =
+        let place = there laying refusal formats (undisturbed_faultless bay old.counters laid.counters (counts laying refusal formats) quiet) in
+        (formats.refused.reason (undisturbed_middle laying refusal formats quiet)).1 (can_to laying refusal formats place can)
+
+    pub refused_attempt : FormatsIn 1 format bay (Err code) was_in is_in old.counters laid.counters
+    refused_attempt =
+        let goes = counts laying refusal formats in
+        let faultless = undisturbed_faultless bay old.counters laid.counters goes in
+        let placed = there laying refusal formats in
+        let later = undisturbed_middle laying refusal formats in
+        let made = may laying refusal formats in
+        record {
+          layings = layings_of laying;
+          few = one_at_most format under was_in is_in laying;
+          lays = laying_lays format under was_in is_in laying made;
+          only = λ quiet. laying_only format under was_in is_in laying made (placed quiet);
+          untouched = λ quiet. laying_untouched format under was_in is_in laying made (placed (faultless quiet));
+          never = λ failed can quiet. unformattable quiet can;
+          driven =
+              driven_within 1 (1 * (1 + sectors_at format.rate)) old.counters laid.counters (omega arith)
+              (driven_after 0 1 old.counters middle.counters laid.counters prepared.moves.counts formats.sends.counts prepared.moves.driven formats.sends.driven);
+          ends = λ some. record {
+            exactly = λ quiet. (λ ok. absurd (false≢true ok), λ can. absurd (unformattable quiet can));
+            begun = λ quiet. begins laying refusal formats (placed (faultless quiet)) (inl (later quiet));
+            commands = λ ok. absurd (false≢true ok);
+            formatted_track = λ ok. absurd (false≢true ok);
+            refused = record {
+              device = format_device code formats.refused.coded;
+              undisturbed = λ quiet. (formats.refused.reason (later quiet)).0;
+              overrun = λ e. let rose = formats.refused.overrun e in let s = prepared.moves.counts.stalls in omega arith;
+              lost = λ e. absurd (format_not_seek code formats.refused.coded e);
+            };
+          };
+        }
+
+  -- it was done, and the records were read back
+  module _ (laying : Option Laying) (formats : FormatsTrack middle bay format laying (Ok tt) laid) (asked : IsAsked format) (answer : Result (Unit {0}) Code) (new : Rig) (reads : ReadsRecords laid bay (sectors_at format.rate) (HoldsRecords (track_under laid bay format.rate format.h) format.c format.h (sectors_at format.rate) format.fill) answer new) where
+    abbrev done : Result (Unit {0}) Code
+    done = Ok tt
+
+    goes_all : GoesOn old.counters new.counters
+    goes_all = goes_on_after old.counters laid.counters new.counters (counts laying done formats) reads.counts
+
+    faultless_laid : IsFaultless bay old.counters new.counters → IsFaultless bay old.counters laid.counters
+    faultless_laid = faultless_first bay old.counters laid.counters new.counters (counts laying done formats) reads.counts
+
+    undisturbed_laid : IsUndisturbed bay old.counters new.counters → IsUndisturbed bay old.counters laid.counters
+    undisturbed_laid = undisturbed_part bay old.counters old.counters laid.counters new.counters (goes_on_itself old.counters) (counts laying done formats) reads.counts
+
+    undisturbed_back : IsUndisturbed bay old.counters new.counters → IsUndisturbed bay laid.counters new.counters
+    undisturbed_back = undisturbed_part bay old.counters laid.counters new.counters new.counters (counts laying done formats) reads.counts (goes_on_itself new.counters)
+
+    faultless_all : IsUndisturbed bay old.counters new.counters → IsFaultless bay old.counters new.counters
+    faultless_all = undisturbed_faultless bay old.counters new.counters goes_all
+
+    formattable : IsFaultless bay old.counters new.counters → CanFormatUnder middle bay format
+    formattable quiet = formats.fits refl (faultless_middle laying done formats (faultless_laid quiet))
+
+    made_so : IsFaultless bay old.counters new.counters → IsFormattable format was_in × IsFormatted format was_in is_in
+    made_so quiet =
+        let first = faultless_laid quiet in
+        let place = there laying done formats first in
+        (can_from laying done formats place (formattable quiet), begins laying done formats place (inr (refl, faultless_middle laying done formats first)))
+
+    holds : IsUndisturbed bay old.counters new.counters → HoldsRecords (track_under laid bay format.rate format.h) format.c format.h (sectors_at format.rate) format.fill
+    holds quiet =
+        let first = faultless_laid (faultless_all quiet) in
+        let place = there laying done formats first in
+        let can = can_from laying done formats place (formattable (faultless_all quiet)) in
+        let whole_track = whole laying done formats place (inr (refl, faultless_middle laying done formats first)) can.0 can.1 can.2.track can.2.rate in
+        let there_now : in_bay laid.cylinders bay ≡ format.c = ap (λ (t : Two ℕ). in_bay t bay) formats.sends.heads.cylinders ∙ place in
+        let At : ℕ → Type 0 = λ c. HoldsRecords (met_in is_in format.rate c format.h) format.c format.h (sectors_at format.rate) format.fill in
+        subst At (sym there_now) (laid_holds format can.0 is_in asked.cylinder asked.head asked.byte can.2.fits whole_track)
+
+    was_done : IsUndisturbed bay old.counters new.counters → IsOk answer
+    was_done quiet = by_answer answer reads.refused
+      where
+        by_answer : (a : Result (Unit {0}) Code) → IfErr a (λ code. IsReadBackMiss bay (HoldsRecords (track_under laid bay format.rate format.h) format.c format.h (sectors_at format.rate) format.fill) code laid.counters new.counters) → IsOk a
+        by_answer (Ok is) missed = refl
+        by_answer (Err code) missed = absurd (missed.disturbed (holds quiet) (undisturbed_back quiet))
+
+    why : IfErr answer (λ code. IsAttemptRefusal bay code old.counters new.counters)
+    why = by_answer answer reads.refused was_done
+      where
+        by_answer : (a : Result (Unit {0}) Code) → IfErr a (λ code. IsReadBackMiss bay (HoldsRecords (track_under laid bay format.rate format.h) format.c format.h (sectors_at format.rate) format.fill) code laid.counters new.counters) → (IsUndisturbed bay old.counters new.counters → IsOk a) → IfErr a (λ code. IsAttemptRefusal bay code old.counters new.counters)
+        by_answer (Ok is) missed ok = tt
+        by_answer (Err code) missed ok = record {
+          device = read_device code missed.coded;
+          undisturbed = λ quiet. absurd (false≢true (ok quiet));
+          overrun = λ e. let rose = missed.overrun e in let s = (counts laying done formats).stalls in omega arith;
+          lost = λ e. absurd (read_not_seek code missed.coded e);
+        }
+
+    not_both : (a : Result (Unit {0}) Code) → IsErr a → IsOk a → ⊥
+    not_both (Ok is) failed ok = false≢true failed
+    not_both (Err code) failed ok = false≢true ok
+
+    read_so : FormatsIn 1 format bay answer was_in is_in old.counters new.counters
+    read_so =
+        let made = may laying done formats in
+        let placed : IsFaultless bay old.counters new.counters → under ≡ format.c = λ quiet. there laying done formats (faultless_laid quiet) in
+        record {
+          layings = layings_of laying;
+          few = one_at_most format under was_in is_in laying;
+          lays = laying_lays format under was_in is_in laying made;
+          only = λ quiet. laying_only format under was_in is_in laying made (placed quiet);
+          untouched = λ quiet. laying_untouched format under was_in is_in laying made (placed (faultless_all quiet));
+          never = λ failed can quiet. not_both answer failed (was_done quiet);
+          driven =
+              driven_within (0 + 1 + sectors_at format.rate) (1 * (1 + sectors_at format.rate)) old.counters new.counters (omega arith)
+              (driven_after (0 + 1) (sectors_at format.rate) old.counters laid.counters new.counters (counts laying done formats) reads.counts
+              (driven_after 0 1 old.counters middle.counters laid.counters prepared.moves.counts formats.sends.counts prepared.moves.driven formats.sends.driven) reads.driven);
+          ends = λ some. record {
+            exactly = λ quiet. (λ ok. (made_so (faultless_all quiet)).0, λ can. was_done quiet);
+            begun = λ quiet. (made_so (faultless_all quiet)).1;
+            commands = λ ok.
+                let first = prepared.moves.counts.data_commands in
+                let one = formats.sends.command in
+                let rest = reads.commands ok in
+                omega arith;
+            formatted_track = λ ok quiet. made_so quiet;
+            refused = why;
+          };
+        }
+
+    pub read_attempt : FormatsIn 1 format bay answer was_in (in_bay new.media bay) old.counters new.counters
+    read_attempt =
+        let In : Option Disk → Type 0 = λ m. FormatsIn 1 format bay answer was_in m old.counters new.counters in
+        subst In (sym (in_same_bay laid.media new.media bay reads.media)) read_so

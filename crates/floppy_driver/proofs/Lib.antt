@@ -2,3 +2,4 @@ mod Attempts
 mod LaidTracks
 mod ReadBacks
 pub mod Shows
+mod Writable
