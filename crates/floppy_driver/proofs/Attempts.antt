@@ -69,14 +69,14 @@ read_not_seek : (code : Code) → IsReadCode code → code ≡ Seek → ⊥
 read_not_seek code coded is = subst IsReadCode is coded
 
 -- what was faultless as a whole was so in its first part
-faultless_first : (bay : ℕ) (a b c : Counters) → GoesOn a b → GoesOn b c → IsFaultless bay a c → IsFaultless bay a b
+pub faultless_first : (bay : ℕ) (a b c : Counters) → GoesOn a b → GoesOn b c → IsFaultless bay a c → IsFaultless bay a b
 faultless_first bay a b c one two quiet =
     let f = faults_go_on b c bay two in
     let less = quiet.0 in
     let below = quiet.1 in
     (omega arith, omega arith)
 
-faultless_later : (bay : ℕ) (a b c : Counters) → GoesOn a b → GoesOn b c → IsFaultless bay a c → IsFaultless bay b c
+pub faultless_later : (bay : ℕ) (a b c : Counters) → GoesOn a b → GoesOn b c → IsFaultless bay a c → IsFaultless bay b c
 faultless_later bay a b c one two quiet =
     let f = faults_go_on a b bay one in
     let less = quiet.0 in

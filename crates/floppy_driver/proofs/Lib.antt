@@ -1,5 +1,6 @@
 mod Attempts
 mod LaidTracks
+mod MoreAttempts
 mod ReadBacks
 pub mod Shows
 mod Writable
