@@ -1,6 +1,7 @@
-mod Attempts
+mod FormatOnce
+mod FormatTries
 mod LaidTracks
-mod MoreAttempts
+pub mod Prepared
 mod ReadBacks
 pub mod Shows
 mod Writable

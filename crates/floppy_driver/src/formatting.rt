@@ -1,5 +1,7 @@
 // Formatting a track.
-ghost use Rattle.std.specs.Prelude.{◌≡◌, ◌≤◌, ◌↔◌, IsTrue, true, List, ℕ};
+ghost use Rattle.std.specs.Prelude.{◌≡◌, ◌≤◌, ◌↔◌, ◌&&◌, IsTrue, true, nat_le, List, ℕ, if◌then◌else◌};
+ghost use Rattle.flop_base.specs.declared.answers.Rate.TheVariants.{R500};
+ghost use Rattle.sector_model.specs.Orders.{is_bay, is_place};
 ghost use Rattle.flop_base.specs.Standard.{sectors_at};
 ghost use Rattle.track_model.specs.Fields.{IsSizeCode};
 ghost use Rattle.bay_model.specs.Bays.{in_bay};
@@ -27,7 +29,7 @@ struct Asked {
 }
 
 impl Driver {
-    ghost use Rattle.floppy_driver.specs.Shown.{shown};
+    ghost use Rattle.floppy_driver.specs.Shown.{shown, notes_of};
     ghost use Rattle.floppy_driver.specs.Attached.{IsAttached};
     ghost use Rattle.floppy_driver.specs.Formattings.{format_of, IsAsked, IsWritable, FormatsIn, HasOnlyMedium};
     ghost use Rattle.sector_model.specs.Formats.{FormatsTo};
@@ -51,15 +53,11 @@ impl Driver {
         ensures idle { C.is_idle machine.new }
         ensures attached { IsAttached self.new (C.rig machine.new) }
     {
-        if bay > 1 || !is_place(c, h) || gap3 < LEAST_GAP {
+        if !is_asked(bay, c, h, gap3) {
             return Err(Code::BadRequest);
         }
         let held = self.is_held(machine, bay);
-        let rate = if held {
-            self.notes(bay).rate
-        } else {
-            Rate::R500
-        };
+        let rate = self.shown_rate(bay, held);
         if gap3 > most_format_gap(rate) {
             return Err(Code::BadRequest);
         }
@@ -77,6 +75,17 @@ impl Driver {
             fill,
         };
         self.format_in_attempts(machine, bay, asked)
+    }
+
+    /// The rate of a bay: the noted one where it is held.
+    fn shown_rate(&self, bay: u8, held: bool) -> Rate
+        ensures { result ≡ (if held then (notes_of self.now bay).rate else R500) }
+    {
+        if held {
+            self.notes(bay).rate
+        } else {
+            Rate::R500
+        }
     }
 
     /// Formats in as many attempts as it takes, and no more than are set.
@@ -145,6 +154,20 @@ impl Driver {
         )?;
         read_back_all(machine, bay, asked)
     }
+}
+
+/// Whether a format of such a track of a drive can be asked for, with a gap 3 that isn't too short.
+fn is_asked(bay: u8, c: u8, h: u8, gap3: u8) -> bool
+    ensures value { result ≡ (is_bay bay && is_place c h && nat_le 16 gap3) }
+    ensures bay { IsTrue result → bay ≤ 1 }
+    ensures cylinder { IsTrue result → c ≤ 79 }
+    ensures head { IsTrue result → h ≤ 1 }
+    ensures gap { IsTrue result → 16 ≤ gap3 }
+{
+    if bay > 1 || !is_place(c, h) {
+        return false;
+    }
+    gap3 >= LEAST_GAP
 }
 
 ghost use Rattle.floppy_driver.specs.Formattings.{format_of, IsAsked, IsFilled, HoldsRecord, HoldsRecords, ReadsRecords};

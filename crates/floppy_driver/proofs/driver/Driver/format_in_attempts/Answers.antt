@@ -5,7 +5,7 @@ use Rattle.sector_model.specs.Stations.{Bay}
 use Rattle.floppy_driver.specs.Shown.{shown}
 use Rattle.floppy_driver.specs.Formattings.{format_of}
 use Rattle.floppy_driver.proofs.Shows.{bay_shown_at}
-use Rattle.floppy_driver.proofs.MoreAttempts.{formats_none, formats_more, formats_done, medium_twice, medium_itself}
+use Rattle.floppy_driver.proofs.FormatTries.{formats_none, formats_more, formats_done, medium_twice, medium_itself}
 use Rattle.floppy_driver.proofs.driver.Driver.format_in_attempts.Goals as goal
 
 pub loop-init : goal.loop-init

@@ -5,7 +5,7 @@ use Rattle.retry_plan.specs.declared.Prepare.TheVariants as prepare
 use Rattle.single_commands.specs.Rigs.{track_under}
 use Rattle.floppy_driver.specs.Formattings.{format_of, HoldsRecords}
 use Rattle.floppy_driver.specs.Shown.{notes_of}
-use Rattle.floppy_driver.proofs.Attempts.{lost_attempt, refused_attempt, read_attempt}
+use Rattle.floppy_driver.proofs.FormatOnce.{lost_attempt, refused_attempt, read_attempt}
 use Rattle.floppy_driver.proofs.Writable.{writable_prepared, writable_formatted, writable_read}
 use Rattle.floppy_driver.proofs.driver.Driver.format_once.Goals as goal
 

@@ -20,7 +20,7 @@ use Rattle.sector_model.specs.Formats.{LaysDisk, Lays, IsFormatted, IsUnformatte
 use Rattle.floppy_driver.specs.Formattings.{IsAttemptRefusal, EndsFormat, FormatsIn, HasOnlyMedium}
 use Rattle.floppy_driver.proofs.Shows.{driven_after, driven_within, undisturbed_part, disturbed_less_more}
 use Rattle.floppy_driver.proofs.LaidTracks.{lays_none, same_some}
-use Rattle.floppy_driver.proofs.Attempts.{faultless_first, faultless_later}
+use Rattle.floppy_driver.proofs.FormatOnce.{faultless_first, faultless_later}
 
 -- ---- layings keep what a format asks of a disk
 
