@@ -1,4 +1,5 @@
 mod FormatOnce
+mod FormatStep
 mod FormatTries
 mod LaidTracks
 pub mod Prepared

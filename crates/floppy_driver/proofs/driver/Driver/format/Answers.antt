@@ -1,34 +1,45 @@
-use Rattle.std.proofs.Common.{rules, ◌≡◌, ◌≤◌, ◌↔◌, ◌&&◌, IsTrue, true, nat_le, List, ℕ, if◌then◌else◌, ◌+◌, ◌-◌, ◌*◌, ◌<◌, length, ◌/◌, ◌%◌, Bool, false, nat_eq, nat_lt, [], ◌∷◌, ◌++◌, slice_index_or, slice_set, bit_and, bit_or, Fits, w8, w32, w64, Bor, MutBor}
-use Rattle.flop_base.specs.declared.answers.Rate.TheVariants.{R500}
-use Rattle.sector_model.specs.Orders.{is_bay, is_place}
-use Rattle.flop_base.specs.Standard.{sectors_at}
-use Rattle.track_model.specs.Fields.{IsSizeCode}
-use Rattle.bay_model.specs.Bays.{in_bay}
-use Rattle.bay_model.specs.Counters.{DriveCounts, GoesOn}
-use Rattle.single_commands.specs.Rigs.{IsSound, track_under}
-use Rattle.floppy_driver.specs.Formattings.{format_of, IsAsked, IsFilled, HoldsRecord, HoldsRecords, ReadsRecords, IsWritable, FormatsIn, HasOnlyMedium}
-use Rattle.floppy_driver.specs.Shown.{shown, notes_of}
-use Rattle.floppy_driver.specs.Attached.{IsAttached}
-use Rattle.sector_model.specs.Formats.{FormatsTo}
+use Rattle.std.proofs.Common.{[], sym, ap, ◌∙◌, ◌≡◌, ◌<◌, ◌≤◌, subst, ℕ, arith}
+use Rattle.sector_model.specs.Stations.{StationState}
+use Rattle.floppy_driver.proofs.FormatStep.{gap_refused, change_refused, protection_refused, writable_asked, format_step}
 use Rattle.floppy_driver.proofs.driver.Driver.format.Goals as goal
 
--- src/formatting.rt:62:13
-pub returns-then-gap3-most_format_gap-clause-step :
-    goal.returns-then-gap3-most_format_gap-clause-step
-returns-then-gap3-most_format_gap-clause-step g c = ?
+pub returns-then-gap3-most_format_gap-clause-step : goal.returns-then-gap3-most_format_gap-clause-step
+returns-then-gap3-most_format_gap-clause-step g c = λ spares waiting.
+    let held = c.is_held-held in
+    gap_refused c.args.self.now held.new.self (g.C.Commands.rig c.args.machine.now) c.args.bay c.args.c c.args.h c.args.gap3 held.result c.shown_rate-rate.result spares waiting
+    held.ensures.held (held.ensures.shown spares waiting) c.shown_rate-rate.ensures (sym c.is_asked.ensures.value ∙ c.if-not-is_asked.false) c.args.fill (g.C.Commands.rig held.new.machine) held.ensures.asks
+    (let most = c.most_format_gap.ensures in let more = c.if-gap3-most_format_gap.true in subst (λ (n : ℕ). n < c.args.gap3) most more)
 
--- src/formatting.rt:65:13
 pub returns-then-not-held-clause-step : goal.returns-then-not-held-clause-step
-returns-then-not-held-clause-step g c = ?
+returns-then-not-held-clause-step g c = λ spares waiting.
+    let held = c.is_held-held in
+    change_refused c.args.self.now held.new.self (g.C.Commands.rig c.args.machine.now) c.args.bay c.args.c c.args.h c.args.gap3 held.result c.shown_rate-rate.result spares waiting
+    held.ensures.held (held.ensures.shown spares waiting) c.shown_rate-rate.ensures (sym c.is_asked.ensures.value ∙ c.if-not-is_asked.false) c.args.fill (g.C.Commands.rig held.new.machine) held.ensures.asks
+    (subst (λ (n : ℕ). c.args.gap3 ≤ n) c.most_format_gap.ensures c.if-gap3-most_format_gap.false) c.if-not-held.true
 
--- src/formatting.rt:68:13
 pub returns-then-is_protected-clause-step : goal.returns-then-is_protected-clause-step
-returns-then-is_protected-clause-step g c = ?
+returns-then-is_protected-clause-step g c = λ spares waiting.
+    let held = c.is_held-held in
+    protection_refused c.args.self.now held.new.self (g.C.Commands.rig c.args.machine.now) c.args.bay c.args.c c.args.h c.args.gap3 held.result c.shown_rate-rate.result spares waiting
+    held.ensures.held (held.ensures.shown spares waiting) c.shown_rate-rate.ensures (sym c.is_asked.ensures.value ∙ c.if-not-is_asked.false) c.args.fill (g.C.Commands.rig held.new.machine) held.ensures.asks
+    (subst (λ (n : ℕ). c.args.gap3 ≤ n) c.most_format_gap.ensures c.if-gap3-most_format_gap.false) c.if-not-held.false
+    (g.C.Commands.rig c.is_protected.new.self) c.is_protected.ensures.asks c.if-is_protected.ensures.line
 
--- src/formatting.rt:77:9
 pub format_in_attempts-requires-clause-writable : goal.format_in_attempts-requires-clause-writable
-format_in_attempts-requires-clause-writable g c = ?
+format_in_attempts-requires-clause-writable g c =
+    let held = c.is_held-held in
+    writable_asked c.args.self.now held.new.self (g.C.Commands.rig c.args.machine.now) c.args.bay c.args.c c.args.h c.args.gap3 held.result c.shown_rate-rate.result 0 []
+    held.ensures.held (held.ensures.shown 0 []) c.shown_rate-rate.ensures (sym c.is_asked.ensures.value ∙ c.if-not-is_asked.false) c.args.fill (g.C.Commands.rig held.new.machine) held.ensures.asks
+    (subst (λ (n : ℕ). c.args.gap3 ≤ n) c.most_format_gap.ensures c.if-gap3-most_format_gap.false) c.if-not-held.false
+    (g.C.Commands.rig c.is_protected.new.self) c.is_protected.ensures.asks c.if-is_protected.ensures.line c.is_protected.ensures.sound held.ensures.attached
 
--- src/formatting.rt:38:5
 pub returns-clause-step : goal.returns-clause-step
-returns-clause-step g c = ?
+returns-clause-step g c = λ spares waiting.
+    let held = c.is_held-held in
+    let tries = ap (λ (s : StationState). s.tries) (held.ensures.shown 0 []) in
+    let last = c.format_in_attempts in
+    format_step c.args.self.now held.new.self (g.C.Commands.rig c.args.machine.now) c.args.bay c.args.c c.args.h c.args.gap3 held.result c.shown_rate-rate.result spares waiting
+    held.ensures.held (held.ensures.shown spares waiting) c.shown_rate-rate.ensures (sym c.is_asked.ensures.value ∙ c.if-not-is_asked.false) c.args.fill (g.C.Commands.rig held.new.machine) held.ensures.asks
+    (subst (λ (n : ℕ). c.args.gap3 ≤ n) c.most_format_gap.ensures c.if-gap3-most_format_gap.false) c.if-not-held.false
+    (g.C.Commands.rig c.is_protected.new.self) c.is_protected.ensures.asks c.if-is_protected.ensures.line last.new.self last.result (g.C.Commands.rig last.new.machine)
+    c.args.self.now.some_tries tries last.ensures.counts last.ensures.formats (last.ensures.medium spares waiting)
