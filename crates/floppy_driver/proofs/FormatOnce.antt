@@ -1,5 +1,5 @@
 -- One attempt of a format.
-use Rattle.std.proofs.Common.{◌≡◌, ◌↔◌, ℕ, zero, suc, ◌+◌, ◌*◌, ◌<◌, ◌≤◌, ◌⊎◌, Bool, true, false, List, [], All, Option, Some, None, IfSome, MatchOption, Result, Ok, Err, IsOk, IsErr, IfErr, refl, sym, ap, ◌∙◌, subst, arith, inl, inr}
+use Rattle.std.proofs.Common.{◌≡◌, ℕ, ◌+◌, ◌*◌, ◌⊎◌, Bool, true, false, [], Option, Some, None, IfSome, MatchOption, Result, Ok, Err, IsOk, IsErr, IfErr, refl, sym, ap, ◌∙◌, subst, arith, inl, inr}
 use Rattle.std.specs.Prelude.{◌==◌, if◌then◌else◌}
 use Rattle.std.proofs.lemmas.Bool.{false≢true}
 use Rattle.flop_base.specs.Standard.{sectors_at}
@@ -8,7 +8,7 @@ use Rattle.flop_base.specs.declared.answers.Code.TheVariants.{BadRequest, NoMark
 use Rattle.raw_image.specs.Disk.{Disk, IsDisk, HasTrack}
 use Rattle.retry_plan.specs.declared.Prepare.TheVariants as prepare
 use Rattle.bay_model.specs.Bays.{Two, in_bay}
-use Rattle.bay_model.specs.Counters.{Counters, GoesOn, IsUndisturbed, IsFaultless, IsDriven}
+use Rattle.bay_model.specs.Counters.{Counters, GoesOn, IsUndisturbed, IsFaultless}
 use Rattle.bay_model.proofs.Counted.{goes_on_after, goes_on_itself, faults_go_on}
 use Rattle.sector_map.specs.Met.{met_in}
 use Rattle.sector_map.specs.Layings.{Format, Laying, IsFormattable}
@@ -18,7 +18,7 @@ use Rattle.single_commands.specs.Rigs.{Rig, IsSound, track_under}
 use Rattle.single_commands.specs.Reading.{IsReadCode}
 use Rattle.single_commands.specs.Writing.{FormatsTrack, LaysMedium, HasTrackUnder, CanFormatUnder, IsFormatCode}
 use Rattle.floppy_driver.specs.Prepared.{IsPrepared}
-use Rattle.floppy_driver.specs.Formattings.{IsAsked, HoldsRecords, IsReadBackMiss, ReadsRecords, IsAttemptRefusal, EndsFormat, FormatsIn}
+use Rattle.floppy_driver.specs.Formattings.{IsValidFormat, HoldsRecords, IsReadBackMiss, ReadsRecords, IsAttemptRefusal, FormatsIn}
 use Rattle.floppy_driver.specs.declared.driver.Notes.{Notes}
 use Rattle.floppy_driver.proofs.Shows.{driven_after, driven_within, undisturbed_part, undisturbed_faultless}
 use Rattle.floppy_driver.proofs.LaidTracks.{lays_none, MayLay, layings_of, IsLaidWhole, one_at_most, laying_lays, laying_only, laying_untouched, laying_whole, laid_holds, same_some}
@@ -89,10 +89,10 @@ lost_attempt old notes bay format new after prepared =
     let lost = prepared.lost refl in
     let same = in_same_bay old.media new.media bay prepared.moves.media in
     let disturbed : IsUndisturbed bay old.counters new.counters → ⊥ = λ quiet.
-        let less = quiet.together in
-        let below = quiet.faults in
-        let s = prepared.moves.counts.stalls in
-        omega arith in
+    let less = quiet.together in
+    let below = quiet.faults in
+    let s = prepared.moves.counts.stalls in
+    omega arith in
     record {
       layings = [];
       few = omega arith;
@@ -224,7 +224,7 @@ module _ (old middle laid : Rig) (notes after : Notes) (bay : ℕ) (format : For
         }
 
   -- it was done, and the records were read back
-  module _ (laying : Option Laying) (formats : FormatsTrack middle bay format laying (Ok tt) laid) (asked : IsAsked format) (answer : Result (Unit {0}) Code) (new : Rig) (reads : ReadsRecords laid bay (sectors_at format.rate) (HoldsRecords (track_under laid bay format.rate format.h) format.c format.h (sectors_at format.rate) format.fill) answer new) where
+  module _ (laying : Option Laying) (formats : FormatsTrack middle bay format laying (Ok tt) laid) (asked : IsValidFormat format) (answer : Result (Unit {0}) Code) (new : Rig) (reads : ReadsRecords laid bay (sectors_at format.rate) (HoldsRecords (track_under laid bay format.rate format.h) format.c format.h (sectors_at format.rate) format.fill) answer new) where
     abbrev done : Result (Unit {0}) Code
     done = Ok tt
 

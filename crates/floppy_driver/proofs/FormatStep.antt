@@ -1,6 +1,6 @@
 -- A format is a step of the sector model.
-use Rattle.std.proofs.Common.{◌≡◌, ◌↔◌, ℕ, ◌+◌, ◌*◌, ◌-◌, ◌<◌, ◌≤◌, Bool, true, false, List, Option, Some, None, MatchOption, Result, Ok, Err, IsOk, IsErr, IfErr, refl, sym, ap, ◌∙◌, subst, arith}
-use Rattle.std.specs.Prelude.{◌&&◌, ◌==◌, not, nat_le, max, if◌then◌else◌}
+use Rattle.std.proofs.Common.{◌≡◌, ℕ, ◌+◌, ◌*◌, ◌<◌, ◌≤◌, Bool, true, false, List, Option, Some, None, MatchOption, Result, Ok, Err, IsErr, IfErr, refl, sym, ap, ◌∙◌, subst, arith}
+use Rattle.std.specs.Prelude.{◌&&◌, not, nat_le, if◌then◌else◌}
 use Rattle.std.specs.Option.{option_map_or}
 use Rattle.std.proofs.lemmas.Bool.{le-leb, lt-leb}
 use Rattle.flop_base.specs.Standard.{sectors_at}
@@ -10,20 +10,18 @@ use Rattle.flop_base.specs.declared.answers.Code.{Code}
 use Rattle.flop_base.specs.declared.answers.Code.TheVariants.{BadRequest, Changed, Protected}
 use Rattle.raw_image.specs.Disk.{Disk}
 use Rattle.bay_model.specs.Bays.{Two, in_bay}
-use Rattle.bay_model.specs.Counters.{DriveCounts, Counters, GoesOn, IsUndisturbed, IsFaultless, DisturbedLess, IsDriven}
-use Rattle.bay_model.proofs.Counted.{goes_on_after, goes_on_itself, faults_go_on}
+use Rattle.bay_model.specs.Counters.{DriveCounts, Counters, GoesOn, IsFaultless, DisturbedLess, IsDriven}
+use Rattle.bay_model.proofs.Counted.{goes_on_after, faults_go_on}
 use Rattle.sector_map.specs.Layings.{Format, IsFormattable}
-use Rattle.sector_model.specs.Reads.{spoilable}
-use Rattle.sector_model.specs.Stations.{Bay, StationState, Becomes, bay_of, set_bay}
-use Rattle.sector_model.specs.Orders.{is_bay, is_place, is_acknowledged, is_protected, most_format_gap, is_format_request, format_refusal, IsRefusedAtOnce}
+use Rattle.sector_model.specs.Stations.{Bay, StationState, bay_of, set_bay}
+use Rattle.sector_model.specs.Orders.{is_bay, is_place, is_acknowledged, is_protected, most_format_gap, is_format_request, IsRefusedAtOnce}
 use Rattle.sector_model.specs.Formats.{IsFormatCause, FormatsDrive, FormatsTo}
 use Rattle.single_commands.specs.Rigs.{Rig, IsSound, OnlyAsks}
-use Rattle.floppy_driver.specs.Shown.{notes_of, is_held, bay_shown, with_waiting, shown, HasAsked}
+use Rattle.floppy_driver.specs.Shown.{notes_of, is_held, with_waiting, shown, HasAsked}
 use Rattle.floppy_driver.specs.Attached.{IsAttached}
-use Rattle.floppy_driver.specs.Formattings.{IsAttemptRefusal, EndsFormat, FormatsIn, HasOnlyMedium, IsWritable}
-use Rattle.floppy_driver.specs.declared.driver.Notes.{Notes}
+use Rattle.floppy_driver.specs.Formattings.{IsAttemptRefusal, FormatsIn, HasOnlyMedium, IsWritable}
 use Rattle.floppy_driver.specs.declared.driver.Driver.{Driver}
-use Rattle.floppy_driver.proofs.Shows.{attached_asked, bay_shown_at, acknowledged_held, asks_shown, driven_after, waiting_goes_on}
+use Rattle.floppy_driver.proofs.Shows.{attached_asked, bay_shown_at, acknowledged_held, asks_shown, driven_after}
 use Rattle.floppy_driver.proofs.ReadBacks.{heads_stay_after}
 
 -- ---- the order of refusals

@@ -1,5 +1,5 @@
 -- Attempts of a format, one after the other.
-use Rattle.std.proofs.Common.{◌≡◌, ◌↔◌, ℕ, zero, suc, ◌+◌, ◌*◌, ◌<◌, ◌≤◌, Bool, true, false, List, [], ◌∷◌, ◌++◌, length, Option, Some, None, Result, Ok, Err, IsOk, IsErr, IfErr, refl, sym, ap, ◌∙◌, subst, arith}
+use Rattle.std.proofs.Common.{◌≡◌, ℕ, ◌+◌, ◌*◌, ◌≤◌, Bool, true, false, List, [], ◌∷◌, ◌++◌, Option, Some, None, Result, Ok, Err, IfErr, refl, sym, ap, ◌∙◌, subst, arith}
 use Rattle.std.specs.Prelude.{◌==◌, if◌then◌else◌}
 use Rattle.std.proofs.lemmas.Bool.{false≢true}
 use Rattle.std.proofs.lemmas.List.{length-append}
@@ -8,14 +8,13 @@ use Rattle.flop_base.specs.Standard.{sectors_at, standard_code}
 use Rattle.flop_base.specs.declared.answers.Rate.{Rate}
 use Rattle.flop_base.specs.declared.answers.Rate.TheVariants.{R500, R250}
 use Rattle.flop_base.specs.declared.answers.Code.{Code}
-use Rattle.flop_base.specs.declared.answers.Code.TheVariants.{Seek}
-use Rattle.raw_image.specs.Disk.{Disk, HasTrack, track_of}
+use Rattle.raw_image.specs.Disk.{Disk, HasTrack}
 use Rattle.track_model.specs.Layouts.{Fits}
-use Rattle.bay_model.specs.Bays.{Two, in_bay, with_bay}
-use Rattle.bay_model.specs.Counters.{Counters, GoesOn, IsUndisturbed, IsFaultless, DisturbedLess, IsDriven}
-use Rattle.bay_model.proofs.Counted.{goes_on_after, goes_on_itself, faults_go_on}
-use Rattle.sector_map.specs.Layings.{Format, Laying, IsLaying, format_keys, formatted, CanFormat, IsFormattable}
-use Rattle.sector_model.specs.Stations.{StationState, Bay, bay_of, set_bay}
+use Rattle.bay_model.specs.Bays.{Two}
+use Rattle.bay_model.specs.Counters.{Counters, GoesOn, IsUndisturbed}
+use Rattle.bay_model.proofs.Counted.{goes_on_itself, faults_go_on}
+use Rattle.sector_map.specs.Layings.{Format, Laying, format_keys, formatted, CanFormat, IsFormattable}
+use Rattle.sector_model.specs.Stations.{StationState, Bay, bay_of}
 use Rattle.sector_model.specs.Formats.{LaysDisk, Lays, IsFormatted, IsUnformatted}
 use Rattle.floppy_driver.specs.Formattings.{IsAttemptRefusal, EndsFormat, FormatsIn, HasOnlyMedium}
 use Rattle.floppy_driver.proofs.Shows.{driven_after, driven_within, undisturbed_part, disturbed_less_more}

@@ -1,5 +1,5 @@
 -- What one format command makes of the medium in a bay, from the cylinder that was asked for.
-use Rattle.std.proofs.Common.{◌≡◌, ◌↔◌, ℕ, zero, suc, ◌+◌, ◌<◌, ◌≤◌, ◌⊎◌, All, Bool, List, [], ◌∷◌, length, Option, Some, None, MatchOption, IfSome, Result, refl, sym, ap, ◌∙◌, subst, arith}
+use Rattle.std.proofs.Common.{◌≡◌, ℕ, zero, suc, ◌<◌, ◌≤◌, All, List, [], ◌∷◌, length, Option, Some, None, MatchOption, refl, sym, ap, ◌∙◌, subst, arith}
 use Rattle.flop_base.specs.declared.key.Chrn.{Chrn}
 use Rattle.flop_base.specs.declared.answers.Rate.{Rate}
 use Rattle.flop_base.specs.declared.answers.Rate.TheVariants.{R500, R250}
@@ -8,16 +8,15 @@ use Rattle.raw_image.specs.Disk.{Disk, IsDisk, HasTrack, track_of}
 use Rattle.track_model.specs.Fields.{IsSizeCode}
 use Rattle.track_model.specs.LaidFields.{IsKey}
 use Rattle.track_model.specs.Layouts.{Fits}
-use Rattle.track_format.specs.Reads.{HasClearField, AllFilled}
+use Rattle.track_format.specs.Reads.{HasClearField}
 use Rattle.track_format.proofs.Read.{read_clear, read_filled}
-use Rattle.bay_model.specs.Bays.{Two, in_bay}
 use Rattle.sector_map.specs.Met.{met_in}
-use Rattle.sector_map.specs.Standard.{key_of, track_keys}
-use Rattle.sector_map.specs.Layings.{Format, Laying, IsLaying, format_keys, formatted, CanFormat, IsFormattable}
+use Rattle.sector_map.specs.Standard.{key_of}
+use Rattle.sector_map.specs.Layings.{Format, Laying, IsLaying, format_keys, formatted}
 use Rattle.sector_map.proofs.Laid.{all_track_keys, each_track_key, laid_whole}
 use Rattle.sector_map.proofs.MetTracks.{met_track}
-use Rattle.sector_model.specs.Formats.{Lays, IsFormatted, IsUnformatted}
-use Rattle.floppy_driver.specs.Formattings.{HoldsRecord, HoldsRecords}
+use Rattle.sector_model.specs.Formats.{Lays, IsUnformatted}
+use Rattle.floppy_driver.specs.Formattings.{HoldsRecords}
 
 pub same_some : (a b : Disk) → Some a ≡ Some b → a ≡ b
 same_some a b e = cc

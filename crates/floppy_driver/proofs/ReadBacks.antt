@@ -1,5 +1,5 @@
 -- Reading a record back to the driver's page.
-use Rattle.std.proofs.Common.{◌≡◌, ℕ, zero, ◌+◌, ◌<◌, ◌≤◌, ◌⊎◌, Bool, true, false, List, ◌++◌, length, take, drop, replicate, get_or, Option, Result, Ok, Err, refl, sym, ap, ◌∙◌, subst, arith, inl, inr}
+use Rattle.std.proofs.Common.{◌≡◌, ℕ, ◌+◌, ◌≤◌, Bool, false, List, length, drop, replicate, get_or, Option, Ok, Err, sym, ap, ◌∙◌, subst, arith, inl, inr}
 use Rattle.std.proofs.lemmas.Bool.{false≢true}
 use Rattle.std.proofs.lemmas.List.{get_or_append_left, get_or-replicate}
 use Rattle.flop_base.specs.declared.key.Chrn.{Chrn}
@@ -7,7 +7,6 @@ use Rattle.flop_base.specs.declared.answers.Rate.{Rate}
 use Rattle.flop_base.specs.declared.answers.Code.{Code}
 use Rattle.flop_base.specs.declared.answers.Code.TheVariants.{BadRequest, NoMark, Protected, NotFound, NotReady, Changed, Overrun, Page, BadCrc, Seek}
 use Rattle.raw_image.specs.Disk.{Disk, track_of}
-use Rattle.track_model.specs.declared.Look.{Look}
 use Rattle.track_model.specs.declared.Look.TheVariants as look
 use Rattle.track_model.specs.Fields.{content_size, content_at}
 use Rattle.track_model.specs.Sectors.{IsSector}
@@ -20,7 +19,7 @@ use Rattle.bay_model.specs.Counters.{Counters, GoesOn, IsUndisturbed, IsFaultles
 use Rattle.bay_model.specs.Memory.{with_bytes}
 use Rattle.sector_map.proofs.MetTracks.{met_track}
 use Rattle.single_commands.specs.Rigs.{Rig, HeadsStay, track_under}
-use Rattle.single_commands.specs.Reading.{IsReadReason, ReadsBack, FindsField}
+use Rattle.single_commands.specs.Reading.{IsReadReason, ReadsBack}
 use Rattle.floppy_driver.specs.Formattings.{IsFilled, HoldsRecord, HoldsRecords, ReadsRecords}
 
 -- a read of a record that is there has no reason to fail

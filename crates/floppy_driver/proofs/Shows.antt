@@ -336,12 +336,18 @@ other_notes driver zero notes in_range = refl
 other_notes driver (suc zero) notes in_range = refl
 other_notes driver (suc (suc n)) notes in_range = absurd (omega arith)
 
--- new notes on a bay that are true of its drive, and the heads of no other drive moved
-pub attached_noted : (driver after : Driver) (old new : Rig) (bay : ℕ) (notes : Notes) → bay ≤ 1 → after ≡ with_notes driver bay notes → MovesHeads old bay new → IsNoted notes (in_bay new.media bay) (in_bay new.changes bay) (in_bay new.spun bay) (in_bay new.numbers bay) (in_bay new.cylinders bay) (faults_of new.counters bay) → IsAttached driver old → IsAttached after new
-attached_noted driver after old new bay notes in_range is moves noted attached =
-    let NotedBy : Notes → ℕ → Type 0 = λ n b. IsNoted n (in_bay new.media b) (in_bay new.changes b) (in_bay new.spun b) (in_bay new.numbers b) (in_bay new.cylinders b) (faults_of new.counters b) in
+-- new notes on a bay, from what is true of its drive and of the other
+pub attached_with : (driver after : Driver) (rig : Rig) (bay : ℕ) (notes : Notes) → bay ≤ 1 → after ≡ with_notes driver bay notes → IsNoted notes (in_bay rig.media bay) (in_bay rig.changes bay) (in_bay rig.spun bay) (in_bay rig.numbers bay) (in_bay rig.cylinders bay) (faults_of rig.counters bay) → IsNotedAt driver rig (1 - bay) → IsAttached after rig
+attached_with driver after rig bay notes in_range is noted other =
+    let NotedBy : Notes → ℕ → Type 0 = λ n b. IsNoted n (in_bay rig.media b) (in_bay rig.changes b) (in_bay rig.spun b) (in_bay rig.numbers b) (in_bay rig.cylinders b) (faults_of rig.counters b) in
     let this : notes_of after bay ≡ notes = ap (λ (d : Driver). notes_of d bay) is ∙ notes_set driver bay notes in
     let that : notes_of after (1 - bay) ≡ notes_of driver (1 - bay) = ap (λ (d : Driver). notes_of d (1 - bay)) is ∙ other_notes driver bay notes in_range in
-    attached_from after new bay in_range
+    attached_from after rig bay in_range
     (subst (λ (n : Notes). NotedBy n bay) (sym this) noted)
-    (subst (λ (n : Notes). NotedBy n (1 - bay)) (sym that) (noted_other driver old new moves.counts bay in_range moves (noted_at driver old (1 - bay) attached)))
+    (subst (λ (n : Notes). NotedBy n (1 - bay)) (sym that) other)
+
+-- where the heads of no other drive moved
+pub attached_noted : (driver after : Driver) (old new : Rig) (bay : ℕ) (notes : Notes) → bay ≤ 1 → after ≡ with_notes driver bay notes → MovesHeads old bay new → IsNoted notes (in_bay new.media bay) (in_bay new.changes bay) (in_bay new.spun bay) (in_bay new.numbers bay) (in_bay new.cylinders bay) (faults_of new.counters bay) → IsAttached driver old → IsAttached after new
+attached_noted driver after old new bay notes in_range is moves noted attached =
+    attached_with driver after new bay notes in_range is noted
+    (noted_other driver old new moves.counts bay in_range moves (noted_at driver old (1 - bay) attached))

@@ -1,6 +1,5 @@
 -- A bay whose medium can be written stays so over the commands of an attempt.
-use Rattle.std.proofs.Common.{◌≡◌, ℕ, ◌≤◌, Bool, true, false, Option, Some, None, MatchOption, Result, refl, sym, ap, ◌∙◌, subst}
-use Rattle.std.specs.Prelude.{◌==◌, if◌then◌else◌}
+use Rattle.std.proofs.Common.{◌≡◌, ℕ, ◌≤◌, Bool, true, false, Option, Some, None, MatchOption, Result, sym, ap, ◌∙◌}
 use Rattle.std.specs.Option.{option_map_or}
 use Rattle.flop_base.specs.declared.answers.Code.{Code}
 use Rattle.raw_image.specs.Disk.{Disk}
@@ -15,7 +14,7 @@ use Rattle.floppy_driver.specs.Prepared.{IsPrepared}
 use Rattle.floppy_driver.specs.Formattings.{IsWritable, ReadsRecords}
 use Rattle.floppy_driver.specs.declared.driver.Notes.{Notes}
 use Rattle.floppy_driver.specs.declared.driver.Driver.{Driver}
-use Rattle.floppy_driver.proofs.Shows.{noted_at, attached_stays, attached_written, held_lines_stay}
+use Rattle.floppy_driver.proofs.Shows.{attached_stays, attached_written, held_lines_stay}
 
 abbrev is_protected : Option Disk → Bool
 is_protected medium = option_map_or (λ disk. disk.protected) medium false

@@ -28,7 +28,7 @@ abbrev pub format_of : Asked → Format
 format_of asked = record { c = asked.c; h = asked.h; rate = asked.rate; gap3 = asked.gap3; fill = asked.fill }
 
 -- a format of a track of a drive, with a gap 3 and a byte
-pub record IsAsked (format : Format) : Type 0 where
+pub record IsValidFormat (format : Format) : Type 0 where
   pub cylinder : format.c ≤ 79
   pub head : format.h ≤ 1
   pub gap : 16 ≤ format.gap3

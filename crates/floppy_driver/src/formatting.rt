@@ -7,6 +7,7 @@ ghost use Rattle.track_model.specs.Fields.{IsSizeCode};
 ghost use Rattle.bay_model.specs.Bays.{in_bay};
 ghost use Rattle.bay_model.specs.Counters.{DriveCounts, GoesOn};
 ghost use Rattle.single_commands.specs.Rigs.{IsSound, track_under};
+ghost use Rattle.floppy_driver.specs.Formattings.{format_of, IsValidFormat, IsWritable, IsFilled, HoldsRecord, HoldsRecords, ReadsRecords, FormatsIn, HasOnlyMedium};
 
 use crate::driver::Driver;
 use flop_base::standard::SIZE_CODE;
@@ -31,7 +32,6 @@ struct Asked {
 impl Driver {
     ghost use Rattle.floppy_driver.specs.Shown.{shown, notes_of};
     ghost use Rattle.floppy_driver.specs.Attached.{IsAttached};
-    ghost use Rattle.floppy_driver.specs.Formattings.{format_of, IsAsked, IsWritable, FormatsIn, HasOnlyMedium};
     ghost use Rattle.sector_model.specs.Formats.{FormatsTo};
 
     /// Formats a track with the records of the bay's rate, and reads each back.
@@ -97,7 +97,7 @@ impl Driver {
     ) -> Result<(), Code>
         requires idle { C.is_idle machine.old }
         requires bay { bay ≤ 1 }
-        requires asked { IsAsked (format_of asked) }
+        requires asked { IsValidFormat (format_of asked) }
         requires writable { IsWritable self.old bay (C.rig machine.old) }
         ensures formats { FormatsIn self.old.tries (format_of asked) bay result
             (in_bay (C.rig machine.old).media bay) (in_bay (C.rig machine.new).media bay)
@@ -128,7 +128,7 @@ impl Driver {
     ) -> Result<(), Code>
         requires idle { C.is_idle machine.old }
         requires bay { bay ≤ 1 }
-        requires asked { IsAsked (format_of asked) }
+        requires asked { IsValidFormat (format_of asked) }
         requires writable { IsWritable self.old bay (C.rig machine.old) }
         ensures formats { FormatsIn 1 (format_of asked) bay result
             (in_bay (C.rig machine.old).media bay) (in_bay (C.rig machine.new).media bay)
@@ -144,14 +144,7 @@ impl Driver {
         if !self.prepare(machine, bay, asked.c, Prepare::RecalibrateAndSeek) {
             return Err(Code::Seek);
         }
-        machine.format(
-            bay,
-            asked.c,
-            asked.h,
-            asked.rate,
-            asked.gap3,
-            asked.fill,
-        )?;
+        machine.format(bay, asked.c, asked.h, asked.rate, asked.gap3, asked.fill)?;
         read_back_all(machine, bay, asked)
     }
 }
@@ -170,13 +163,11 @@ fn is_asked(bay: u8, c: u8, h: u8, gap3: u8) -> bool
     gap3 >= LEAST_GAP
 }
 
-ghost use Rattle.floppy_driver.specs.Formattings.{format_of, IsAsked, IsFilled, HoldsRecord, HoldsRecords, ReadsRecords};
-
 /// Reads each record of a formatted track back; the first that fails, or has another byte than the fill, is the answer.
 fn read_back_all<C: Commands>(machine: &mut C, bay: u8, asked: Asked) -> Result<(), Code>
     requires idle { C.is_idle machine.old }
     requires bay { bay ≤ 1 }
-    requires asked { IsAsked (format_of asked) }
+    requires asked { IsValidFormat (format_of asked) }
     requires spun { in_bay (C.rig machine.old).spun bay ≡ true }
     requires sound { IsSound (C.rig machine.old) }
     ensures reads { ReadsRecords (C.rig machine.old) bay (sectors_at asked.rate)

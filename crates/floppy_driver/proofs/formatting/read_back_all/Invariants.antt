@@ -1,4 +1,4 @@
-use Rattle.std.proofs.Common.{◌≡◌, ℕ, ◌-◌, true, Ok}
+use Rattle.std.proofs.Common.{◌≡◌, ◌-◌, true, Ok}
 use Rattle.flop_base.specs.Standard.{sectors_at}
 use Rattle.bay_model.specs.Bays.{in_bay}
 use Rattle.single_commands.specs.Rigs.{IsSound, track_under}

@@ -1,4 +1,4 @@
-use Rattle.std.proofs.Common.{[], sym, ap, ◌∙◌, ◌≡◌, ◌<◌, ◌≤◌, subst, ℕ, arith}
+use Rattle.std.proofs.Common.{[], sym, ap, ◌∙◌, ◌<◌, ◌≤◌, subst, ℕ}
 use Rattle.sector_model.specs.Stations.{StationState}
 use Rattle.floppy_driver.proofs.FormatStep.{gap_refused, change_refused, protection_refused, writable_asked, format_step}
 use Rattle.floppy_driver.proofs.driver.Driver.format.Goals as goal

@@ -1,4 +1,4 @@
-use Rattle.std.proofs.Common.{true, false, Ok, Err}
+use Rattle.std.proofs.Common.{true, Ok, Err}
 use Rattle.std.proofs.lemmas.Result.{err_from_is_err_and}
 use Rattle.flop_base.specs.Standard.{sectors_at}
 use Rattle.retry_plan.specs.declared.Prepare.TheVariants as prepare
