@@ -1,8 +1,16 @@
+mod Acked
+mod Asking
+pub mod Attempts
 mod FormatOnce
 mod FormatStep
 mod FormatTries
 mod LaidTracks
 pub mod Prepared
+mod RateFound
 mod ReadBacks
+pub mod ReadOnce
+pub mod ReadTries
+mod ReadStep
 pub mod Shows
+mod Worked
 mod Writable

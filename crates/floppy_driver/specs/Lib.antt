@@ -1,4 +1,7 @@
 pub mod Shown
 pub mod Attached
 pub mod Prepared
+pub mod Attempts
+pub mod Readings
+pub mod Acknowledged
 pub mod Formattings

@@ -1,6 +1,9 @@
 // Acknowledging a change of the medium.
-ghost use Rattle.std.specs.Prelude.{◌≡◌, ◌≤◌, List, ℕ};
+ghost use Rattle.std.specs.Prelude.{◌≡◌, ◌≤◌, true, List, ℕ};
+ghost use Rattle.bay_model.specs.Bays.{in_bay};
 ghost use Rattle.bay_model.specs.Counters.{DriveCounts, GoesOn};
+ghost use Rattle.single_commands.specs.Rigs.{IsSound};
+ghost use Rattle.floppy_driver.specs.Acknowledged.{ClearsChange, FindsRate};
 
 use crate::driver::{Driver, Notes};
 use crate::preparing::go_to_track_0;
@@ -12,8 +15,14 @@ use single_commands::Commands;
 const ROUNDS: u8 = 3;
 
 /// The rate at which an address field is found on cylinder 0 under head 0, R500 where none is found.
-fn find_rate<C: Commands>(machine: &mut C, bay: u8) -> Rate {
-    for _ in 0..ROUNDS {
+fn find_rate<C: Commands>(machine: &mut C, bay: u8) -> Rate
+    requires idle { C.is_idle machine.old }
+    requires bay { bay ≤ 1 }
+    requires spun { in_bay (C.rig machine.old).spun bay ≡ true }
+    ensures finds { FindsRate (C.rig machine.old) bay result (C.rig machine.new) }
+    ensures idle { C.is_idle machine.new }
+{
+    for _round in 0..ROUNDS {
         if machine.read_id(bay, 0, Rate::R500).is_ok() {
             return Rate::R500;
         }
@@ -25,8 +34,9 @@ fn find_rate<C: Commands>(machine: &mut C, bay: u8) -> Rate {
 }
 
 impl Driver {
-    ghost use Rattle.floppy_driver.specs.Shown.{shown};
+    ghost use Rattle.floppy_driver.specs.Shown.{shown, notes_of, with_notes};
     ghost use Rattle.floppy_driver.specs.Attached.{IsAttached};
+    ghost use Rattle.floppy_driver.specs.Acknowledged.{IsHeldSince};
     ghost use Rattle.sector_model.specs.Calls.{Acks};
 
     /// Acknowledges that another medium may be in, and finds its rate: `NotReady` where no medium is in, or its drive lost
@@ -45,7 +55,7 @@ impl Driver {
             return Err(Code::BadRequest);
         }
         machine.start_motor(bay);
-        for _ in 0..ROUNDS {
+        for _round in 0..ROUNDS {
             let reached = clear_change(machine, bay);
             if !machine.is_changed(bay) {
                 self.hold(machine, bay, reached);
@@ -57,7 +67,14 @@ impl Driver {
     }
 
     /// Holds a bay whose change line is clear, with its heads at track 0 where that was reached.
-    fn hold<C: Commands>(&mut self, machine: &mut C, bay: u8, reached: bool) {
+    fn hold<C: Commands>(&mut self, machine: &mut C, bay: u8, reached: bool)
+        requires idle { C.is_idle machine.old }
+        requires bay { bay ≤ 1 }
+        requires spun { in_bay (C.rig machine.old).spun bay ≡ true }
+        ensures held { IsHeldSince (C.rig machine.old) bay reached (notes_of self.new bay) (C.rig machine.new) }
+        ensures notes { self.new ≡ with_notes self.old bay (notes_of self.new bay) }
+        ensures idle { C.is_idle machine.new }
+    {
         let rate = find_rate(machine, bay);
         let mut gate = Gate::new();
         gate.acknowledge();
@@ -76,7 +93,14 @@ impl Driver {
 }
 
 /// Steps in and out, so that the change line clears where a medium is in; whether the heads then stand at track 0.
-fn clear_change<C: Commands>(machine: &mut C, bay: u8) -> bool {
+fn clear_change<C: Commands>(machine: &mut C, bay: u8) -> bool
+    requires idle { C.is_idle machine.old }
+    requires bay { bay ≤ 1 }
+    requires sound { IsSound (C.rig machine.old) }
+    ensures clears { ClearsChange (C.rig machine.old) bay result (C.rig machine.new) }
+    ensures sound { IsSound (C.rig machine.new) }
+    ensures idle { C.is_idle machine.new }
+{
     go_to_track_0(machine, bay);
     machine.seek(bay, 1);
     go_to_track_0(machine, bay)

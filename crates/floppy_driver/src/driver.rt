@@ -1,5 +1,5 @@
 // What a driver notes of each bay.
-ghost use Rattle.std.specs.Prelude.{◌≡◌, ◌≤◌, ◌<◌, List, ℕ, Option, Some, None, not, false};
+ghost use Rattle.std.specs.Prelude.{◌≡◌, ◌≤◌, ◌<◌, List, ℕ, Option, Some, None, not, true, false};
 ghost use Rattle.flop_base.specs.declared.answers.Rate.TheVariants.{R500};
 ghost use Rattle.bay_model.specs.Bays.{in_bay};
 ghost use Rattle.bay_model.specs.Counters.{DriveCounts, GoesOn};
@@ -48,6 +48,7 @@ pub struct Driver {
 impl Driver {
     ghost use Rattle.floppy_driver.specs.Shown.{shown, notes_of, with_notes, is_held, IsFreshDriver};
     ghost use Rattle.floppy_driver.specs.Attached.{IsAttached, CanSetUp};
+    ghost use Rattle.floppy_driver.specs.Attempts.{CanTry};
     ghost use Rattle.single_commands.specs.Rigs.{Rig, OnlyAsks};
     ghost use Rattle.sector_model.specs.Calls.{RatesTo, SetsTries, TellsChange};
 
@@ -94,6 +95,7 @@ impl Driver {
         ensures shown { (spares : ℕ) (waiting : List DriveCounts) → shown self.new (C.rig machine.old) spares waiting
             ≡ shown self.old (C.rig machine.old) spares waiting }
         ensures asks { OnlyAsks (C.rig machine.old) (C.rig machine.new) }
+        ensures ready { result ≡ true → CanTry self.new (C.rig machine.new) bay }
         ensures idle { C.is_idle machine.new }
         ensures attached { IsAttached self.new (C.rig machine.new) }
     {

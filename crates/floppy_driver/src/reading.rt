@@ -1,5 +1,6 @@
 // Reading a sector.
-ghost use Rattle.std.specs.Prelude.{◌≡◌, ◌≤◌, List, ℕ};
+ghost use Rattle.std.specs.Prelude.{◌≡◌, ◌≤◌, ◌+◌, ◌-◌, ◌/◌, List, ℕ};
+ghost use Rattle.track_model.specs.Fields.{content_size};
 ghost use Rattle.bay_model.specs.Counters.{DriveCounts, GoesOn};
 
 use crate::driver::Driver;
@@ -9,9 +10,13 @@ use sector_model::{crosses_page, is_sector_request};
 use single_commands::Commands;
 
 impl Driver {
-    ghost use Rattle.floppy_driver.specs.Shown.{shown};
+    ghost use Rattle.floppy_driver.specs.Shown.{shown, HasAsked};
     ghost use Rattle.floppy_driver.specs.Attached.{IsAttached};
-    ghost use Rattle.sector_model.specs.Reads.{Reads};
+    ghost use Rattle.floppy_driver.specs.Attempts.{CanTry, IsSure};
+    ghost use Rattle.floppy_driver.specs.Readings.{TriesRead};
+    ghost use Rattle.sector_model.specs.Stations.{StationState};
+    ghost use Rattle.sector_model.specs.Asked.{IsAsked};
+    ghost use Rattle.sector_model.specs.Reads.{Reads, ReadsDrive};
 
     /// Reads the sector of a key to user memory; true where it is marked deleted.
     pub fn read<C: Commands>(
@@ -49,7 +54,18 @@ impl Driver {
         bay: u8,
         key: Chrn,
         address: u32,
-    ) -> Result<bool, Code> {
+    ) -> Result<bool, Code>
+        requires idle { C.is_idle machine.old }
+        requires ready { CanTry self.old (C.rig machine.old) bay }
+        requires asked { IsAsked bay key address }
+        requires page { address / 65536 ≡ (address + content_size key.n - 1) / 65536 }
+        ensures step { (start : StationState) (spares : ℕ) (waiting : List DriveCounts)
+            → HasAsked start (shown self.old (C.rig machine.old) spares waiting)
+            → ReadsDrive start bay key address result (shown self.new (C.rig machine.new) spares waiting) }
+        ensures counts { GoesOn (C.rig machine.old).counters (C.rig machine.new).counters }
+        ensures idle { C.is_idle machine.new }
+        ensures ready { CanTry self.new (C.rig machine.new) bay }
+    {
         let mut last = Code::Seek;
         for attempt in 1..self.tries + 1 {
             match self.read_once(machine, bay, key, address, attempt) {
@@ -68,7 +84,21 @@ impl Driver {
         key: Chrn,
         address: u32,
         attempt: u8,
-    ) -> Result<bool, Code> {
+    ) -> Result<bool, Code>
+        requires idle { C.is_idle machine.old }
+        requires ready { CanTry self.old (C.rig machine.old) bay }
+        requires asked { IsAsked bay key address }
+        requires page { address / 65536 ≡ (address + content_size key.n - 1) / 65536 }
+        requires from_first { 1 ≤ attempt }
+        requires to_last { attempt ≤ self.old.tries }
+        ensures step { (spares : ℕ) (waiting : List DriveCounts) → TriesRead (IsSure self.old.tries attempt)
+            (shown self.old (C.rig machine.old) spares waiting) bay key address result
+            (shown self.new (C.rig machine.new) spares waiting) }
+        ensures tries { self.new.tries ≡ self.old.tries }
+        ensures counts { GoesOn (C.rig machine.old).counters (C.rig machine.new).counters }
+        ensures idle { C.is_idle machine.new }
+        ensures ready { CanTry self.new (C.rig machine.new) bay }
+    {
         let notes = self.notes(bay);
         let way = preparation(self.tries, attempt, notes.known.is_some());
         if !self.prepare(machine, bay, key.c, way) {

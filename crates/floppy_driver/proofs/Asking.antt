@@ -1,0 +1,76 @@
+-- Calls that ask, or set the rate of a bay.
+use Rattle.std.proofs.Common.{◌≡◌, ℕ, ◌≤◌, Bool, true, false, List, Option, Some, None, MatchOption, Result, Ok, Err, refl, sym, ap, ◌∙◌, subst}
+use Rattle.std.specs.Prelude.{not, is_some, if◌then◌else◌}
+use Rattle.std.proofs.lemmas.Bool.{le-leb}
+use Rattle.raw_image.specs.Disk.{Disk}
+use Rattle.flop_base.specs.declared.answers.Rate.{Rate}
+use Rattle.flop_base.specs.declared.answers.Code.{Code}
+use Rattle.flop_base.specs.declared.answers.Code.TheVariants.{BadRequest, Changed}
+use Rattle.bay_model.specs.Bays.{Two, in_bay}
+use Rattle.bay_model.specs.Counters.{DriveCounts}
+use Rattle.single_commands.specs.Rigs.{Rig, OnlyAsks}
+use Rattle.sector_model.specs.Stations.{Bay, StationState, bay_of, set_bay}
+use Rattle.sector_model.specs.Orders.{is_acknowledged, IsRefusedAtOnce}
+use Rattle.sector_model.specs.Calls.{SetsRate, RatesTo, TellsChange}
+use Rattle.floppy_driver.specs.declared.driver.Notes.{Notes}
+use Rattle.floppy_driver.specs.declared.driver.Driver.{Driver}
+use Rattle.floppy_driver.specs.Shown.{notes_of, is_held, bay_shown, with_waiting, shown, with_notes, HasAsked}
+use Rattle.floppy_driver.proofs.Shows.{held_bay, held_shown, held_bay_shown, acknowledged_held, asks_shown, noted_shown}
+
+-- a refusal that follows a question
+pub refused_asking : {A : Type 0} (old : StationState) (code : Code) (new : StationState) → HasAsked old new → IsRefusedAtOnce {A = A} old code (Err code) new
+refused_asking old code new asked = record { refused = refl; stays = asked.stays; idle = asked.idle }
+
+pub tells_change : (driver after : Driver) (old new : Rig) (bay : ℕ) (held : Bool) (spares : ℕ) (waiting : List DriveCounts) → held ≡ is_held (notes_of driver bay) (in_bay old.changes bay) → shown after old spares waiting ≡ shown driver old spares waiting → OnlyAsks old new → TellsChange (shown driver old spares waiting) bay (not held) (shown after new spares waiting)
+tells_change driver after old new bay held spares waiting is same asks =
+    let asked = asks_shown driver after old new spares waiting same asks in
+    record {
+      changed = ap not (is ∙ sym (acknowledged_held driver old spares waiting bay));
+      stays = asked.stays;
+      idle = asked.idle;
+    }
+
+module _ (old : StationState) (bay : ℕ) (rate : Rate) (answer : Result (Unit {0}) Code) (new : StationState) (in_range : bay ≤ 1) where
+  rates_by : (acknowledged : Bool) → is_acknowledged old bay ≡ acknowledged → MatchOption (if not acknowledged then Some Changed else None) (SetsRate old bay rate answer new) (λ code. IsRefusedAtOnce old code answer new) → RatesTo old bay rate answer new
+  rates_by acknowledged is step =
+      subst (λ (b : Bool). MatchOption (if not b then Some BadRequest else (if not (is_acknowledged old bay) then Some Changed else None)) (SetsRate old bay rate answer new) (λ code. IsRefusedAtOnce old code answer new))
+      (sym (le-leb bay 1 in_range))
+      (subst (λ (b : Bool). MatchOption (if not b then Some Changed else None) (SetsRate old bay rate answer new) (λ code. IsRefusedAtOnce old code answer new)) (sym is) step)
+
+  pub rates_refused : is_acknowledged old bay ≡ false → IsRefusedAtOnce old Changed answer new → RatesTo old bay rate answer new
+  rates_refused is step = rates_by false is step
+
+  pub rates_done : is_acknowledged old bay ≡ true → SetsRate old bay rate answer new → RatesTo old bay rate answer new
+  rates_done is step = rates_by true is step
+
+module _ (driver middle after : Driver) (old new : Rig) (bay : ℕ) (rate : Rate) (spares : ℕ) (waiting : List DriveCounts) (in_range : bay ≤ 1) (same : shown middle old spares waiting ≡ shown driver old spares waiting) (asks : OnlyAsks old new) where
+  pub rate_refused : is_held (notes_of driver bay) (in_bay old.changes bay) ≡ false → RatesTo (shown driver old spares waiting) bay rate (Err Changed) (shown middle new spares waiting)
+  rate_refused held =
+      rates_refused (shown driver old spares waiting) bay rate (Err Changed) (shown middle new spares waiting) in_range
+      (acknowledged_held driver old spares waiting bay ∙ held)
+      (refused_asking (shown driver old spares waiting) Changed (shown middle new spares waiting) (asks_shown driver middle old new spares waiting same asks))
+
+  pub rate_done : is_held (notes_of driver bay) (in_bay old.changes bay) ≡ true → after ≡ with_notes middle bay (record (notes_of middle bay) { rate = rate }) → RatesTo (shown driver old spares waiting) bay rate (Ok tt) (shown after new spares waiting)
+  rate_done held is =
+      let before = shown driver old spares waiting in
+      let notes = notes_of middle bay in
+      let rated : Notes = record notes { rate = rate } in
+      let asked = asks_shown driver middle old new spares waiting same asks in
+      let acknowledged : is_acknowledged before bay ≡ true = acknowledged_held driver old spares waiting bay ∙ held in
+      let still : is_held notes (in_bay old.changes bay) ≡ true = sym (acknowledged_held middle old spares waiting bay) ∙ ap (λ (s : StationState). is_acknowledged s bay) same ∙ acknowledged in
+      let line : in_bay new.changes bay ≡ in_bay old.changes bay = ap (λ (t : Two Bool). in_bay t bay) asks.heads.changes in
+      let now_held : is_held rated (in_bay new.changes bay) ≡ true = ap (λ (b : Bool). is_held notes b) line ∙ still in
+      let was : bay_of before bay ≡ held_bay notes (in_bay old.media bay) = ap (λ (s : StationState). bay_of s bay) (sym same) ∙ held_bay_shown middle old spares waiting bay still in
+      let is_now : bay_shown rated (in_bay new.media bay) (in_bay new.changes bay) ≡ record (bay_of before bay) { rate = rate } =
+      held_shown rated (in_bay new.media bay) (in_bay new.changes bay) now_held
+      ∙ ap (λ (m : Two (Option Disk)). held_bay rated (in_bay m bay)) asks.media
+      ∙ ap (λ (b : Bay). record b { rate = rate }) (sym was) in
+      rates_done before bay rate (Ok tt) (shown after new spares waiting) in_range acknowledged
+      (record {
+        done = refl;
+        becomes =
+            noted_shown middle after new spares waiting bay rated is
+            ∙ ap (λ (s : StationState). set_bay s bay (bay_shown rated (in_bay new.media bay) (in_bay new.changes bay))) asked.stays
+            ∙ ap (λ (b : Bay). record (set_bay before bay b) { counters = with_waiting new.counters waiting }) is_now;
+        idle = asked.idle;
+      })

@@ -1,0 +1,101 @@
+-- Looking for the rate of a medium.
+use Rattle.std.proofs.Common.{◌≡◌, ℕ, ◌+◌, ◌-◌, ◌*◌, ◌<◌, ◌≤◌, ◌⊎◌, Bool, true, false, List, Option, Result, Ok, Err, IfOk, IfErr, is_ok, refl, sym, ap, ◌∙◌, subst, arith, inl, inr}
+use Rattle.std.proofs.lemmas.Bool.{false≢true, cases_lt}
+use Rattle.flop_base.specs.Counts.{last_count, RoseBy}
+use Rattle.flop_base.specs.declared.key.Chrn.{Chrn}
+use Rattle.flop_base.specs.declared.answers.Rate.{Rate}
+use Rattle.flop_base.specs.declared.answers.Rate.TheVariants.{R500, R250}
+use Rattle.flop_base.specs.declared.answers.Code.{Code}
+use Rattle.raw_image.specs.Disk.{Disk}
+use Rattle.track_model.specs.Fields.{IsAddressAt}
+use Rattle.bay_model.specs.Bays.{Two, in_bay}
+use Rattle.bay_model.specs.Counters.{Counters, faults_of, IsFaultless, FaultsRoseBy, GoesOn}
+use Rattle.bay_model.proofs.Counted.{goes_on_after, goes_on_itself, faults_go_on}
+use Rattle.sector_map.specs.Met.{met_in, HasClearAddress}
+use Rattle.single_commands.specs.Rigs.{Rig, StaysSpun, HeadsStay, track_under}
+use Rattle.single_commands.specs.Reading.{SendsRead, ReadsId}
+use Rattle.floppy_driver.specs.Acknowledged.{OnlyReads, HasStart, IsSpoilt, HasFoundNone, FindsRate}
+use Rattle.floppy_driver.proofs.Shows.{driven_after, driven_within}
+
+pub spun_after : (a b c : Two Bool) → StaysSpun a b → StaysSpun b c → StaysSpun a c
+spun_after a b c one two = record { first = λ is. two.first (one.first is); second = λ is. two.second (one.second is) }
+
+reads_none : (rig : Rig) → OnlyReads 0 rig rig
+reads_none rig = record {
+  heads = record { cylinders = refl; numbers = refl; changes = refl; spun = record { first = λ is. is; second = λ is. is } };
+  media = refl;
+  memory = refl;
+  counts = goes_on_itself rig.counters;
+  driven = record { most_commands = omega arith; interrupts = omega arith; past_driver = refl };
+}
+
+-- one command more
+reads_more : (count most : ℕ) (a b c : Rig) → count + 1 ≤ most → OnlyReads count a b → SendsRead b c → c.memory ≡ b.memory → OnlyReads most a c
+reads_more count most a b c few one two memory = record {
+  heads = record {
+    cylinders = two.heads.cylinders ∙ one.heads.cylinders;
+    numbers = two.heads.numbers ∙ one.heads.numbers;
+    changes = two.heads.changes ∙ one.heads.changes;
+    spun = spun_after a.spun b.spun c.spun one.heads.spun two.heads.spun;
+  };
+  media = two.media ∙ one.media;
+  memory = memory ∙ one.memory;
+  counts = goes_on_after a.counters b.counters c.counters one.counts two.counts;
+  driven = driven_within (count + 1) most a.counters c.counters few (driven_after count 1 a.counters b.counters c.counters one.counts two.counts one.driven two.driven);
+}
+
+pub track_stays : (old new : Rig) (bay : ℕ) (rate : Rate) (head : ℕ) → new.media ≡ old.media → new.cylinders ≡ old.cylinders → track_under new bay rate head ≡ track_under old bay rate head
+track_stays old new bay rate head media cylinders =
+    ap (λ (m : Two (Option Disk)). met_in (in_bay m bay) rate (in_bay new.cylinders bay) head) media
+    ∙ ap (λ (c : Two ℕ). met_in (in_bay old.media bay) rate (in_bay c bay) head) cylinders
+
+none_missed : (P : Type 0) (answer : Result Chrn Code) → is_ok answer ≡ false → IfErr answer (λ code. P) → P
+none_missed P (Ok key) is missed = absurd (false≢true (sym is))
+none_missed P (Err code) is missed = missed
+
+has_fault : (bay : ℕ) (old new : Counters) → GoesOn old new → (IsFaultless bay old new → ⊥) → FaultsRoseBy 1 bay old new
+has_fault bay old new goes not =
+    let f = faults_go_on old new bay goes in
+    elim (cases_lt (faults_of new bay) (faults_of old bay + 1)) [
+      | inl few ↦ elim (cases_lt (faults_of new bay) last_count) [
+          | inl below ↦ absurd (not (few, below))
+          | inr full ↦ omega arith
+        ]
+      | inr many ↦ omega arith
+    ]
+
+pub found_none : (rig : Rig) (bay : ℕ) → HasFoundNone rig bay 0 rig
+found_none rig bay = record { reads = reads_none rig; spoilt = λ key clear. omega arith }
+
+module _ (start : Rig) (bay round : ℕ) (before : Rig) (none : HasFoundNone start bay round before) (first : Result Chrn Code) (middle : Rig) (single : ReadsId before bay 0 R500 first middle) where
+  module _ (second : Result Chrn Code) (after : Rig) (double : ReadsId middle bay 0 R250 second after) where
+    both_read : (most : ℕ) → 2 * round + 2 ≤ most → OnlyReads most start after
+    both_read most few =
+        let one = reads_more (2 * round) (2 * round + 1) start before middle (omega arith) none.reads single.sends single.memory in
+        reads_more (2 * round + 1) most start middle after (omega arith) one double.sends double.memory
+
+    middle_track : track_under middle bay R250 0 ≡ track_under start bay R250 0
+    middle_track =
+        track_stays start middle bay R250 0 (single.sends.media ∙ none.reads.media) (single.sends.heads.cylinders ∙ none.reads.heads.cylinders)
+
+    -- an address field was found at neither rate
+    pub found_neither : is_ok second ≡ false → HasFoundNone start bay (round + 1) after
+    found_neither is = record {
+      reads = both_read (2 * (round + 1)) (omega arith);
+      spoilt = λ key clear.
+          let there = subst (λ (t : List ℕ). HasClearAddress t key) (sym middle_track) clear in
+          let missed : IsFaultless bay middle.counters after.counters → (k : Chrn) → HasClearAddress (track_under middle bay R250 0) k → ⊥ =
+          none_missed (IsFaultless bay middle.counters after.counters → (k : Chrn) → HasClearAddress (track_under middle bay R250 0) k → ⊥) second is double.refused in
+          let more = has_fault bay middle.counters after.counters double.sends.counts (λ quiet. missed quiet key there) in
+          let so_far = none.spoilt key clear in
+          let f = faults_go_on before.counters middle.counters bay single.sends.counts in
+          omega arith;
+    }
+
+-- none was found
+pub found_no_rate : (start : Rig) (bay : ℕ) (now : Rig) → HasFoundNone start bay 3 now → FindsRate start bay R500 now
+found_no_rate start bay now none = record {
+  reads = none.reads;
+  double = λ e. absurd (cc e);
+  single = λ e. inr none.spoilt;
+}

@@ -1,0 +1,131 @@
+-- One attempt at a read.
+use Rattle.std.proofs.Common.{◌≡◌, ◌↔◌, ℕ, ◌+◌, ◌-◌, ◌<◌, ◌≤◌, ◌⊎◌, IsTrue, Bool, true, false, List, length, Option, Some, None, IsSome, is_some, Result, Ok, Err, IfOk, IfErr, refl, sym, ap, ◌∙◌, subst, arith, inl, inr}
+use Rattle.raw_image.specs.Disk.{Disk, HasTrack, track_of}
+use Rattle.flop_base.specs.declared.key.Chrn.{Chrn}
+use Rattle.flop_base.specs.declared.answers.Rate.{Rate}
+use Rattle.flop_base.specs.declared.answers.Code.{Code}
+use Rattle.flop_base.specs.declared.answers.Code.TheVariants.{BadRequest, NoMark, Protected, NotFound, Changed, Overrun, Page, BadCrc, Seek, NotReady}
+use Rattle.retry_plan.specs.declared.Prepare.{Prepare}
+use Rattle.retry_plan.specs.declared.Prepare.TheVariants as prepare
+use Rattle.track_model.specs.Fields.{content_size}
+use Rattle.bay_model.specs.Bays.{Two, in_bay}
+use Rattle.bay_model.specs.Counters.{DriveCounts, Counters, faults_of, IsFaultless, IsUndisturbed, GoesOn, IsDriven}
+use Rattle.bay_model.specs.Memory.{with_bytes, SameOutside}
+use Rattle.bay_model.proofs.Counted.{goes_on_after, goes_on_itself, faults_go_on}
+use Rattle.sector_map.specs.Met.{met_in}
+use Rattle.single_commands.specs.Rigs.{Rig, IsSound, track_under}
+use Rattle.single_commands.specs.Reading.{IsReadReason, IsReadCode, IsReadMiss, FindsField, ReadsData}
+use Rattle.sector_model.specs.Stations.{Bay, StationState, Becomes, bay_of, met, IsSteady}
+use Rattle.sector_model.specs.Orders.{IsDeviceRefusal}
+use Rattle.sector_model.specs.Reads.{IsRead}
+use Rattle.floppy_driver.specs.declared.driver.Notes.{Notes}
+use Rattle.floppy_driver.specs.declared.driver.Driver.{Driver}
+use Rattle.floppy_driver.specs.Shown.{notes_of, shown, with_notes, with_waiting, HasAsked}
+use Rattle.floppy_driver.specs.Prepared.{IsPrepared}
+use Rattle.floppy_driver.specs.Attempts.{CanTry, IsSure}
+use Rattle.floppy_driver.specs.Readings.{IsReadWhole, IsReadFailed, TriesRead}
+use Rattle.floppy_driver.proofs.Shows.{held_bay, held_bay_shown, read_shown, waiting_goes_on, waiting_driven, waiting_undisturbed, driven_after, driven_within, undisturbed_part, undisturbed_faultless}
+use Rattle.floppy_driver.proofs.Attempts.{sure_way, prepared_shown, prepared_steady}
+use Rattle.floppy_driver.proofs.ReadTries.{same_outside_itself}
+
+device_code : (code : Code) → IsReadCode code → IsDeviceRefusal code
+device_code NoMark is = tt
+device_code NotFound is = tt
+device_code BadCrc is = tt
+device_code Overrun is = tt
+device_code BadRequest is = is
+device_code Protected is = is
+device_code Changed is = is
+device_code Page is = is
+device_code Seek is = absurd is
+device_code NotReady is = is
+
+no_seek : (code : Code) → IsReadCode code → code ≡ Seek → ⊥
+no_seek code is e = subst IsReadCode e is
+
+module _ (driver after : Driver) (old mid : Rig) (bay : ℕ) (key : Chrn) (address : ℕ) (way : Prepare) (spares : ℕ) (waiting : List DriveCounts) (can : CanTry driver old bay) (notes : after ≡ with_notes driver bay (notes_of after bay)) where
+  module _ (new : Rig) (tries attempt : ℕ) (answer : Result Bool Code) (rate : Rate) (same_rate : rate ≡ (notes_of driver bay).rate) (known : Bool) (known_is : known ≡ is_some (notes_of driver bay).known) (plan : (way ≡ prepare.Seek) ↔ ((attempt ≡ 1) × IsTrue known × (2 ≤ tries))) (prepared : IsPrepared old (notes_of driver bay) bay key.c way true mid (notes_of after bay)) (reads : ReadsData mid bay key rate address answer new) where
+    asked : HasAsked (shown driver old spares waiting) (shown after mid spares waiting)
+    asked = prepared_shown driver after old mid bay key.c way true can notes prepared spares waiting
+
+    was : bay_of (shown driver old spares waiting) bay ≡ held_bay (notes_of driver bay) (in_bay old.media bay)
+    was = held_bay_shown driver old spares waiting bay can.held
+
+    later : GoesOn (with_waiting mid.counters waiting) (with_waiting new.counters waiting)
+    later = waiting_goes_on mid.counters new.counters waiting reads.sends.counts
+
+    done_field : (deleted : Bool) (content : List ℕ) → FindsField mid bay key rate deleted content new → new.memory ≡ with_bytes mid.memory address content → IsReadWhole (shown driver old spares waiting) bay key address deleted (shown after new spares waiting)
+    done_field deleted content field memory =
+        let f = faults_go_on old.counters mid.counters bay prepared.moves.counts in
+        let g = faults_go_on mid.counters new.counters bay reads.sends.counts in
+        let less : IsFaultless bay old.counters new.counters → IsFaultless bay mid.counters new.counters = λ is. (let h = is.0 in omega arith, is.1) in
+        let before = shown driver old spares waiting in
+        let memory_is : new.memory ≡ with_bytes old.memory address content = memory ∙ ap (λ (m : List ℕ). with_bytes m address content) prepared.moves.memory in
+        record {
+          read = record {
+            disk = field.disk;
+            cylinder = in_bay mid.cylinders bay;
+            place = field.place;
+            mark = field.mark;
+            content = content;
+            medium = ap (λ (b : Bay). b.medium) was ∙ ap (λ (m : Two (Option Disk)). in_bay m bay) (sym prepared.moves.media) ∙ field.medium;
+            same_rate = field.same_rate ∙ same_rate ∙ ap (λ (b : Bay). b.rate) (sym was);
+            track = field.track;
+            address_field = field.address_field;
+            data_mark = field.data_mark;
+            whole = field.whole;
+            steady = λ steady. prepared_steady driver after old mid bay key.c way true can notes prepared spares waiting (shown after new spares waiting) refl (λ is. sym known_is ∙ (plan.0 is).1) g steady;
+            sector = λ is. field.sector (elim is [ inl faultless ↦ inl (less faultless) | inr lone ↦ inr lone ]);
+            becomes =
+                read_shown after mid new spares waiting reads.sends
+                ∙ ap (λ (s : StationState). record s { memory = new.memory; counters = with_waiting new.counters waiting }) asked.stays
+                ∙ ap (λ (m : List ℕ). record before { memory = m; counters = with_waiting new.counters waiting }) memory_is;
+            commands = let c = reads.sends.command in let d = prepared.moves.counts.data_commands in omega arith;
+          };
+          size = field.size;
+        }
+
+    failed_code : (code : Code) → IsReadMiss (track_under mid bay rate key.h) key bay code mid.counters new.counters → IsReadFailed (IsSure tries attempt) (shown driver old spares waiting) bay key code (shown after new spares waiting)
+    failed_code code miss =
+        let s = prepared.moves.counts.stalls in
+        record {
+          device = device_code code miss.coded;
+          reason = λ sure quiet.
+              let whole = waiting_undisturbed old.counters new.counters bay waiting quiet in
+              let first = undisturbed_part bay old.counters old.counters mid.counters new.counters (goes_on_itself old.counters) prepared.moves.counts reads.sends.counts whole in
+              let second = undisturbed_part bay old.counters mid.counters new.counters new.counters prepared.moves.counts reads.sends.counts (goes_on_itself new.counters) whole in
+              let at = prepared.surely refl (sure_way way tries attempt known plan sure) (undisturbed_faultless bay old.counters mid.counters prepared.moves.counts first) in
+              let track_is : track_under mid bay rate key.h ≡ met (bay_of (shown driver old spares waiting) bay) key.c key.h =
+              ap (λ (n : ℕ). met_in (in_bay mid.media bay) rate n key.h) at
+              ∙ ap (λ (m : Two (Option Disk)). met_in (in_bay m bay) rate key.c key.h) prepared.moves.media
+              ∙ ap (λ (r : Rate). met_in (in_bay old.media bay) r key.c key.h) same_rate
+              ∙ ap (λ (b : Bay). met b key.c key.h) (sym was) in
+              subst (λ (t : List ℕ). IsReadReason t key code) track_is (miss.reason second);
+          overrun = λ is. let r = miss.overrun is in omega arith;
+          lost = λ is. absurd (no_seek code miss.coded is);
+        }
+
+    by_ok : (a : Result Bool Code) → IfOk a (λ deleted. (content : List ℕ) × FindsField mid bay key rate deleted content new × (new.memory ≡ with_bytes mid.memory address content)) → IfOk a (λ deleted. IsReadWhole (shown driver old spares waiting) bay key address deleted (shown after new spares waiting))
+    by_ok (Ok deleted) found = done_field deleted found.0 found.1 found.2
+    by_ok (Err code) found = tt
+
+    by_err : (a : Result Bool Code) → IfErr a (λ code. IsReadMiss (track_under mid bay rate key.h) key bay code mid.counters new.counters) → IfErr a (λ code. IsReadFailed (IsSure tries attempt) (shown driver old spares waiting) bay key code (shown after new spares waiting))
+    by_err (Ok deleted) miss = tt
+    by_err (Err code) miss = failed_code code miss
+
+    -- the sector was read for, with the heads ready
+    pub tries_read : TriesRead (IsSure tries attempt) (shown driver old spares waiting) bay key address answer (shown after new spares waiting)
+    tries_read =
+        let before = shown driver old spares waiting in
+        record {
+          done = by_ok answer reads.found;
+          failed = by_err answer reads.refused;
+          memory = subst (λ (m : List ℕ). SameOutside m address (content_size key.n) new.memory) prepared.moves.memory reads.outside;
+          becomes =
+              read_shown after mid new spares waiting reads.sends
+              ∙ ap (λ (s : StationState). record s { memory = new.memory; counters = with_waiting new.counters waiting }) asked.stays;
+          counts = goes_on_after before.counters (with_waiting mid.counters waiting) (with_waiting new.counters waiting) asked.counts later;
+          driven =
+              driven_after 0 1 before.counters (with_waiting mid.counters waiting) (with_waiting new.counters waiting) asked.counts later asked.idle
+              (waiting_driven 1 mid.counters new.counters waiting reads.sends.driven);
+        }

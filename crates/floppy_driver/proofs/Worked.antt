@@ -1,0 +1,136 @@
+-- Working with a drive until its change line clears.
+use Rattle.std.proofs.Common.{◌≡◌, ℕ, zero, suc, ◌+◌, ◌-◌, ◌<◌, ◌≤◌, ◌⊎◌, Bool, true, false, List, Option, Some, None, IsSome, refl, sym, ap, ◌∙◌, subst, arith, inl, inr}
+use Rattle.std.proofs.lemmas.Bool.{false≢true}
+use Rattle.raw_image.specs.Disk.{Disk}
+use Rattle.bay_model.specs.Bays.{Two, in_bay, with_bay}
+use Rattle.bay_model.specs.Counters.{DriveCounts, faults_of, FaultsRoseBy, GoesOn, IsDriven}
+use Rattle.bay_model.proofs.Counted.{goes_on_after, faults_go_on}
+use Rattle.single_commands.specs.Rigs.{Rig, OnlyAsks}
+use Rattle.sector_model.specs.Stations.{Bay, StationState, set_bay}
+use Rattle.floppy_driver.specs.declared.driver.Notes.{Notes}
+use Rattle.floppy_driver.specs.declared.driver.Driver.{Driver}
+use Rattle.floppy_driver.specs.Shown.{notes_of, bay_shown, with_waiting, shown, with_notes}
+use Rattle.floppy_driver.specs.Attached.{IsAttached}
+use Rattle.floppy_driver.specs.Acknowledged.{Works, ClearsChange, HasStayedSet, OnlyReads}
+use Rattle.floppy_driver.proofs.Shows.{IsNotedAt, noted_at, noted_later, spun_at, driven_after}
+use Rattle.floppy_driver.proofs.RateFound.{spun_after}
+
+pub works_asked : (old : Rig) (bay : ℕ) (new : Rig) → OnlyAsks old new → Works old bay new
+works_asked old bay new asks = record {
+  media = asks.media;
+  memory = asks.memory;
+  spun = asks.heads.spun;
+  other_cylinder = ap (λ (t : Two ℕ). in_bay t (1 - bay)) asks.heads.cylinders;
+  other_number = ap (λ (t : Two ℕ). in_bay t (1 - bay)) asks.heads.numbers;
+  other_change = ap (λ (t : Two Bool). in_bay t (1 - bay)) asks.heads.changes;
+  empty = λ none. ap (λ (t : Two Bool). in_bay t bay) asks.heads.changes;
+  counts = asks.counts;
+}
+
+pub works_read : (most : ℕ) (old : Rig) (bay : ℕ) (new : Rig) → OnlyReads most old new → Works old bay new
+works_read most old bay new reads = record {
+  media = reads.media;
+  memory = reads.memory;
+  spun = reads.heads.spun;
+  other_cylinder = ap (λ (t : Two ℕ). in_bay t (1 - bay)) reads.heads.cylinders;
+  other_number = ap (λ (t : Two ℕ). in_bay t (1 - bay)) reads.heads.numbers;
+  other_change = ap (λ (t : Two Bool). in_bay t (1 - bay)) reads.heads.changes;
+  empty = λ none. ap (λ (t : Two Bool). in_bay t bay) reads.heads.changes;
+  counts = reads.counts;
+}
+
+pub works_after : (a : Rig) (bay : ℕ) (b c : Rig) → Works a bay b → Works b bay c → Works a bay c
+works_after a bay b c one two = record {
+  media = two.media ∙ one.media;
+  memory = two.memory ∙ one.memory;
+  spun = spun_after a.spun b.spun c.spun one.spun two.spun;
+  other_cylinder = two.other_cylinder ∙ one.other_cylinder;
+  other_number = two.other_number ∙ one.other_number;
+  other_change = two.other_change ∙ one.other_change;
+  empty = λ none. two.empty (ap (λ (t : Two (Option Disk)). in_bay t bay) one.media ∙ none) ∙ one.empty none;
+  counts = goes_on_after a.counters b.counters c.counters one.counts two.counts;
+}
+
+-- ---- rounds of steps
+
+pub stayed_start : (old : Rig) (bay : ℕ) (new : Rig) → OnlyAsks old new → (IsSome (in_bay old.media bay) → in_bay new.spun bay ≡ true) → HasStayedSet old bay 0 new
+stayed_start old bay new asks spun =
+    let f = faults_go_on old.counters new.counters bay asks.counts in
+    record {
+      works = works_asked old bay new asks;
+      driven = asks.driven;
+      spun = spun;
+      lost = λ some. omega arith;
+    }
+
+module _ (start : Rig) (bay count : ℕ) (old : Rig) (stayed : HasStayedSet start bay count old) (reached : Bool) (mid : Rig) (clears : ClearsChange old bay reached mid) (new : Rig) (asks : OnlyAsks mid new) where
+  pub works_round : Works start bay new
+  works_round =
+      works_after start bay old new stayed.works (works_after old bay mid new clears.works (works_asked mid bay new asks))
+
+  pub driven_round : IsDriven 0 start.counters new.counters
+  driven_round =
+      let one = goes_on_after start.counters old.counters mid.counters stayed.works.counts clears.works.counts in
+      driven_after 0 0 start.counters mid.counters new.counters one asks.counts
+      (driven_after 0 0 start.counters old.counters mid.counters stayed.works.counts clears.works.counts stayed.driven clears.driven)
+      asks.driven
+
+  pub spun_round : IsSome (in_bay start.media bay) → in_bay new.spun bay ≡ true
+  spun_round some = spun_at mid.spun new.spun bay asks.heads.spun (spun_at old.spun mid.spun bay clears.works.spun (stayed.spun some))
+
+  -- the change line is still set
+  pub stayed_more : in_bay mid.changes bay ≡ true → HasStayedSet start bay (count + 1) new
+  stayed_more set = record {
+    works = works_round;
+    driven = driven_round;
+    spun = spun_round;
+    lost = λ some.
+        let there : IsSome (in_bay old.media bay) = subst (λ (t : Two (Option Disk)). IsSome (in_bay t bay)) (sym stayed.works.media) some in
+        let so_far = stayed.lost some in
+        let more = clears.clears there set in
+        let f = faults_go_on mid.counters new.counters bay asks.counts in
+        omega arith;
+  }
+
+-- ---- what is shown, and owed, of a drive that was worked with
+
+-- a clear change line shows that a medium is in
+pub clear_is_full : (driver : Driver) (old : Rig) (bay : ℕ) (new : Rig) → IsAttached driver old → Works old bay new → in_bay new.changes bay ≡ false → (disk : Disk) × (in_bay old.media bay ≡ Some disk)
+clear_is_full driver old bay new attached works clear = by_medium (in_bay old.media bay) refl
+  where
+    by_medium : (m : Option Disk) → in_bay old.media bay ≡ m → (disk : Disk) × (in_bay old.media bay ≡ Some disk)
+    by_medium (Some disk) is = (disk, is)
+    by_medium None is =
+        absurd (false≢true (sym clear ∙ works.empty is ∙ (noted_at driver old bay attached).empty is))
+
+pub noted_worked : (driver : Driver) (old : Rig) (bay : ℕ) (new : Rig) → IsAttached driver old → Works old bay new → IsNotedAt driver new (1 - bay)
+noted_worked driver old bay new attached works =
+    let other = 1 - bay in
+    noted_later (notes_of driver other) (in_bay old.media other) (in_bay new.media other) (in_bay old.changes other) (in_bay new.changes other)
+    (in_bay old.spun other) (in_bay new.spun other) (in_bay old.numbers other) (in_bay new.numbers other) (in_bay old.cylinders other) (in_bay new.cylinders other)
+    (faults_of old.counters other) (faults_of new.counters other) (λ none. ap (λ (t : Two (Option Disk)). in_bay t other) (sym works.media) ∙ none)
+    works.other_change (spun_at old.spun new.spun other works.spun) works.other_number works.other_cylinder
+    (faults_go_on old.counters new.counters other works.counts) (noted_at driver old other attached)
+
+worked_parts : Bay → Bay → List ℕ → ℕ → Driver → Rig → List DriveCounts → StationState
+worked_parts first second memory spares driver new waiting = record {
+  bays = record { first = first; second = second };
+  memory = memory;
+  spares = spares;
+  tries = driver.tries;
+  counters = with_waiting new.counters waiting;
+}
+
+pub worked_shown : (driver after : Driver) (old : Rig) (bay : ℕ) (new : Rig) (notes : Notes) (spares : ℕ) (waiting : List DriveCounts) → bay ≤ 1 → after ≡ with_notes driver bay notes → Works old bay new → shown after new spares waiting ≡ record (set_bay (shown driver old spares waiting) bay (bay_shown notes (in_bay new.media bay) (in_bay new.changes bay))) { counters = with_waiting new.counters waiting }
+unfolding worked_parts
+worked_shown driver after old zero new notes spares waiting in_range is works =
+    ap (λ (d : Driver). shown d new spares waiting) is
+    ∙ ap (λ (m : Two (Option Disk)). worked_parts (bay_shown notes new.media.first new.changes.first) (bay_shown driver.second m.second new.changes.second) new.memory spares driver new waiting) works.media
+    ∙ ap (λ (b : Bool). worked_parts (bay_shown notes new.media.first new.changes.first) (bay_shown driver.second old.media.second b) new.memory spares driver new waiting) works.other_change
+    ∙ ap (λ (m : List ℕ). worked_parts (bay_shown notes new.media.first new.changes.first) (bay_shown driver.second old.media.second old.changes.second) m spares driver new waiting) works.memory
+worked_shown driver after old (suc zero) new notes spares waiting in_range is works =
+    ap (λ (d : Driver). shown d new spares waiting) is
+    ∙ ap (λ (m : Two (Option Disk)). worked_parts (bay_shown driver.first m.first new.changes.first) (bay_shown notes new.media.second new.changes.second) new.memory spares driver new waiting) works.media
+    ∙ ap (λ (b : Bool). worked_parts (bay_shown driver.first old.media.first b) (bay_shown notes new.media.second new.changes.second) new.memory spares driver new waiting) works.other_change
+    ∙ ap (λ (m : List ℕ). worked_parts (bay_shown driver.first old.media.first old.changes.first) (bay_shown notes new.media.second new.changes.second) m spares driver new waiting) works.memory
+worked_shown driver after old (suc (suc n)) new notes spares waiting in_range is works = absurd (omega arith)

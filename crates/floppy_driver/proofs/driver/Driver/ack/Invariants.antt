@@ -1,0 +1,12 @@
+use Rattle.std.proofs.Common.{◌≡◌}
+use Rattle.single_commands.specs.Rigs.{IsSound}
+use Rattle.floppy_driver.specs.Acknowledged.{HasStayedSet}
+use Rattle.floppy_driver.proofs.driver.Driver.ack.Given as goal
+
+abbrev pub invariant-loop-round : goal.invariant-loop-round
+invariant-loop-round g l = record {
+  same : l.self ≡ l.fn.self;
+  idle : g.C.Commands.is_idle l.machine;
+  sound : IsSound (g.C.Commands.rig l.machine);
+  stayed : HasStayedSet (g.C.Commands.rig l.fn.machine) l.bay l._round (g.C.Commands.rig l.machine);
+}

@@ -1,0 +1,16 @@
+use Rattle.std.proofs.Common.{◌≡◌, ℕ, ◌-◌, List}
+use Rattle.bay_model.specs.Counters.{DriveCounts, GoesOn}
+use Rattle.sector_model.specs.Stations.{StationState}
+use Rattle.floppy_driver.specs.Shown.{shown, HasAsked}
+use Rattle.floppy_driver.specs.Attempts.{CanTry}
+use Rattle.floppy_driver.specs.Readings.{HasTriedRead}
+use Rattle.floppy_driver.proofs.driver.Driver.read_in_attempts.Given as goal
+
+abbrev pub invariant-loop-attempt : goal.invariant-loop-attempt
+invariant-loop-attempt g l = record {
+  idle : g.C.Commands.is_idle l.machine;
+  ready : CanTry l.self (g.C.Commands.rig l.machine) l.bay;
+  tries : l.self.tries ≡ l.initial.self.tries;
+  counts : GoesOn (g.C.Commands.rig l.initial.machine).counters (g.C.Commands.rig l.machine).counters;
+  tried : (start : StationState) (spares : ℕ) (waiting : List DriveCounts) → HasAsked start (shown l.initial.self (g.C.Commands.rig l.initial.machine) spares waiting) → HasTriedRead start l.bay l.key l.address (l.attempt - 1) l.last (shown l.self (g.C.Commands.rig l.machine) spares waiting);
+}

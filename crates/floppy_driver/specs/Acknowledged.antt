@@ -1,0 +1,74 @@
+-- How a bay is acknowledged.
+use Rattle.std.specs.Prelude.{◌≡◌, ℕ, ◌-◌, ◌*◌, Bool, true, false, Some, None, IsSome, ◌⊎◌, if◌then◌else◌}
+use Rattle.flop_base.specs.declared.key.Chrn.{Chrn}
+use Rattle.flop_base.specs.declared.answers.Rate.{Rate}
+use Rattle.flop_base.specs.declared.answers.Rate.TheVariants.{R500, R250}
+use Rattle.track_model.specs.Fields.{IsAddress}
+use Rattle.bay_model.specs.Bays.{in_bay}
+use Rattle.bay_model.specs.Counters.{faults_of, FaultsRoseBy, GoesOn, IsDriven}
+use Rattle.sector_map.specs.Met.{HasClearAddress}
+use Rattle.single_commands.specs.Rigs.{Rig, StaysSpun, HeadsStay, track_under}
+use Rattle.single_commands.specs.Heads.{MovesHeads}
+use Rattle.floppy_driver.specs.declared.driver.Notes.{Notes}
+
+-- a drive was worked with: neither media nor memory changed, nor the other drive
+pub record Works (old : Rig) (bay : ℕ) (new : Rig) : Type 0 where
+  pub media : new.media ≡ old.media
+  pub memory : new.memory ≡ old.memory
+  pub spun : StaysSpun old.spun new.spun
+  pub other_cylinder : in_bay new.cylinders (1 - bay) ≡ in_bay old.cylinders (1 - bay)
+  pub other_number : in_bay new.numbers (1 - bay) ≡ in_bay old.numbers (1 - bay)
+  pub other_change : in_bay new.changes (1 - bay) ≡ in_bay old.changes (1 - bay)
+  pub empty : in_bay old.media bay ≡ None → in_bay new.changes bay ≡ in_bay old.changes bay
+  pub counts : GoesOn old.counters new.counters
+
+-- steps in and out, to track 0 if that is reached: where a medium is in, and the change line stays set, a pulse was lost
+pub record ClearsChange (old : Rig) (bay : ℕ) (reached : Bool) (new : Rig) : Type 0 where
+  pub works : Works old bay new
+  pub driven : IsDriven 0 old.counters new.counters
+  pub number : in_bay new.numbers bay ≡ 0
+  pub arrives : reached ≡ true → in_bay new.cylinders bay ≡ 0
+  pub lost : reached ≡ false → FaultsRoseBy 77 bay old.counters new.counters
+  pub clears : IsSome (in_bay old.media bay) → in_bay new.changes bay ≡ true → FaultsRoseBy 1 bay old.counters new.counters
+
+-- the change line stayed set in so many rounds of steps: with a medium in, which is at speed, a pulse of each was lost
+pub record HasStayedSet (old : Rig) (bay count : ℕ) (new : Rig) : Type 0 where
+  pub works : Works old bay new
+  pub driven : IsDriven 0 old.counters new.counters
+  pub spun : IsSome (in_bay old.media bay) → in_bay new.spun bay ≡ true
+  pub lost : IsSome (in_bay old.media bay) → FaultsRoseBy count bay old.counters new.counters
+
+-- at most so many data commands that read, and changed neither media nor memory
+pub record OnlyReads (most : ℕ) (old new : Rig) : Type 0 where
+  pub heads : HeadsStay old new
+  pub media : new.media ≡ old.media
+  pub memory : new.memory ≡ old.memory
+  pub counts : GoesOn old.counters new.counters
+  pub driven : IsDriven most old.counters new.counters
+
+-- the track under the first head has an address field at this rate
+abbrev pub HasStart : Rig → ℕ → Rate → Type 0
+HasStart rig bay rate = (p : ℕ) × IsAddress (track_under rig bay rate 0) p
+
+-- where it has a Clear one at R250, so many commands that looked for it had a fault
+abbrev pub IsSpoilt : Rig → ℕ → ℕ → Rig → Type 0
+IsSpoilt old bay count new =
+    (key : Chrn) → HasClearAddress (track_under old bay R250 0) key → FaultsRoseBy count bay old.counters new.counters
+
+-- no address field was found in so many rounds, each at both rates
+pub record HasFoundNone (old : Rig) (bay count : ℕ) (new : Rig) : Type 0 where
+  pub reads : OnlyReads (2 * count) old new
+  pub spoilt : IsSpoilt old bay count new
+
+-- a rate was looked for: R250 where an address field was found at it, and R500 where one was found at that, or none at all
+pub record FindsRate (old : Rig) (bay : ℕ) (rate : Rate) (new : Rig) : Type 0 where
+  pub reads : OnlyReads 6 old new
+  pub double : rate ≡ R250 → HasStart old bay R250
+  pub single : rate ≡ R500 → HasStart old bay R500 ⊎ IsSpoilt old bay 3 new
+
+-- a bay is held from now on: its rate was found, and its drive's count is kept
+pub record IsHeldSince (old : Rig) (bay : ℕ) (reached : Bool) (notes : Notes) (new : Rig) : Type 0 where
+  pub finds : FindsRate old bay notes.rate new
+  pub gate : notes.gate ≡ true
+  pub kept : notes.kept ≡ faults_of new.counters bay
+  pub known : notes.known ≡ (if reached then Some 0 else None)

@@ -1,0 +1,22 @@
+-- What the attempts of a call have in common.
+use Rattle.std.specs.Prelude.{◌≡◌, ℕ, ◌-◌, ◌≤◌, true, min, ◌⊎◌}
+use Rattle.bay_model.specs.Bays.{in_bay}
+use Rattle.single_commands.specs.Rigs.{Rig, IsSound}
+use Rattle.floppy_driver.specs.declared.driver.Driver.{Driver}
+use Rattle.floppy_driver.specs.Shown.{notes_of, is_held}
+use Rattle.floppy_driver.specs.Attached.{IsAttached}
+
+-- an attempt can be made in a bay
+pub record CanTry (driver : Driver) (rig : Rig) (bay : ℕ) : Type 0 where
+  pub in_range : bay ≤ 1
+  pub held : is_held (notes_of driver bay) (in_bay rig.changes bay) ≡ true
+  pub attached : IsAttached driver rig
+  pub sound : IsSound rig
+
+-- an attempt, counted from 1, that goes by track 0: each but the first of two or more
+abbrev pub IsSure : ℕ → ℕ → Type 0
+IsSure tries attempt = (tries ≡ 1) ⊎ (2 ≤ attempt)
+
+-- so many of the first attempts go by track 0
+abbrev pub sure_attempts : ℕ → ℕ → ℕ
+sure_attempts tries count = count - min 1 (tries - 1)
