@@ -16,12 +16,12 @@ use Rattle.sector_map.specs.Layings.{Format, IsFormattable}
 use Rattle.sector_model.specs.Stations.{Bay, StationState, bay_of, set_bay}
 use Rattle.sector_model.specs.Orders.{is_bay, is_place, is_acknowledged, is_protected, most_format_gap, is_format_request, IsRefusedAtOnce}
 use Rattle.sector_model.specs.Formats.{IsFormatCause, FormatsDrive, FormatsTo}
-use Rattle.single_commands.specs.Rigs.{Rig, IsSound, OnlyAsks}
+use Rattle.single_commands.specs.Rigs.{Rig, OnlyAsks}
 use Rattle.floppy_driver.specs.Shown.{notes_of, is_held, with_waiting, shown, HasAsked}
-use Rattle.floppy_driver.specs.Attached.{IsAttached}
-use Rattle.floppy_driver.specs.Formattings.{IsAttemptRefusal, FormatsIn, HasOnlyMedium, IsWritable}
+use Rattle.floppy_driver.specs.Formattings.{IsAttemptRefusal, FormatsIn, HasOnlyMedium}
 use Rattle.floppy_driver.specs.declared.driver.Driver.{Driver}
-use Rattle.floppy_driver.proofs.Shows.{attached_asked, bay_shown_at, acknowledged_held, asks_shown, driven_after}
+use Rattle.floppy_driver.proofs.Shows.{bay_shown_at, acknowledged_held, asks_shown, driven_after}
+use Rattle.floppy_driver.proofs.Asking.{refused_asking}
 use Rattle.floppy_driver.proofs.ReadBacks.{heads_stay_after}
 
 -- ---- the order of refusals
@@ -155,13 +155,10 @@ asks_after a b c one two = record {
   driven = driven_after 0 0 a.counters b.counters c.counters one.counts two.counts one.driven two.driven;
 }
 
-refused_asking : (old : StationState) (code : Code) (new : StationState) → HasAsked old new → IsRefusedAtOnce {A = Unit {0}} old code (Err code) new
-refused_asking old code new asked = record { refused = refl; stays = asked.stays; idle = asked.idle }
-
 abbrev protects : Option Disk → Bool
 protects medium = option_map_or (λ disk. disk.protected) medium false
 
-pub medium_shown : (driver : Driver) (rig : Rig) (spares : ℕ) (waiting : List DriveCounts) (bay : ℕ) → (bay_of (shown driver rig spares waiting) bay).medium ≡ in_bay rig.media bay
+medium_shown : (driver : Driver) (rig : Rig) (spares : ℕ) (waiting : List DriveCounts) (bay : ℕ) → (bay_of (shown driver rig spares waiting) bay).medium ≡ in_bay rig.media bay
 medium_shown driver rig spares waiting bay = ap (λ (b : Bay). b.medium) (bay_shown_at driver rig spares waiting bay)
 
 -- `middle` is the driver behind the question whether the bay is held, and `old` the machine before it
@@ -173,7 +170,7 @@ module _ (driver middle : Driver) (old : Rig) (bay c h gap3 : ℕ) (held : Bool)
   acknowledged_is = acknowledged_held driver old spares waiting bay ∙ sym is
 
   -- the driver behind the question holds the bay too
-  pub held_then : is_held (notes_of middle bay) (in_bay old.changes bay) ≡ held
+  held_then : is_held (notes_of middle bay) (in_bay old.changes bay) ≡ held
   held_then = sym (acknowledged_held middle old spares waiting bay) ∙ ap (λ (s : StationState). is_acknowledged s bay) same ∙ acknowledged_is
 
   rate_shown : (bay_of start bay).rate ≡ rate
@@ -199,12 +196,12 @@ module _ (driver middle : Driver) (old : Rig) (bay c h gap3 : ℕ) (held : Bool)
     pub gap_refused : most_format_gap rate < gap3 → FormatsTo start bay c h gap3 fill (Err BadRequest) now
     gap_refused long =
         step_unasked start bay c h gap3 fill (Err BadRequest) now (request_is false asked (lt-leb gap3 (most_format_gap rate) long))
-        (refused_asking start BadRequest now has_asked)
+        (refused_asking {A = Unit {0}} start BadRequest now has_asked)
 
     pub change_refused : gap3 ≤ most_format_gap rate → held ≡ false → FormatsTo start bay c h gap3 fill (Err Changed) now
     change_refused fits unheld =
         step_unheld start bay c h gap3 fill (Err Changed) now (request_is true asked (le-leb gap3 (most_format_gap rate) fits)) (acknowledged_is ∙ unheld)
-        (refused_asking start Changed now has_asked)
+        (refused_asking {A = Unit {0}} start Changed now has_asked)
 
     protects_is : (answer : Bool) → answer ≡ protects (in_bay new.media bay) → is_protected start bay ≡ answer
     protects_is answer line =
@@ -218,7 +215,7 @@ module _ (driver middle : Driver) (old : Rig) (bay c h gap3 : ℕ) (held : Bool)
       protection_refused line =
           let after = shown middle last spares waiting in
           step_protected start bay c h gap3 fill (Err Protected) after (request_is true asked (le-leb gap3 (most_format_gap rate) fits)) (acknowledged_is ∙ holds) (protects_is true line)
-          (refused_asking start Protected after (asks_shown driver middle old last spares waiting same (asks_after old new last asks too)))
+          (refused_asking {A = Unit {0}} start Protected after (asks_shown driver middle old last spares waiting same (asks_after old new last asks too)))
 
       -- a format in attempts is the step
       pub format_step : false ≡ protects (in_bay new.media bay) → (after : Driver) (answer : Result (Unit {0}) Code) (end : Rig) → 1 ≤ driver.tries → middle.tries ≡ driver.tries → GoesOn last.counters end.counters → FormatsIn middle.tries (record { c = c; h = h; rate = rate; gap3 = gap3; fill = fill }) bay answer (in_bay last.media bay) (in_bay end.media bay) last.counters end.counters → HasOnlyMedium (shown middle last spares waiting) bay (in_bay end.media bay) (shown after end spares waiting) → FormatsTo start bay c h gap3 fill answer (shown after end spares waiting)
@@ -237,12 +234,3 @@ module _ (driver middle : Driver) (old : Rig) (bay c h gap3 : ℕ) (held : Bool)
           (medium_shown driver old spares waiting bay ∙ sym media) (medium_shown after end spares waiting bay) only
           (formats_shown driver.tries (of_rate (bay_of start bay).rate) bay answer (in_bay last.media bay) (in_bay end.media bay) old.counters last.counters end.counters waiting
           whole.counts goes whole.driven attempts))
-
-      -- and the bay can be written
-      pub writable_asked : false ≡ protects (in_bay new.media bay) → IsSound last → IsAttached middle new → IsWritable middle bay last
-      writable_asked line sound attached = record {
-        sound = sound;
-        attached = attached_asked middle new last too attached;
-        held = ap (λ (t : Two Bool). is_held (notes_of middle bay) (in_bay t bay)) (too.heads.changes ∙ asks.heads.changes) ∙ held_then ∙ holds;
-        unprotected = ap (λ (t : Two (Option Disk)). protects (in_bay t bay)) too.media ∙ sym line;
-      }

@@ -2,6 +2,7 @@ mod Acked
 mod Asking
 pub mod Attempts
 mod FormatOnce
+mod FormatReady
 mod FormatStep
 mod FormatTries
 mod LaidTracks
@@ -13,4 +14,3 @@ pub mod ReadTries
 mod ReadStep
 pub mod Shows
 mod Worked
-mod Writable

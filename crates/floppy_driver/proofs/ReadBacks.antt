@@ -12,15 +12,16 @@ use Rattle.track_model.specs.Fields.{content_size, content_at}
 use Rattle.track_model.specs.Sectors.{IsSector}
 use Rattle.track_model.proofs.Unique.{one_look_at}
 use Rattle.bay_model.specs.Bays.{Two, in_bay}
-use Rattle.bay_model.proofs.Counted.{goes_on_after, faults_go_on}
+use Rattle.bay_model.proofs.Counted.{goes_on_after, goes_on_itself}
 use Rattle.sector_map.specs.Met.{met_in}
 use Rattle.sector_map.specs.Standard.{key_of}
-use Rattle.bay_model.specs.Counters.{Counters, GoesOn, IsUndisturbed, IsFaultless}
+use Rattle.bay_model.specs.Counters.{IsUndisturbed}
 use Rattle.bay_model.specs.Memory.{with_bytes}
 use Rattle.sector_map.proofs.MetTracks.{met_track}
 use Rattle.single_commands.specs.Rigs.{Rig, HeadsStay, track_under}
 use Rattle.single_commands.specs.Reading.{IsReadReason, ReadsBack}
 use Rattle.floppy_driver.specs.Formattings.{IsFilled, HoldsRecord, HoldsRecords, ReadsRecords}
+use Rattle.floppy_driver.proofs.Shows.{driven_after, driven_within, undisturbed_part, undisturbed_faultless}
 
 -- a read of a record that is there has no reason to fail
 no_reason : (track : List ℕ) (key : Chrn) (fill : ℕ) (code : Code) → HoldsRecord track key fill → IsReadReason track key code → ⊥
@@ -59,12 +60,6 @@ filled_page page content new count fill is long all k below =
     ∙ get_or_append_left content (drop (0 + length content) page) 0 k (omega arith)
     ∙ ap (λ (bytes : List ℕ). get_or bytes k 0) all
     ∙ get_or-replicate count k fill 0 below
-
-undisturbed_faultless : (bay : ℕ) (old new : Counters) → GoesOn old new → IsUndisturbed bay old new → IsFaultless bay old new
-undisturbed_faultless bay old new goes quiet =
-    let s = goes.stalls in
-    let q = quiet.together in
-    (omega arith, quiet.faults)
 
 module _ (old : Rig) (bay : ℕ) (key : Chrn) (rate : Rate) (fill : ℕ) where
   abbrev track : List ℕ
@@ -131,13 +126,6 @@ heads_stay_after a b c one two = record {
   spun = record { first = λ e. two.spun.first (one.spun.first e); second = λ e. two.spun.second (one.spun.second e) };
 }
 
-undisturbed_later : (bay : ℕ) (a b c : Counters) → GoesOn a b → GoesOn b c → IsUndisturbed bay a c → IsUndisturbed bay b c
-undisturbed_later bay a b c one two quiet =
-    let f = faults_go_on a b bay one in
-    let s = one.stalls in
-    let q = quiet.together in
-    record { faults = quiet.faults; stalls = quiet.stalls; together = omega arith }
-
 -- the record behind those that were read back could not be
 pub reads_failed : (old middle new : Rig) (bay so_far most : ℕ) (there next : Type 0) (code : Code) → so_far + 1 ≤ most → (there → next) → ReadsRecords old bay so_far there (Ok tt) middle → ReadsRecords middle bay 1 next (Err code) new → ReadsRecords old bay most there (Err code) new
 reads_failed old middle new bay so_far most there next code within has first second = record {
@@ -145,21 +133,14 @@ reads_failed old middle new bay so_far most there next code within has first sec
   media = second.media ∙ first.media;
   memory = second.memory ∙ first.memory;
   counts = goes_on_after old.counters middle.counters new.counters first.counts second.counts;
-  driven = record {
-    most_commands = let f = first.driven.most_commands in let s = second.driven.most_commands in omega arith;
-    interrupts =
-        let f = first.driven.interrupts in
-        let s = second.driven.interrupts in
-        let d = first.counts.data_commands in
-        let e = second.counts.data_commands in
-        omega arith;
-    past_driver = second.driven.past_driver ∙ first.driven.past_driver;
-  };
+  driven =
+      driven_within (so_far + 1) most old.counters new.counters within
+      (driven_after so_far 1 old.counters middle.counters new.counters first.counts second.counts first.driven second.driven);
   commands = λ ok. absurd (false≢true ok);
   refused = record {
     coded = second.refused.coded;
     overrun = λ e. let rose = second.refused.overrun e in let s = first.counts.stalls in omega arith;
-    disturbed = λ holds quiet. second.refused.disturbed (has holds) (undisturbed_later bay old.counters middle.counters new.counters first.counts second.counts quiet);
+    disturbed = λ holds quiet. second.refused.disturbed (has holds) (undisturbed_part bay old.counters middle.counters new.counters new.counters first.counts second.counts (goes_on_itself new.counters) quiet);
   };
 }
 

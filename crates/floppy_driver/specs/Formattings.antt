@@ -1,5 +1,5 @@
 -- A format of a track, attempt by attempt.
-use Rattle.std.specs.Prelude.{◌≡◌, ◌↔◌, ℕ, ◌+◌, ◌*◌, ◌<◌, ◌≤◌, true, false, List, length, slice_index, All, Option, Result, IsOk, IsErr, IfErr}
+use Rattle.std.specs.Prelude.{◌≡◌, ◌↔◌, ℕ, ◌+◌, ◌*◌, ◌<◌, ◌≤◌, false, List, length, slice_index, All, Option, Result, IsOk, IsErr, IfErr}
 use Rattle.std.specs.Option.{option_map_or}
 use Rattle.flop_base.specs.Counts.{RoseBy}
 use Rattle.flop_base.specs.Standard.{sectors_at}
@@ -16,10 +16,9 @@ use Rattle.sector_map.specs.Layings.{Format, Laying, IsFormattable}
 use Rattle.sector_model.specs.Stations.{StationState, Becomes, bay_of, set_bay}
 use Rattle.sector_model.specs.Orders.{IsDeviceRefusal}
 use Rattle.sector_model.specs.Formats.{Lays, IsFormatted, IsUnformatted}
-use Rattle.single_commands.specs.Rigs.{Rig, IsSound, HeadsStay}
+use Rattle.single_commands.specs.Rigs.{Rig, HeadsStay}
 use Rattle.single_commands.specs.Reading.{IsReadCode}
-use Rattle.floppy_driver.specs.Shown.{is_held, notes_of}
-use Rattle.floppy_driver.specs.Attached.{IsAttached}
+use Rattle.floppy_driver.specs.Attempts.{CanTry}
 use Rattle.floppy_driver.specs.declared.driver.Driver.{Driver}
 use Rattle.floppy_driver.specs.declared.formatting.Asked.{Asked}
 
@@ -34,11 +33,9 @@ pub record IsValidFormat (format : Format) : Type 0 where
   pub gap : 16 ≤ format.gap3
   pub byte : format.fill < 256
 
--- a bay is held, and its medium isn't protected
-pub record IsWritable (driver : Driver) (bay : ℕ) (rig : Rig) : Type 0 where
-  pub sound : IsSound rig
-  pub attached : IsAttached driver rig
-  pub held : is_held (notes_of driver bay) (in_bay rig.changes bay) ≡ true
+-- a bay in which an attempt can be made, with a medium that isn't protected
+pub record CanWrite (driver : Driver) (rig : Rig) (bay : ℕ) : Type 0 where
+  pub ready : CanTry driver rig bay
   pub unprotected : option_map_or (λ disk. disk.protected) (in_bay rig.media bay) false ≡ false
 
 -- ---- reading back

@@ -7,7 +7,7 @@ ghost use Rattle.track_model.specs.Fields.{IsSizeCode};
 ghost use Rattle.bay_model.specs.Bays.{in_bay};
 ghost use Rattle.bay_model.specs.Counters.{DriveCounts, GoesOn};
 ghost use Rattle.single_commands.specs.Rigs.{IsSound, track_under};
-ghost use Rattle.floppy_driver.specs.Formattings.{format_of, IsValidFormat, IsWritable, IsFilled, HoldsRecord, HoldsRecords, ReadsRecords, FormatsIn, HasOnlyMedium};
+ghost use Rattle.floppy_driver.specs.Formattings.{format_of, IsValidFormat, CanWrite, IsFilled, HoldsRecord, HoldsRecords, ReadsRecords, FormatsIn, HasOnlyMedium};
 
 use crate::driver::Driver;
 use flop_base::standard::SIZE_CODE;
@@ -96,9 +96,8 @@ impl Driver {
         asked: Asked,
     ) -> Result<(), Code>
         requires idle { C.is_idle machine.old }
-        requires bay { bay ≤ 1 }
         requires asked { IsValidFormat (format_of asked) }
-        requires writable { IsWritable self.old bay (C.rig machine.old) }
+        requires can { CanWrite self.old (C.rig machine.old) bay }
         ensures formats { FormatsIn self.old.tries (format_of asked) bay result
             (in_bay (C.rig machine.old).media bay) (in_bay (C.rig machine.new).media bay)
             (C.rig machine.old).counters (C.rig machine.new).counters }
@@ -127,9 +126,8 @@ impl Driver {
         asked: Asked,
     ) -> Result<(), Code>
         requires idle { C.is_idle machine.old }
-        requires bay { bay ≤ 1 }
         requires asked { IsValidFormat (format_of asked) }
-        requires writable { IsWritable self.old bay (C.rig machine.old) }
+        requires can { CanWrite self.old (C.rig machine.old) bay }
         ensures formats { FormatsIn 1 (format_of asked) bay result
             (in_bay (C.rig machine.old).media bay) (in_bay (C.rig machine.new).media bay)
             (C.rig machine.old).counters (C.rig machine.new).counters }
@@ -137,7 +135,7 @@ impl Driver {
             (shown self.old (C.rig machine.old) spares waiting) bay (in_bay (C.rig machine.new).media bay)
             (shown self.new (C.rig machine.new) spares waiting) }
         ensures counts { GoesOn (C.rig machine.old).counters (C.rig machine.new).counters }
-        ensures writable { IsWritable self.new bay (C.rig machine.new) }
+        ensures can { CanWrite self.new (C.rig machine.new) bay }
         ensures tries { self.new.tries ≡ self.old.tries }
         ensures idle { C.is_idle machine.new }
     {

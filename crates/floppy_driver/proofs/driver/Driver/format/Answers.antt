@@ -1,6 +1,7 @@
 use Rattle.std.proofs.Common.{[], sym, ap, ◌∙◌, ◌<◌, ◌≤◌, subst, ℕ}
 use Rattle.sector_model.specs.Stations.{StationState}
-use Rattle.floppy_driver.proofs.FormatStep.{gap_refused, change_refused, protection_refused, writable_asked, format_step}
+use Rattle.floppy_driver.proofs.FormatStep.{gap_refused, change_refused, protection_refused, format_step}
+use Rattle.floppy_driver.proofs.FormatReady.{can_write_asked}
 use Rattle.floppy_driver.proofs.driver.Driver.format.Goals as goal
 
 pub returns-then-gap3-most_format_gap-clause-step : goal.returns-then-gap3-most_format_gap-clause-step
@@ -25,13 +26,11 @@ returns-then-is_protected-clause-step g c = λ spares waiting.
     (subst (λ (n : ℕ). c.args.gap3 ≤ n) c.most_format_gap.ensures c.if-gap3-most_format_gap.false) c.if-not-held.false
     (g.C.Commands.rig c.is_protected.new.self) c.is_protected.ensures.asks c.if-is_protected.ensures.line
 
-pub format_in_attempts-requires-clause-writable : goal.format_in_attempts-requires-clause-writable
-format_in_attempts-requires-clause-writable g c =
+pub format_in_attempts-requires-clause-can : goal.format_in_attempts-requires-clause-can
+format_in_attempts-requires-clause-can g c =
     let held = c.is_held-held in
-    writable_asked c.args.self.now held.new.self (g.C.Commands.rig c.args.machine.now) c.args.bay c.args.c c.args.h c.args.gap3 held.result c.shown_rate-rate.result 0 []
-    held.ensures.held (held.ensures.shown 0 []) c.shown_rate-rate.ensures (sym c.is_asked.ensures.value ∙ c.if-not-is_asked.false) c.args.fill (g.C.Commands.rig held.new.machine) held.ensures.asks
-    (subst (λ (n : ℕ). c.args.gap3 ≤ n) c.most_format_gap.ensures c.if-gap3-most_format_gap.false) c.if-not-held.false
-    (g.C.Commands.rig c.is_protected.new.self) c.is_protected.ensures.asks c.if-is_protected.ensures.line c.is_protected.ensures.sound held.ensures.attached
+    can_write_asked held.new.self (g.C.Commands.rig held.new.machine) (g.C.Commands.rig c.is_protected.new.self) c.args.bay (held.ensures.ready c.if-not-held.false)
+    c.is_protected.ensures.asks c.is_protected.ensures.sound (sym c.if-is_protected.ensures.line)
 
 pub returns-clause-step : goal.returns-clause-step
 returns-clause-step g c = λ spares waiting.

@@ -15,7 +15,7 @@ loop-init g c =
     let medium = in_bay rig.media c.args.bay in
     record {
       idle = c.requires.idle;
-      writable = c.requires.writable;
+      can = c.requires.can;
       tries = refl;
       counts = goes_on_itself rig.counters;
       formats = formats_none (format_of c.args.asked) c.args.bay _ medium rig.counters;
@@ -51,7 +51,7 @@ loop-preserved g c =
     let done = c.format_once.ensures in
     record {
       idle = done.idle;
-      writable = done.writable;
+      can = done.can;
       tries = done.tries ∙ so_far.tries;
       counts = goes_on_after old.counters middle.counters new.counters so_far.counts done.counts;
       formats =

@@ -6,7 +6,7 @@ use Rattle.single_commands.specs.Rigs.{track_under}
 use Rattle.floppy_driver.specs.Formattings.{format_of, HoldsRecords}
 use Rattle.floppy_driver.specs.Shown.{notes_of}
 use Rattle.floppy_driver.proofs.FormatOnce.{lost_attempt, refused_attempt, read_attempt}
-use Rattle.floppy_driver.proofs.Writable.{writable_prepared, writable_formatted, writable_read}
+use Rattle.floppy_driver.proofs.FormatReady.{can_write_prepared, can_write_formatted, can_write_read}
 use Rattle.floppy_driver.proofs.driver.Driver.format_once.Goals as goal
 
 pub returns-then-not-prepare-clause-formats : goal.returns-then-not-prepare-clause-formats
@@ -23,14 +23,14 @@ returns-in_err-format-clause-formats g c =
     (notes_of c.args.self.now c.args.bay) (notes_of c.prepare.new.self c.args.bay) c.args.bay (format_of c.args.asked)
     c.if-not-prepare.ensures.prepared c.prepare.ensures.sound step.0 c.in_err-format.field-0.0 step.1)
 
-pub returns-in_err-format-clause-writable : goal.returns-in_err-format-clause-writable
-returns-in_err-format-clause-writable g c =
+pub returns-in_err-format-clause-can : goal.returns-in_err-format-clause-can
+returns-in_err-format-clause-can g c =
     let step = c.in_err-format.ensures.step in
     let middle = g.C.Commands.rig c.prepare.new.machine in
-    writable_formatted c.prepare.new.self middle (g.C.Commands.rig c.format.new.self) c.args.bay
-    (writable_prepared c.args.self.now c.prepare.new.self (g.C.Commands.rig c.args.machine.now) middle c.args.bay c.args.asked.c prepare.RecalibrateAndSeek true
-    c.requires.writable c.if-not-prepare.ensures.prepared c.prepare.ensures.sound c.prepare.ensures.attached)
-    c.format.ensures.sound (format_of c.args.asked) (Err c.in_err-format.field-0.0) c.requires.bay step.0 step.1
+    can_write_formatted c.prepare.new.self middle (g.C.Commands.rig c.format.new.self) c.args.bay
+    (can_write_prepared c.args.self.now c.prepare.new.self (g.C.Commands.rig c.args.machine.now) middle c.args.bay c.args.asked.c prepare.RecalibrateAndSeek true
+    c.requires.can c.prepare.ensures.notes c.if-not-prepare.ensures.prepared c.prepare.ensures.sound c.prepare.ensures.attached)
+    c.format.ensures.sound (format_of c.args.asked) (Err c.in_err-format.field-0.0) step.0 step.1
 
 pub returns-clause-formats : goal.returns-clause-formats
 returns-clause-formats g c =
@@ -40,17 +40,17 @@ returns-clause-formats g c =
     c.if-not-prepare.ensures.prepared c.prepare.ensures.sound step.0 step.1 c.requires.asked c.read_back_all.result
     (g.C.Commands.rig c.read_back_all.new.machine) c.read_back_all.ensures.reads
 
-pub returns-clause-writable : goal.returns-clause-writable
-returns-clause-writable g c =
+pub returns-clause-can : goal.returns-clause-can
+returns-clause-can g c =
     let step = c.in_ok-format.ensures.step in
     let middle = g.C.Commands.rig c.prepare.new.machine in
     let laid = g.C.Commands.rig c.format.new.self in
     let asked = c.args.asked in
-    writable_read c.prepare.new.self laid (g.C.Commands.rig c.read_back_all.new.machine) c.args.bay
-    (writable_formatted c.prepare.new.self middle laid c.args.bay
-    (writable_prepared c.args.self.now c.prepare.new.self (g.C.Commands.rig c.args.machine.now) middle c.args.bay asked.c prepare.RecalibrateAndSeek true
-    c.requires.writable c.if-not-prepare.ensures.prepared c.prepare.ensures.sound c.prepare.ensures.attached)
-    c.format.ensures.sound (format_of asked) (Ok c.in_ok-format.field-0) c.requires.bay step.0 step.1)
+    can_write_read c.prepare.new.self laid (g.C.Commands.rig c.read_back_all.new.machine) c.args.bay
+    (can_write_formatted c.prepare.new.self middle laid c.args.bay
+    (can_write_prepared c.args.self.now c.prepare.new.self (g.C.Commands.rig c.args.machine.now) middle c.args.bay asked.c prepare.RecalibrateAndSeek true
+    c.requires.can c.prepare.ensures.notes c.if-not-prepare.ensures.prepared c.prepare.ensures.sound c.prepare.ensures.attached)
+    c.format.ensures.sound (format_of asked) (Ok c.in_ok-format.field-0) step.0 step.1)
     c.read_back_all.ensures.sound (sectors_at asked.rate)
     (HoldsRecords (track_under laid c.args.bay asked.rate asked.h) asked.c asked.h (sectors_at asked.rate) asked.fill)
     c.read_back_all.result c.read_back_all.ensures.reads
