@@ -1,11 +1,17 @@
 mod Acked
 mod Asking
 pub mod Attempts
+mod FormatOnce
+mod FormatReady
+mod FormatStep
+mod FormatTries
+mod LaidTracks
 pub mod Prepared
 mod RateFound
+mod ReadBacks
 pub mod ReadOnce
-mod ReadStep
 pub mod ReadTries
+mod ReadStep
 pub mod Shows
 mod Worked
 pub mod Rising

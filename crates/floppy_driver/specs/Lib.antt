@@ -5,3 +5,4 @@ pub mod Attempts
 pub mod Readings
 pub mod Acknowledged
 pub mod Writings
+pub mod Formattings
