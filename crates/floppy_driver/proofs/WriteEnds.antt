@@ -17,7 +17,7 @@ use Rattle.bay_model.proofs.Counted.{goes_on_after}
 use Rattle.sector_map.specs.MetTracks.{MeetsTrack}
 use Rattle.sector_map.specs.Disks.{IsRegularDisk, IsOnMap}
 use Rattle.sector_map.specs.Changes.{Change, Written, window_of, IsChange}
-use Rattle.sector_map.specs.ChangedDisks.{FitsKey, HasWritten, IsWholeChange, IsSameOrChanged, change_at}
+use Rattle.sector_map.specs.ChangedDisks.{FitsKey, HasWritten, IsWholeChange, IsSameOrChanged, change_at, entry_of}
 use Rattle.sector_map.proofs.MetTracks.{met_track, met_from_mark, one_met}
 use Rattle.sector_map.proofs.KeptTracks.{alike_tracks}
 use Rattle.sector_map.proofs.RegularTracks.{key_cylinder, one_address}
@@ -25,7 +25,7 @@ use Rattle.sector_map.proofs.Joined.{change_of_none_regular}
 use Rattle.sector_map.proofs.Rewritten.{rewritten_keeps_tracks, rewritten_keeps_sectors, rewritten_keeps_address}
 use Rattle.sector_model.specs.Stations.{Bay, StationState, Becomes, Stays, bay_of, set_bay, met, IsSteady}
 use Rattle.sector_model.specs.Reads.{spoilable}
-use Rattle.sector_model.specs.Writes.{IsLastRead, IsWritten, IsWriteCause, ChangesAlone, KeepsRegular, WritesDrive, entry_of}
+use Rattle.sector_model.specs.Writes.{IsLastRead, IsWritten, IsWriteCause, ChangesAlone, KeepsRegular, WritesDrive}
 use Rattle.floppy_driver.specs.Shown.{HasAsked}
 use Rattle.floppy_driver.specs.Attempts.{IsSure, sure_attempts}
 use Rattle.floppy_driver.specs.Writings.{IsReadBack, TriesWrite, WroteWhole, IsWriteStart, IsSpared, with_change, KeptSoFar, WroteSoFar, HasTriedWrite}
