@@ -1,10 +1,10 @@
 mod Acked
 mod Asking
-pub mod Attempts
-pub mod Prepared
+mod Attempts
+mod Prepared
 mod RateFound
-pub mod ReadOnce
+mod ReadOnce
 mod ReadStep
-pub mod ReadTries
-pub mod Shows
+mod ReadTries
+mod Shows
 mod Worked
