@@ -1,5 +1,5 @@
 -- A bay is acknowledged, or not.
-use Rattle.std.proofs.Common.{◌≡◌, ℕ, zero, suc, ◌+◌, ◌-◌, ◌<◌, ◌≤◌, ◌⊎◌, Bool, true, false, if◌then◌else◌, List, Option, Some, None, IsSome, IfSome, Result, Ok, Err, MatchBool, refl, sym, ap, ◌∙◌, subst, arith, inl, inr}
+use Rattle.std.proofs.Common.{◌≡◌, ℕ, ◌-◌, ◌≤◌, ◌⊎◌, Bool, true, false, if◌then◌else◌, List, Option, Some, None, IsSome, IfSome, Result, Ok, Err, MatchBool, refl, sym, ap, ◌∙◌, subst, arith, inl, inr}
 use Rattle.std.specs.Prelude.{◌==◌, ◌&&◌, not}
 use Rattle.std.proofs.lemmas.Bool.{false≢true, le-leb}
 use Rattle.flop_base.specs.declared.key.Chrn.{Chrn}
@@ -8,27 +8,27 @@ use Rattle.flop_base.specs.declared.answers.Rate.TheVariants.{R500, R250}
 use Rattle.flop_base.specs.declared.answers.Code.{Code}
 use Rattle.flop_base.specs.declared.answers.Code.TheVariants.{BadRequest, NotReady}
 use Rattle.raw_image.specs.Disk.{Disk, IsDisk, track_of}
-use Rattle.track_model.specs.Fields.{IsAddress, IsAddressAt}
+use Rattle.track_model.specs.Fields.{IsAddress}
 use Rattle.bay_model.specs.Bays.{Two, in_bay}
-use Rattle.bay_model.specs.Counters.{DriveCounts, Counters, faults_of, FaultsRoseBy, FaultsRoseLess, GoesOn, IsDriven}
-use Rattle.bay_model.proofs.Counted.{goes_on_after, faults_go_on}
+use Rattle.bay_model.specs.Counters.{DriveCounts, faults_of, FaultsRoseBy, FaultsRoseLess}
+use Rattle.bay_model.proofs.Counted.{faults_go_on}
 use Rattle.sector_map.specs.Met.{met_in, HasClearAddress}
 use Rattle.sector_map.specs.MetTracks.{MeetsTrack}
 use Rattle.sector_map.proofs.MetTracks.{met_from_mark, met_track, one_met}
 use Rattle.single_commands.specs.Rigs.{Rig, IsSound, OnlyAsks, track_under}
-use Rattle.sector_model.specs.Stations.{Bay, StationState, Becomes, bay_of, set_bay, fresh_bay}
+use Rattle.sector_model.specs.Stations.{Bay, StationState, bay_of, set_bay, fresh_bay}
 use Rattle.sector_model.specs.Orders.{IsRefusedAtOnce}
-use Rattle.sector_model.specs.Calls.{HasClearStart, HasNoStart, IsAcknowledged, IsUnready, AcksDrive, Acks}
+use Rattle.sector_model.specs.Calls.{HasClearStart, HasNoStart, AcksDrive, Acks}
 use Rattle.floppy_driver.specs.declared.driver.Notes.{Notes}
 use Rattle.floppy_driver.specs.declared.driver.Driver.{Driver}
-use Rattle.floppy_driver.specs.Shown.{notes_of, is_held, bay_shown, with_waiting, shown, with_notes}
-use Rattle.floppy_driver.specs.Attached.{IsNoted, IsAttached}
-use Rattle.floppy_driver.specs.Acknowledged.{Works, ClearsChange, HasStayedSet, OnlyReads, HasStart, FindsRate, IsHeldSince}
+use Rattle.floppy_driver.specs.Shown.{is_held, bay_shown, with_waiting, shown, with_notes}
+use Rattle.floppy_driver.specs.Attached.{IsAttached}
+use Rattle.floppy_driver.specs.Acknowledged.{Works, ClearsChange, HasStayedSet, OnlyReads, HasStart, IsHeldSince}
 use Rattle.floppy_driver.proofs.Shows.{noted_at, bay_shown_at, held_bay, held_shown, spun_at, attached_with, waiting_driven, driven_after, driven_within}
 use Rattle.floppy_driver.proofs.Worked.{works_read, works_after, works_round, driven_round, spun_round, clear_is_full, noted_worked, worked_shown}
 
 -- an acknowledgement of a bay
-pub acks_bay : (old new : StationState) (bay : ℕ) (answer : Result (Unit {0}) Code) → bay ≤ 1 → AcksDrive old bay answer new → Acks old bay answer new
+acks_bay : (old new : StationState) (bay : ℕ) (answer : Result (Unit {0}) Code) → bay ≤ 1 → AcksDrive old bay answer new → Acks old bay answer new
 acks_bay old new bay answer in_range acks =
     subst (λ (b : Bool). MatchBool b (AcksDrive old bay answer new) (IsRefusedAtOnce old BadRequest answer new)) (sym (le-leb bay 1 in_range)) acks
 
@@ -137,9 +137,6 @@ module _ (driver after : Driver) (start : Rig) (bay count : ℕ) (notes : Notes)
 
   now_held : is_held notes (in_bay new.changes bay) ≡ true
   now_held = ap (λ (b : Bool). b && not (in_bay new.changes bay)) held.gate ∙ ap not now_clear
-
-  pub acked_counts : GoesOn start.counters new.counters
-  acked_counts = all_worked.counts
 
   -- ---- the drive
 

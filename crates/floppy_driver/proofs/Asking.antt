@@ -1,6 +1,6 @@
 -- Calls that ask, or set the rate of a bay.
 use Rattle.std.proofs.Common.{◌≡◌, ℕ, ◌≤◌, Bool, true, false, List, Option, Some, None, MatchOption, Result, Ok, Err, refl, sym, ap, ◌∙◌, subst}
-use Rattle.std.specs.Prelude.{not, is_some, if◌then◌else◌}
+use Rattle.std.specs.Prelude.{not, if◌then◌else◌}
 use Rattle.std.proofs.lemmas.Bool.{le-leb}
 use Rattle.raw_image.specs.Disk.{Disk}
 use Rattle.flop_base.specs.declared.answers.Rate.{Rate}
@@ -37,10 +37,10 @@ module _ (old : StationState) (bay : ℕ) (rate : Rate) (answer : Result (Unit {
       (sym (le-leb bay 1 in_range))
       (subst (λ (b : Bool). MatchOption (if not b then Some Changed else None) (SetsRate old bay rate answer new) (λ code. IsRefusedAtOnce old code answer new)) (sym is) step)
 
-  pub rates_refused : is_acknowledged old bay ≡ false → IsRefusedAtOnce old Changed answer new → RatesTo old bay rate answer new
+  rates_refused : is_acknowledged old bay ≡ false → IsRefusedAtOnce old Changed answer new → RatesTo old bay rate answer new
   rates_refused is step = rates_by false is step
 
-  pub rates_done : is_acknowledged old bay ≡ true → SetsRate old bay rate answer new → RatesTo old bay rate answer new
+  rates_done : is_acknowledged old bay ≡ true → SetsRate old bay rate answer new → RatesTo old bay rate answer new
   rates_done is step = rates_by true is step
 
 module _ (driver middle after : Driver) (old new : Rig) (bay : ℕ) (rate : Rate) (spares : ℕ) (waiting : List DriveCounts) (in_range : bay ≤ 1) (same : shown middle old spares waiting ≡ shown driver old spares waiting) (asks : OnlyAsks old new) where

@@ -1,5 +1,5 @@
 -- What the attempts of a call have in common.
-use Rattle.std.proofs.Common.{◌≡◌, ◌↔◌, ℕ, ◌+◌, ◌-◌, ◌<◌, ◌≤◌, ◌⊎◌, IsTrue, Bool, true, false, List, Option, Some, None, IsSome, min, max, refl, sym, ap, ◌∙◌, subst, arith, inl, inr}
+use Rattle.std.proofs.Common.{◌≡◌, ◌↔◌, ℕ, ◌+◌, ◌≤◌, IsTrue, Bool, true, List, Some, IsSome, refl, sym, ap, ◌∙◌, subst, arith, inl, inr}
 use Rattle.std.proofs.lemmas.Bool.{cases_lt}
 use Rattle.retry_plan.specs.declared.Prepare.{Prepare}
 use Rattle.retry_plan.specs.declared.Prepare.TheVariants as prepare
@@ -8,7 +8,7 @@ use Rattle.bay_model.specs.Counters.{DriveCounts, Counters, faults_of, Disturbed
 use Rattle.bay_model.proofs.Counted.{faults_go_on}
 use Rattle.single_commands.specs.Rigs.{Rig, IsSound, OnlyAsks}
 use Rattle.single_commands.specs.Reading.{SendsRead}
-use Rattle.sector_model.specs.Stations.{Bay, StationState, Becomes, Stays, bay_of, IsSteady}
+use Rattle.sector_model.specs.Stations.{Bay, StationState, IsSteady}
 use Rattle.sector_model.specs.Reads.{spoilable}
 use Rattle.floppy_driver.specs.declared.driver.Notes.{Notes}
 use Rattle.floppy_driver.specs.declared.driver.Driver.{Driver}
@@ -16,7 +16,7 @@ use Rattle.floppy_driver.specs.Shown.{notes_of, is_held, shown, with_notes, HasA
 use Rattle.floppy_driver.specs.Attached.{IsAttached}
 use Rattle.floppy_driver.specs.Prepared.{IsPrepared}
 use Rattle.floppy_driver.specs.Attempts.{CanTry, IsSure, sure_attempts}
-use Rattle.floppy_driver.proofs.Shows.{held_bay, held_bay_shown, held_lines_stay, moved_shown, known_shown, waiting_goes_on, waiting_driven, noted_at, attached_asked, attached_read, disturbed_less_more}
+use Rattle.floppy_driver.proofs.Shows.{held_bay_shown, held_lines_stay, moved_shown, known_shown, waiting_goes_on, waiting_driven, noted_at, attached_asked, attached_read, disturbed_less_more}
 use Rattle.floppy_driver.proofs.Prepared.{prepared_stands}
 
 -- ---- how many attempts can be spoilt
@@ -38,11 +38,11 @@ pub spoilt_more : (tries count bay : ℕ) (a b c : Counters) → 1 ≤ tries →
 spoilt_more tries count bay a b c some one two all spoilt sure =
     elim (cases_lt count 1) [
       | inl first ↦ elim (cases_lt 1 tries) [
-          | inl many ↦
-              let none : sure_attempts tries (count + 1) ≡ sure_attempts tries 0 = omega arith in
-              λ less. spoilt_none tries bay a c all (subst (λ (n : ℕ). DisturbedLess n bay a c) none less)
-          | inr single ↦ one_more (omega arith) (inl (omega arith))
-        ]
+        | inl many ↦
+            let none : sure_attempts tries (count + 1) ≡ sure_attempts tries 0 = omega arith in
+            λ less. spoilt_none tries bay a c all (subst (λ (n : ℕ). DisturbedLess n bay a c) none less)
+        | inr single ↦ one_more (omega arith) (inl (omega arith))
+      ]
       | inr later ↦ one_more (omega arith) (inr (omega arith))
     ]
   where

@@ -1,5 +1,5 @@
 -- What driver and machine owe each other once an attempt is prepared.
-use Rattle.std.proofs.Common.{◌≡◌, ℕ, ◌+◌, ◌-◌, ◌<◌, ◌≤◌, ◌⊎◌, Bool, true, false, Option, Some, None, IsSome, refl, sym, ap, ◌∙◌, subst, arith, inl, inr}
+use Rattle.std.proofs.Common.{◌≡◌, ℕ, ◌<◌, ◌≤◌, Bool, true, Option, Some, None, IsSome, refl, sym, ap, ◌∙◌, subst, arith}
 use Rattle.flop_base.specs.Counts.{last_count}
 use Rattle.raw_image.specs.Disk.{Disk}
 use Rattle.retry_plan.specs.declared.Prepare.{Prepare}
@@ -12,7 +12,7 @@ use Rattle.single_commands.specs.Heads.{MovesHeads}
 use Rattle.floppy_driver.specs.declared.driver.Notes.{Notes}
 use Rattle.floppy_driver.specs.declared.driver.Driver.{Driver}
 use Rattle.floppy_driver.specs.Shown.{notes_of, is_held, with_notes}
-use Rattle.floppy_driver.specs.Attached.{IsNoted, IsAttached}
+use Rattle.floppy_driver.specs.Attached.{IsAttached}
 use Rattle.floppy_driver.specs.Prepared.{IsPrepared}
 use Rattle.floppy_driver.proofs.Shows.{IsNotedAt, noted_at, held_lines_stay, spun_at, attached_noted}
 

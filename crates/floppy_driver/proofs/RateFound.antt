@@ -1,33 +1,23 @@
 -- Looking for the rate of a medium.
-use Rattle.std.proofs.Common.{◌≡◌, ℕ, ◌+◌, ◌-◌, ◌*◌, ◌<◌, ◌≤◌, ◌⊎◌, Bool, true, false, List, Option, Result, Ok, Err, IfOk, IfErr, is_ok, refl, sym, ap, ◌∙◌, subst, arith, inl, inr}
+use Rattle.std.proofs.Common.{◌≡◌, ℕ, ◌+◌, ◌*◌, ◌≤◌, Bool, false, List, Option, Result, Ok, Err, IfErr, is_ok, sym, ap, ◌∙◌, subst, arith, inl, inr}
 use Rattle.std.proofs.lemmas.Bool.{false≢true, cases_lt}
-use Rattle.flop_base.specs.Counts.{last_count, RoseBy}
+use Rattle.flop_base.specs.Counts.{last_count}
 use Rattle.flop_base.specs.declared.key.Chrn.{Chrn}
 use Rattle.flop_base.specs.declared.answers.Rate.{Rate}
 use Rattle.flop_base.specs.declared.answers.Rate.TheVariants.{R500, R250}
 use Rattle.flop_base.specs.declared.answers.Code.{Code}
 use Rattle.raw_image.specs.Disk.{Disk}
-use Rattle.track_model.specs.Fields.{IsAddressAt}
 use Rattle.bay_model.specs.Bays.{Two, in_bay}
 use Rattle.bay_model.specs.Counters.{Counters, faults_of, IsFaultless, FaultsRoseBy, GoesOn}
-use Rattle.bay_model.proofs.Counted.{goes_on_after, goes_on_itself, faults_go_on}
+use Rattle.bay_model.proofs.Counted.{goes_on_after, faults_go_on}
 use Rattle.sector_map.specs.Met.{met_in, HasClearAddress}
-use Rattle.single_commands.specs.Rigs.{Rig, StaysSpun, HeadsStay, track_under}
+use Rattle.single_commands.specs.Rigs.{Rig, StaysSpun, track_under}
 use Rattle.single_commands.specs.Reading.{SendsRead, ReadsId}
-use Rattle.floppy_driver.specs.Acknowledged.{OnlyReads, HasStart, IsSpoilt, HasFoundNone, FindsRate}
+use Rattle.floppy_driver.specs.Acknowledged.{OnlyReads, HasFoundNone, FindsRate}
 use Rattle.floppy_driver.proofs.Shows.{driven_after, driven_within}
 
 pub spun_after : (a b c : Two Bool) → StaysSpun a b → StaysSpun b c → StaysSpun a c
 spun_after a b c one two = record { first = λ is. two.first (one.first is); second = λ is. two.second (one.second is) }
-
-reads_none : (rig : Rig) → OnlyReads 0 rig rig
-reads_none rig = record {
-  heads = record { cylinders = refl; numbers = refl; changes = refl; spun = record { first = λ is. is; second = λ is. is } };
-  media = refl;
-  memory = refl;
-  counts = goes_on_itself rig.counters;
-  driven = record { most_commands = omega arith; interrupts = omega arith; past_driver = refl };
-}
 
 -- one command more
 reads_more : (count most : ℕ) (a b c : Rig) → count + 1 ≤ most → OnlyReads count a b → SendsRead b c → c.memory ≡ b.memory → OnlyReads most a c
@@ -44,7 +34,7 @@ reads_more count most a b c few one two memory = record {
   driven = driven_within (count + 1) most a.counters c.counters few (driven_after count 1 a.counters b.counters c.counters one.counts two.counts one.driven two.driven);
 }
 
-pub track_stays : (old new : Rig) (bay : ℕ) (rate : Rate) (head : ℕ) → new.media ≡ old.media → new.cylinders ≡ old.cylinders → track_under new bay rate head ≡ track_under old bay rate head
+track_stays : (old new : Rig) (bay : ℕ) (rate : Rate) (head : ℕ) → new.media ≡ old.media → new.cylinders ≡ old.cylinders → track_under new bay rate head ≡ track_under old bay rate head
 track_stays old new bay rate head media cylinders =
     ap (λ (m : Two (Option Disk)). met_in (in_bay m bay) rate (in_bay new.cylinders bay) head) media
     ∙ ap (λ (c : Two ℕ). met_in (in_bay old.media bay) rate (in_bay c bay) head) cylinders
@@ -58,14 +48,11 @@ has_fault bay old new goes not =
     let f = faults_go_on old new bay goes in
     elim (cases_lt (faults_of new bay) (faults_of old bay + 1)) [
       | inl few ↦ elim (cases_lt (faults_of new bay) last_count) [
-          | inl below ↦ absurd (not (few, below))
-          | inr full ↦ omega arith
-        ]
+        | inl below ↦ absurd (not (few, below))
+        | inr full ↦ omega arith
+      ]
       | inr many ↦ omega arith
     ]
-
-pub found_none : (rig : Rig) (bay : ℕ) → HasFoundNone rig bay 0 rig
-found_none rig bay = record { reads = reads_none rig; spoilt = λ key clear. omega arith }
 
 module _ (start : Rig) (bay round : ℕ) (before : Rig) (none : HasFoundNone start bay round before) (first : Result Chrn Code) (middle : Rig) (single : ReadsId before bay 0 R500 first middle) where
   module _ (second : Result Chrn Code) (after : Rig) (double : ReadsId middle bay 0 R250 second after) where

@@ -1,6 +1,6 @@
 -- One attempt at a read.
-use Rattle.std.proofs.Common.{◌≡◌, ◌↔◌, ℕ, ◌+◌, ◌-◌, ◌<◌, ◌≤◌, ◌⊎◌, IsTrue, Bool, true, false, List, length, Option, Some, None, IsSome, is_some, Result, Ok, Err, IfOk, IfErr, refl, sym, ap, ◌∙◌, subst, arith, inl, inr}
-use Rattle.raw_image.specs.Disk.{Disk, HasTrack, track_of}
+use Rattle.std.proofs.Common.{◌≡◌, ◌↔◌, ℕ, ◌≤◌, IsTrue, Bool, true, List, Option, is_some, Result, Ok, Err, IfOk, IfErr, refl, sym, ap, ◌∙◌, subst, arith, inl, inr}
+use Rattle.raw_image.specs.Disk.{Disk}
 use Rattle.flop_base.specs.declared.key.Chrn.{Chrn}
 use Rattle.flop_base.specs.declared.answers.Rate.{Rate}
 use Rattle.flop_base.specs.declared.answers.Code.{Code}
@@ -9,24 +9,21 @@ use Rattle.retry_plan.specs.declared.Prepare.{Prepare}
 use Rattle.retry_plan.specs.declared.Prepare.TheVariants as prepare
 use Rattle.track_model.specs.Fields.{content_size}
 use Rattle.bay_model.specs.Bays.{Two, in_bay}
-use Rattle.bay_model.specs.Counters.{DriveCounts, Counters, faults_of, IsFaultless, IsUndisturbed, GoesOn, IsDriven}
+use Rattle.bay_model.specs.Counters.{DriveCounts, IsFaultless, GoesOn}
 use Rattle.bay_model.specs.Memory.{with_bytes, SameOutside}
 use Rattle.bay_model.proofs.Counted.{goes_on_after, goes_on_itself, faults_go_on}
 use Rattle.sector_map.specs.Met.{met_in}
-use Rattle.single_commands.specs.Rigs.{Rig, IsSound, track_under}
+use Rattle.single_commands.specs.Rigs.{Rig, track_under}
 use Rattle.single_commands.specs.Reading.{IsReadReason, IsReadCode, IsReadMiss, FindsField, ReadsData}
-use Rattle.sector_model.specs.Stations.{Bay, StationState, Becomes, bay_of, met, IsSteady}
+use Rattle.sector_model.specs.Stations.{Bay, StationState, bay_of, met}
 use Rattle.sector_model.specs.Orders.{IsDeviceRefusal}
-use Rattle.sector_model.specs.Reads.{IsRead}
-use Rattle.floppy_driver.specs.declared.driver.Notes.{Notes}
 use Rattle.floppy_driver.specs.declared.driver.Driver.{Driver}
 use Rattle.floppy_driver.specs.Shown.{notes_of, shown, with_notes, with_waiting, HasAsked}
 use Rattle.floppy_driver.specs.Prepared.{IsPrepared}
 use Rattle.floppy_driver.specs.Attempts.{CanTry, IsSure}
 use Rattle.floppy_driver.specs.Readings.{IsReadWhole, IsReadFailed, TriesRead}
-use Rattle.floppy_driver.proofs.Shows.{held_bay, held_bay_shown, read_shown, waiting_goes_on, waiting_driven, waiting_undisturbed, driven_after, driven_within, undisturbed_part, undisturbed_faultless}
+use Rattle.floppy_driver.proofs.Shows.{held_bay, held_bay_shown, read_shown, waiting_goes_on, waiting_driven, waiting_undisturbed, driven_after, undisturbed_part, undisturbed_faultless}
 use Rattle.floppy_driver.proofs.Attempts.{sure_way, prepared_shown, prepared_steady}
-use Rattle.floppy_driver.proofs.ReadTries.{same_outside_itself}
 
 device_code : (code : Code) → IsReadCode code → IsDeviceRefusal code
 device_code NoMark is = tt

@@ -1,20 +1,13 @@
 -- The order of a read's refusals.
-use Rattle.std.proofs.Common.{◌≡◌, ℕ, Bool, true, false, List, Option, Some, None, MatchOption, Result, Ok, Err, refl, sym, ap, ◌∙◌, subst}
+use Rattle.std.proofs.Common.{◌≡◌, ℕ, Bool, true, false, Option, Some, None, MatchOption, Result, sym, subst}
 use Rattle.std.specs.Prelude.{not, if◌then◌else◌}
 use Rattle.flop_base.specs.declared.key.Chrn.{Chrn}
 use Rattle.flop_base.specs.declared.answers.Code.{Code}
 use Rattle.flop_base.specs.declared.answers.Code.TheVariants.{BadRequest, Changed, Page}
 use Rattle.track_model.specs.Fields.{content_size}
-use Rattle.bay_model.specs.Bays.{in_bay}
-use Rattle.bay_model.specs.Counters.{DriveCounts}
-use Rattle.single_commands.specs.Rigs.{Rig, OnlyAsks}
 use Rattle.sector_model.specs.Stations.{StationState}
 use Rattle.sector_model.specs.Orders.{is_sector_request, crosses_page, is_acknowledged, IsRefusedAtOnce}
 use Rattle.sector_model.specs.Reads.{ReadsDrive, Reads}
-use Rattle.floppy_driver.specs.declared.driver.Driver.{Driver}
-use Rattle.floppy_driver.specs.Shown.{notes_of, is_held, shown, HasAsked}
-use Rattle.floppy_driver.proofs.Shows.{acknowledged_held, asks_shown}
-use Rattle.floppy_driver.proofs.Asking.{refused_asking}
 
 module _ (old : StationState) (bay : ℕ) (key : Chrn) (address : ℕ) (answer : Result Bool Code) (new : StationState) (asked : is_sector_request bay key address ≡ true) (page : crosses_page address (content_size key.n) ≡ false) where
   Step : Option Code → Type 0

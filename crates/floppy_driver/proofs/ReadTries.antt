@@ -1,5 +1,5 @@
 -- Attempts at a read, one after the other.
-use Rattle.std.proofs.Common.{◌≡◌, ℕ, ◌+◌, ◌-◌, ◌<◌, ◌≤◌, ◌++◌, Bool, List, length, take, drop, get_or, min, Result, Ok, Err, refl, sym, ap, ◌∙◌, subst, arith, inl, inr}
+use Rattle.std.proofs.Common.{◌≡◌, ℕ, ◌+◌, ◌-◌, ◌<◌, ◌≤◌, ◌++◌, Bool, List, length, take, drop, min, Ok, Err, refl, sym, ap, ◌∙◌, subst, arith, inl, inr}
 use Rattle.std.proofs.lemmas.List.{get_or-take, get_or-drop, length-take, length-drop}
 use Rattle.std.proofs.lemmas.Grind.{same_number_lists}
 use Rattle.flop_base.specs.declared.key.Chrn.{Chrn}
@@ -7,18 +7,17 @@ use Rattle.flop_base.specs.declared.answers.Code.{Code}
 use Rattle.flop_base.specs.declared.answers.Code.TheVariants.{BadRequest, NoMark, Protected, NotFound, Changed, Overrun, Page, BadCrc, Seek, NotReady}
 use Rattle.track_model.specs.declared.Look.{Look}
 use Rattle.track_model.specs.declared.Look.TheVariants as look
-use Rattle.track_model.specs.Fields.{IsAddressAt, content_size}
-use Rattle.track_model.specs.Looks.{LookAt}
+use Rattle.track_model.specs.Fields.{content_size}
 use Rattle.track_model.proofs.Unique.{one_look_at}
-use Rattle.bay_model.specs.Counters.{Counters, faults_of, IsFaultless, IsUndisturbed, DisturbedLess, FaultsRoseBy, GoesOn, IsDriven}
+use Rattle.bay_model.specs.Counters.{Counters, IsFaultless, DisturbedLess, GoesOn}
 use Rattle.bay_model.specs.Memory.{with_bytes, SameOutside}
 use Rattle.bay_model.proofs.Counted.{goes_on_after, goes_on_itself, faults_go_on}
 use Rattle.sector_map.specs.Met.{HasClearAddress, HasLook, AllFound}
 use Rattle.single_commands.specs.Reading.{IsReadReason}
-use Rattle.sector_model.specs.Stations.{StationState, Becomes, bay_of, met, IsSteady}
-use Rattle.sector_model.specs.Reads.{IsRead, IsReadCause, IsReadRefused, ReadsDrive, spoilable}
+use Rattle.sector_model.specs.Stations.{StationState, bay_of, met}
+use Rattle.sector_model.specs.Reads.{IsRead, ReadsDrive}
 use Rattle.floppy_driver.specs.Shown.{HasAsked}
-use Rattle.floppy_driver.specs.Attempts.{IsSure, sure_attempts}
+use Rattle.floppy_driver.specs.Attempts.{IsSure}
 use Rattle.floppy_driver.specs.Readings.{IsReadWhole, IsReadFailed, TriesRead, HasTriedRead}
 use Rattle.floppy_driver.proofs.Shows.{driven_after, driven_within, undisturbed_part}
 use Rattle.floppy_driver.proofs.Attempts.{spoilt_none, spoilt_more, all_sure, last_sure}
@@ -28,14 +27,14 @@ use Rattle.floppy_driver.proofs.Attempts.{spoilt_none, spoilt_more, all_sure, la
 pub same_outside_itself : (memory : List ℕ) (address count : ℕ) → SameOutside memory address count memory
 same_outside_itself memory address count = record { length = refl; others = λ k is. refl }
 
-pub outside_after : (a b c : List ℕ) (address count : ℕ) → SameOutside a address count b → SameOutside b address count c → SameOutside a address count c
+outside_after : (a b c : List ℕ) (address count : ℕ) → SameOutside a address count b → SameOutside b address count c → SameOutside a address count c
 outside_after a b c address count one two = record {
   length = two.length ∙ one.length;
   others = λ k is. two.others k is ∙ one.others k is;
 }
 
 -- what the range held before it was written over is nothing
-pub with_bytes_outside : (old mid : List ℕ) (address : ℕ) (bytes : List ℕ) (count : ℕ) → SameOutside old address count mid → length bytes ≡ count → with_bytes mid address bytes ≡ with_bytes old address bytes
+with_bytes_outside : (old mid : List ℕ) (address : ℕ) (bytes : List ℕ) (count : ℕ) → SameOutside old address count mid → length bytes ≡ count → with_bytes mid address bytes ≡ with_bytes old address bytes
 unfolding with_bytes
 with_bytes_outside old mid address bytes count same long =
     let end = address + length bytes in
@@ -43,14 +42,14 @@ with_bytes_outside old mid address bytes count same long =
     same_number_lists (take address mid) (take address old)
     (length-take address mid ∙ ap (λ n. min address n) same.length ∙ sym (length-take address old))
     (λ k within.
-        let low : k < address = omega (arith, length-take address mid) in
-        get_or-take address mid k 0 low ∙ same.others k (inl low) ∙ sym (get_or-take address old k 0 low)) in
+    let low : k < address = omega (arith, length-take address mid) in
+    get_or-take address mid k 0 low ∙ same.others k (inl low) ∙ sym (get_or-take address old k 0 low)) in
     let back : drop end mid ≡ drop end old =
     same_number_lists (drop end mid) (drop end old)
     (length-drop end mid ∙ ap (λ n. n - end) same.length ∙ sym (length-drop end old))
     (λ k within.
-        let high : address + count ≤ end + k = omega arith in
-        get_or-drop end mid k 0 ∙ same.others (end + k) (inr high) ∙ sym (get_or-drop end old k 0)) in
+    let high : address + count ≤ end + k = omega arith in
+    get_or-drop end mid k 0 ∙ same.others (end + k) (inr high) ∙ sym (get_or-drop end old k 0)) in
     ap (λ row. row ++ (bytes ++ drop end mid)) front ∙ ap (λ row. take address old ++ (bytes ++ row)) back
 
 -- ---- a good track is no reason
@@ -60,7 +59,7 @@ not_found track key looked has not all =
     let found = all has.0 has.1 in
     not found.0 found.1 (one_look_at track has.0 key.n looked (look.Found found.0 found.1) has.2 found.2)
 
-pub good_track : (track : List ℕ) (key : Chrn) (code : Code) → HasClearAddress track key → AllFound track key → IsReadReason track key code → ⊥
+good_track : (track : List ℕ) (key : Chrn) (code : Code) → HasClearAddress track key → AllFound track key → IsReadReason track key code → ⊥
 good_track track key NoMark clear all (inl none) = none clear.0 clear.1.clear
 good_track track key NoMark clear all (inr looked) = not_found track key look.NoData looked (λ deleted place e. cc e) all
 good_track track key NotFound clear all reason = reason.1 clear
@@ -153,21 +152,21 @@ module _ (start : StationState) (bay : ℕ) (key : Chrn) (address : ℕ) where
     }
 
   -- one more attempt failed
-  pub tried_more : (count : ℕ) (code failed : Code) (mid new : StationState) → 1 ≤ start.tries → HasTriedRead start bay key address count code mid → TriesRead (IsSure start.tries (count + 1)) mid bay key address (Err failed) new → HasTriedRead start bay key address (count + 1) failed new
+  tried_more : (count : ℕ) (code failed : Code) (mid new : StationState) → 1 ≤ start.tries → HasTriedRead start bay key address count code mid → TriesRead (IsSure start.tries (count + 1)) mid bay key address (Err failed) new → HasTriedRead start bay key address (count + 1) failed new
   tried_more count code failed mid new some tried attempt =
       tried_after mid.memory mid.counters tried.counts count code failed new some
       (subst (λ (s : StationState). HasTriedRead start bay key address count code s) tried.becomes tried)
       (subst (λ (s : StationState). TriesRead (IsSure start.tries (count + 1)) s bay key address (Err failed) new) tried.becomes attempt)
 
   -- or was done
-  pub read_done : (count : ℕ) (code : Code) (sure : Type 0) (deleted : Bool) (mid new : StationState) → count + 1 ≤ start.tries → HasTriedRead start bay key address count code mid → TriesRead sure mid bay key address (Ok deleted) new → ReadsDrive start bay key address (Ok deleted) new
+  read_done : (count : ℕ) (code : Code) (sure : Type 0) (deleted : Bool) (mid new : StationState) → count + 1 ≤ start.tries → HasTriedRead start bay key address count code mid → TriesRead sure mid bay key address (Ok deleted) new → ReadsDrive start bay key address (Ok deleted) new
   read_done count code sure deleted mid new few tried attempt =
       done_after mid.memory mid.counters tried.counts count code sure deleted new few
       (subst (λ (s : StationState). HasTriedRead start bay key address count code s) tried.becomes tried)
       (subst (λ (s : StationState). TriesRead sure s bay key address (Ok deleted) new) tried.becomes attempt)
 
   -- all attempts failed
-  pub read_failed : (code : Code) (now : StationState) → 1 ≤ start.tries → HasTriedRead start bay key address start.tries code now → ReadsDrive start bay key address (Err code) now
+  read_failed : (code : Code) (now : StationState) → 1 ≤ start.tries → HasTriedRead start bay key address start.tries code now → ReadsDrive start bay key address (Err code) now
   read_failed code now some tried =
       let failed = tried.last some in
       let reason = failed.reason (last_sure start.tries some) in

@@ -1,5 +1,5 @@
 -- What commands do to the station that is shown, and to what driver and machine owe each other.
-use Rattle.std.proofs.Common.{◌≡◌, ℕ, zero, suc, ◌+◌, ◌-◌, ◌<◌, ◌≤◌, ◌⊎◌, Bool, true, false, List, Option, Some, None, refl, sym, ap, ◌∙◌, subst, arith, inl, inr}
+use Rattle.std.proofs.Common.{◌≡◌, ℕ, zero, suc, ◌+◌, ◌-◌, ◌≤◌, ◌⊎◌, Bool, true, false, List, Option, Some, None, refl, sym, ap, ◌∙◌, subst, arith, inl, inr}
 use Rattle.std.specs.Prelude.{◌==◌, ◌&&◌, not, is_some, if◌then◌else◌}
 use Rattle.std.proofs.lemmas.Bool.{false≢true, cases_lt}
 use Rattle.flop_base.specs.declared.answers.Rate.TheVariants.{R500}
@@ -90,15 +90,15 @@ pub disturbed_less_more : (n bay : ℕ) (a b c : Counters) → GoesOn a b → Go
 disturbed_less_more n bay a b c one two most not less =
     elim (cases_lt (faults_of b bay + b.stalls) (faults_of a bay + a.stalls + n)) [
       | inl few ↦ most (record {
-          faults = let q = less.faults in let g = faults_go_on b c bay two in omega arith;
-          stalls = let q = less.stalls in let t = two.stalls in omega arith;
-          together = few;
-        })
+        faults = let q = less.faults in let g = faults_go_on b c bay two in omega arith;
+        stalls = let q = less.stalls in let t = two.stalls in omega arith;
+        together = few;
+      })
       | inr many ↦ not (record {
-          faults = less.faults;
-          stalls = less.stalls;
-          together = let q = less.together in omega arith;
-        })
+        faults = less.faults;
+        stalls = less.stalls;
+        together = let q = less.together in omega arith;
+      })
     ]
 
 -- ---- bays

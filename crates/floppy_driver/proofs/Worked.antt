@@ -1,9 +1,9 @@
 -- Working with a drive until its change line clears.
-use Rattle.std.proofs.Common.{◌≡◌, ℕ, zero, suc, ◌+◌, ◌-◌, ◌<◌, ◌≤◌, ◌⊎◌, Bool, true, false, List, Option, Some, None, IsSome, refl, sym, ap, ◌∙◌, subst, arith, inl, inr}
+use Rattle.std.proofs.Common.{◌≡◌, ℕ, zero, suc, ◌-◌, ◌≤◌, Bool, true, false, List, Option, Some, None, IsSome, refl, sym, ap, ◌∙◌, arith}
 use Rattle.std.proofs.lemmas.Bool.{false≢true}
 use Rattle.raw_image.specs.Disk.{Disk}
-use Rattle.bay_model.specs.Bays.{Two, in_bay, with_bay}
-use Rattle.bay_model.specs.Counters.{DriveCounts, faults_of, FaultsRoseBy, GoesOn, IsDriven}
+use Rattle.bay_model.specs.Bays.{Two, in_bay}
+use Rattle.bay_model.specs.Counters.{DriveCounts, faults_of, IsDriven}
 use Rattle.bay_model.proofs.Counted.{goes_on_after, faults_go_on}
 use Rattle.single_commands.specs.Rigs.{Rig, OnlyAsks}
 use Rattle.sector_model.specs.Stations.{Bay, StationState, set_bay}
@@ -53,16 +53,6 @@ works_after a bay b c one two = record {
 
 -- ---- rounds of steps
 
-pub stayed_start : (old : Rig) (bay : ℕ) (new : Rig) → OnlyAsks old new → (IsSome (in_bay old.media bay) → in_bay new.spun bay ≡ true) → HasStayedSet old bay 0 new
-stayed_start old bay new asks spun =
-    let f = faults_go_on old.counters new.counters bay asks.counts in
-    record {
-      works = works_asked old bay new asks;
-      driven = asks.driven;
-      spun = spun;
-      lost = λ some. omega arith;
-    }
-
 module _ (start : Rig) (bay count : ℕ) (old : Rig) (stayed : HasStayedSet start bay count old) (reached : Bool) (mid : Rig) (clears : ClearsChange old bay reached mid) (new : Rig) (asks : OnlyAsks mid new) where
   pub works_round : Works start bay new
   works_round =
@@ -77,20 +67,6 @@ module _ (start : Rig) (bay count : ℕ) (old : Rig) (stayed : HasStayedSet star
 
   pub spun_round : IsSome (in_bay start.media bay) → in_bay new.spun bay ≡ true
   spun_round some = spun_at mid.spun new.spun bay asks.heads.spun (spun_at old.spun mid.spun bay clears.works.spun (stayed.spun some))
-
-  -- the change line is still set
-  pub stayed_more : in_bay mid.changes bay ≡ true → HasStayedSet start bay (count + 1) new
-  stayed_more set = record {
-    works = works_round;
-    driven = driven_round;
-    spun = spun_round;
-    lost = λ some.
-        let there : IsSome (in_bay old.media bay) = subst (λ (t : Two (Option Disk)). IsSome (in_bay t bay)) (sym stayed.works.media) some in
-        let so_far = stayed.lost some in
-        let more = clears.clears there set in
-        let f = faults_go_on mid.counters new.counters bay asks.counts in
-        omega arith;
-  }
 
 -- ---- what is shown, and owed, of a drive that was worked with
 

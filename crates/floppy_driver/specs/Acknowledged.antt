@@ -8,7 +8,6 @@ use Rattle.bay_model.specs.Bays.{in_bay}
 use Rattle.bay_model.specs.Counters.{faults_of, FaultsRoseBy, GoesOn, IsDriven}
 use Rattle.sector_map.specs.Met.{HasClearAddress}
 use Rattle.single_commands.specs.Rigs.{Rig, StaysSpun, HeadsStay, track_under}
-use Rattle.single_commands.specs.Heads.{MovesHeads}
 use Rattle.floppy_driver.specs.declared.driver.Notes.{Notes}
 
 -- a drive was worked with: neither media nor memory changed, nor the other drive

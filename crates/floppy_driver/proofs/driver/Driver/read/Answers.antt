@@ -1,6 +1,4 @@
 use Rattle.std.proofs.Common.{sym, ap, ◌∙◌}
-use Rattle.flop_base.specs.declared.answers.Code.{Code}
-use Rattle.flop_base.specs.declared.answers.Code.TheVariants.{Changed}
 use Rattle.sector_model.specs.Orders.{crosses_page}
 use Rattle.floppy_driver.specs.Shown.{shown}
 use Rattle.floppy_driver.proofs.Shows.{acknowledged_held, asks_shown}
