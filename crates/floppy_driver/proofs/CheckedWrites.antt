@@ -27,8 +27,8 @@ use Rattle.single_commands.specs.Rigs.{Rig, AreBytes, HeadsStay, track_under, pa
 use Rattle.single_commands.specs.Reading.{FindsField, ReadsBack, IsReadMiss, IsReadReason, IsReadCode}
 use Rattle.single_commands.specs.Writing.{ChangesMedium, WritesData, IsWriteMiss, IsWriteReason, IsWriteCode}
 use Rattle.floppy_driver.specs.Writings.{AreBytesAlike, WroteWhole, IsMissCause, IsReadBack, WritesChecked}
-use Rattle.floppy_driver.proofs.Shows.{driven_after}
-use Rattle.floppy_driver.proofs.Rising.{less_first, less_later, less_than_two, disturbed_first, disturbed_later, stalls_later, quiet_faultless}
+use Rattle.floppy_driver.proofs.Shows.{driven_after, driven_within, undisturbed_faultless}
+use Rattle.floppy_driver.proofs.Rising.{less_first, less_later, less_than_two, disturbed_first, disturbed_later, stalls_later}
 
 -- ---- bytes
 
@@ -82,13 +82,6 @@ write_cause written track change bay code a b miss = record {
   lost = λ is. absurd (subst IsWriteCode is miss.coded);
 }
 
-within_two : (a b : Counters) → IsDriven 1 a b → IsDriven 2 a b
-within_two a b driven = record {
-  most_commands = let m = driven.most_commands in omega arith;
-  interrupts = driven.interrupts;
-  past_driver = driven.past_driver;
-}
-
 pub write_missed : (old : Rig) (bay : ℕ) (rate : Rate) (written : Written) (change : Option Change) (code : Code) (new : Rig) → WritesData old bay rate written change (Err code) new → WritesChecked old bay rate written (Err code) new
 write_missed old bay rate written change code new wrote = record {
   change = change;
@@ -96,7 +89,7 @@ write_missed old bay rate written change code new wrote = record {
   other_medium = wrote.sends.other_medium;
   memory = wrote.sends.memory;
   counts = wrote.sends.counts;
-  driven = within_two old.counters new.counters wrote.sends.driven;
+  driven = driven_within 1 2 old.counters new.counters (omega arith) wrote.sends.driven;
   does = wrote.does;
   done = λ ok. absurd (false≢true ok);
   refused = write_cause written (track_under new bay rate written.key.h) change bay code old.counters new.counters wrote.refused;
@@ -137,7 +130,7 @@ module _ (old : Rig) (bay : ℕ) (rate : Rate) (written : Written) (change : Opt
   wrote_whole less = wrote_first (less_first bay old.counters mid.counters new.counters wrote.sends.counts back.sends.counts 1 less)
 
   quiet_whole : IsUndisturbed bay old.counters new.counters → WroteWhole written change
-  quiet_whole quiet = wrote_whole (quiet_faultless bay old.counters new.counters counts quiet)
+  quiet_whole quiet = wrote_whole (undisturbed_faultless bay old.counters new.counters counts quiet)
 
   quiet_back : IsUndisturbed bay old.counters new.counters → IsUndisturbed bay mid.counters new.counters
   quiet_back = disturbed_later bay old.counters mid.counters new.counters wrote.sends.counts back.sends.counts 1
@@ -211,7 +204,7 @@ module _ (old : Rig) (bay : ℕ) (rate : Rate) (written : Written) (change : Opt
           not_found = λ is. absurd (cc is);
           bad_data = λ is quiet. (
             quiet_whole quiet,
-            inr (other_content (quiet_faultless bay mid.counters new.counters back.sends.counts (quiet_back quiet)) differs),
+            inr (other_content (undisturbed_faultless bay mid.counters new.counters back.sends.counts (quiet_back quiet)) differs),
           );
           overrun = λ is. absurd (cc is);
           lost = λ is. absurd (cc is);

@@ -30,7 +30,7 @@ use Rattle.floppy_driver.proofs.Attempts.{prepared_ready, prepared_shown, prepar
 use Rattle.floppy_driver.specs.Attached.{IsAttached}
 use Rattle.floppy_driver.specs.Prepared.{IsPrepared}
 use Rattle.floppy_driver.specs.Writings.{CanWrite, IsMissCause, IsReadBack, WritesChecked, ChangesBay, TriesWrite}
-use Rattle.floppy_driver.proofs.Shows.{waiting_goes_on, waiting_driven, driven_after, driven_within, held_bay, bay_shown_at, held_bay_shown, held_lines_stay, moved_shown, known_shown, noted_at, attached_stays}
+use Rattle.floppy_driver.proofs.Shows.{waiting_goes_on, waiting_driven, waiting_undisturbed, driven_after, driven_within, held_bay, bay_shown_at, held_bay_shown, held_lines_stay, moved_shown, known_shown, noted_at, attached_stays}
 use Rattle.floppy_driver.proofs.Rising.{less_first, less_later, disturbed_later, stalls_later, commands_later, rose_later}
 
 -- ---- earlier counts
@@ -65,7 +65,7 @@ cause_earlier written track change bay code a b c one two cause =
 -- and whatever spare drives wait
 waiting_cause : (written : Written) (track : List ℕ) (change : Option Change) (bay : ℕ) (code : Code) (a b : Counters) (waiting : List DriveCounts) → IsMissCause written track change bay code a b → IsMissCause written track change bay code (with_waiting a waiting) (with_waiting b waiting)
 waiting_cause written track change bay code a b waiting cause =
-    let same : IsUndisturbed bay (with_waiting a waiting) (with_waiting b waiting) → IsUndisturbed bay a b = λ quiet. record { faults = quiet.faults; stalls = quiet.stalls; together = quiet.together } in
+    let same = waiting_undisturbed a b bay waiting in
     record {
       device = cause.device;
       no_mark = λ is quiet. cause.no_mark is (same quiet);
@@ -191,13 +191,6 @@ module _ (driver after : Driver) (old mid : Rig) (bay target : ℕ) (way : Prepa
       medium_new : (bay_of (shown after new spares waiting) bay).medium ≡ in_bay new.media bay
       medium_new = ap (λ (b : Bay). b.medium) (bay_shown_at after new spares waiting bay)
 
-      -- all counts from the start
-      first_counts : GoesOn (with_waiting old.counters waiting) (with_waiting mid.counters waiting)
-      first_counts = waiting_goes_on old.counters mid.counters waiting prepared.moves.counts
-
-      second_counts : GoesOn (with_waiting mid.counters waiting) (with_waiting new.counters waiting)
-      second_counts = waiting_goes_on mid.counters new.counters waiting wrote.counts
-
       does_bay : (change : Option Change) → MatchOption change (new.media ≡ mid.media) (λ one. ChangesMedium mid bay (notes_of driver bay).rate written one new) → MatchOption change ((bay_of (shown after new spares waiting) bay).medium ≡ (bay_of (shown driver old spares waiting) bay).medium) (λ one. ChangesBay written bay one (shown driver old spares waiting) (shown after new spares waiting))
       does_bay None same = medium_new ∙ ap (λ (t : Two (Option Disk)). in_bay t bay) same ∙ sym medium_old
       does_bay (Some one) changed = record {
@@ -208,8 +201,7 @@ module _ (driver after : Driver) (old mid : Rig) (bay target : ℕ) (way : Prepa
         same_rate = changed.same_rate ∙ sym rate_old;
         makes = changed.makes;
         whole = λ quiet.
-            let later = disturbed_later bay (with_waiting old.counters waiting) (with_waiting mid.counters waiting) (with_waiting new.counters waiting) first_counts second_counts 1 quiet in
-            changed.whole (record { faults = later.faults; stalls = later.stalls; together = later.together });
+            changed.whole (disturbed_later bay old.counters mid.counters new.counters prepared.moves.counts wrote.counts 1 (waiting_undisturbed old.counters new.counters bay waiting quiet));
       }
 
       here_bay : (change : Option Change) → MatchOption change (new.media ≡ mid.media) (λ one. ChangesMedium mid bay (notes_of driver bay).rate written one new) → MatchOption change (Unit {0}) (λ one. one.cylinder ≡ in_bay mid.cylinders bay)
@@ -238,9 +230,9 @@ module _ (driver after : Driver) (old mid : Rig) (bay target : ℕ) (way : Prepa
       refused_bay : (code : Code) → IsMissCause written (track_under new bay (notes_of driver bay).rate written.key.h) wrote.change bay code mid.counters new.counters → IsMissCause written (met (bay_of (shown after new spares waiting) bay) (in_bay mid.cylinders bay) written.key.h) wrote.change bay code (with_waiting old.counters waiting) (with_waiting new.counters waiting)
       refused_bay code cause =
           let track = track_under new bay (notes_of driver bay).rate written.key.h in
-          let later = waiting_cause written track wrote.change bay code mid.counters new.counters waiting cause in
-          let all = cause_earlier written track wrote.change bay code (with_waiting old.counters waiting) (with_waiting mid.counters waiting) (with_waiting new.counters waiting) first_counts second_counts later in
-          subst (λ row. IsMissCause written row wrote.change bay code (with_waiting old.counters waiting) (with_waiting new.counters waiting)) (sym met_now) all
+          let all = cause_earlier written track wrote.change bay code old.counters mid.counters new.counters prepared.moves.counts wrote.counts cause in
+          subst (λ row. IsMissCause written row wrote.change bay code (with_waiting old.counters waiting) (with_waiting new.counters waiting)) (sym met_now)
+          (waiting_cause written track wrote.change bay code old.counters new.counters waiting all)
 
       refused_answer : (result : Result (Unit {0}) Code) → IfErr result (λ code. IsMissCause written (track_under new bay (notes_of driver bay).rate written.key.h) wrote.change bay code mid.counters new.counters) → IfErr result (λ code. IsMissCause written (met (bay_of (shown after new spares waiting) bay) (in_bay mid.cylinders bay) written.key.h) wrote.change bay code (with_waiting old.counters waiting) (with_waiting new.counters waiting))
       refused_answer (Ok unit) cause = cause
@@ -264,7 +256,7 @@ module _ (driver after : Driver) (old mid : Rig) (bay target : ℕ) (way : Prepa
             read_back_earlier written (in_bay new.media bay) (bay_of (shown after new spares waiting) bay).medium (notes_of driver bay).rate (bay_of (shown driver old spares waiting) bay).rate
             (in_bay mid.cylinders bay) wrote.change bay old.counters mid.counters new.counters waiting prepared.moves.counts wrote.counts medium_new rate_old (wrote.done ok);
         refused = refused_answer answer wrote.refused;
-        counts = goes_on_after (with_waiting old.counters waiting) (with_waiting mid.counters waiting) (with_waiting new.counters waiting) first_counts second_counts;
+        counts = waiting_goes_on old.counters new.counters waiting (goes_on_after old.counters mid.counters new.counters prepared.moves.counts wrote.counts);
         driven = waiting_driven 2 old.counters new.counters waiting
             (driven_after 0 2 old.counters mid.counters new.counters prepared.moves.counts wrote.counts prepared.moves.driven wrote.driven);
       }

@@ -14,7 +14,7 @@ use Rattle.sector_model.specs.Stations.{Bay, StationState, Becomes, bay_of, set_
 use Rattle.sector_model.specs.Writes.{ChangesDisk, Reaches, IsLastWhole}
 use Rattle.floppy_driver.specs.Writings.{ChangesBay, with_change, WroteWhole, TriesWrite}
 
-same_disks : (a b : Disk) → Some a ≡ Some b → a ≡ b
+pub same_disks : (a b : Disk) → Some a ≡ Some b → a ≡ b
 same_disks a b e = cc e
 
 -- ---- what several changes make

@@ -32,11 +32,8 @@ use Rattle.floppy_driver.specs.Writings.{IsReadBack, TriesWrite, WroteWhole, IsW
 use Rattle.floppy_driver.proofs.Shows.{driven_within}
 use Rattle.floppy_driver.proofs.Attempts.{spoilt_none, all_sure, last_sure}
 use Rattle.floppy_driver.proofs.Rising.{less_later, commands_later}
-use Rattle.floppy_driver.proofs.WriteChanges.{reaches_itself}
-use Rattle.floppy_driver.proofs.WriteSteps.{rate_mid, wrote_more, wrote_changes, written_whole}
-
-same_disks : (a b : Disk) → Some a ≡ Some b → a ≡ b
-same_disks a b e = cc e
+use Rattle.floppy_driver.proofs.WriteChanges.{same_disks, reaches_itself}
+use Rattle.floppy_driver.proofs.WriteSteps.{meets_field, rate_mid, wrote_more, wrote_changes, written_whole}
 
 -- ---- no attempt yet
 
@@ -97,8 +94,7 @@ module _ (written : Written) (bay : ℕ) (start new : StationState) (answer : Re
     keeps_regular entry = record {
       none = kept.none;
       one = λ p here spared.
-          let found = met_from_mark (bay_of start bay).medium (bay_of start bay).rate written.key.c written.key.h (p, here.mark) in
-          let meets : MeetsTrack (bay_of start bay).medium (bay_of start bay).rate written.key.c written.key.h disk = subst (λ d. MeetsTrack (bay_of start bay).medium (bay_of start bay).rate written.key.c written.key.h d) (one_met (bay_of start bay).medium (bay_of start bay).rate written.key.c written.key.h disk found.0 is found.1) found.1 in
+          let meets = meets_field (bay_of start bay).medium (bay_of start bay).rate written.key.c written.key.h p written.key disk is here in
           let there = met_track (bay_of start bay).medium (bay_of start bay).rate written.key.c written.key.h disk meets in
           let address : IsAddressAt (track_of disk written.key.c written.key.h) p written.key = subst (λ t. IsAddressAt t p written.key) there here in
           let known = kept.one p here spared in
@@ -264,7 +260,6 @@ module _ (written : Written) (bay : ℕ) (start mid new : StationState) (count :
     where
       address_after : (disk : Disk) → (bay_of start bay).medium ≡ Some disk → IsRegularDisk disk → (p : ℕ) → IsAddressAt (met (bay_of start bay) written.key.c written.key.h) p written.key → (after : Disk) → IsSameOrChanged written p disk after → IsAddressAt (track_of after written.key.c written.key.h) p written.key
       address_after disk is regular p here after same =
-          let found = met_from_mark (bay_of start bay).medium (bay_of start bay).rate written.key.c written.key.h (p, here.mark) in
-          let meets : MeetsTrack (bay_of start bay).medium (bay_of start bay).rate written.key.c written.key.h disk = subst (λ d. MeetsTrack (bay_of start bay).medium (bay_of start bay).rate written.key.c written.key.h d) (one_met (bay_of start bay).medium (bay_of start bay).rate written.key.c written.key.h disk found.0 is found.1) found.1 in
+          let meets = meets_field (bay_of start bay).medium (bay_of start bay).rate written.key.c written.key.h p written.key disk is here in
           let there = met_track (bay_of start bay).medium (bay_of start bay).rate written.key.c written.key.h disk meets in
           rewritten_keeps_address written p disk after (subst (λ t. IsAddressAt t p written.key) there here) same
