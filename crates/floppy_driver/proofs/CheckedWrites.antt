@@ -1,29 +1,26 @@
 -- A write that is read back, from a write and a reading back.
-use Rattle.std.proofs.Common.{MatchOption, IfOk, IfErr, IsOk, ◌≡◌, ◌≢◌, ◌↔◌, ℕ, ◌+◌, ◌-◌, ◌^◌, ◌<◌, ◌≤◌, ◌⊎◌, Bool, true, false, IsTrue, List, ◌++◌, length, take, drop, get_or, min, Option, Some, None, Result, Ok, Err, refl, sym, ap, ◌∙◌, subst, arith, inl, inr}
+use Rattle.std.proofs.Common.{MatchOption, IfOk, IfErr, IsOk, ◌≡◌, ℕ, ◌+◌, ◌-◌, ◌<◌, ◌≤◌, Bool, true, false, List, length, drop, get_or, Option, Some, None, Result, Ok, Err, refl, sym, ap, ◌∙◌, subst, arith, inl, inr}
 use Rattle.std.specs.Prelude.{not}
 use Rattle.std.proofs.Math.Bool.{beq}
 use Rattle.std.proofs.lemmas.Bool.{false≢true}
 use Rattle.std.proofs.lemmas.List.{ext_get_or, length-take, length-drop, get_or-take, get_or-drop, get_or_append_left}
-use Rattle.flop_base.specs.Counts.{RoseBy}
-use Rattle.flop_base.specs.declared.key.Chrn.{Chrn}
 use Rattle.flop_base.specs.declared.answers.Rate.{Rate}
 use Rattle.flop_base.specs.declared.answers.Code.{Code}
-use Rattle.flop_base.specs.declared.answers.Code.TheVariants.{BadRequest, NoMark, Protected, NotFound, Changed, Overrun, Page, BadCrc, Seek, NotReady}
-use Rattle.raw_image.specs.Disk.{Disk, HasTrack, track_of}
-use Rattle.track_model.specs.declared.Look.TheVariants as look
+use Rattle.flop_base.specs.declared.answers.Code.TheVariants.{NoMark, NotFound, Overrun, BadCrc}
+use Rattle.raw_image.specs.Disk.{Disk, track_of}
 use Rattle.track_model.specs.Fields.{content_size}
 use Rattle.track_model.specs.Sectors.{IsSector, IsUnder}
 use Rattle.bay_model.specs.Bays.{Two, in_bay}
 use Rattle.bay_model.specs.Memory.{user_bytes, bytes_from, with_bytes}
-use Rattle.bay_model.specs.Counters.{Counters, IsFaultless, FaultsRoseLess, IsUndisturbed, GoesOn, IsDriven}
-use Rattle.bay_model.proofs.Counted.{goes_on_after, goes_on_itself}
-use Rattle.sector_map.specs.Met.{met_in, HasLook}
+use Rattle.bay_model.specs.Counters.{Counters, IsFaultless, IsUndisturbed, GoesOn}
+use Rattle.bay_model.proofs.Counted.{goes_on_after}
+use Rattle.sector_map.specs.Met.{met_in}
 use Rattle.sector_map.specs.MetTracks.{MeetsTrack}
 use Rattle.sector_map.proofs.MetTracks.{met_track}
-use Rattle.sector_map.specs.Changes.{Change, Written, window_of}
+use Rattle.sector_map.specs.Changes.{Change, Written}
 use Rattle.sector_model.specs.Writes.{HasOtherContent}
 use Rattle.sector_model.specs.Orders.{IsDeviceRefusal}
-use Rattle.single_commands.specs.Rigs.{Rig, AreBytes, HeadsStay, track_under, page_bytes}
+use Rattle.single_commands.specs.Rigs.{Rig, AreBytes, track_under}
 use Rattle.single_commands.specs.Reading.{FindsField, ReadsBack, IsReadMiss, IsReadReason, IsReadCode}
 use Rattle.single_commands.specs.Writing.{ChangesMedium, WritesData, IsWriteMiss, IsWriteReason, IsWriteCode}
 use Rattle.floppy_driver.specs.Writings.{AreBytesAlike, WroteWhole, IsMissCause, IsReadBack, WritesChecked}

@@ -1,8 +1,8 @@
 -- How counts rise in a call and in its parts.
-use Rattle.std.proofs.Common.{◌≡◌, ℕ, ◌+◌, ◌<◌, ◌≤◌, ◌⊎◌, min, arith, inl, inr}
+use Rattle.std.proofs.Common.{ℕ, ◌+◌, ◌⊎◌, arith, inl, inr}
 use Rattle.std.proofs.lemmas.Bool.{cases_lt}
-use Rattle.flop_base.specs.Counts.{last_count, RoseBy}
-use Rattle.bay_model.specs.Counters.{Counters, faults_of, FaultsRoseBy, FaultsRoseLess, IsFaultless, DisturbedLess, IsUndisturbed, GoesOn}
+use Rattle.flop_base.specs.Counts.{RoseBy}
+use Rattle.bay_model.specs.Counters.{Counters, faults_of, FaultsRoseBy, FaultsRoseLess, DisturbedLess, IsUndisturbed, GoesOn}
 use Rattle.bay_model.proofs.Counted.{faults_go_on}
 
 -- a call with two parts

@@ -1,9 +1,7 @@
 -- One attempt at a write, as the station shows it.
-use Rattle.std.proofs.Common.{MatchOption, IfErr, IsOk, ◌≡◌, ◌↔◌, ℕ, zero, suc, ◌+◌, ◌-◌, ◌<◌, ◌≤◌, ◌⊎◌, Bool, true, false, IsTrue, List, Option, Some, None, IsSome, is_some, Result, Ok, Err, refl, sym, ap, ◌∙◌, subst, arith, inl, inr}
-use Rattle.std.specs.Prelude.{◌&&◌, not}
+use Rattle.std.proofs.Common.{MatchOption, IfErr, ◌≡◌, ◌↔◌, ℕ, zero, suc, ◌-◌, ◌≤◌, Bool, true, false, IsTrue, List, Option, Some, None, IsSome, is_some, Result, Ok, Err, refl, sym, ap, ◌∙◌, subst, arith}
 use Rattle.std.specs.Option.{option_map_or}
 use Rattle.std.proofs.lemmas.Bool.{false≢true}
-use Rattle.flop_base.specs.Counts.{last_count}
 use Rattle.flop_base.specs.declared.key.Chrn.{Chrn}
 use Rattle.flop_base.specs.declared.answers.Rate.{Rate}
 use Rattle.flop_base.specs.declared.answers.Code.{Code}
@@ -12,25 +10,25 @@ use Rattle.raw_image.specs.Disk.{Disk}
 use Rattle.bay_model.specs.Bays.{Two, in_bay}
 use Rattle.bay_model.specs.Memory.{bytes_from}
 use Rattle.track_model.specs.Fields.{content_size}
-use Rattle.bay_model.specs.Counters.{DriveCounts, Counters, faults_of, FaultsRoseBy, FaultsRoseLess, IsFaultless, IsUndisturbed, GoesOn, IsDriven}
+use Rattle.bay_model.specs.Counters.{DriveCounts, Counters, GoesOn}
 use Rattle.bay_model.proofs.Counted.{goes_on_after, faults_go_on}
 use Rattle.retry_plan.specs.declared.Prepare.{Prepare}
 use Rattle.retry_plan.specs.declared.Prepare.TheVariants as prepare
 use Rattle.sector_map.specs.Met.{met_in}
 use Rattle.sector_map.specs.Changes.{Change, Written}
 use Rattle.sector_map.proofs.Changed.{change_keeps_tracks}
-use Rattle.sector_model.specs.Stations.{Bay, StationState, Becomes, Stays, bay_of, set_bay, met, IsSteady}
+use Rattle.sector_model.specs.Stations.{Bay, StationState, Becomes, Stays, bay_of, set_bay, met}
 use Rattle.single_commands.specs.Rigs.{Rig, IsSound, HeadsStay, track_under}
 use Rattle.single_commands.specs.Writing.{ChangesMedium}
 use Rattle.floppy_driver.specs.declared.driver.Notes.{Notes}
 use Rattle.floppy_driver.specs.declared.driver.Driver.{Driver}
 use Rattle.floppy_driver.specs.Shown.{notes_of, is_held, bay_shown, with_waiting, shown, with_notes, HasAsked}
-use Rattle.floppy_driver.specs.Attempts.{CanTry, IsSure}
-use Rattle.floppy_driver.proofs.Attempts.{prepared_ready, prepared_shown, prepared_steady, sure_way, held_spun}
+use Rattle.floppy_driver.specs.Attempts.{IsSure}
+use Rattle.floppy_driver.proofs.Attempts.{prepared_ready, prepared_shown, prepared_steady, sure_way}
 use Rattle.floppy_driver.specs.Attached.{IsAttached}
 use Rattle.floppy_driver.specs.Prepared.{IsPrepared}
 use Rattle.floppy_driver.specs.Writings.{CanWrite, IsMissCause, IsReadBack, WritesChecked, ChangesBay, TriesWrite}
-use Rattle.floppy_driver.proofs.Shows.{waiting_goes_on, waiting_driven, waiting_undisturbed, driven_after, driven_within, held_bay, bay_shown_at, held_bay_shown, held_lines_stay, moved_shown, known_shown, noted_at, attached_stays}
+use Rattle.floppy_driver.proofs.Shows.{waiting_goes_on, waiting_driven, waiting_undisturbed, driven_after, driven_within, held_bay, bay_shown_at, held_bay_shown, held_lines_stay, attached_stays}
 use Rattle.floppy_driver.proofs.Rising.{less_first, less_later, disturbed_later, stalls_later, commands_later, rose_later}
 
 -- ---- earlier counts
