@@ -14,3 +14,12 @@ mod ReadStep
 mod ReadTries
 mod Shows
 mod Worked
+pub mod Rising
+mod CheckedWrites
+mod WriteAttempts
+mod WriteChanges
+mod WriteTracks
+mod WriteSteps
+mod WriteEnds
+mod WriteLoops
+mod WriteStep

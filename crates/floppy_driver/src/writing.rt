@@ -1,17 +1,27 @@
 // Writing a sector.
-ghost use Rattle.std.specs.Prelude.{◌≡◌, ◌≤◌, List, ℕ};
+ghost use Rattle.std.specs.Prelude.{◌≡◌, ◌≤◌, ◌+◌, ◌-◌, ◌/◌, ◌↔◌, List, ℕ, IsTrue, true, false};
+ghost use Rattle.std.specs.Option.{option_map_or};
+ghost use Rattle.bay_model.specs.Bays.{in_bay};
 ghost use Rattle.bay_model.specs.Counters.{DriveCounts, GoesOn};
+ghost use Rattle.bay_model.specs.Memory.{user_bytes, bytes_from};
+ghost use Rattle.track_model.specs.Fields.{content_size};
+ghost use Rattle.single_commands.specs.Rigs.{IsSound};
+ghost use Rattle.sector_model.specs.Asked.{IsAsked};
+ghost use Rattle.floppy_driver.specs.Writings.{AreBytesAlike, WritesChecked};
 
 use crate::driver::Driver;
-use flop_base::{Chrn, Code, sector_size};
+use flop_base::{Chrn, Code, Rate, sector_size};
 use retry_plan::preparation;
 use sector_model::{crosses_page, is_sector_request};
 use single_commands::Commands;
 
 impl Driver {
-    ghost use Rattle.floppy_driver.specs.Shown.{shown};
+    ghost use Rattle.floppy_driver.specs.Shown.{shown, HasAsked};
     ghost use Rattle.floppy_driver.specs.Attached.{IsAttached};
-    ghost use Rattle.sector_model.specs.Writes.{WritesTo};
+    ghost use Rattle.sector_model.specs.Stations.{StationState};
+    ghost use Rattle.sector_model.specs.Writes.{WritesTo, WritesDrive, written_from};
+    ghost use Rattle.floppy_driver.specs.Attempts.{IsSure};
+    ghost use Rattle.floppy_driver.specs.Writings.{CanWrite, TriesWrite};
 
     /// Writes user memory to the sector of a key, marked deleted or not, and reads it back.
     pub fn write<C: Commands>(
@@ -54,7 +64,19 @@ impl Driver {
         key: Chrn,
         address: u32,
         deleted: bool,
-    ) -> Result<(), Code> {
+    ) -> Result<(), Code>
+        requires idle { C.is_idle machine.old }
+        requires asked { IsAsked bay key address }
+        requires page { address / 65536 ≡ (address + content_size key.n - 1) / 65536 }
+        requires ready { CanWrite self.old (C.rig machine.old) bay }
+        ensures step { (start : StationState) (spares : ℕ) (waiting : List DriveCounts)
+            → HasAsked start (shown self.old (C.rig machine.old) spares waiting)
+            → WritesDrive (written_from start key address deleted) bay result start
+            (shown self.new (C.rig machine.new) spares waiting) }
+        ensures counts { GoesOn (C.rig machine.old).counters (C.rig machine.new).counters }
+        ensures idle { C.is_idle machine.new }
+        ensures ready { CanWrite self.new (C.rig machine.new) bay }
+    {
         let mut last = Code::Seek;
         for attempt in 1..self.tries + 1 {
             match self.write_once(machine, bay, key, address, deleted, attempt) {
@@ -74,24 +96,69 @@ impl Driver {
         address: u32,
         deleted: bool,
         attempt: u8,
-    ) -> Result<(), Code> {
+    ) -> Result<(), Code>
+        requires idle { C.is_idle machine.old }
+        requires asked { IsAsked bay key address }
+        requires page { address / 65536 ≡ (address + content_size key.n - 1) / 65536 }
+        requires from_first { 1 ≤ attempt }
+        requires to_last { attempt ≤ self.old.tries }
+        requires ready { CanWrite self.old (C.rig machine.old) bay }
+        ensures attempt { (spares : ℕ) (waiting : List DriveCounts) → TriesWrite (IsSure self.old.tries attempt)
+            (record { key = key; deleted = deleted; content = bytes_from (C.rig machine.old).memory address (content_size key.n) })
+            bay result
+            (shown self.old (C.rig machine.old) spares waiting) (shown self.new (C.rig machine.new) spares waiting) }
+        ensures tries { self.new.tries ≡ self.old.tries }
+        ensures memory { (C.rig machine.new).memory ≡ (C.rig machine.old).memory }
+        ensures counts { GoesOn (C.rig machine.old).counters (C.rig machine.new).counters }
+        ensures idle { C.is_idle machine.new }
+        ensures ready { CanWrite self.new (C.rig machine.new) bay }
+    {
         let notes = self.notes(bay);
         let way = preparation(self.tries, attempt, notes.known.is_some());
         if !self.prepare(machine, bay, key.c, way) {
             return Err(Code::Seek);
         }
-        machine.write(bay, key, notes.rate, address, deleted)?;
-        let marked = machine.read_back(bay, key, notes.rate)?;
-        if marked == deleted && is_page_alike(machine, address, sector_size(key.n) as u16) {
-            Ok(())
-        } else {
-            Err(Code::BadCrc)
-        }
+        write_checked(machine, bay, key, notes.rate, address, deleted)
     }
 }
 
+/// Writes user memory to the record of a key on the track under its head, reads it back to the driver's page and compares.
+fn write_checked<C: Commands>(
+    machine: &mut C,
+    bay: u8,
+    key: Chrn,
+    rate: Rate,
+    address: u32,
+    deleted: bool,
+) -> Result<(), Code>
+    requires idle { C.is_idle machine.old }
+    requires asked { IsAsked bay key address }
+    requires page { address / 65536 ≡ (address + content_size key.n - 1) / 65536 }
+    requires spun { in_bay (C.rig machine.old).spun bay ≡ true }
+    requires sound { IsSound (C.rig machine.old) }
+    requires unprotected { option_map_or (λ disk. disk.protected) (in_bay (C.rig machine.old).media bay) false ≡ false }
+    ensures checked { WritesChecked (C.rig machine.old) bay rate
+        (record { key = key; deleted = deleted; content = bytes_from (C.rig machine.old).memory address (content_size key.n) })
+        result (C.rig machine.new) }
+    ensures sound { IsSound (C.rig machine.new) }
+    ensures idle { C.is_idle machine.new }
+{
+    machine.write(bay, key, rate, address, deleted)?;
+    let marked = machine.read_back(bay, key, rate)?;
+    if marked != deleted {
+        return Err(Code::BadCrc);
+    }
+    if !is_page_alike(machine, address, sector_size(key.n) as u16) {
+        return Err(Code::BadCrc);
+    }
+    Ok(())
+}
+
 /// Whether the driver's page begins with so many bytes of user memory.
-fn is_page_alike<C: Commands>(machine: &C, address: u32, count: u16) -> bool {
+fn is_page_alike<C: Commands>(machine: &C, address: u32, count: u16) -> bool
+    requires within { address + count ≤ user_bytes }
+    ensures { IsTrue result ↔ AreBytesAlike (C.rig machine.now).page (C.rig machine.now).memory address count }
+{
     for i in 0..count {
         if machine.page(i) != machine.memory(address + u32::from(i)) {
             return false;

@@ -1,0 +1,310 @@
+-- A write that is read back, from a write and a reading back.
+use Rattle.std.proofs.Common.{MatchOption, IfOk, IfErr, IsOk, ◌≡◌, ℕ, ◌+◌, ◌-◌, ◌<◌, ◌≤◌, Bool, true, false, List, length, drop, get_or, Option, Some, None, Result, Ok, Err, refl, sym, ap, ◌∙◌, subst, arith, inl, inr}
+use Rattle.std.specs.Prelude.{not}
+use Rattle.std.proofs.Math.Bool.{beq}
+use Rattle.std.proofs.lemmas.Bool.{false≢true}
+use Rattle.std.proofs.lemmas.List.{ext_get_or, length-take, length-drop, get_or-take, get_or-drop, get_or_append_left}
+use Rattle.flop_base.specs.declared.answers.Rate.{Rate}
+use Rattle.flop_base.specs.declared.answers.Code.{Code}
+use Rattle.flop_base.specs.declared.answers.Code.TheVariants.{NoMark, NotFound, Overrun, BadCrc}
+use Rattle.raw_image.specs.Disk.{Disk, track_of}
+use Rattle.track_model.specs.Fields.{content_size}
+use Rattle.track_model.specs.Sectors.{IsSector, IsUnder}
+use Rattle.bay_model.specs.Bays.{Two, in_bay}
+use Rattle.bay_model.specs.Memory.{user_bytes, bytes_from, with_bytes}
+use Rattle.bay_model.specs.Counters.{Counters, IsFaultless, IsUndisturbed, GoesOn}
+use Rattle.bay_model.proofs.Counted.{goes_on_after}
+use Rattle.sector_map.specs.Met.{met_in}
+use Rattle.sector_map.specs.MetTracks.{MeetsTrack}
+use Rattle.sector_map.proofs.MetTracks.{met_track}
+use Rattle.sector_map.specs.Changes.{Change, Written}
+use Rattle.sector_model.specs.Writes.{HasOtherContent}
+use Rattle.sector_model.specs.Orders.{IsDeviceRefusal}
+use Rattle.single_commands.specs.Rigs.{Rig, AreBytes, track_under}
+use Rattle.single_commands.specs.Reading.{FindsField, ReadsBack, IsReadMiss, IsReadReason, IsReadCode}
+use Rattle.single_commands.specs.Writing.{ChangesMedium, WritesData, IsWriteMiss, IsWriteReason, IsWriteCode}
+use Rattle.floppy_driver.specs.Writings.{AreBytesAlike, WroteWhole, IsMissCause, IsReadBack, WritesChecked}
+use Rattle.floppy_driver.proofs.Shows.{driven_after, driven_within, undisturbed_faultless}
+use Rattle.floppy_driver.proofs.Rising.{less_first, less_later, less_than_two, disturbed_first, disturbed_later, stalls_later}
+
+-- ---- bytes
+
+module _ (page memory content : List ℕ) (address count : ℕ) (long : length content ≡ count) (sized : length memory ≡ user_bytes) (within : address + count ≤ user_bytes) where
+  -- what stands at the beginning of the page
+  page_byte : (k : ℕ) → k < count → get_or (with_bytes page 0 content) k 0 ≡ get_or content k 0
+  unfolding with_bytes
+  page_byte k h = get_or_append_left content (drop (0 + length content) page) 0 k (omega arith)
+
+  memory_byte : (k : ℕ) → k < count → get_or (bytes_from memory address count) k 0 ≡ get_or memory (address + k) 0
+  memory_byte k h = get_or-take count (drop address memory) k 0 h ∙ get_or-drop address memory k 0
+
+  long_bytes : length (bytes_from memory address count) ≡ count
+  long_bytes = omega (arith, length-take count (drop address memory), length-drop address memory)
+
+  pub alike_content : AreBytesAlike (with_bytes page 0 content) memory address count → content ≡ bytes_from memory address count
+  alike_content alike =
+      ext_get_or 0 content (bytes_from memory address count) (long ∙ sym long_bytes)
+      (λ k h. let below : k < count = omega arith in sym (page_byte k below) ∙ alike k below ∙ sym (memory_byte k below))
+
+  pub content_alike : content ≡ bytes_from memory address count → AreBytesAlike (with_bytes page 0 content) memory address count
+  content_alike same k h = page_byte k h ∙ ap (λ bytes. get_or bytes k 0) same ∙ memory_byte k h
+
+-- ---- a write that was refused
+
+write_device : (code : Code) → IsWriteCode code → IsDeviceRefusal code
+write_device NoMark coded = tt
+write_device NotFound coded = tt
+write_device Overrun coded = tt
+write_device _ coded = absurd coded
+
+read_device : (code : Code) → IsReadCode code → IsDeviceRefusal code
+read_device NoMark coded = tt
+read_device NotFound coded = tt
+read_device BadCrc coded = tt
+read_device Overrun coded = tt
+read_device _ coded = absurd coded
+
+write_cause : (written : Written) (track : List ℕ) (change : Option Change) (bay : ℕ) (code : Code) (a b : Counters) → IsWriteMiss track written.key bay code a b → IsMissCause written track change bay code a b
+write_cause written track change bay code a b miss = record {
+  device = write_device code miss.coded;
+  no_mark = λ is quiet.
+      let reason : IsWriteReason track written.key NoMark = subst (IsWriteReason track written.key) is (miss.reason quiet) in
+      elim reason [
+        | inl none ↦ inl none
+        | inr out ↦ inr (inl out)
+      ];
+  not_found = λ is quiet. subst (IsWriteReason track written.key) is (miss.reason quiet);
+  bad_data = λ is quiet. absurd (subst IsWriteCode is miss.coded);
+  overrun = miss.overrun;
+  lost = λ is. absurd (subst IsWriteCode is miss.coded);
+}
+
+pub write_missed : (old : Rig) (bay : ℕ) (rate : Rate) (written : Written) (change : Option Change) (code : Code) (new : Rig) → WritesData old bay rate written change (Err code) new → WritesChecked old bay rate written (Err code) new
+write_missed old bay rate written change code new wrote = record {
+  change = change;
+  heads = wrote.sends.heads;
+  other_medium = wrote.sends.other_medium;
+  memory = wrote.sends.memory;
+  counts = wrote.sends.counts;
+  driven = driven_within 1 2 old.counters new.counters (omega arith) wrote.sends.driven;
+  does = wrote.does;
+  done = λ ok. absurd (false≢true ok);
+  refused = write_cause written (track_under new bay rate written.key.h) change bay code old.counters new.counters wrote.refused;
+}
+
+-- ---- a write that was done, and its reading back
+
+does_later : (old : Rig) (bay : ℕ) (rate : Rate) (written : Written) (change : Option Change) (mid new : Rig) → GoesOn old.counters mid.counters → GoesOn mid.counters new.counters → new.media ≡ mid.media → MatchOption change (mid.media ≡ old.media) (λ one. ChangesMedium old bay rate written one mid) → MatchOption change (new.media ≡ old.media) (λ one. ChangesMedium old bay rate written one new)
+does_later old bay rate written None mid new first second same none = same ∙ none
+does_later old bay rate written (Some one) mid new first second same changed = record {
+  before = changed.before;
+  after = changed.after;
+  was = changed.was;
+  is = ap (λ (t : Two (Option Disk)). in_bay t bay) same ∙ changed.is;
+  same_rate = changed.same_rate;
+  here = changed.here;
+  makes = changed.makes;
+  whole = λ quiet. changed.whole (disturbed_first bay old.counters mid.counters new.counters first second 1 quiet);
+}
+
+module _ (old : Rig) (bay : ℕ) (rate : Rate) (written : Written) (change : Option Change) (mid : Rig) (wrote : WritesData old bay rate written change (Ok tt) mid) (answer : Result Bool Code) (new : Rig) (back : ReadsBack mid bay written.key rate answer new) where
+  counts : GoesOn old.counters new.counters
+  counts = goes_on_after old.counters mid.counters new.counters wrote.sends.counts back.sends.counts
+
+  -- the medium in the bay as it was read
+  media_bay : in_bay new.media bay ≡ in_bay mid.media bay
+  media_bay = ap (λ (t : Two (Option Disk)). in_bay t bay) back.sends.media
+
+  track_same : track_under new bay rate written.key.h ≡ track_under mid bay rate written.key.h
+  track_same =
+      ap (λ (t : Two (Option Disk)). met_in (in_bay t bay) rate (in_bay new.cylinders bay) written.key.h) back.sends.media
+      ∙ ap (λ (t : Two ℕ). met_in (in_bay mid.media bay) rate (in_bay t bay) written.key.h) back.sends.heads.cylinders
+
+  wrote_first : IsFaultless bay old.counters mid.counters → WroteWhole written change
+  wrote_first = wrote.done refl
+
+  wrote_whole : IsFaultless bay old.counters new.counters → WroteWhole written change
+  wrote_whole less = wrote_first (less_first bay old.counters mid.counters new.counters wrote.sends.counts back.sends.counts 1 less)
+
+  quiet_whole : IsUndisturbed bay old.counters new.counters → WroteWhole written change
+  quiet_whole quiet = wrote_whole (undisturbed_faultless bay old.counters new.counters counts quiet)
+
+  quiet_back : IsUndisturbed bay old.counters new.counters → IsUndisturbed bay mid.counters new.counters
+  quiet_back = disturbed_later bay old.counters mid.counters new.counters wrote.sends.counts back.sends.counts 1
+
+  checked : (result : Result (Unit {0}) Code) → (IsOk result → IsReadBack written (in_bay new.media bay) rate (in_bay old.cylinders bay) change bay old.counters new.counters) → IfErr result (λ code. IsMissCause written (track_under new bay rate written.key.h) change bay code old.counters new.counters) → WritesChecked old bay rate written result new
+  checked result done refused = record {
+    change = change;
+    heads = record {
+      cylinders = back.sends.heads.cylinders ∙ wrote.sends.heads.cylinders;
+      numbers = back.sends.heads.numbers ∙ wrote.sends.heads.numbers;
+      changes = back.sends.heads.changes ∙ wrote.sends.heads.changes;
+      spun = record {
+        first = λ e. back.sends.heads.spun.first (wrote.sends.heads.spun.first e);
+        second = λ e. back.sends.heads.spun.second (wrote.sends.heads.spun.second e);
+      };
+    };
+    other_medium = ap (λ (t : Two (Option Disk)). in_bay t (1 - bay)) back.sends.media ∙ wrote.sends.other_medium;
+    memory = back.memory ∙ wrote.sends.memory;
+    counts = counts;
+    driven = driven_after 1 1 old.counters mid.counters new.counters wrote.sends.counts back.sends.counts wrote.sends.driven back.sends.driven;
+    does = does_later old bay rate written change mid new wrote.sends.counts back.sends.counts back.sends.media wrote.does;
+    done = done;
+    refused = refused;
+  }
+
+  -- the reading back was refused
+  back_cause : (code : Code) → IsReadMiss (track_under mid bay rate written.key.h) written.key bay code mid.counters new.counters → IsMissCause written (track_under new bay rate written.key.h) change bay code old.counters new.counters
+  back_cause code miss =
+      let key = written.key in
+      let under = track_under new bay rate key.h in
+      let reason : IsUndisturbed bay old.counters new.counters → IsReadReason under key code = λ quiet. subst (λ track. IsReadReason track key code) (sym track_same) (miss.reason (quiet_back quiet)) in
+      record {
+        device = read_device code miss.coded;
+        no_mark = λ is quiet.
+            let why : IsReadReason under key NoMark = subst (IsReadReason under key) is (reason quiet) in
+            elim why [
+              | inl none ↦ inl none
+              | inr look ↦ inr (inr (quiet_whole quiet, look))
+            ];
+        not_found = λ is quiet. subst (IsReadReason under key) is (reason quiet);
+        bad_data = λ is quiet. (quiet_whole quiet, inl (subst (IsReadReason under key) is (reason quiet)));
+        overrun = λ is. stalls_later bay old.counters mid.counters new.counters wrote.sends.counts back.sends.counts 1 (miss.overrun is);
+        lost = λ is. absurd (subst IsReadCode is miss.coded);
+      }
+
+  pub back_missed : (code : Code) → answer ≡ Err code → WritesChecked old bay rate written (Err code) new
+  back_missed code is =
+      let Missed : Result Bool Code → Type 0 = λ r. IfErr r (λ code. IsReadMiss (track_under mid bay rate written.key.h) written.key bay code mid.counters new.counters) in
+      checked (Err code) (λ ok. absurd (false≢true ok)) (back_cause code (subst Missed is back.refused))
+
+  module _ (deleted : Bool) (content : List ℕ) (found : FindsField mid bay written.key rate deleted content new) where
+    meets : MeetsTrack (in_bay mid.media bay) rate (in_bay mid.cylinders bay) written.key.h found.disk
+    meets = record { is_in = found.medium; has = found.track; same_rate = found.same_rate }
+
+    under_is : track_under new bay rate written.key.h ≡ track_of found.disk (in_bay mid.cylinders bay) written.key.h
+    under_is = track_same ∙ met_track (in_bay mid.media bay) rate (in_bay mid.cylinders bay) written.key.h found.disk meets
+
+    -- another mark or another content
+    other_content : IsFaultless bay mid.counters new.counters → (deleted ≡ written.deleted → content ≡ written.content → ⊥) → HasOtherContent (track_under new bay rate written.key.h) written
+    other_content less differs =
+        let sector = found.sector (inl less) in
+        subst (λ track. HasOtherContent track written) (sym under_is)
+        (sector.0, deleted, sector.1, sector.2, sector.3, λ same. differs same.0 (sector.4 ∙ same.1))
+
+    pub other_read : (deleted ≡ written.deleted → content ≡ written.content → ⊥) → WritesChecked old bay rate written (Err BadCrc) new
+    other_read differs =
+        checked (Err BadCrc) (λ ok. absurd (false≢true ok))
+        (record {
+          device = tt;
+          no_mark = λ is. absurd (cc is);
+          not_found = λ is. absurd (cc is);
+          bad_data = λ is quiet. (
+            quiet_whole quiet,
+            inr (other_content (undisturbed_faultless bay mid.counters new.counters back.sends.counts (quiet_back quiet)) differs),
+          );
+          overrun = λ is. absurd (cc is);
+          lost = λ is. absurd (cc is);
+        })
+
+    module _ (same_mark : deleted ≡ written.deleted) (same : content ≡ written.content) where
+      sector_read : IsFaultless bay mid.counters new.counters → IsSector (track_of found.disk (in_bay mid.cylinders bay) written.key.h) written.key written.deleted written.content
+      sector_read less =
+          let track = track_of found.disk (in_bay mid.cylinders bay) written.key.h in
+          subst (λ bytes. IsSector track written.key written.deleted bytes) same
+          (subst (λ mark. IsSector track written.key mark content) same_mark (found.sector (inl less)))
+
+      under_read : IsUnder (track_of found.disk (in_bay mid.cylinders bay) written.key.h) written.key written.deleted written.content
+      under_read =
+          let track = track_of found.disk (in_bay mid.cylinders bay) written.key.h in
+          subst (λ bytes. IsUnder track written.key written.deleted bytes) same
+          (subst (λ mark. IsUnder track written.key mark content) same_mark (found.place, found.mark, found.address_field, found.data_mark, found.whole))
+
+      read_back : IsReadBack written (in_bay new.media bay) rate (in_bay mid.cylinders bay) change bay old.counters new.counters
+      read_back = record {
+        disk = found.disk;
+        is_in = media_bay ∙ found.medium;
+        same_rate = found.same_rate;
+        track = found.track;
+        under = under_read;
+        whole = wrote_whole;
+        sector = λ less. sector_read (less_later bay old.counters mid.counters new.counters wrote.sends.counts back.sends.counts 1 less);
+        nearly = λ less. elim (less_than_two bay old.counters mid.counters new.counters wrote.sends.counts back.sends.counts less) [
+          | inl first ↦ inl (wrote_first first)
+          | inr second ↦ inr (sector_read second)
+        ];
+        commands = let first = wrote.sends.command in let second = back.sends.command in omega arith;
+      }
+
+      pub same_read : WritesChecked old bay rate written (Ok tt) new
+      same_read =
+          checked (Ok tt)
+          (λ ok. subst (λ c. IsReadBack written (in_bay new.media bay) rate c change bay old.counters new.counters)
+          (ap (λ (t : Two ℕ). in_bay t bay) wrote.sends.heads.cylinders) read_back)
+          tt
+
+-- ---- the ends of a write that is read back
+
+module _ (old : Rig) (bay : ℕ) (rate : Rate) (written : Written) (mid new : Rig) where
+  pub ends_written : (first result : Result (Unit {0}) Code) (code other : Code) → (change : Option Change) × WritesData old bay rate written change first mid → first ≡ Err code → result ≡ Err other → other ≡ code → WritesChecked old bay rate written result mid
+  ends_written first result code other wrote was is same =
+      let Wrote : Result (Unit {0}) Code → Type 0 = λ r. WritesData old bay rate written wrote.0 r mid in
+      let missed : WritesChecked old bay rate written (Err code) mid = write_missed old bay rate written wrote.0 code mid (subst Wrote was wrote.1) in
+      subst (λ r. WritesChecked old bay rate written r mid) (sym (is ∙ ap (λ c. Err c) same)) missed
+
+  module _ (first : Result (Unit {0}) Code) (answer : Result Bool Code) (unit : Unit {0}) (wrote : (change : Option Change) × WritesData old bay rate written change first mid) (was : first ≡ Ok unit) (back : ReadsBack mid bay written.key rate answer new) where
+    done : WritesData old bay rate written wrote.0 (Ok tt) mid
+    done =
+        let Wrote : Result (Unit {0}) Code → Type 0 = λ r. WritesData old bay rate written wrote.0 r mid in
+        subst Wrote was wrote.1
+
+    pub ends_read : (result : Result (Unit {0}) Code) (code other : Code) → answer ≡ Err code → result ≡ Err other → other ≡ code → WritesChecked old bay rate written result new
+    ends_read result code other failed is same =
+        subst (λ r. WritesChecked old bay rate written r new) (sym (is ∙ ap (λ c. Err c) same))
+        (back_missed old bay rate written wrote.0 mid done answer new back code failed)
+
+    module _ (marked : Bool) (read : answer ≡ Ok marked) where
+      found : (content : List ℕ) × FindsField mid bay written.key rate marked content new × (new.page ≡ with_bytes mid.page 0 content)
+      found =
+          let Found : Result Bool Code → Type 0 = λ r. IfOk r (λ deleted. (content : List ℕ) × FindsField mid bay written.key rate deleted content new × (new.page ≡ with_bytes mid.page 0 content)) in
+          subst Found read back.found
+
+      pub ends_marked : (marked ≡ written.deleted → ⊥) → WritesChecked old bay rate written (Err BadCrc) new
+      ends_marked differs =
+          other_read old bay rate written wrote.0 mid done answer new back marked found.0 found.1 (λ same e. differs same)
+
+      module _ (address : ℕ) (is : written.content ≡ bytes_from old.memory address (content_size written.key.n)) (sized : AreBytes old.memory user_bytes) (within : address + content_size written.key.n ≤ user_bytes) where
+        memory_same : new.memory ≡ old.memory
+        memory_same = back.memory ∙ done.sends.memory
+
+        page_alike : AreBytesAlike new.page new.memory address (content_size written.key.n) → found.0 ≡ written.content
+        page_alike alike =
+            let shown : AreBytesAlike (with_bytes mid.page 0 found.0) old.memory address (content_size written.key.n) = subst (λ m. AreBytesAlike (with_bytes mid.page 0 found.0) m address (content_size written.key.n)) memory_same (subst (λ p. AreBytesAlike p new.memory address (content_size written.key.n)) found.2 alike) in
+            alike_content mid.page old.memory found.0 address (content_size written.key.n) found.1.size sized.length within shown ∙ sym is
+
+        alike_page : found.0 ≡ written.content → AreBytesAlike new.page new.memory address (content_size written.key.n)
+        alike_page same =
+            let shown : AreBytesAlike (with_bytes mid.page 0 found.0) old.memory address (content_size written.key.n) = content_alike mid.page old.memory found.0 address (content_size written.key.n) found.1.size sized.length within (same ∙ is) in
+            subst (λ p. AreBytesAlike p new.memory address (content_size written.key.n)) (sym found.2) (subst (λ m. AreBytesAlike (with_bytes mid.page 0 found.0) m address (content_size written.key.n)) (sym memory_same) shown)
+
+        pub ends_other : (AreBytesAlike new.page new.memory address (content_size written.key.n) → ⊥) → WritesChecked old bay rate written (Err BadCrc) new
+        ends_other differs =
+            other_read old bay rate written wrote.0 mid done answer new back marked found.0 found.1 (λ e same. differs (alike_page same))
+
+        pub ends_same : marked ≡ written.deleted → AreBytesAlike new.page new.memory address (content_size written.key.n) → WritesChecked old bay rate written (Ok tt) new
+        ends_same same alike =
+            same_read old bay rate written wrote.0 mid done answer new back marked found.0 found.1 same (page_alike alike)
+
+-- ---- marks
+
+pub marks_differ : (a b : Bool) → not (beq a b) ≡ true → a ≡ b → ⊥
+marks_differ true true e = absurd (false≢true e)
+marks_differ false false e = absurd (false≢true e)
+marks_differ true false e = λ same. false≢true (sym same)
+marks_differ false true e = false≢true
+
+pub marks_same : (a b : Bool) → not (beq a b) ≡ false → a ≡ b
+marks_same true true e = refl
+marks_same false false e = refl
+marks_same true false e = absurd (false≢true (sym e))
+marks_same false true e = absurd (false≢true (sym e))

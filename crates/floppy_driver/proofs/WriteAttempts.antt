@@ -1,0 +1,285 @@
+-- One attempt at a write, as the station shows it.
+use Rattle.std.proofs.Common.{MatchOption, IfErr, ◌≡◌, ◌↔◌, ℕ, zero, suc, ◌-◌, ◌≤◌, Bool, true, false, IsTrue, List, Option, Some, None, IsSome, is_some, Result, Ok, Err, refl, sym, ap, ◌∙◌, subst, arith}
+use Rattle.std.specs.Option.{option_map_or}
+use Rattle.std.proofs.lemmas.Bool.{false≢true}
+use Rattle.flop_base.specs.declared.key.Chrn.{Chrn}
+use Rattle.flop_base.specs.declared.answers.Rate.{Rate}
+use Rattle.flop_base.specs.declared.answers.Code.{Code}
+use Rattle.flop_base.specs.declared.answers.Code.TheVariants.{Seek}
+use Rattle.raw_image.specs.Disk.{Disk}
+use Rattle.bay_model.specs.Bays.{Two, in_bay}
+use Rattle.bay_model.specs.Memory.{bytes_from}
+use Rattle.track_model.specs.Fields.{content_size}
+use Rattle.bay_model.specs.Counters.{DriveCounts, Counters, GoesOn}
+use Rattle.bay_model.proofs.Counted.{goes_on_after, faults_go_on}
+use Rattle.retry_plan.specs.declared.Prepare.{Prepare}
+use Rattle.retry_plan.specs.declared.Prepare.TheVariants as prepare
+use Rattle.sector_map.specs.Met.{met_in}
+use Rattle.sector_map.specs.Changes.{Change, Written}
+use Rattle.sector_map.proofs.Changed.{change_keeps_tracks}
+use Rattle.sector_model.specs.Stations.{Bay, StationState, Becomes, Stays, bay_of, set_bay, met}
+use Rattle.single_commands.specs.Rigs.{Rig, IsSound, HeadsStay, track_under}
+use Rattle.single_commands.specs.Writing.{ChangesMedium}
+use Rattle.floppy_driver.specs.declared.driver.Notes.{Notes}
+use Rattle.floppy_driver.specs.declared.driver.Driver.{Driver}
+use Rattle.floppy_driver.specs.Shown.{notes_of, is_held, bay_shown, with_waiting, shown, with_notes, HasAsked}
+use Rattle.floppy_driver.specs.Attempts.{IsSure}
+use Rattle.floppy_driver.proofs.Attempts.{prepared_ready, prepared_shown, prepared_steady, sure_way}
+use Rattle.floppy_driver.specs.Attached.{IsAttached}
+use Rattle.floppy_driver.specs.Prepared.{IsPrepared}
+use Rattle.floppy_driver.specs.Writings.{CanWrite, IsMissCause, IsReadBack, WritesChecked, ChangesBay, TriesWrite}
+use Rattle.floppy_driver.proofs.Shows.{waiting_goes_on, waiting_driven, waiting_undisturbed, driven_after, driven_within, held_bay, bay_shown_at, held_bay_shown, held_lines_stay, attached_stays}
+use Rattle.floppy_driver.proofs.Rising.{less_first, less_later, disturbed_later, stalls_later, commands_later, rose_later}
+
+-- ---- earlier counts
+
+-- what was read back, seen from earlier counts
+read_back_earlier : (written : Written) (medium now : Option Disk) (rate noted : Rate) (cylinder : ℕ) (change : Option Change) (bay : ℕ) (a b c : Counters) (waiting : List DriveCounts) → GoesOn a b → GoesOn b c → now ≡ medium → noted ≡ rate → IsReadBack written medium rate cylinder change bay b c → IsReadBack written now noted cylinder change bay (with_waiting a waiting) (with_waiting c waiting)
+read_back_earlier written medium now rate noted cylinder change bay a b c waiting one two same_medium same_rate back = record {
+  disk = back.disk;
+  is_in = same_medium ∙ back.is_in;
+  same_rate = back.same_rate ∙ sym same_rate;
+  track = back.track;
+  under = back.under;
+  whole = λ less. back.whole (less_later bay a b c one two 1 less);
+  sector = λ less. back.sector (less_later bay a b c one two 1 less);
+  nearly = λ less. back.nearly (less_later bay a b c one two 2 less);
+  commands = commands_later bay a b c one two 2 back.commands;
+}
+
+-- why a write was refused, seen from earlier counts
+cause_earlier : (written : Written) (track : List ℕ) (change : Option Change) (bay : ℕ) (code : Code) (a b c : Counters) → GoesOn a b → GoesOn b c → IsMissCause written track change bay code b c → IsMissCause written track change bay code a c
+cause_earlier written track change bay code a b c one two cause =
+    let later = disturbed_later bay a b c one two 1 in
+    record {
+      device = cause.device;
+      no_mark = λ is quiet. cause.no_mark is (later quiet);
+      not_found = λ is quiet. cause.not_found is (later quiet);
+      bad_data = λ is quiet. cause.bad_data is (later quiet);
+      overrun = λ is. stalls_later bay a b c one two 1 (cause.overrun is);
+      lost = λ is. rose_later bay a b c one two 77 (cause.lost is);
+    }
+
+-- and whatever spare drives wait
+waiting_cause : (written : Written) (track : List ℕ) (change : Option Change) (bay : ℕ) (code : Code) (a b : Counters) (waiting : List DriveCounts) → IsMissCause written track change bay code a b → IsMissCause written track change bay code (with_waiting a waiting) (with_waiting b waiting)
+waiting_cause written track change bay code a b waiting cause =
+    let same = waiting_undisturbed a b bay waiting in
+    record {
+      device = cause.device;
+      no_mark = λ is quiet. cause.no_mark is (same quiet);
+      not_found = λ is quiet. cause.not_found is (same quiet);
+      bad_data = λ is quiet. cause.bad_data is (same quiet);
+      overrun = cause.overrun;
+      lost = cause.lost;
+    }
+
+-- ---- the station that is shown
+
+parts : Driver → Two (Option Disk) → Two Bool → List ℕ → Counters → ℕ → StationState
+parts driver media changes memory counters spares = record {
+  bays = record {
+    first = bay_shown driver.first media.first changes.first;
+    second = bay_shown driver.second media.second changes.second;
+  };
+  memory = memory;
+  spares = spares;
+  tries = driver.tries;
+  counters = counters;
+}
+
+-- the medium of one bay changed, and nothing else that is shown
+put_shown : (driver : Driver) (old new : Rig) (spares : ℕ) (waiting : List DriveCounts) (bay : ℕ) → bay ≤ 1 → in_bay new.media (1 - bay) ≡ in_bay old.media (1 - bay) → new.changes ≡ old.changes → new.memory ≡ old.memory → Becomes (set_bay (shown driver old spares waiting) bay (record (bay_of (shown driver old spares waiting) bay) { medium = in_bay new.media bay })) (shown driver new spares waiting)
+unfolding parts
+put_shown driver old new spares waiting zero in_range other changes memory =
+    ap (λ m. parts driver (record { first = new.media.first; second = m }) new.changes new.memory (with_waiting new.counters waiting) spares) other
+    ∙ ap (λ c. parts driver (record { first = new.media.first; second = old.media.second }) c new.memory (with_waiting new.counters waiting) spares) changes
+    ∙ ap (λ m. parts driver (record { first = new.media.first; second = old.media.second }) old.changes m (with_waiting new.counters waiting) spares) memory
+put_shown driver old new spares waiting (suc zero) in_range other changes memory =
+    ap (λ m. parts driver (record { first = m; second = new.media.second }) new.changes new.memory (with_waiting new.counters waiting) spares) other
+    ∙ ap (λ c. parts driver (record { first = old.media.first; second = new.media.second }) c new.memory (with_waiting new.counters waiting) spares) changes
+    ∙ ap (λ m. parts driver (record { first = old.media.first; second = new.media.second }) old.changes m (with_waiting new.counters waiting) spares) memory
+put_shown driver old new spares waiting (suc (suc n)) in_range other changes memory = absurd (omega arith)
+
+-- after a station in which counters alone had changed
+put_after : (start middle new : StationState) (bay : ℕ) (medium : Option Disk) → Stays start middle → Becomes (set_bay middle bay (record (bay_of middle bay) { medium = medium })) new → (bay_of new bay).medium ≡ medium → Becomes (set_bay start bay (record (bay_of start bay) { medium = (bay_of new bay).medium })) new
+put_after start middle new bay medium stays becomes is =
+    let To : StationState → StationState = λ s. record (set_bay s bay (record (bay_of s bay) { medium = medium })) { counters = new.counters } in
+    let later : new ≡ To start = becomes ∙ ap To stays in
+    subst (λ m. new ≡ record (set_bay start bay (record (bay_of start bay) { medium = m })) { counters = new.counters }) (sym is) later
+
+-- ---- a bay that can be written
+
+-- the medium stays in
+medium_stays : (old : Rig) (bay : ℕ) (rate : Rate) (written : Written) (change : Option Change) (new : Rig) → MatchOption change (new.media ≡ old.media) (λ one. ChangesMedium old bay rate written one new) → in_bay new.media bay ≡ None → in_bay old.media bay ≡ None
+medium_stays old bay rate written None new same none = ap (λ (t : Two (Option Disk)). in_bay t bay) (sym same) ∙ none
+medium_stays old bay rate written (Some one) new changed none = absurd (cc (changed.is, none))
+
+-- and stays unprotected
+protection_stays : (old : Rig) (bay : ℕ) (rate : Rate) (written : Written) (change : Option Change) (new : Rig) → MatchOption change (new.media ≡ old.media) (λ one. ChangesMedium old bay rate written one new) → option_map_or (λ disk. disk.protected) (in_bay new.media bay) false ≡ option_map_or (λ disk. disk.protected) (in_bay old.media bay) false
+protection_stays old bay rate written None new same = ap (λ (t : Two (Option Disk)). option_map_or (λ disk. disk.protected) (in_bay t bay) false) same
+protection_stays old bay rate written (Some one) new changed =
+    let Protection : Option Disk → Bool = λ m. option_map_or (λ disk. disk.protected) m false in
+    ap Protection changed.is ∙ (change_keeps_tracks written changed.before one changed.after changed.makes).alike.protected ∙ ap Protection (sym changed.was)
+
+attached_checked : (driver : Driver) (old new : Rig) (bay : ℕ) → bay ≤ 1 → GoesOn old.counters new.counters → HeadsStay old new → in_bay new.media (1 - bay) ≡ in_bay old.media (1 - bay) → (in_bay new.media bay ≡ None → in_bay old.media bay ≡ None) → IsAttached driver old → IsAttached driver new
+attached_checked driver old new zero in_range counts heads other stays = attached_stays driver old new counts heads stays (λ none. sym other ∙ none)
+attached_checked driver old new (suc zero) in_range counts heads other stays = attached_stays driver old new counts heads (λ none. sym other ∙ none) stays
+attached_checked driver old new (suc (suc n)) in_range counts heads other stays = absurd (omega arith)
+
+pub can_write_checked : (driver : Driver) (old : Rig) (bay : ℕ) (rate : Rate) (written : Written) (answer : Result (Unit {0}) Code) (new : Rig) → CanWrite driver old bay → WritesChecked old bay rate written answer new → IsSound new → CanWrite driver new bay
+can_write_checked driver old bay rate written answer new can wrote sound = record {
+  ready = record {
+    in_range = can.ready.in_range;
+    held = ap (λ (t : Two Bool). is_held (notes_of driver bay) (in_bay t bay)) wrote.heads.changes ∙ can.ready.held;
+    attached = attached_checked driver old new bay can.ready.in_range wrote.counts wrote.heads wrote.other_medium (medium_stays old bay rate written wrote.change new wrote.does) can.ready.attached;
+    sound = sound;
+  };
+  unprotected = protection_stays old bay rate written wrote.change new wrote.does ∙ can.unprotected;
+}
+
+-- ---- an attempt, from its prepared heads
+
+module _ (driver after : Driver) (old mid : Rig) (bay target : ℕ) (way : Prepare) (ready : Bool) (can : CanWrite driver old bay) (is : after ≡ with_notes driver bay (notes_of after bay)) (prepared : IsPrepared old (notes_of driver bay) bay target way ready mid (notes_of after bay)) where
+  pub can_write_prepared : IsAttached after mid → IsSound mid → CanWrite after mid bay
+  can_write_prepared attached sound = record {
+    ready = prepared_ready driver after old mid bay target way ready can.ready is prepared attached sound;
+    unprotected = ap (λ (t : Two (Option Disk)). option_map_or (λ disk. disk.protected) (in_bay t bay) false) prepared.moves.media ∙ can.unprotected;
+  }
+
+  module _ (spares : ℕ) (waiting : List DriveCounts) where
+    medium_old : (bay_of (shown driver old spares waiting) bay).medium ≡ in_bay mid.media bay
+    medium_old = ap (λ (b : Bay). b.medium) (bay_shown_at driver old spares waiting bay) ∙ ap (λ (t : Two (Option Disk)). in_bay t bay) (sym prepared.moves.media)
+
+    rate_old : (bay_of (shown driver old spares waiting) bay).rate ≡ (notes_of driver bay).rate
+    rate_old = ap (λ (b : Bay). b.rate) (held_bay_shown driver old spares waiting bay can.ready.held)
+
+    rate_after : (notes_of after bay).rate ≡ (notes_of driver bay).rate
+    rate_after = ap (λ (n : Notes). n.rate) prepared.notes_are
+
+    asked : HasAsked (shown driver old spares waiting) (shown after mid spares waiting)
+    asked = prepared_shown driver after old mid bay target way ready can.ready is prepared spares waiting
+
+    -- track 0 wasn't reached: no command was sent
+    pub tries_lost : (sure : Type 0) (written : Written) → ready ≡ false → TriesWrite sure written bay (Err Seek) (shown driver old spares waiting) (shown after mid spares waiting)
+    tries_lost sure written lost =
+        let here : (bay_of (shown after mid spares waiting) bay).medium ≡ in_bay mid.media bay = ap (λ (b : Bay). b.medium) (bay_shown_at after mid spares waiting bay) in
+        record {
+          cylinder = written.key.c;
+          change = None;
+          becomes = put_after (shown driver old spares waiting) (shown after mid spares waiting) (shown after mid spares waiting) bay (in_bay mid.media bay) asked.stays
+              (put_shown after mid mid spares waiting bay can.ready.in_range refl refl refl) here;
+          does = here ∙ sym medium_old;
+          here = tt;
+          steady = λ steady. refl;
+          surely = λ sure less. refl;
+          done = λ ok. absurd (false≢true ok);
+          refused = record {
+            device = tt;
+            no_mark = λ e. absurd (cc e);
+            not_found = λ e. absurd (cc e);
+            bad_data = λ e. absurd (cc e);
+            overrun = λ e. absurd (cc e);
+            lost = λ e. prepared.lost lost;
+          };
+          counts = asked.counts;
+          driven = driven_within 0 2 (shown driver old spares waiting).counters (shown after mid spares waiting).counters (omega arith) asked.idle;
+        }
+
+    module _ (sure : Type 0) (written : Written) (answer : Result (Unit {0}) Code) (new : Rig) (wrote : WritesChecked mid bay (notes_of driver bay).rate written answer new) where
+      medium_new : (bay_of (shown after new spares waiting) bay).medium ≡ in_bay new.media bay
+      medium_new = ap (λ (b : Bay). b.medium) (bay_shown_at after new spares waiting bay)
+
+      does_bay : (change : Option Change) → MatchOption change (new.media ≡ mid.media) (λ one. ChangesMedium mid bay (notes_of driver bay).rate written one new) → MatchOption change ((bay_of (shown after new spares waiting) bay).medium ≡ (bay_of (shown driver old spares waiting) bay).medium) (λ one. ChangesBay written bay one (shown driver old spares waiting) (shown after new spares waiting))
+      does_bay None same = medium_new ∙ ap (λ (t : Two (Option Disk)). in_bay t bay) same ∙ sym medium_old
+      does_bay (Some one) changed = record {
+        before = changed.before;
+        after = changed.after;
+        was = medium_old ∙ changed.was;
+        is = medium_new ∙ changed.is;
+        same_rate = changed.same_rate ∙ sym rate_old;
+        makes = changed.makes;
+        whole = λ quiet.
+            changed.whole (disturbed_later bay old.counters mid.counters new.counters prepared.moves.counts wrote.counts 1 (waiting_undisturbed old.counters new.counters bay waiting quiet));
+      }
+
+      here_bay : (change : Option Change) → MatchOption change (new.media ≡ mid.media) (λ one. ChangesMedium mid bay (notes_of driver bay).rate written one new) → MatchOption change (Unit {0}) (λ one. one.cylinder ≡ in_bay mid.cylinders bay)
+      here_bay None same = tt
+      here_bay (Some one) changed = changed.here
+
+      lines_now : in_bay new.changes bay ≡ in_bay old.changes bay
+      lines_now =
+          ap (λ (t : Two Bool). in_bay t bay) (wrote.heads.changes ∙ held_lines_stay old bay mid (notes_of driver bay) can.ready.held prepared.moves)
+
+      held_now : is_held (notes_of after bay) (in_bay new.changes bay) ≡ true
+      held_now =
+          ap (λ (b : Bool). is_held (notes_of after bay) b) lines_now
+          ∙ ap (λ (n : Notes). is_held n (in_bay old.changes bay)) prepared.notes_are
+          ∙ can.ready.held
+
+      bay_now : bay_of (shown after new spares waiting) bay ≡ held_bay (notes_of after bay) (in_bay new.media bay)
+      bay_now = held_bay_shown after new spares waiting bay held_now
+
+      met_now : met (bay_of (shown after new spares waiting) bay) (in_bay mid.cylinders bay) written.key.h ≡ track_under new bay (notes_of driver bay).rate written.key.h
+      met_now =
+          ap (λ (b : Bay). met b (in_bay mid.cylinders bay) written.key.h) bay_now
+          ∙ ap (λ rate. met_in (in_bay new.media bay) rate (in_bay mid.cylinders bay) written.key.h) rate_after
+          ∙ ap (λ (t : Two ℕ). met_in (in_bay new.media bay) (notes_of driver bay).rate (in_bay t bay) written.key.h) (sym wrote.heads.cylinders)
+
+      refused_bay : (code : Code) → IsMissCause written (track_under new bay (notes_of driver bay).rate written.key.h) wrote.change bay code mid.counters new.counters → IsMissCause written (met (bay_of (shown after new spares waiting) bay) (in_bay mid.cylinders bay) written.key.h) wrote.change bay code (with_waiting old.counters waiting) (with_waiting new.counters waiting)
+      refused_bay code cause =
+          let track = track_under new bay (notes_of driver bay).rate written.key.h in
+          let all = cause_earlier written track wrote.change bay code old.counters mid.counters new.counters prepared.moves.counts wrote.counts cause in
+          subst (λ row. IsMissCause written row wrote.change bay code (with_waiting old.counters waiting) (with_waiting new.counters waiting)) (sym met_now)
+          (waiting_cause written track wrote.change bay code old.counters new.counters waiting all)
+
+      refused_answer : (result : Result (Unit {0}) Code) → IfErr result (λ code. IsMissCause written (track_under new bay (notes_of driver bay).rate written.key.h) wrote.change bay code mid.counters new.counters) → IfErr result (λ code. IsMissCause written (met (bay_of (shown after new spares waiting) bay) (in_bay mid.cylinders bay) written.key.h) wrote.change bay code (with_waiting old.counters waiting) (with_waiting new.counters waiting))
+      refused_answer (Ok unit) cause = cause
+      refused_answer (Err code) cause = refused_bay code cause
+
+      pub tries_checked : ready ≡ true → (way ≡ prepare.Seek → IsSome (notes_of driver bay).known) → (sure → way ≡ prepare.RecalibrateAndSeek) → written.key.c ≡ target → TriesWrite sure written bay answer (shown driver old spares waiting) (shown after new spares waiting)
+      tries_checked is_ready known surely same = record {
+        cylinder = in_bay mid.cylinders bay;
+        change = wrote.change;
+        becomes = put_after (shown driver old spares waiting) (shown after mid spares waiting) (shown after new spares waiting) bay (in_bay new.media bay) asked.stays
+            (put_shown after mid new spares waiting bay can.ready.in_range wrote.other_medium wrote.heads.changes wrote.memory) medium_new;
+        does = does_bay wrote.change wrote.does;
+        here = here_bay wrote.change wrote.does;
+        steady = λ steady.
+            prepared_steady driver after old mid bay target way ready can.ready is prepared spares waiting (shown after new spares waiting) is_ready known
+            (faults_go_on mid.counters new.counters bay wrote.counts) steady
+            ∙ sym same;
+        surely = λ is_sure less.
+            prepared.surely is_ready (surely is_sure) (less_first bay old.counters mid.counters new.counters prepared.moves.counts wrote.counts 1 less) ∙ sym same;
+        done = λ ok.
+            read_back_earlier written (in_bay new.media bay) (bay_of (shown after new spares waiting) bay).medium (notes_of driver bay).rate (bay_of (shown driver old spares waiting) bay).rate
+            (in_bay mid.cylinders bay) wrote.change bay old.counters mid.counters new.counters waiting prepared.moves.counts wrote.counts medium_new rate_old (wrote.done ok);
+        refused = refused_answer answer wrote.refused;
+        counts = waiting_goes_on old.counters new.counters waiting (goes_on_after old.counters mid.counters new.counters prepared.moves.counts wrote.counts);
+        driven = waiting_driven 2 old.counters new.counters waiting
+            (driven_after 0 2 old.counters mid.counters new.counters prepared.moves.counts wrote.counts prepared.moves.driven wrote.driven);
+      }
+
+-- what is written comes from memory as it was before the heads were prepared
+pub checked_from : (mid : Rig) (bay : ℕ) (rate : Rate) (key : Chrn) (deleted : Bool) (address : ℕ) (memory was : List ℕ) (answer : Result (Unit {0}) Code) (new : Rig) → memory ≡ was → WritesChecked mid bay rate (record { key = key; deleted = deleted; content = bytes_from memory address (content_size key.n) }) answer new → WritesChecked mid bay rate (record { key = key; deleted = deleted; content = bytes_from was address (content_size key.n) }) answer new
+checked_from mid bay rate key deleted address memory was answer new same wrote =
+    subst (λ m. WritesChecked mid bay rate (record { key = key; deleted = deleted; content = bytes_from m address (content_size key.n) }) answer new) same wrote
+
+-- one whole attempt
+pub tries_once : (driver after : Driver) (old mid : Rig) (bay : ℕ) (way : Prepare) (ready : Bool) (tries attempt address : ℕ) (key : Chrn) (deleted known : Bool) (notes : Notes) (answer : Result (Unit {0}) Code) (new : Rig)
+    → CanWrite driver old bay → after ≡ with_notes driver bay (notes_of after bay)
+    → IsPrepared old (notes_of driver bay) bay key.c way ready mid (notes_of after bay)
+    → notes ≡ notes_of driver bay → known ≡ is_some notes.known
+    → (way ≡ prepare.Seek) ↔ ((attempt ≡ 1) × IsTrue known × (2 ≤ tries)) → ready ≡ true
+    → WritesChecked mid bay notes.rate (record { key = key; deleted = deleted; content = bytes_from mid.memory address (content_size key.n) }) answer new
+    → (spares : ℕ) (waiting : List DriveCounts) → TriesWrite (IsSure tries attempt) (record { key = key; deleted = deleted; content = bytes_from old.memory address (content_size key.n) }) bay answer (shown driver old spares waiting) (shown after new spares waiting)
+tries_once driver after old mid bay way ready tries attempt address key deleted known notes answer new can is prepared noted known_is plan is_ready wrote spares waiting =
+    let content : List ℕ = bytes_from mid.memory address (content_size key.n) in
+    let at_rate : WritesChecked mid bay (notes_of driver bay).rate (record { key = key; deleted = deleted; content = content }) answer new = subst (λ (n : Notes). WritesChecked mid bay n.rate (record { key = key; deleted = deleted; content = content }) answer new) noted wrote in
+    tries_checked driver after old mid bay key.c way ready can is prepared spares waiting (IsSure tries attempt) _ answer new
+    (checked_from mid bay (notes_of driver bay).rate key deleted address mid.memory old.memory answer new prepared.moves.memory at_rate)
+    is_ready (λ seek. sym (ap (λ (n : Notes). is_some n.known) noted) ∙ sym known_is ∙ (plan.0 seek).1) (sure_way way tries attempt known plan) refl
+
+-- and what is ready after it
+pub can_write_once : (driver after : Driver) (old mid : Rig) (bay target : ℕ) (way : Prepare) (ready : Bool) (rate : Rate) (written : Written) (answer : Result (Unit {0}) Code) (new : Rig) → CanWrite driver old bay → after ≡ with_notes driver bay (notes_of after bay) → IsPrepared old (notes_of driver bay) bay target way ready mid (notes_of after bay) → IsAttached after mid → IsSound mid → WritesChecked mid bay rate written answer new → IsSound new → CanWrite after new bay
+can_write_once driver after old mid bay target way ready rate written answer new can is prepared attached sound wrote later =
+    can_write_checked after mid bay rate written answer new (can_write_prepared driver after old mid bay target way ready can is prepared attached sound) wrote later
