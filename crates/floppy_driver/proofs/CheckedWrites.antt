@@ -1,34 +1,31 @@
 -- A write that is read back, from a write and a reading back.
-use Rattle.std.proofs.Common.{MatchOption, IfOk, IfErr, IsOk, ◌≡◌, ◌≢◌, ◌↔◌, ℕ, ◌+◌, ◌-◌, ◌^◌, ◌<◌, ◌≤◌, ◌⊎◌, Bool, true, false, IsTrue, List, ◌++◌, length, take, drop, get_or, min, Option, Some, None, Result, Ok, Err, refl, sym, ap, ◌∙◌, subst, arith, inl, inr}
+use Rattle.std.proofs.Common.{MatchOption, IfOk, IfErr, IsOk, ◌≡◌, ℕ, ◌+◌, ◌-◌, ◌<◌, ◌≤◌, Bool, true, false, List, length, drop, get_or, Option, Some, None, Result, Ok, Err, refl, sym, ap, ◌∙◌, subst, arith, inl, inr}
 use Rattle.std.specs.Prelude.{not}
 use Rattle.std.proofs.Math.Bool.{beq}
 use Rattle.std.proofs.lemmas.Bool.{false≢true}
 use Rattle.std.proofs.lemmas.List.{ext_get_or, length-take, length-drop, get_or-take, get_or-drop, get_or_append_left}
-use Rattle.flop_base.specs.Counts.{RoseBy}
-use Rattle.flop_base.specs.declared.key.Chrn.{Chrn}
 use Rattle.flop_base.specs.declared.answers.Rate.{Rate}
 use Rattle.flop_base.specs.declared.answers.Code.{Code}
-use Rattle.flop_base.specs.declared.answers.Code.TheVariants.{BadRequest, NoMark, Protected, NotFound, Changed, Overrun, Page, BadCrc, Seek, NotReady}
-use Rattle.raw_image.specs.Disk.{Disk, HasTrack, track_of}
-use Rattle.track_model.specs.declared.Look.TheVariants as look
+use Rattle.flop_base.specs.declared.answers.Code.TheVariants.{NoMark, NotFound, Overrun, BadCrc}
+use Rattle.raw_image.specs.Disk.{Disk, track_of}
 use Rattle.track_model.specs.Fields.{content_size}
 use Rattle.track_model.specs.Sectors.{IsSector, IsUnder}
 use Rattle.bay_model.specs.Bays.{Two, in_bay}
 use Rattle.bay_model.specs.Memory.{user_bytes, bytes_from, with_bytes}
-use Rattle.bay_model.specs.Counters.{Counters, IsFaultless, FaultsRoseLess, IsUndisturbed, GoesOn, IsDriven}
-use Rattle.bay_model.proofs.Counted.{goes_on_after, goes_on_itself}
-use Rattle.sector_map.specs.Met.{met_in, HasLook}
+use Rattle.bay_model.specs.Counters.{Counters, IsFaultless, IsUndisturbed, GoesOn}
+use Rattle.bay_model.proofs.Counted.{goes_on_after}
+use Rattle.sector_map.specs.Met.{met_in}
 use Rattle.sector_map.specs.MetTracks.{MeetsTrack}
 use Rattle.sector_map.proofs.MetTracks.{met_track}
-use Rattle.sector_map.specs.Changes.{Change, Written, window_of}
+use Rattle.sector_map.specs.Changes.{Change, Written}
 use Rattle.sector_model.specs.Writes.{HasOtherContent}
 use Rattle.sector_model.specs.Orders.{IsDeviceRefusal}
-use Rattle.single_commands.specs.Rigs.{Rig, AreBytes, HeadsStay, track_under, page_bytes}
+use Rattle.single_commands.specs.Rigs.{Rig, AreBytes, track_under}
 use Rattle.single_commands.specs.Reading.{FindsField, ReadsBack, IsReadMiss, IsReadReason, IsReadCode}
 use Rattle.single_commands.specs.Writing.{ChangesMedium, WritesData, IsWriteMiss, IsWriteReason, IsWriteCode}
 use Rattle.floppy_driver.specs.Writings.{AreBytesAlike, WroteWhole, IsMissCause, IsReadBack, WritesChecked}
-use Rattle.floppy_driver.proofs.Shows.{driven_after}
-use Rattle.floppy_driver.proofs.Rising.{less_first, less_later, less_than_two, disturbed_first, disturbed_later, stalls_later, quiet_faultless}
+use Rattle.floppy_driver.proofs.Shows.{driven_after, driven_within, undisturbed_faultless}
+use Rattle.floppy_driver.proofs.Rising.{less_first, less_later, less_than_two, disturbed_first, disturbed_later, stalls_later}
 
 -- ---- bytes
 
@@ -82,13 +79,6 @@ write_cause written track change bay code a b miss = record {
   lost = λ is. absurd (subst IsWriteCode is miss.coded);
 }
 
-within_two : (a b : Counters) → IsDriven 1 a b → IsDriven 2 a b
-within_two a b driven = record {
-  most_commands = let m = driven.most_commands in omega arith;
-  interrupts = driven.interrupts;
-  past_driver = driven.past_driver;
-}
-
 pub write_missed : (old : Rig) (bay : ℕ) (rate : Rate) (written : Written) (change : Option Change) (code : Code) (new : Rig) → WritesData old bay rate written change (Err code) new → WritesChecked old bay rate written (Err code) new
 write_missed old bay rate written change code new wrote = record {
   change = change;
@@ -96,7 +86,7 @@ write_missed old bay rate written change code new wrote = record {
   other_medium = wrote.sends.other_medium;
   memory = wrote.sends.memory;
   counts = wrote.sends.counts;
-  driven = within_two old.counters new.counters wrote.sends.driven;
+  driven = driven_within 1 2 old.counters new.counters (omega arith) wrote.sends.driven;
   does = wrote.does;
   done = λ ok. absurd (false≢true ok);
   refused = write_cause written (track_under new bay rate written.key.h) change bay code old.counters new.counters wrote.refused;
@@ -137,7 +127,7 @@ module _ (old : Rig) (bay : ℕ) (rate : Rate) (written : Written) (change : Opt
   wrote_whole less = wrote_first (less_first bay old.counters mid.counters new.counters wrote.sends.counts back.sends.counts 1 less)
 
   quiet_whole : IsUndisturbed bay old.counters new.counters → WroteWhole written change
-  quiet_whole quiet = wrote_whole (quiet_faultless bay old.counters new.counters counts quiet)
+  quiet_whole quiet = wrote_whole (undisturbed_faultless bay old.counters new.counters counts quiet)
 
   quiet_back : IsUndisturbed bay old.counters new.counters → IsUndisturbed bay mid.counters new.counters
   quiet_back = disturbed_later bay old.counters mid.counters new.counters wrote.sends.counts back.sends.counts 1
@@ -211,7 +201,7 @@ module _ (old : Rig) (bay : ℕ) (rate : Rate) (written : Written) (change : Opt
           not_found = λ is. absurd (cc is);
           bad_data = λ is quiet. (
             quiet_whole quiet,
-            inr (other_content (quiet_faultless bay mid.counters new.counters back.sends.counts (quiet_back quiet)) differs),
+            inr (other_content (undisturbed_faultless bay mid.counters new.counters back.sends.counts (quiet_back quiet)) differs),
           );
           overrun = λ is. absurd (cc is);
           lost = λ is. absurd (cc is);

@@ -12,7 +12,8 @@ use Rattle.floppy_driver.specs.Shown.{notes_of, is_held, with_notes}
 use Rattle.floppy_driver.specs.Attached.{IsAttached}
 use Rattle.floppy_driver.specs.Attempts.{CanTry}
 use Rattle.floppy_driver.specs.Prepared.{IsPrepared}
-use Rattle.floppy_driver.specs.Formattings.{CanWrite, ReadsRecords}
+use Rattle.floppy_driver.specs.Writings.{CanWrite}
+use Rattle.floppy_driver.specs.Formattings.{ReadsRecords}
 use Rattle.floppy_driver.specs.declared.driver.Driver.{Driver}
 use Rattle.floppy_driver.proofs.Shows.{attached_stays, attached_written}
 use Rattle.floppy_driver.proofs.Attempts.{can_try_asked, prepared_ready}

@@ -1,18 +1,18 @@
 mod Acked
 mod Asking
-pub mod Attempts
+mod Attempts
 mod FormatOnce
 mod FormatReady
 mod FormatStep
 mod FormatTries
 mod LaidTracks
-pub mod Prepared
+mod Prepared
 mod RateFound
 mod ReadBacks
-pub mod ReadOnce
-pub mod ReadTries
+mod ReadOnce
 mod ReadStep
-pub mod Shows
+mod ReadTries
+mod Shows
 mod Worked
 pub mod Rising
 mod CheckedWrites

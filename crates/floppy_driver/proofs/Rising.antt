@@ -1,8 +1,8 @@
 -- How counts rise in a call and in its parts.
-use Rattle.std.proofs.Common.{◌≡◌, ℕ, ◌+◌, ◌<◌, ◌≤◌, ◌⊎◌, min, arith, inl, inr}
+use Rattle.std.proofs.Common.{ℕ, ◌+◌, ◌⊎◌, arith, inl, inr}
 use Rattle.std.proofs.lemmas.Bool.{cases_lt}
-use Rattle.flop_base.specs.Counts.{last_count, RoseBy}
-use Rattle.bay_model.specs.Counters.{Counters, faults_of, FaultsRoseBy, FaultsRoseLess, IsFaultless, DisturbedLess, IsUndisturbed, GoesOn}
+use Rattle.flop_base.specs.Counts.{RoseBy}
+use Rattle.bay_model.specs.Counters.{Counters, faults_of, FaultsRoseBy, FaultsRoseLess, DisturbedLess, IsUndisturbed, GoesOn}
 use Rattle.bay_model.proofs.Counted.{faults_go_on}
 
 -- a call with two parts
@@ -61,14 +61,8 @@ module _ (bay : ℕ) (a b c : Counters) (one : GoesOn a b) (two : GoesOn b c) wh
   pub commands_later : (n : ℕ) → RoseBy n b.data_commands c.data_commands → RoseBy n a.data_commands c.data_commands
   commands_later n rose = let s = one.data_commands in omega arith
 
--- undisturbed, so without a fault and without a stall
+-- undisturbed, so without a stall and with no pulse lost
 module _ (bay : ℕ) (a b : Counters) (goes : GoesOn a b) (quiet : IsUndisturbed bay a b) where
-  pub quiet_faultless : IsFaultless bay a b
-  quiet_faultless =
-      let s = goes.stalls in
-      let q = quiet.together in
-      (omega arith, quiet.faults)
-
   pub quiet_stalls : RoseBy 1 a.stalls b.stalls → ⊥
   quiet_stalls rose =
       let f = faults_go_on a b bay goes in
@@ -82,24 +76,3 @@ module _ (bay : ℕ) (a b : Counters) (goes : GoesOn a b) (quiet : IsUndisturbed
       let q = quiet.together in
       let r = quiet.faults in
       omega arith
-
--- no fewer disturbances than none
-pub never_below : (bay : ℕ) (a b : Counters) → GoesOn a b → DisturbedLess 0 bay a b → ⊥
-never_below bay a b goes less =
-    let f = faults_go_on a b bay goes in
-    let s = goes.stalls in
-    let q = less.together in
-    omega arith
-
--- where each of n attempts and one more was disturbed, there were more than n disturbances
-pub one_more_disturbed : (n bay : ℕ) (a b c : Counters) → GoesOn b c → (DisturbedLess n bay a b → ⊥) → (IsUndisturbed bay b c → ⊥) → DisturbedLess (n + 1) bay a c → ⊥
-one_more_disturbed n bay a b c two most not less =
-    let g = faults_go_on b c bay two in
-    let t = two.stalls in
-    let x = less.faults in
-    let y = less.stalls in
-    let z = less.together in
-    elim (cases_lt (faults_of b bay + b.stalls) (faults_of a bay + a.stalls + n)) [
-      | inl few ↦ most (record { faults = omega arith; stalls = omega arith; together = few })
-      | inr many ↦ not (record { faults = x; stalls = y; together = omega arith })
-    ]

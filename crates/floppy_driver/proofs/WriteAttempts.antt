@@ -1,9 +1,7 @@
 -- One attempt at a write, as the station shows it.
-use Rattle.std.proofs.Common.{MatchOption, IfErr, IsOk, ◌≡◌, ◌↔◌, ℕ, zero, suc, ◌+◌, ◌-◌, ◌<◌, ◌≤◌, ◌⊎◌, Bool, true, false, IsTrue, List, Option, Some, None, IsSome, is_some, Result, Ok, Err, refl, sym, ap, ◌∙◌, subst, arith, inl, inr}
-use Rattle.std.specs.Prelude.{◌&&◌, not}
+use Rattle.std.proofs.Common.{MatchOption, IfErr, ◌≡◌, ◌↔◌, ℕ, zero, suc, ◌-◌, ◌≤◌, Bool, true, false, IsTrue, List, Option, Some, None, IsSome, is_some, Result, Ok, Err, refl, sym, ap, ◌∙◌, subst, arith}
 use Rattle.std.specs.Option.{option_map_or}
 use Rattle.std.proofs.lemmas.Bool.{false≢true}
-use Rattle.flop_base.specs.Counts.{last_count}
 use Rattle.flop_base.specs.declared.key.Chrn.{Chrn}
 use Rattle.flop_base.specs.declared.answers.Rate.{Rate}
 use Rattle.flop_base.specs.declared.answers.Code.{Code}
@@ -12,25 +10,25 @@ use Rattle.raw_image.specs.Disk.{Disk}
 use Rattle.bay_model.specs.Bays.{Two, in_bay}
 use Rattle.bay_model.specs.Memory.{bytes_from}
 use Rattle.track_model.specs.Fields.{content_size}
-use Rattle.bay_model.specs.Counters.{DriveCounts, Counters, faults_of, FaultsRoseBy, FaultsRoseLess, IsFaultless, IsUndisturbed, GoesOn, IsDriven}
+use Rattle.bay_model.specs.Counters.{DriveCounts, Counters, GoesOn}
 use Rattle.bay_model.proofs.Counted.{goes_on_after, faults_go_on}
 use Rattle.retry_plan.specs.declared.Prepare.{Prepare}
 use Rattle.retry_plan.specs.declared.Prepare.TheVariants as prepare
 use Rattle.sector_map.specs.Met.{met_in}
 use Rattle.sector_map.specs.Changes.{Change, Written}
 use Rattle.sector_map.proofs.Changed.{change_keeps_tracks}
-use Rattle.sector_model.specs.Stations.{Bay, StationState, Becomes, Stays, bay_of, set_bay, met, IsSteady}
+use Rattle.sector_model.specs.Stations.{Bay, StationState, Becomes, Stays, bay_of, set_bay, met}
 use Rattle.single_commands.specs.Rigs.{Rig, IsSound, HeadsStay, track_under}
 use Rattle.single_commands.specs.Writing.{ChangesMedium}
 use Rattle.floppy_driver.specs.declared.driver.Notes.{Notes}
 use Rattle.floppy_driver.specs.declared.driver.Driver.{Driver}
 use Rattle.floppy_driver.specs.Shown.{notes_of, is_held, bay_shown, with_waiting, shown, with_notes, HasAsked}
-use Rattle.floppy_driver.specs.Attempts.{CanTry, IsSure}
-use Rattle.floppy_driver.proofs.Attempts.{prepared_ready, prepared_shown, prepared_steady, sure_way, held_spun}
+use Rattle.floppy_driver.specs.Attempts.{IsSure}
+use Rattle.floppy_driver.proofs.Attempts.{prepared_ready, prepared_shown, prepared_steady, sure_way}
 use Rattle.floppy_driver.specs.Attached.{IsAttached}
 use Rattle.floppy_driver.specs.Prepared.{IsPrepared}
 use Rattle.floppy_driver.specs.Writings.{CanWrite, IsMissCause, IsReadBack, WritesChecked, ChangesBay, TriesWrite}
-use Rattle.floppy_driver.proofs.Shows.{waiting_goes_on, waiting_driven, driven_after, driven_within, held_bay, bay_shown_at, held_bay_shown, held_lines_stay, moved_shown, known_shown, noted_at, attached_stays}
+use Rattle.floppy_driver.proofs.Shows.{waiting_goes_on, waiting_driven, waiting_undisturbed, driven_after, driven_within, held_bay, bay_shown_at, held_bay_shown, held_lines_stay, attached_stays}
 use Rattle.floppy_driver.proofs.Rising.{less_first, less_later, disturbed_later, stalls_later, commands_later, rose_later}
 
 -- ---- earlier counts
@@ -65,7 +63,7 @@ cause_earlier written track change bay code a b c one two cause =
 -- and whatever spare drives wait
 waiting_cause : (written : Written) (track : List ℕ) (change : Option Change) (bay : ℕ) (code : Code) (a b : Counters) (waiting : List DriveCounts) → IsMissCause written track change bay code a b → IsMissCause written track change bay code (with_waiting a waiting) (with_waiting b waiting)
 waiting_cause written track change bay code a b waiting cause =
-    let same : IsUndisturbed bay (with_waiting a waiting) (with_waiting b waiting) → IsUndisturbed bay a b = λ quiet. record { faults = quiet.faults; stalls = quiet.stalls; together = quiet.together } in
+    let same = waiting_undisturbed a b bay waiting in
     record {
       device = cause.device;
       no_mark = λ is quiet. cause.no_mark is (same quiet);
@@ -191,13 +189,6 @@ module _ (driver after : Driver) (old mid : Rig) (bay target : ℕ) (way : Prepa
       medium_new : (bay_of (shown after new spares waiting) bay).medium ≡ in_bay new.media bay
       medium_new = ap (λ (b : Bay). b.medium) (bay_shown_at after new spares waiting bay)
 
-      -- all counts from the start
-      first_counts : GoesOn (with_waiting old.counters waiting) (with_waiting mid.counters waiting)
-      first_counts = waiting_goes_on old.counters mid.counters waiting prepared.moves.counts
-
-      second_counts : GoesOn (with_waiting mid.counters waiting) (with_waiting new.counters waiting)
-      second_counts = waiting_goes_on mid.counters new.counters waiting wrote.counts
-
       does_bay : (change : Option Change) → MatchOption change (new.media ≡ mid.media) (λ one. ChangesMedium mid bay (notes_of driver bay).rate written one new) → MatchOption change ((bay_of (shown after new spares waiting) bay).medium ≡ (bay_of (shown driver old spares waiting) bay).medium) (λ one. ChangesBay written bay one (shown driver old spares waiting) (shown after new spares waiting))
       does_bay None same = medium_new ∙ ap (λ (t : Two (Option Disk)). in_bay t bay) same ∙ sym medium_old
       does_bay (Some one) changed = record {
@@ -208,8 +199,7 @@ module _ (driver after : Driver) (old mid : Rig) (bay target : ℕ) (way : Prepa
         same_rate = changed.same_rate ∙ sym rate_old;
         makes = changed.makes;
         whole = λ quiet.
-            let later = disturbed_later bay (with_waiting old.counters waiting) (with_waiting mid.counters waiting) (with_waiting new.counters waiting) first_counts second_counts 1 quiet in
-            changed.whole (record { faults = later.faults; stalls = later.stalls; together = later.together });
+            changed.whole (disturbed_later bay old.counters mid.counters new.counters prepared.moves.counts wrote.counts 1 (waiting_undisturbed old.counters new.counters bay waiting quiet));
       }
 
       here_bay : (change : Option Change) → MatchOption change (new.media ≡ mid.media) (λ one. ChangesMedium mid bay (notes_of driver bay).rate written one new) → MatchOption change (Unit {0}) (λ one. one.cylinder ≡ in_bay mid.cylinders bay)
@@ -238,9 +228,9 @@ module _ (driver after : Driver) (old mid : Rig) (bay target : ℕ) (way : Prepa
       refused_bay : (code : Code) → IsMissCause written (track_under new bay (notes_of driver bay).rate written.key.h) wrote.change bay code mid.counters new.counters → IsMissCause written (met (bay_of (shown after new spares waiting) bay) (in_bay mid.cylinders bay) written.key.h) wrote.change bay code (with_waiting old.counters waiting) (with_waiting new.counters waiting)
       refused_bay code cause =
           let track = track_under new bay (notes_of driver bay).rate written.key.h in
-          let later = waiting_cause written track wrote.change bay code mid.counters new.counters waiting cause in
-          let all = cause_earlier written track wrote.change bay code (with_waiting old.counters waiting) (with_waiting mid.counters waiting) (with_waiting new.counters waiting) first_counts second_counts later in
-          subst (λ row. IsMissCause written row wrote.change bay code (with_waiting old.counters waiting) (with_waiting new.counters waiting)) (sym met_now) all
+          let all = cause_earlier written track wrote.change bay code old.counters mid.counters new.counters prepared.moves.counts wrote.counts cause in
+          subst (λ row. IsMissCause written row wrote.change bay code (with_waiting old.counters waiting) (with_waiting new.counters waiting)) (sym met_now)
+          (waiting_cause written track wrote.change bay code old.counters new.counters waiting all)
 
       refused_answer : (result : Result (Unit {0}) Code) → IfErr result (λ code. IsMissCause written (track_under new bay (notes_of driver bay).rate written.key.h) wrote.change bay code mid.counters new.counters) → IfErr result (λ code. IsMissCause written (met (bay_of (shown after new spares waiting) bay) (in_bay mid.cylinders bay) written.key.h) wrote.change bay code (with_waiting old.counters waiting) (with_waiting new.counters waiting))
       refused_answer (Ok unit) cause = cause
@@ -264,7 +254,7 @@ module _ (driver after : Driver) (old mid : Rig) (bay target : ℕ) (way : Prepa
             read_back_earlier written (in_bay new.media bay) (bay_of (shown after new spares waiting) bay).medium (notes_of driver bay).rate (bay_of (shown driver old spares waiting) bay).rate
             (in_bay mid.cylinders bay) wrote.change bay old.counters mid.counters new.counters waiting prepared.moves.counts wrote.counts medium_new rate_old (wrote.done ok);
         refused = refused_answer answer wrote.refused;
-        counts = goes_on_after (with_waiting old.counters waiting) (with_waiting mid.counters waiting) (with_waiting new.counters waiting) first_counts second_counts;
+        counts = waiting_goes_on old.counters new.counters waiting (goes_on_after old.counters mid.counters new.counters prepared.moves.counts wrote.counts);
         driven = waiting_driven 2 old.counters new.counters waiting
             (driven_after 0 2 old.counters mid.counters new.counters prepared.moves.counts wrote.counts prepared.moves.driven wrote.driven);
       }

@@ -1,20 +1,18 @@
 -- Changes of the medium in a bay, one attempt after the other.
-use Rattle.std.proofs.Common.{MatchOption, ◌≡◌, ℕ, zero, suc, ◌+◌, ◌*◌, ◌<◌, ◌≤◌, ◌⊎◌, Bool, true, false, List, [], ◌∷◌, ◌++◌, length, All, Option, Some, None, refl, sym, ap, ◌∙◌, subst, arith, inl, inr}
+use Rattle.std.proofs.Common.{MatchOption, ◌≡◌, ℕ, zero, suc, ◌+◌, ◌≤◌, Bool, true, false, List, [], ◌∷◌, ◌++◌, length, All, Option, Some, None, refl, sym, ap, ◌∙◌, subst, arith}
 use Rattle.std.specs.Prelude.{◌==◌, if◌then◌else◌}
 use Rattle.std.proofs.lemmas.List.{length-append}
 use Rattle.raw_image.specs.Disk.{Disk, IsDisk}
-use Rattle.bay_model.specs.Bays.{Two, in_bay, with_bay}
-use Rattle.bay_model.specs.Counters.{faults_of, GoesOn}
-use Rattle.bay_model.proofs.Counted.{faults_go_on}
+use Rattle.bay_model.specs.Bays.{Two}
 use Rattle.sector_map.specs.Changes.{Change, Written, IsChange}
 use Rattle.sector_map.specs.KeptDisks.{AreAlike}
 use Rattle.sector_map.proofs.KeptTracks.{alike_itself, alike_both}
 use Rattle.sector_map.proofs.Changed.{change_keeps_tracks}
-use Rattle.sector_model.specs.Stations.{Bay, StationState, Becomes, bay_of, set_bay, IsSteady}
+use Rattle.sector_model.specs.Stations.{Bay, StationState, Becomes, bay_of, set_bay}
 use Rattle.sector_model.specs.Writes.{ChangesDisk, Reaches, IsLastWhole}
-use Rattle.floppy_driver.specs.Writings.{ChangesBay, with_change, WroteWhole, TriesWrite}
+use Rattle.floppy_driver.specs.Writings.{ChangesBay, with_change, WroteWhole}
 
-same_disks : (a b : Disk) → Some a ≡ Some b → a ≡ b
+pub same_disks : (a b : Disk) → Some a ≡ Some b → a ≡ b
 same_disks a b e = cc e
 
 -- ---- what several changes make

@@ -1,42 +1,33 @@
 -- How several attempts at a write begin and end.
-use Rattle.std.proofs.Common.{MatchOption, IsOk, IfErr, ◌≡◌, ◌≢◌, ℕ, zero, suc, ◌+◌, ◌*◌, ◌<◌, ◌≤◌, ◌⊎◌, Bool, true, false, List, [], ◌∷◌, ◌++◌, length, All, Option, Some, None, Result, Ok, Err, refl, sym, ap, ◌∙◌, subst, arith, inl, inr}
+use Rattle.std.proofs.Common.{MatchOption, IsOk, ◌≡◌, ℕ, ◌+◌, ◌*◌, ◌≤◌, ◌⊎◌, Bool, true, false, [], Option, Some, None, Result, Ok, Err, refl, sym, ap, ◌∙◌, subst, arith, inl, inr}
 use Rattle.std.specs.Prelude.{◌==◌, if◌then◌else◌}
 use Rattle.std.proofs.lemmas.Bool.{false≢true}
-use Rattle.flop_base.specs.declared.key.Chrn.{Chrn}
 use Rattle.flop_base.specs.declared.answers.Code.{Code}
 use Rattle.raw_image.specs.Disk.{Disk, IsDisk, HasTrack, track_of}
 use Rattle.track_model.specs.declared.Look.TheVariants as look
 use Rattle.track_model.specs.Fields.{IsAddressAt, content_at}
 use Rattle.track_model.specs.Looks.{LookAt}
 use Rattle.track_model.specs.Sectors.{IsLone, IsSector, IsUnder}
-use Rattle.track_model.specs.Windows.{window_place, IsTidy}
+use Rattle.track_model.specs.Windows.{window_place}
 use Rattle.track_model.proofs.Sectored.{lone_found}
 use Rattle.bay_model.specs.Bays.{Two}
-use Rattle.bay_model.specs.Counters.{Counters, faults_of, IsFaultless, FaultsRoseLess, IsUndisturbed, DisturbedLess, GoesOn, IsDriven}
-use Rattle.bay_model.proofs.Counted.{goes_on_after}
-use Rattle.sector_map.specs.MetTracks.{MeetsTrack}
+use Rattle.bay_model.specs.Counters.{faults_of, IsFaultless, FaultsRoseLess, DisturbedLess}
 use Rattle.sector_map.specs.Disks.{IsRegularDisk, IsOnMap}
-use Rattle.sector_map.specs.Changes.{Change, Written, window_of, IsChange}
-use Rattle.sector_map.specs.ChangedDisks.{FitsKey, HasWritten, IsWholeChange, IsSameOrChanged, change_at, entry_of}
-use Rattle.sector_map.proofs.MetTracks.{met_track, met_from_mark, one_met}
-use Rattle.sector_map.proofs.KeptTracks.{alike_tracks}
+use Rattle.sector_map.specs.Changes.{Change, Written, IsChange}
+use Rattle.sector_map.specs.ChangedDisks.{HasWritten, IsSameOrChanged, change_at, entry_of}
+use Rattle.sector_map.proofs.MetTracks.{met_track}
 use Rattle.sector_map.proofs.RegularTracks.{key_cylinder, one_address}
 use Rattle.sector_map.proofs.Joined.{change_of_none_regular}
-use Rattle.sector_map.proofs.Rewritten.{rewritten_keeps_tracks, rewritten_keeps_sectors, rewritten_keeps_address}
-use Rattle.sector_model.specs.Stations.{Bay, StationState, Becomes, Stays, bay_of, set_bay, met, IsSteady}
-use Rattle.sector_model.specs.Reads.{spoilable}
-use Rattle.sector_model.specs.Writes.{IsLastRead, IsWritten, IsWriteCause, ChangesAlone, KeepsRegular, WritesDrive}
+use Rattle.sector_map.proofs.Rewritten.{rewritten_keeps_sectors, rewritten_keeps_address}
+use Rattle.sector_model.specs.Stations.{Bay, StationState, Becomes, bay_of, set_bay, met}
+use Rattle.sector_model.specs.Writes.{IsLastRead, IsWritten, KeepsRegular, WritesDrive}
 use Rattle.floppy_driver.specs.Shown.{HasAsked}
-use Rattle.floppy_driver.specs.Attempts.{IsSure, sure_attempts}
-use Rattle.floppy_driver.specs.Writings.{IsReadBack, TriesWrite, WroteWhole, IsWriteStart, IsSpared, with_change, KeptSoFar, WroteSoFar, HasTriedWrite}
+use Rattle.floppy_driver.specs.Writings.{IsReadBack, TriesWrite, WroteWhole, IsWriteStart, IsSpared, with_change, KeptSoFar, HasTriedWrite}
 use Rattle.floppy_driver.proofs.Shows.{driven_within}
 use Rattle.floppy_driver.proofs.Attempts.{spoilt_none, all_sure, last_sure}
 use Rattle.floppy_driver.proofs.Rising.{less_later, commands_later}
-use Rattle.floppy_driver.proofs.WriteChanges.{reaches_itself}
-use Rattle.floppy_driver.proofs.WriteSteps.{rate_mid, wrote_more, wrote_changes, written_whole}
-
-same_disks : (a b : Disk) → Some a ≡ Some b → a ≡ b
-same_disks a b e = cc e
+use Rattle.floppy_driver.proofs.WriteChanges.{same_disks, reaches_itself}
+use Rattle.floppy_driver.proofs.WriteSteps.{meets_field, rate_mid, wrote_more, wrote_changes, written_whole}
 
 -- ---- no attempt yet
 
@@ -97,8 +88,7 @@ module _ (written : Written) (bay : ℕ) (start new : StationState) (answer : Re
     keeps_regular entry = record {
       none = kept.none;
       one = λ p here spared.
-          let found = met_from_mark (bay_of start bay).medium (bay_of start bay).rate written.key.c written.key.h (p, here.mark) in
-          let meets : MeetsTrack (bay_of start bay).medium (bay_of start bay).rate written.key.c written.key.h disk = subst (λ d. MeetsTrack (bay_of start bay).medium (bay_of start bay).rate written.key.c written.key.h d) (one_met (bay_of start bay).medium (bay_of start bay).rate written.key.c written.key.h disk found.0 is found.1) found.1 in
+          let meets = meets_field (bay_of start bay).medium (bay_of start bay).rate written.key.c written.key.h p written.key disk is here in
           let there = met_track (bay_of start bay).medium (bay_of start bay).rate written.key.c written.key.h disk meets in
           let address : IsAddressAt (track_of disk written.key.c written.key.h) p written.key = subst (λ t. IsAddressAt t p written.key) there here in
           let known = kept.one p here spared in
@@ -264,7 +254,6 @@ module _ (written : Written) (bay : ℕ) (start mid new : StationState) (count :
     where
       address_after : (disk : Disk) → (bay_of start bay).medium ≡ Some disk → IsRegularDisk disk → (p : ℕ) → IsAddressAt (met (bay_of start bay) written.key.c written.key.h) p written.key → (after : Disk) → IsSameOrChanged written p disk after → IsAddressAt (track_of after written.key.c written.key.h) p written.key
       address_after disk is regular p here after same =
-          let found = met_from_mark (bay_of start bay).medium (bay_of start bay).rate written.key.c written.key.h (p, here.mark) in
-          let meets : MeetsTrack (bay_of start bay).medium (bay_of start bay).rate written.key.c written.key.h disk = subst (λ d. MeetsTrack (bay_of start bay).medium (bay_of start bay).rate written.key.c written.key.h d) (one_met (bay_of start bay).medium (bay_of start bay).rate written.key.c written.key.h disk found.0 is found.1) found.1 in
+          let meets = meets_field (bay_of start bay).medium (bay_of start bay).rate written.key.c written.key.h p written.key disk is here in
           let there = met_track (bay_of start bay).medium (bay_of start bay).rate written.key.c written.key.h disk meets in
           rewritten_keeps_address written p disk after (subst (λ t. IsAddressAt t p written.key) there here) same

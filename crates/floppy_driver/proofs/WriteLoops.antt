@@ -1,5 +1,5 @@
 -- The attempts of a write, one after the other.
-use Rattle.std.proofs.Common.{◌≡◌, ℕ, ◌+◌, ◌-◌, ◌^◌, ◌<◌, ◌≤◌, ◌⊎◌, Bool, true, false, List, length, take, drop, get_or, slice_index, Option, Some, None, IfSome, Result, Ok, Err, refl, sym, ap, ◌∙◌, subst, arith, inl, inr}
+use Rattle.std.proofs.Common.{◌≡◌, ℕ, ◌+◌, ◌^◌, ◌<◌, ◌≤◌, Bool, true, false, List, drop, get_or, Option, Some, IfSome, Result, Ok, Err, refl, sym, ap, ◌∙◌, subst, arith, inl, inr}
 use Rattle.std.specs.Prelude.{◌==◌, if◌then◌else◌}
 use Rattle.std.proofs.lemmas.Bool.{cases_lt}
 use Rattle.std.proofs.lemmas.List.{length-take, length-drop, get_or-take, get_or-drop, get_or_past}
@@ -7,7 +7,7 @@ use Rattle.flop_base.specs.declared.key.Chrn.{Chrn}
 use Rattle.flop_base.specs.declared.answers.Code.{Code}
 use Rattle.raw_image.specs.Disk.{Disk, IsDisk}
 use Rattle.track_model.specs.Fields.{content_size}
-use Rattle.bay_model.specs.Bays.{Two, in_bay}
+use Rattle.bay_model.specs.Bays.{in_bay}
 use Rattle.bay_model.specs.Counters.{DriveCounts, faults_of, GoesOn}
 use Rattle.bay_model.specs.Memory.{user_bytes, bytes_from}
 use Rattle.bay_model.proofs.Counted.{goes_on_after, goes_on_itself}
@@ -19,7 +19,7 @@ use Rattle.sector_model.specs.Writes.{WritesDrive, written_from}
 use Rattle.single_commands.specs.Rigs.{Rig, AreBytes, IsSound}
 use Rattle.floppy_driver.specs.declared.driver.Driver.{Driver}
 use Rattle.floppy_driver.specs.Shown.{notes_of, shown, HasAsked}
-use Rattle.floppy_driver.specs.Attempts.{CanTry, IsSure}
+use Rattle.floppy_driver.specs.Attempts.{IsSure}
 use Rattle.floppy_driver.specs.Writings.{CanWrite, TriesWrite, IsWriteStart, HasTriedWrite, BetweenWrites}
 use Rattle.floppy_driver.proofs.Shows.{bay_shown_at, held_bay_shown, noted_at}
 use Rattle.floppy_driver.proofs.WriteSteps.{tried_more}
@@ -109,7 +109,7 @@ module _ (first : Driver) (from : Rig) (bay : ℕ) (key : Chrn) (address : ℕ) 
         let all = same_tries first from bay key address deleted can asked.within start spares waiting so in
         let attempt_ok : TriesWrite (IsSure start.tries (count + 1)) (written_from start key address deleted) bay (Ok tt) (shown driver rig spares waiting) (shown after new spares waiting) = subst (λ (r : Result (Unit {0}) Code). TriesWrite (IsSure start.tries (count + 1)) (written_from start key address deleted) bay r (shown driver rig spares waiting) (shown after new spares waiting)) ok attempt_since in
         ends_done (written_from start key address deleted) bay start (shown driver rig spares waiting) (shown after new spares waiting) count before (IsSure start.tries (count + 1))
-            (is_start first from bay key address deleted can asked.within start spares waiting so) (between.tried start spares waiting so) attempt_ok (omega arith)
+        (is_start first from bay key address deleted can asked.within start spares waiting so) (between.tried start spares waiting so) attempt_ok (omega arith)
 
     refused_since : (code : Code) → answer ≡ Err code → HasTriedWrite (written_from start key address deleted) bay start (count + 1) code (shown after new spares waiting)
     refused_since code is =

@@ -1,5 +1,5 @@
 -- One more attempt at a write, after others.
-use Rattle.std.proofs.Common.{MatchOption, ◌≡◌, ◌≢◌, ℕ, ◌+◌, ◌*◌, ◌<◌, ◌≤◌, ◌⊎◌, Bool, true, false, List, [], ◌∷◌, ◌++◌, length, All, Option, Some, None, Result, Ok, Err, refl, sym, ap, ◌∙◌, subst, arith, inl, inr}
+use Rattle.std.proofs.Common.{MatchOption, ◌≡◌, ◌≢◌, ℕ, ◌+◌, ◌*◌, ◌⊎◌, List, length, Option, Some, None, Result, Err, refl, sym, ap, ◌∙◌, subst, arith, inl, inr}
 use Rattle.std.proofs.lemmas.Bool.{cases_eq}
 use Rattle.flop_base.specs.declared.key.Chrn.{Chrn}
 use Rattle.flop_base.specs.declared.answers.Rate.{Rate}
@@ -7,31 +7,34 @@ use Rattle.flop_base.specs.declared.answers.Code.{Code}
 use Rattle.raw_image.specs.Disk.{Disk, IsDisk, HasTrack, track_of}
 use Rattle.track_model.specs.Fields.{IsAddressAt}
 use Rattle.track_model.specs.Regular.{IsRegular}
-use Rattle.track_model.specs.Windows.{window_word, window_words, cut_of, IsCut, IsTidy}
-use Rattle.bay_model.specs.Counters.{Counters, faults_of, IsFaultless, IsUndisturbed, DisturbedLess, GoesOn, IsDriven}
+use Rattle.track_model.specs.Windows.{IsCut, IsTidy}
+use Rattle.bay_model.specs.Counters.{IsUndisturbed, GoesOn, IsDriven}
 use Rattle.bay_model.proofs.Counted.{goes_on_after, faults_go_on}
 use Rattle.sector_map.specs.Met.{met_in}
 use Rattle.sector_map.specs.MetTracks.{MeetsTrack}
 use Rattle.sector_map.specs.Disks.{IsRegularDisk}
 use Rattle.sector_map.specs.Changes.{Change, Written, window_of, IsChange}
 use Rattle.sector_map.specs.KeptDisks.{AreAlike}
-use Rattle.sector_map.specs.ChangedDisks.{FitsKey, HasWritten, IsWholeChange, IsSameOrChanged, change_at}
+use Rattle.sector_map.specs.ChangedDisks.{HasWritten, IsWholeChange, IsSameOrChanged, change_at}
 use Rattle.sector_map.proofs.MetTracks.{met_track, length-met_track, met_from_mark, one_met}
-use Rattle.sector_map.proofs.KeptTracks.{alike_tracks, still_meets}
+use Rattle.sector_map.proofs.KeptTracks.{still_meets}
 use Rattle.sector_map.proofs.RegularTracks.{window_inside, window_in_disk, key_cylinder}
 use Rattle.sector_map.proofs.Changed.{change_keeps_tracks, change_is_written}
 use Rattle.sector_map.proofs.Rewritten.{rewritten_keeps_tracks, rewritten_keeps_sectors, rewritten_more, rewritten_cylinder, rewritten_whole}
-use Rattle.sector_model.specs.Stations.{Bay, StationState, Becomes, bay_of, set_bay, met, IsSteady}
-use Rattle.floppy_driver.specs.Attempts.{IsSure, sure_attempts}
-use Rattle.floppy_driver.specs.Writings.{IsMissCause, ChangesBay, TriesWrite, WroteWhole, IsWriteStart, IsSpared, IsSameOrCut, with_change, KeptSoFar, KeptTrack, WroteSoFar, IsLastCause, HasTriedWrite}
-use Rattle.floppy_driver.proofs.Shows.{driven_after}
+use Rattle.sector_model.specs.Stations.{Bay, StationState, bay_of, met, IsSteady}
+use Rattle.floppy_driver.specs.Attempts.{IsSure}
+use Rattle.floppy_driver.specs.Writings.{IsMissCause, ChangesBay, TriesWrite, WroteWhole, IsWriteStart, IsSpared, IsSameOrCut, with_change, KeptSoFar, WroteSoFar, IsLastCause, HasTriedWrite}
+use Rattle.floppy_driver.proofs.Shows.{driven_after, undisturbed_faultless}
 use Rattle.floppy_driver.proofs.Attempts.{spoilt_more}
-use Rattle.floppy_driver.proofs.Rising.{disturbed_first, disturbed_later, quiet_faultless, stalls_later, rose_later}
-use Rattle.floppy_driver.proofs.WriteChanges.{reaches_more, reached_alike, few_more, steady_more, last_whole, becomes_later, bay_after}
+use Rattle.floppy_driver.proofs.Rising.{disturbed_first, disturbed_later, stalls_later, rose_later}
+use Rattle.floppy_driver.proofs.WriteChanges.{same_disks, reaches_more, reached_alike, few_more, steady_more, last_whole, becomes_later, bay_after}
 use Rattle.floppy_driver.proofs.WriteTracks.{cut_keeps, cut_more, never_refused}
 
-same_disks : (a b : Disk) → Some a ≡ Some b → a ≡ b
-same_disks a b e = cc e
+-- where an address field is met, it is on a track of the disk that is in
+pub meets_field : (medium : Option Disk) (rate : Rate) (c h p : ℕ) (key : Chrn) (disk : Disk) → medium ≡ Some disk → IsAddressAt (met_in medium rate c h) p key → MeetsTrack medium rate c h disk
+meets_field medium rate c h p key disk is here =
+    let found = met_from_mark medium rate c h (p, here.mark) in
+    subst (λ d. MeetsTrack medium rate c h d) (one_met medium rate c h disk found.0 is found.1) found.1
 
 spared_first : (written : Written) (place : ℕ) (track : List ℕ) (bay : ℕ) (start mid new : StationState) → GoesOn start.counters mid.counters → GoesOn mid.counters new.counters → IsSpared written place track bay start new → IsSpared written place track bay start mid
 spared_first written place track bay start mid new one two (inl tidy) = inl tidy
@@ -177,10 +180,7 @@ module _ (written : Written) (bay : ℕ) (start mid new : StationState) (count :
 
     module _ (p : ℕ) (here : IsAddressAt (met (bay_of start bay) written.key.c written.key.h) p written.key) (spared : IsSpared written p (met (bay_of start bay) written.key.c written.key.h) bay start new) where
       meets_disk : MeetsTrack (bay_of start bay).medium (bay_of start bay).rate written.key.c written.key.h disk
-      meets_disk =
-          let found = met_from_mark (bay_of start bay).medium (bay_of start bay).rate written.key.c written.key.h (p, here.mark) in
-          subst (λ d. MeetsTrack (bay_of start bay).medium (bay_of start bay).rate written.key.c written.key.h d)
-          (one_met (bay_of start bay).medium (bay_of start bay).rate written.key.c written.key.h disk found.0 is found.1) found.1
+      meets_disk = meets_field (bay_of start bay).medium (bay_of start bay).rate written.key.c written.key.h p written.key disk is here
 
       met_disk : met (bay_of start bay) written.key.c written.key.h ≡ track_of disk written.key.c written.key.h
       met_disk = met_track (bay_of start bay).medium (bay_of start bay).rate written.key.c written.key.h disk meets_disk
@@ -300,7 +300,7 @@ module _ (written : Written) (bay : ℕ) (start mid new : StationState) (count :
     quiet_later = disturbed_later bay start.counters mid.counters new.counters so_far.counts attempt.counts 1
 
     on_key : sure → IsUndisturbed bay mid.counters new.counters → attempt.cylinder ≡ written.key.c
-    on_key is_sure quiet = attempt.surely is_sure (quiet_faultless bay mid.counters new.counters attempt.counts quiet)
+    on_key is_sure quiet = attempt.surely is_sure (undisturbed_faultless bay mid.counters new.counters attempt.counts quiet)
 
     refused_on : attempt.cylinder ≡ written.key.c → IsMissCause written (met (bay_of new bay) written.key.c written.key.h) attempt.change bay code mid.counters new.counters
     refused_on on = subst (λ (c : ℕ). IsMissCause written (met (bay_of new bay) c written.key.h) attempt.change bay code mid.counters new.counters) on refused

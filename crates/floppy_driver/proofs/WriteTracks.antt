@@ -1,15 +1,13 @@
 -- A regular track after several writes of one thing, and why none of them can be refused undisturbed.
-use Rattle.std.proofs.Common.{MatchOption, ◌≡◌, ◌≢◌, ℕ, ◌+◌, ◌<◌, ◌≤◌, ◌⊎◌, Bool, true, false, List, length, max, Option, Some, None, refl, sym, ap, ◌∙◌, subst, arith, inl, inr}
-use Rattle.flop_base.specs.declared.key.Chrn.{Chrn}
+use Rattle.std.proofs.Common.{◌≡◌, ℕ, ◌+◌, ◌≤◌, ◌⊎◌, List, length, max, Option, refl, sym, ap, ◌∙◌, subst, arith, inl, inr}
 use Rattle.flop_base.specs.declared.answers.Code.{Code}
-use Rattle.flop_base.specs.declared.answers.Code.TheVariants.{BadRequest, NoMark, Protected, NotFound, Changed, Overrun, Page, BadCrc, Seek, NotReady}
+use Rattle.flop_base.specs.declared.answers.Code.TheVariants.{NoMark, NotFound, Overrun, BadCrc, Seek}
 use Rattle.track_model.specs.declared.Look.{Look}
 use Rattle.track_model.specs.declared.Look.TheVariants as look
 use Rattle.track_model.specs.Fields.{IsAddressAt, content_at}
-use Rattle.track_model.specs.Looks.{LookAt}
 use Rattle.track_model.specs.Kept.{KeepsOthers}
 use Rattle.track_model.specs.Regular.{IsRegular}
-use Rattle.track_model.specs.Windows.{window_word, window_words, window_place, cut_of, IsCut, IsFieldFor, IsTidy}
+use Rattle.track_model.specs.Windows.{window_place, cut_of, IsCut, IsFieldFor, IsTidy}
 use Rattle.track_model.proofs.Kept as cuts
 use Rattle.bay_model.specs.Counters.{Counters, IsUndisturbed, GoesOn}
 use Rattle.sector_map.specs.Met.{HasLook}
@@ -93,10 +91,10 @@ never_refused written track c h p change bay code a b regular here goes quiet wr
     (λ e. (cause.not_found e quiet).1 writable.clear)
     (λ e. quiet_stalls bay a b goes quiet (cause.overrun e))
     (λ e.
-        let why = cause.bad_data e quiet in
-        let has = wrote why.0 in
-        elim why.1 [
-          | inl seen ↦ no_other_look written has.0 track has.1 look.BadCrc seen (λ e. cc e)
-          | inr other ↦ no_other_content written has.0 track has.1 other
-        ])
+    let why = cause.bad_data e quiet in
+    let has = wrote why.0 in
+    elim why.1 [
+      | inl seen ↦ no_other_look written has.0 track has.1 look.BadCrc seen (λ e. cc e)
+      | inr other ↦ no_other_content written has.0 track has.1 other
+    ])
     (λ e. quiet_lost bay a b goes quiet (cause.lost e))

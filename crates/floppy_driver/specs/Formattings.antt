@@ -1,6 +1,5 @@
 -- A format of a track, attempt by attempt.
-use Rattle.std.specs.Prelude.{◌≡◌, ◌↔◌, ℕ, ◌+◌, ◌*◌, ◌<◌, ◌≤◌, false, List, length, slice_index, All, Option, Result, IsOk, IsErr, IfErr}
-use Rattle.std.specs.Option.{option_map_or}
+use Rattle.std.specs.Prelude.{◌≡◌, ◌↔◌, ℕ, ◌+◌, ◌*◌, ◌<◌, ◌≤◌, List, length, slice_index, All, Option, Result, IsOk, IsErr, IfErr}
 use Rattle.flop_base.specs.Counts.{RoseBy}
 use Rattle.flop_base.specs.Standard.{sectors_at}
 use Rattle.flop_base.specs.declared.key.Chrn.{Chrn}
@@ -8,7 +7,6 @@ use Rattle.flop_base.specs.declared.answers.Code.{Code}
 use Rattle.flop_base.specs.declared.answers.Code.TheVariants.{NoMark, Overrun, Seek}
 use Rattle.raw_image.specs.Disk.{Disk}
 use Rattle.track_format.specs.Reads.{AllFilled}
-use Rattle.bay_model.specs.Bays.{in_bay}
 use Rattle.bay_model.specs.Counters.{Counters, IsFaultless, IsUndisturbed, DisturbedLess, FaultsRoseBy, GoesOn, IsDriven}
 use Rattle.sector_map.specs.Met.{HasClearAddress}
 use Rattle.sector_map.specs.Standard.{key_of}
@@ -18,8 +16,6 @@ use Rattle.sector_model.specs.Orders.{IsDeviceRefusal}
 use Rattle.sector_model.specs.Formats.{Lays, IsFormatted, IsUnformatted}
 use Rattle.single_commands.specs.Rigs.{Rig, HeadsStay}
 use Rattle.single_commands.specs.Reading.{IsReadCode}
-use Rattle.floppy_driver.specs.Attempts.{CanTry}
-use Rattle.floppy_driver.specs.declared.driver.Driver.{Driver}
 use Rattle.floppy_driver.specs.declared.formatting.Asked.{Asked}
 
 -- the format that is asked for
@@ -32,11 +28,6 @@ pub record IsValidFormat (format : Format) : Type 0 where
   pub head : format.h ≤ 1
   pub gap : 16 ≤ format.gap3
   pub byte : format.fill < 256
-
--- a bay in which an attempt can be made, with a medium that isn't protected
-pub record CanWrite (driver : Driver) (rig : Rig) (bay : ℕ) : Type 0 where
-  pub ready : CanTry driver rig bay
-  pub unprotected : option_map_or (λ disk. disk.protected) (in_bay rig.media bay) false ≡ false
 
 -- ---- reading back
 

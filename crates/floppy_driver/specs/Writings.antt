@@ -1,6 +1,6 @@
 -- An attempt at a write, and what several attempts made.
 use Rattle.std.specs.Option.{option_map_or}
-use Rattle.std.specs.Prelude.{false, None, [], ◌∷◌, ◌++◌, ◌≡◌, ℕ, ◌+◌, ◌-◌, ◌*◌, ◌==◌, ◌<◌, ◌≤◌, Bool, List, length, slice_index, All, Option, Some, Result, IsOk, IfErr, MatchOption, ◌⊎◌, if◌then◌else◌}
+use Rattle.std.specs.Prelude.{false, None, [], ◌∷◌, ◌++◌, ◌≡◌, ℕ, ◌+◌, ◌-◌, ◌*◌, ◌<◌, ◌≤◌, Bool, List, length, slice_index, All, Option, Some, Result, IsOk, IfErr, MatchOption, ◌⊎◌}
 use Rattle.flop_base.specs.Counts.{RoseBy}
 use Rattle.flop_base.specs.declared.key.Chrn.{Chrn}
 use Rattle.flop_base.specs.declared.answers.Rate.{Rate}
@@ -18,9 +18,8 @@ use Rattle.bay_model.specs.Counters.{DriveCounts, Counters, IsFaultless, FaultsR
 use Rattle.sector_map.specs.Met.{HasNoClearMark, HasClearAddress, HasLook}
 use Rattle.sector_map.specs.Disks.{IsRegularDisk}
 use Rattle.sector_map.specs.Changes.{Change, Written, window_of, IsChange}
-use Rattle.sector_map.specs.KeptDisks.{AreAlike}
 use Rattle.sector_map.specs.ChangedDisks.{FitsKey, IsWholeChange, IsSameOrChanged}
-use Rattle.sector_model.specs.Stations.{StationState, Becomes, Stays, bay_of, set_bay, met, IsSteady}
+use Rattle.sector_model.specs.Stations.{StationState, Becomes, bay_of, set_bay, met, IsSteady}
 use Rattle.sector_model.specs.Orders.{IsDeviceRefusal}
 use Rattle.single_commands.specs.Rigs.{Rig, HeadsStay, track_under}
 use Rattle.single_commands.specs.Writing.{ChangesMedium}

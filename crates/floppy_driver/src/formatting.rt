@@ -7,7 +7,9 @@ ghost use Rattle.track_model.specs.Fields.{IsSizeCode};
 ghost use Rattle.bay_model.specs.Bays.{in_bay};
 ghost use Rattle.bay_model.specs.Counters.{DriveCounts, GoesOn};
 ghost use Rattle.single_commands.specs.Rigs.{IsSound, track_under};
-ghost use Rattle.floppy_driver.specs.Formattings.{format_of, IsValidFormat, CanWrite, IsFilled, HoldsRecord, HoldsRecords, ReadsRecords, FormatsIn, HasOnlyMedium};
+ghost use Rattle.floppy_driver.specs.Writings.{CanWrite};
+ghost use Rattle.floppy_driver.specs.Formattings.{format_of, IsValidFormat, FormatsIn, HasOnlyMedium};
+ghost use Rattle.floppy_driver.specs.Formattings.{IsFilled, HoldsRecord, HoldsRecords, ReadsRecords};
 
 use crate::driver::Driver;
 use flop_base::standard::SIZE_CODE;

@@ -2,7 +2,8 @@ use Rattle.std.proofs.Common.{◌≡◌, ℕ, List, Err}
 use Rattle.bay_model.specs.Bays.{in_bay}
 use Rattle.bay_model.specs.Counters.{DriveCounts, GoesOn}
 use Rattle.floppy_driver.specs.Shown.{shown}
-use Rattle.floppy_driver.specs.Formattings.{format_of, CanWrite, FormatsIn, HasOnlyMedium}
+use Rattle.floppy_driver.specs.Writings.{CanWrite}
+use Rattle.floppy_driver.specs.Formattings.{format_of, FormatsIn, HasOnlyMedium}
 use Rattle.floppy_driver.proofs.driver.Driver.format_in_attempts.Given as goal
 
 abbrev pub invariant-loop : goal.invariant-loop

@@ -1,5 +1,4 @@
-use Rattle.std.proofs.Common.{◌≡◌, ◌+◌, ◌-◌, ◌≤◌, ℕ, sym, subst, arith}
-use Rattle.floppy_driver.specs.Writings.{BetweenWrites}
+use Rattle.std.proofs.Common.{◌+◌, ◌-◌, arith}
 use Rattle.floppy_driver.proofs.WriteLoops.{between_none, between_done, between_more, between_all}
 use Rattle.floppy_driver.proofs.driver.Driver.write_in_attempts.Goals as goal
 
@@ -10,12 +9,14 @@ loop-attempt-init g c =
 pub returns-in-Ok-clause-step : goal.returns-in-Ok-clause-step
 returns-in-Ok-clause-step g c =
     between_done c.args.self.now (g.C.Commands.rig c.args.machine.now) c.args.bay c.args.key c.args.address c.args.deleted (c.loop-attempt.attempt - 1) c.loop-attempt.attempt c.loop-attempt.last c.loop-attempt.self (g.C.Commands.rig c.loop-attempt.machine)
-        c.requires.ready c.requires.asked c.loop-attempt.invariant.1 (omega arith) c.write_once.result c.write_once.new.self (g.C.Commands.rig c.write_once.new.machine) c.write_once.ensures.attempt c.in-Ok.is (omega arith)
+    c.requires.ready c.requires.asked c.loop-attempt.invariant.1 (omega arith) c.write_once.result c.write_once.new.self (g.C.Commands.rig c.write_once.new.machine) c.write_once.ensures.attempt c.in-Ok.is (omega arith)
 
 pub loop-attempt-preserved : goal.loop-attempt-preserved
-loop-attempt-preserved g c =
-    (c.write_once.ensures.idle, between_more c.args.self.now (g.C.Commands.rig c.args.machine.now) c.args.bay c.args.key c.args.address c.args.deleted (c.loop-attempt.attempt - 1) c.loop-attempt.attempt c.loop-attempt.last c.loop-attempt.self (g.C.Commands.rig c.loop-attempt.machine)
-        c.requires.ready c.requires.asked c.loop-attempt.invariant.1 (omega arith) c.write_once.result c.write_once.new.self (g.C.Commands.rig c.write_once.new.machine) c.write_once.ensures.attempt (c.loop-attempt.attempt + 1 - 1) _ (omega arith) c.in-Err.is c.write_once.ensures.tries c.write_once.ensures.memory c.write_once.ensures.counts c.write_once.ensures.ready)
+loop-attempt-preserved g c = (
+  c.write_once.ensures.idle,
+  between_more c.args.self.now (g.C.Commands.rig c.args.machine.now) c.args.bay c.args.key c.args.address c.args.deleted (c.loop-attempt.attempt - 1) c.loop-attempt.attempt c.loop-attempt.last c.loop-attempt.self (g.C.Commands.rig c.loop-attempt.machine)
+      c.requires.ready c.requires.asked c.loop-attempt.invariant.1 (omega arith) c.write_once.result c.write_once.new.self (g.C.Commands.rig c.write_once.new.machine) c.write_once.ensures.attempt (c.loop-attempt.attempt + 1 - 1) _ (omega arith) c.in-Err.is c.write_once.ensures.tries c.write_once.ensures.memory c.write_once.ensures.counts c.write_once.ensures.ready,
+)
 
 pub returns-clause-step : goal.returns-clause-step
 returns-clause-step g c =

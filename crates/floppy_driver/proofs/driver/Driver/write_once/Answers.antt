@@ -1,5 +1,5 @@
 use Rattle.bay_model.proofs.Counted.{goes_on_after}
-use Rattle.floppy_driver.proofs.WriteAttempts.{tries_lost, tries_once, can_write_prepared, can_write_once}
+use Rattle.floppy_driver.proofs.WriteAttempts.{tries_once, can_write_once}
 use Rattle.floppy_driver.proofs.driver.Driver.write_once.Goals as goal
 
 pub returns-clause-attempt : goal.returns-clause-attempt
