@@ -1,12 +1,18 @@
 mod Acked
 mod Asking
-pub mod Attempts
-pub mod Prepared
+mod Attempts
+mod FormatOnce
+mod FormatReady
+mod FormatStep
+mod FormatTries
+mod LaidTracks
+mod Prepared
 mod RateFound
-pub mod ReadOnce
+mod ReadBacks
+mod ReadOnce
 mod ReadStep
-pub mod ReadTries
-pub mod Shows
+mod ReadTries
+mod Shows
 mod Worked
 pub mod Rising
 mod CheckedWrites

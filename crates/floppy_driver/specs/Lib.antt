@@ -3,5 +3,6 @@ pub mod Attached
 pub mod Prepared
 pub mod Attempts
 pub mod Readings
-pub mod Acknowledged
 pub mod Writings
+pub mod Acknowledged
+pub mod Formattings

@@ -1,6 +1,15 @@
 // Formatting a track.
-ghost use Rattle.std.specs.Prelude.{◌≡◌, ◌≤◌, List, ℕ};
+ghost use Rattle.std.specs.Prelude.{◌≡◌, ◌≤◌, ◌↔◌, ◌&&◌, IsTrue, true, nat_le, List, ℕ, if◌then◌else◌};
+ghost use Rattle.flop_base.specs.declared.answers.Rate.TheVariants.{R500};
+ghost use Rattle.sector_model.specs.Orders.{is_bay, is_place};
+ghost use Rattle.flop_base.specs.Standard.{sectors_at};
+ghost use Rattle.track_model.specs.Fields.{IsSizeCode};
+ghost use Rattle.bay_model.specs.Bays.{in_bay};
 ghost use Rattle.bay_model.specs.Counters.{DriveCounts, GoesOn};
+ghost use Rattle.single_commands.specs.Rigs.{IsSound, track_under};
+ghost use Rattle.floppy_driver.specs.Writings.{CanWrite};
+ghost use Rattle.floppy_driver.specs.Formattings.{format_of, IsValidFormat, FormatsIn, HasOnlyMedium};
+ghost use Rattle.floppy_driver.specs.Formattings.{IsFilled, HoldsRecord, HoldsRecords, ReadsRecords};
 
 use crate::driver::Driver;
 use flop_base::standard::SIZE_CODE;
@@ -12,8 +21,18 @@ use single_commands::Commands;
 /// The least gap 3.
 const LEAST_GAP: u8 = 16;
 
+/// What is asked of a format, at the rate of the bay.
+#[derive(Clone, Copy)]
+struct Asked {
+    c: u8,
+    h: u8,
+    rate: Rate,
+    gap3: u8,
+    fill: u8,
+}
+
 impl Driver {
-    ghost use Rattle.floppy_driver.specs.Shown.{shown};
+    ghost use Rattle.floppy_driver.specs.Shown.{shown, notes_of};
     ghost use Rattle.floppy_driver.specs.Attached.{IsAttached};
     ghost use Rattle.sector_model.specs.Formats.{FormatsTo};
 
@@ -36,15 +55,11 @@ impl Driver {
         ensures idle { C.is_idle machine.new }
         ensures attached { IsAttached self.new (C.rig machine.new) }
     {
-        if bay > 1 || !is_place(c, h) || gap3 < LEAST_GAP {
+        if !is_asked(bay, c, h, gap3) {
             return Err(Code::BadRequest);
         }
         let held = self.is_held(machine, bay);
-        let rate = if held {
-            self.notes(bay).rate
-        } else {
-            Rate::R500
-        };
+        let rate = self.shown_rate(bay, held);
         if gap3 > most_format_gap(rate) {
             return Err(Code::BadRequest);
         }
@@ -54,7 +69,25 @@ impl Driver {
         if machine.is_protected(bay) {
             return Err(Code::Protected);
         }
-        self.format_in_attempts(machine, bay, c, h, gap3, fill)
+        let asked = Asked {
+            c,
+            h,
+            rate,
+            gap3,
+            fill,
+        };
+        self.format_in_attempts(machine, bay, asked)
+    }
+
+    /// The rate of a bay: the noted one where it is held.
+    fn shown_rate(&self, bay: u8, held: bool) -> Rate
+        ensures { result ≡ (if held then (notes_of self.now bay).rate else R500) }
+    {
+        if held {
+            self.notes(bay).rate
+        } else {
+            Rate::R500
+        }
     }
 
     /// Formats in as many attempts as it takes, and no more than are set.
@@ -62,14 +95,24 @@ impl Driver {
         &mut self,
         machine: &mut C,
         bay: u8,
-        c: u8,
-        h: u8,
-        gap3: u8,
-        fill: u8,
-    ) -> Result<(), Code> {
+        asked: Asked,
+    ) -> Result<(), Code>
+        requires idle { C.is_idle machine.old }
+        requires asked { IsValidFormat (format_of asked) }
+        requires can { CanWrite self.old (C.rig machine.old) bay }
+        ensures formats { FormatsIn self.old.tries (format_of asked) bay result
+            (in_bay (C.rig machine.old).media bay) (in_bay (C.rig machine.new).media bay)
+            (C.rig machine.old).counters (C.rig machine.new).counters }
+        ensures medium { (spares : ℕ) (waiting : List DriveCounts) → HasOnlyMedium
+            (shown self.old (C.rig machine.old) spares waiting) bay (in_bay (C.rig machine.new).media bay)
+            (shown self.new (C.rig machine.new) spares waiting) }
+        ensures counts { GoesOn (C.rig machine.old).counters (C.rig machine.new).counters }
+        ensures idle { C.is_idle machine.new }
+        ensures attached { IsAttached self.new (C.rig machine.new) }
+    {
         let mut last = Code::Seek;
         for _ in 0..self.tries {
-            match self.format_once(machine, bay, c, h, gap3, fill) {
+            match self.format_once(machine, bay, asked) {
                 Ok(()) => return Ok(()),
                 Err(code) => last = code,
             }
@@ -82,46 +125,99 @@ impl Driver {
         &mut self,
         machine: &mut C,
         bay: u8,
-        c: u8,
-        h: u8,
-        gap3: u8,
-        fill: u8,
-    ) -> Result<(), Code> {
-        let rate = self.notes(bay).rate;
-        if !self.prepare(machine, bay, c, Prepare::RecalibrateAndSeek) {
+        asked: Asked,
+    ) -> Result<(), Code>
+        requires idle { C.is_idle machine.old }
+        requires asked { IsValidFormat (format_of asked) }
+        requires can { CanWrite self.old (C.rig machine.old) bay }
+        ensures formats { FormatsIn 1 (format_of asked) bay result
+            (in_bay (C.rig machine.old).media bay) (in_bay (C.rig machine.new).media bay)
+            (C.rig machine.old).counters (C.rig machine.new).counters }
+        ensures medium { (spares : ℕ) (waiting : List DriveCounts) → HasOnlyMedium
+            (shown self.old (C.rig machine.old) spares waiting) bay (in_bay (C.rig machine.new).media bay)
+            (shown self.new (C.rig machine.new) spares waiting) }
+        ensures counts { GoesOn (C.rig machine.old).counters (C.rig machine.new).counters }
+        ensures can { CanWrite self.new (C.rig machine.new) bay }
+        ensures tries { self.new.tries ≡ self.old.tries }
+        ensures idle { C.is_idle machine.new }
+    {
+        if !self.prepare(machine, bay, asked.c, Prepare::RecalibrateAndSeek) {
             return Err(Code::Seek);
         }
-        machine.format(bay, c, h, rate, gap3, fill)?;
-        read_back_all(machine, bay, c, h, rate, fill)
+        machine.format(bay, asked.c, asked.h, asked.rate, asked.gap3, asked.fill)?;
+        read_back_all(machine, bay, asked)
     }
 }
 
+/// Whether a format of such a track of a drive can be asked for, with a gap 3 that isn't too short.
+fn is_asked(bay: u8, c: u8, h: u8, gap3: u8) -> bool
+    ensures value { result ≡ (is_bay bay && is_place c h && nat_le 16 gap3) }
+    ensures bay { IsTrue result → bay ≤ 1 }
+    ensures cylinder { IsTrue result → c ≤ 79 }
+    ensures head { IsTrue result → h ≤ 1 }
+    ensures gap { IsTrue result → 16 ≤ gap3 }
+{
+    if bay > 1 || !is_place(c, h) {
+        return false;
+    }
+    gap3 >= LEAST_GAP
+}
+
 /// Reads each record of a formatted track back; the first that fails, or has another byte than the fill, is the answer.
-fn read_back_all<C: Commands>(
-    machine: &mut C,
-    bay: u8,
-    c: u8,
-    h: u8,
-    rate: Rate,
-    fill: u8,
-) -> Result<(), Code> {
-    for r in 1..rate.sectors() + 1 {
+fn read_back_all<C: Commands>(machine: &mut C, bay: u8, asked: Asked) -> Result<(), Code>
+    requires idle { C.is_idle machine.old }
+    requires bay { bay ≤ 1 }
+    requires asked { IsValidFormat (format_of asked) }
+    requires spun { in_bay (C.rig machine.old).spun bay ≡ true }
+    requires sound { IsSound (C.rig machine.old) }
+    ensures reads { ReadsRecords (C.rig machine.old) bay (sectors_at asked.rate)
+        (HoldsRecords (track_under (C.rig machine.old) bay asked.rate asked.h) asked.c asked.h (sectors_at asked.rate) asked.fill)
+        result (C.rig machine.new) }
+    ensures sound { IsSound (C.rig machine.new) }
+    ensures idle { C.is_idle machine.new }
+{
+    for r in 1..asked.rate.sectors() + 1 {
         let key = Chrn {
-            c,
-            h,
+            c: asked.c,
+            h: asked.h,
             r,
             n: SIZE_CODE,
         };
-        machine.read_back(bay, key, rate)?;
-        if !is_page_filled(machine, fill, sector_size(SIZE_CODE) as u16) {
-            return Err(Code::BadCrc);
-        }
+        read_back_filled(machine, bay, key, asked.rate, asked.fill)?;
     }
     Ok(())
 }
 
+/// Reads a record back; one that has another byte than the fill is damaged.
+fn read_back_filled<C: Commands>(
+    machine: &mut C,
+    bay: u8,
+    key: Chrn,
+    rate: Rate,
+    fill: u8,
+) -> Result<(), Code>
+    requires idle { C.is_idle machine.old }
+    requires bay { bay ≤ 1 }
+    requires head { key.h ≤ 1 }
+    requires coded { IsSizeCode key.n }
+    requires spun { in_bay (C.rig machine.old).spun bay ≡ true }
+    ensures reads { ReadsRecords (C.rig machine.old) bay 1
+        (HoldsRecord (track_under (C.rig machine.old) bay rate key.h) key fill) result (C.rig machine.new) }
+    ensures sound { IsSound (C.rig machine.new) }
+    ensures idle { C.is_idle machine.new }
+{
+    machine.read_back(bay, key, rate)?;
+    if is_page_filled(machine, fill, sector_size(key.n) as u16) {
+        Ok(())
+    } else {
+        Err(Code::BadCrc)
+    }
+}
+
 /// Whether so many bytes of the driver's page are the fill byte.
-fn is_page_filled<C: Commands>(machine: &C, fill: u8, count: u16) -> bool {
+fn is_page_filled<C: Commands>(machine: &C, fill: u8, count: u16) -> bool
+    ensures { IsTrue result ↔ IsFilled (C.rig machine.now).page count fill }
+{
     for i in 0..count {
         if machine.page(i) != fill {
             return false;

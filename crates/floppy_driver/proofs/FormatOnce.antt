@@ -1,0 +1,319 @@
+-- One attempt of a format.
+use Rattle.std.proofs.Common.{◌≡◌, ℕ, ◌+◌, ◌*◌, ◌⊎◌, Bool, true, false, [], Option, Some, None, IfSome, MatchOption, Result, Ok, Err, IsOk, IsErr, IfErr, refl, sym, ap, ◌∙◌, subst, arith, inl, inr}
+use Rattle.std.specs.Prelude.{◌==◌, if◌then◌else◌}
+use Rattle.std.proofs.lemmas.Bool.{false≢true}
+use Rattle.flop_base.specs.Standard.{sectors_at}
+use Rattle.flop_base.specs.declared.answers.Code.{Code}
+use Rattle.flop_base.specs.declared.answers.Code.TheVariants.{BadRequest, NoMark, Protected, NotFound, NotReady, Changed, Overrun, Page, BadCrc, Seek}
+use Rattle.raw_image.specs.Disk.{Disk, IsDisk, HasTrack}
+use Rattle.retry_plan.specs.declared.Prepare.TheVariants as prepare
+use Rattle.bay_model.specs.Bays.{Two, in_bay}
+use Rattle.bay_model.specs.Counters.{Counters, GoesOn, IsUndisturbed, IsFaultless}
+use Rattle.bay_model.proofs.Counted.{goes_on_after, goes_on_itself, faults_go_on}
+use Rattle.sector_map.specs.Met.{met_in}
+use Rattle.sector_map.specs.Layings.{Format, Laying, IsFormattable}
+use Rattle.sector_model.specs.Orders.{IsDeviceRefusal}
+use Rattle.sector_model.specs.Formats.{IsFormatted}
+use Rattle.single_commands.specs.Rigs.{Rig, IsSound, track_under}
+use Rattle.single_commands.specs.Reading.{IsReadCode}
+use Rattle.single_commands.specs.Writing.{FormatsTrack, LaysMedium, HasTrackUnder, CanFormatUnder, IsFormatCode}
+use Rattle.floppy_driver.specs.Prepared.{IsPrepared}
+use Rattle.floppy_driver.specs.Formattings.{IsValidFormat, HoldsRecords, IsReadBackMiss, ReadsRecords, IsAttemptRefusal, FormatsIn}
+use Rattle.floppy_driver.specs.declared.driver.Notes.{Notes}
+use Rattle.floppy_driver.proofs.Shows.{driven_after, driven_within, undisturbed_part, undisturbed_faultless}
+use Rattle.floppy_driver.proofs.LaidTracks.{lays_none, MayLay, layings_of, IsLaidWhole, one_at_most, laying_lays, laying_only, laying_untouched, laying_whole, laid_holds, same_some}
+
+-- the medium in a bay of a sound machine is a disk
+pub sound_at : (rig : Rig) (bay : ℕ) → IsSound rig → IfSome (in_bay rig.media bay) IsDisk
+sound_at rig bay sound = by_bay (bay == 0)
+  where
+    by_bay : (is_first : Bool) → IfSome (if is_first then rig.media.first else rig.media.second) IsDisk
+    by_bay true = sound.first
+    by_bay false = sound.second
+
+some_is : (medium : Option Disk) (disk : Disk) → IfSome medium IsDisk → medium ≡ Some disk → IsDisk disk
+some_is (Some found) disk valid is = subst IsDisk (same_some found disk is) valid
+some_is None disk valid is = absurd (cc is)
+
+in_same_bay : (a b : Two (Option Disk)) (bay : ℕ) → b ≡ a → in_bay b bay ≡ in_bay a bay
+in_same_bay a b bay same = ap (λ (t : Two (Option Disk)). in_bay t bay) same
+
+format_device : (code : Code) → IsFormatCode code → IsDeviceRefusal code
+format_device NoMark coded = tt
+format_device Overrun coded = tt
+format_device BadRequest coded = absurd coded
+format_device Protected coded = absurd coded
+format_device NotFound coded = absurd coded
+format_device NotReady coded = absurd coded
+format_device Changed coded = absurd coded
+format_device Page coded = absurd coded
+format_device BadCrc coded = absurd coded
+format_device Seek coded = absurd coded
+
+read_device : (code : Code) → IsReadCode code → IsDeviceRefusal code
+read_device NoMark coded = tt
+read_device NotFound coded = tt
+read_device BadCrc coded = tt
+read_device Overrun coded = tt
+read_device BadRequest coded = absurd coded
+read_device Protected coded = absurd coded
+read_device NotReady coded = absurd coded
+read_device Changed coded = absurd coded
+read_device Page coded = absurd coded
+read_device Seek coded = absurd coded
+
+format_not_seek : (code : Code) → IsFormatCode code → code ≡ Seek → ⊥
+format_not_seek code coded is = subst IsFormatCode is coded
+
+read_not_seek : (code : Code) → IsReadCode code → code ≡ Seek → ⊥
+read_not_seek code coded is = subst IsReadCode is coded
+
+-- what was faultless as a whole was so in its first part
+pub faultless_first : (bay : ℕ) (a b c : Counters) → GoesOn a b → GoesOn b c → IsFaultless bay a c → IsFaultless bay a b
+faultless_first bay a b c one two quiet =
+    let f = faults_go_on b c bay two in
+    let less = quiet.0 in
+    let below = quiet.1 in
+    (omega arith, omega arith)
+
+pub faultless_later : (bay : ℕ) (a b c : Counters) → GoesOn a b → GoesOn b c → IsFaultless bay a c → IsFaultless bay b c
+faultless_later bay a b c one two quiet =
+    let f = faults_go_on a b bay one in
+    let less = quiet.0 in
+    (omega arith, quiet.1)
+
+-- ---- track 0 wasn't reached
+
+pub lost_attempt : (old : Rig) (notes : Notes) (bay : ℕ) (format : Format) (new : Rig) (after : Notes) → IsPrepared old notes bay format.c prepare.RecalibrateAndSeek false new after → FormatsIn 1 format bay (Err Seek) (in_bay old.media bay) (in_bay new.media bay) old.counters new.counters
+lost_attempt old notes bay format new after prepared =
+    let lost = prepared.lost refl in
+    let same = in_same_bay old.media new.media bay prepared.moves.media in
+    let disturbed : IsUndisturbed bay old.counters new.counters → ⊥ = λ quiet.
+    let less = quiet.together in
+    let below = quiet.faults in
+    let s = prepared.moves.counts.stalls in
+    omega arith in
+    record {
+      layings = [];
+      few = omega arith;
+      lays = lays_none format (in_bay old.media bay) (in_bay new.media bay) same;
+      only = λ quiet k d below. absurd (omega arith);
+      untouched = λ quiet none. same;
+      never = λ failed can quiet. disturbed quiet;
+      driven = driven_within 0 (1 * (1 + sectors_at format.rate)) old.counters new.counters (omega arith) prepared.moves.driven;
+      ends = λ some. record {
+        exactly = λ quiet. absurd (disturbed quiet);
+        begun = λ quiet. absurd (disturbed quiet);
+        commands = λ ok. absurd (false≢true ok);
+        formatted_track = λ ok. absurd (false≢true ok);
+        refused = record {
+          device = tt;
+          undisturbed = λ quiet. absurd (disturbed quiet);
+          overrun = λ e. absurd (cc e);
+          lost = λ e. lost;
+        };
+      };
+    }
+
+-- ---- a format command from the cylinder
+
+module _ (old middle laid : Rig) (notes after : Notes) (bay : ℕ) (format : Format) (prepared : IsPrepared old notes bay format.c prepare.RecalibrateAndSeek true middle after) (sound : IsSound middle) where
+  abbrev was_in : Option Disk
+  was_in = in_bay old.media bay
+
+  abbrev is_in : Option Disk
+  is_in = in_bay laid.media bay
+
+  abbrev under : ℕ
+  under = in_bay middle.cylinders bay
+
+  same_in : in_bay middle.media bay ≡ was_in
+  same_in = in_same_bay old.media middle.media bay prepared.moves.media
+
+  may_lay : (laying : Option Laying) → MatchOption laying (laid.media ≡ middle.media) (λ one. LaysMedium middle bay format one laid) → MayLay format under was_in laying is_in
+  may_lay None same = in_same_bay middle.media laid.media bay same ∙ same_in
+  may_lay (Some one) lays = record {
+    old = lays.before;
+    new = lays.after;
+    was = sym same_in ∙ lays.was;
+    is = lays.is;
+    same_rate = lays.same_rate;
+    here = lays.here;
+    makes = lays.makes;
+  }
+
+  module _ (laying : Option Laying) (answer : Result (Unit {0}) Code) (formats : FormatsTrack middle bay format laying answer laid) where
+    may : MayLay format under was_in laying is_in
+    may = may_lay laying formats.does
+
+    counts : GoesOn old.counters laid.counters
+    counts = goes_on_after old.counters middle.counters laid.counters prepared.moves.counts formats.sends.counts
+
+    there : IsFaultless bay old.counters laid.counters → under ≡ format.c
+    there quiet =
+        prepared.surely refl refl (faultless_first bay old.counters middle.counters laid.counters prepared.moves.counts formats.sends.counts quiet)
+
+    faultless_middle : IsFaultless bay old.counters laid.counters → IsFaultless bay middle.counters laid.counters
+    faultless_middle = faultless_later bay old.counters middle.counters laid.counters prepared.moves.counts formats.sends.counts
+
+    undisturbed_middle : IsUndisturbed bay old.counters laid.counters → IsUndisturbed bay middle.counters laid.counters
+    undisturbed_middle = undisturbed_part bay old.counters middle.counters laid.counters laid.counters prepared.moves.counts formats.sends.counts (goes_on_itself laid.counters)
+
+    track_under_is : under ≡ format.c → (disk : Disk) → was_in ≡ Some disk → HasTrack disk format.c format.h → disk.rate ≡ format.rate → HasTrackUnder middle bay format disk
+    track_under_is place disk was has rate =
+        let From : ℕ → Type 0 = λ c. HasTrack disk c format.h in
+        record { medium = same_in ∙ was; track = subst From (sym place) has; same_rate = rate }
+
+    can_from : under ≡ format.c → CanFormatUnder middle bay format → IsFormattable format was_in
+    can_from place can =
+        let From : ℕ → Type 0 = λ c. HasTrack can.0 c format.h in
+        (can.0, sym same_in ∙ can.1.medium, record { track = subst From place can.1.track; rate = can.1.same_rate; fits = can.2 })
+
+    can_to : under ≡ format.c → IsFormattable format was_in → CanFormatUnder middle bay format
+    can_to place can = (can.0, track_under_is place can.0 can.1 can.2.track can.2.rate, can.2.fits)
+
+    whole : under ≡ format.c → (IsUndisturbed bay middle.counters laid.counters ⊎ (IsOk answer × IsFaultless bay middle.counters laid.counters)) → (disk : Disk) → was_in ≡ Some disk → HasTrack disk format.c format.h → disk.rate ≡ format.rate → IsLaidWhole format disk is_in
+    whole place cause disk was has rate =
+        laying_whole format under was_in is_in laying may place disk (some_is (in_bay middle.media bay) disk (sound_at middle bay sound) (same_in ∙ was)) was
+        (formats.turn cause disk (track_under_is place disk was has rate))
+
+    begins : under ≡ format.c → (IsUndisturbed bay middle.counters laid.counters ⊎ (IsOk answer × IsFaultless bay middle.counters laid.counters)) → IsFormatted format was_in is_in
+    begins place cause disk was has rate =
+        let made = whole place cause disk was has rate in
+        (made.new, made.is, made.track)
+
+  -- the command was refused
+  module _ (laying : Option Laying) (code : Code) (formats : FormatsTrack middle bay format laying (Err code) laid) where
+    abbrev refusal : Result (Unit {0}) Code
+    refusal = Err code
+
+    unformattable : IsUndisturbed bay old.counters laid.counters → IsFormattable format was_in → ⊥
+    unformattable quiet can =
+        let place = there laying refusal formats (undisturbed_faultless bay old.counters laid.counters (counts laying refusal formats) quiet) in
+        (formats.refused.reason (undisturbed_middle laying refusal formats quiet)).1 (can_to laying refusal formats place can)
+
+    pub refused_attempt : FormatsIn 1 format bay (Err code) was_in is_in old.counters laid.counters
+    refused_attempt =
+        let goes = counts laying refusal formats in
+        let faultless = undisturbed_faultless bay old.counters laid.counters goes in
+        let placed = there laying refusal formats in
+        let later = undisturbed_middle laying refusal formats in
+        let made = may laying refusal formats in
+        record {
+          layings = layings_of laying;
+          few = one_at_most format under was_in is_in laying;
+          lays = laying_lays format under was_in is_in laying made;
+          only = λ quiet. laying_only format under was_in is_in laying made (placed quiet);
+          untouched = λ quiet. laying_untouched format under was_in is_in laying made (placed (faultless quiet));
+          never = λ failed can quiet. unformattable quiet can;
+          driven =
+              driven_within 1 (1 * (1 + sectors_at format.rate)) old.counters laid.counters (omega arith)
+              (driven_after 0 1 old.counters middle.counters laid.counters prepared.moves.counts formats.sends.counts prepared.moves.driven formats.sends.driven);
+          ends = λ some. record {
+            exactly = λ quiet. (λ ok. absurd (false≢true ok), λ can. absurd (unformattable quiet can));
+            begun = λ quiet. begins laying refusal formats (placed (faultless quiet)) (inl (later quiet));
+            commands = λ ok. absurd (false≢true ok);
+            formatted_track = λ ok. absurd (false≢true ok);
+            refused = record {
+              device = format_device code formats.refused.coded;
+              undisturbed = λ quiet. (formats.refused.reason (later quiet)).0;
+              overrun = λ e. let rose = formats.refused.overrun e in let s = prepared.moves.counts.stalls in omega arith;
+              lost = λ e. absurd (format_not_seek code formats.refused.coded e);
+            };
+          };
+        }
+
+  -- it was done, and the records were read back
+  module _ (laying : Option Laying) (formats : FormatsTrack middle bay format laying (Ok tt) laid) (asked : IsValidFormat format) (answer : Result (Unit {0}) Code) (new : Rig) (reads : ReadsRecords laid bay (sectors_at format.rate) (HoldsRecords (track_under laid bay format.rate format.h) format.c format.h (sectors_at format.rate) format.fill) answer new) where
+    abbrev done : Result (Unit {0}) Code
+    done = Ok tt
+
+    goes_all : GoesOn old.counters new.counters
+    goes_all = goes_on_after old.counters laid.counters new.counters (counts laying done formats) reads.counts
+
+    faultless_laid : IsFaultless bay old.counters new.counters → IsFaultless bay old.counters laid.counters
+    faultless_laid = faultless_first bay old.counters laid.counters new.counters (counts laying done formats) reads.counts
+
+    undisturbed_laid : IsUndisturbed bay old.counters new.counters → IsUndisturbed bay old.counters laid.counters
+    undisturbed_laid = undisturbed_part bay old.counters old.counters laid.counters new.counters (goes_on_itself old.counters) (counts laying done formats) reads.counts
+
+    undisturbed_back : IsUndisturbed bay old.counters new.counters → IsUndisturbed bay laid.counters new.counters
+    undisturbed_back = undisturbed_part bay old.counters laid.counters new.counters new.counters (counts laying done formats) reads.counts (goes_on_itself new.counters)
+
+    faultless_all : IsUndisturbed bay old.counters new.counters → IsFaultless bay old.counters new.counters
+    faultless_all = undisturbed_faultless bay old.counters new.counters goes_all
+
+    formattable : IsFaultless bay old.counters new.counters → CanFormatUnder middle bay format
+    formattable quiet = formats.fits refl (faultless_middle laying done formats (faultless_laid quiet))
+
+    made_so : IsFaultless bay old.counters new.counters → IsFormattable format was_in × IsFormatted format was_in is_in
+    made_so quiet =
+        let first = faultless_laid quiet in
+        let place = there laying done formats first in
+        (can_from laying done formats place (formattable quiet), begins laying done formats place (inr (refl, faultless_middle laying done formats first)))
+
+    holds : IsUndisturbed bay old.counters new.counters → HoldsRecords (track_under laid bay format.rate format.h) format.c format.h (sectors_at format.rate) format.fill
+    holds quiet =
+        let first = faultless_laid (faultless_all quiet) in
+        let place = there laying done formats first in
+        let can = can_from laying done formats place (formattable (faultless_all quiet)) in
+        let whole_track = whole laying done formats place (inr (refl, faultless_middle laying done formats first)) can.0 can.1 can.2.track can.2.rate in
+        let there_now : in_bay laid.cylinders bay ≡ format.c = ap (λ (t : Two ℕ). in_bay t bay) formats.sends.heads.cylinders ∙ place in
+        let At : ℕ → Type 0 = λ c. HoldsRecords (met_in is_in format.rate c format.h) format.c format.h (sectors_at format.rate) format.fill in
+        subst At (sym there_now) (laid_holds format can.0 is_in asked.cylinder asked.head asked.byte can.2.fits whole_track)
+
+    was_done : IsUndisturbed bay old.counters new.counters → IsOk answer
+    was_done quiet = by_answer answer reads.refused
+      where
+        by_answer : (a : Result (Unit {0}) Code) → IfErr a (λ code. IsReadBackMiss bay (HoldsRecords (track_under laid bay format.rate format.h) format.c format.h (sectors_at format.rate) format.fill) code laid.counters new.counters) → IsOk a
+        by_answer (Ok is) missed = refl
+        by_answer (Err code) missed = absurd (missed.disturbed (holds quiet) (undisturbed_back quiet))
+
+    why : IfErr answer (λ code. IsAttemptRefusal bay code old.counters new.counters)
+    why = by_answer answer reads.refused was_done
+      where
+        by_answer : (a : Result (Unit {0}) Code) → IfErr a (λ code. IsReadBackMiss bay (HoldsRecords (track_under laid bay format.rate format.h) format.c format.h (sectors_at format.rate) format.fill) code laid.counters new.counters) → (IsUndisturbed bay old.counters new.counters → IsOk a) → IfErr a (λ code. IsAttemptRefusal bay code old.counters new.counters)
+        by_answer (Ok is) missed ok = tt
+        by_answer (Err code) missed ok = record {
+          device = read_device code missed.coded;
+          undisturbed = λ quiet. absurd (false≢true (ok quiet));
+          overrun = λ e. let rose = missed.overrun e in let s = (counts laying done formats).stalls in omega arith;
+          lost = λ e. absurd (read_not_seek code missed.coded e);
+        }
+
+    not_both : (a : Result (Unit {0}) Code) → IsErr a → IsOk a → ⊥
+    not_both (Ok is) failed ok = false≢true failed
+    not_both (Err code) failed ok = false≢true ok
+
+    read_so : FormatsIn 1 format bay answer was_in is_in old.counters new.counters
+    read_so =
+        let made = may laying done formats in
+        let placed : IsFaultless bay old.counters new.counters → under ≡ format.c = λ quiet. there laying done formats (faultless_laid quiet) in
+        record {
+          layings = layings_of laying;
+          few = one_at_most format under was_in is_in laying;
+          lays = laying_lays format under was_in is_in laying made;
+          only = λ quiet. laying_only format under was_in is_in laying made (placed quiet);
+          untouched = λ quiet. laying_untouched format under was_in is_in laying made (placed (faultless_all quiet));
+          never = λ failed can quiet. not_both answer failed (was_done quiet);
+          driven =
+              driven_within (0 + 1 + sectors_at format.rate) (1 * (1 + sectors_at format.rate)) old.counters new.counters (omega arith)
+              (driven_after (0 + 1) (sectors_at format.rate) old.counters laid.counters new.counters (counts laying done formats) reads.counts
+              (driven_after 0 1 old.counters middle.counters laid.counters prepared.moves.counts formats.sends.counts prepared.moves.driven formats.sends.driven) reads.driven);
+          ends = λ some. record {
+            exactly = λ quiet. (λ ok. (made_so (faultless_all quiet)).0, λ can. was_done quiet);
+            begun = λ quiet. (made_so (faultless_all quiet)).1;
+            commands = λ ok.
+                let first = prepared.moves.counts.data_commands in
+                let one = formats.sends.command in
+                let rest = reads.commands ok in
+                omega arith;
+            formatted_track = λ ok quiet. made_so quiet;
+            refused = why;
+          };
+        }
+
+    pub read_attempt : FormatsIn 1 format bay answer was_in (in_bay new.media bay) old.counters new.counters
+    read_attempt =
+        let In : Option Disk → Type 0 = λ m. FormatsIn 1 format bay answer was_in m old.counters new.counters in
+        subst In (sym (in_same_bay laid.media new.media bay reads.media)) read_so

@@ -1,0 +1,78 @@
+-- A medium that can be written still can be after the commands of a format.
+use Rattle.std.proofs.Common.{◌≡◌, ℕ, Bool, false, Option, Some, None, MatchOption, Result, sym, ap, ◌∙◌}
+use Rattle.std.specs.Option.{option_map_or}
+use Rattle.flop_base.specs.declared.answers.Code.{Code}
+use Rattle.raw_image.specs.Disk.{Disk}
+use Rattle.bay_model.specs.Bays.{Two, in_bay}
+use Rattle.sector_map.specs.Layings.{Format, Laying}
+use Rattle.retry_plan.specs.declared.Prepare.{Prepare}
+use Rattle.single_commands.specs.Rigs.{Rig, IsSound, HeadsStay, OnlyAsks}
+use Rattle.single_commands.specs.Writing.{FormatsTrack, LaysMedium}
+use Rattle.floppy_driver.specs.Shown.{notes_of, is_held, with_notes}
+use Rattle.floppy_driver.specs.Attached.{IsAttached}
+use Rattle.floppy_driver.specs.Attempts.{CanTry}
+use Rattle.floppy_driver.specs.Prepared.{IsPrepared}
+use Rattle.floppy_driver.specs.Writings.{CanWrite}
+use Rattle.floppy_driver.specs.Formattings.{ReadsRecords}
+use Rattle.floppy_driver.specs.declared.driver.Driver.{Driver}
+use Rattle.floppy_driver.proofs.Shows.{attached_stays, attached_written}
+use Rattle.floppy_driver.proofs.Attempts.{can_try_asked, prepared_ready}
+
+abbrev is_protected : Option Disk → Bool
+is_protected medium = option_map_or (λ disk. disk.protected) medium false
+
+same_protected : (old new : Rig) (bay : ℕ) → new.media ≡ old.media → is_protected (in_bay new.media bay) ≡ is_protected (in_bay old.media bay)
+same_protected old new bay media = ap (λ (t : Two (Option Disk)). is_protected (in_bay t bay)) media
+
+-- where the heads of its drive moved
+pub can_write_prepared : (driver after : Driver) (old new : Rig) (bay target : ℕ) (way : Prepare) (ready : Bool) → CanWrite driver old bay → after ≡ with_notes driver bay (notes_of after bay) → IsPrepared old (notes_of driver bay) bay target way ready new (notes_of after bay) → IsSound new → IsAttached after new → CanWrite after new bay
+can_write_prepared driver after old new bay target way ready can is prepared sound attached = record {
+  ready = prepared_ready driver after old new bay target way ready can.ready is prepared attached sound;
+  unprotected = same_protected old new bay prepared.moves.media ∙ can.unprotected;
+}
+
+-- where the machine was asked
+pub can_write_asked : (driver : Driver) (old new : Rig) (bay : ℕ) → CanTry driver old bay → OnlyAsks old new → IsSound new → is_protected (in_bay old.media bay) ≡ false → CanWrite driver new bay
+can_write_asked driver old new bay can asks sound unprotected = record {
+  ready = can_try_asked driver old new bay can asks sound;
+  unprotected = same_protected old new bay asks.media ∙ unprotected;
+}
+
+module _ (driver : Driver) (old new : Rig) (bay : ℕ) (can : CanWrite driver old bay) (sound : IsSound new) where
+  stays_ready : HeadsStay old new → IsAttached driver new → CanTry driver new bay
+  stays_ready heads attached = record {
+    in_range = can.ready.in_range;
+    held = ap (λ (t : Two Bool). is_held (notes_of driver bay) (in_bay t bay)) heads.changes ∙ can.ready.held;
+    attached = attached;
+    sound = sound;
+  }
+
+  -- after a format command
+  module _ (format : Format) (answer : Result (Unit {0}) Code) where
+    still_in : (laying : Option Laying) → MatchOption laying (new.media ≡ old.media) (λ one. LaysMedium old bay format one new) → in_bay new.media bay ≡ None → in_bay old.media bay ≡ None
+    still_in None same none = ap (λ (t : Two (Option Disk)). in_bay t bay) (sym same) ∙ none
+    still_in (Some one) lays none = absurd (cc (lays.is, none))
+
+    same_protection : (laying : Option Laying) → MatchOption laying (new.media ≡ old.media) (λ one. LaysMedium old bay format one new) → is_protected (in_bay new.media bay) ≡ is_protected (in_bay old.media bay)
+    same_protection None same = same_protected old new bay same
+    same_protection (Some one) lays =
+        ap (λ (m : Option Disk). is_protected m) lays.is ∙ lays.makes.laid.protected ∙ sym (ap (λ (m : Option Disk). is_protected m) lays.was)
+
+    pub can_write_formatted : (laying : Option Laying) → FormatsTrack old bay format laying answer new → CanWrite driver new bay
+    can_write_formatted laying formats = record {
+      ready =
+          stays_ready formats.sends.heads
+          (attached_written driver old new bay can.ready.in_range formats.sends (still_in laying formats.does) can.ready.attached);
+      unprotected = same_protection laying formats.does ∙ can.unprotected;
+    }
+
+  -- after records were read back
+  pub can_write_read : (count : ℕ) (there : Type 0) (answer : Result (Unit {0}) Code) → ReadsRecords old bay count there answer new → CanWrite driver new bay
+  can_write_read count there answer reads = record {
+    ready =
+        stays_ready reads.heads
+        (attached_stays driver old new reads.counts reads.heads
+        (λ none. ap (λ (t : Two (Option Disk)). t.first) (sym reads.media) ∙ none) (λ none. ap (λ (t : Two (Option Disk)). t.second) (sym reads.media) ∙ none)
+        can.ready.attached);
+    unprotected = same_protected old new bay reads.media ∙ can.unprotected;
+  }

@@ -1,0 +1,236 @@
+-- A format is a step of the sector model.
+use Rattle.std.proofs.Common.{◌≡◌, ℕ, ◌+◌, ◌*◌, ◌<◌, ◌≤◌, Bool, true, false, List, Option, Some, None, MatchOption, Result, Ok, Err, IsErr, IfErr, refl, sym, ap, ◌∙◌, subst, arith}
+use Rattle.std.specs.Prelude.{◌&&◌, not, nat_le, if◌then◌else◌}
+use Rattle.std.specs.Option.{option_map_or}
+use Rattle.std.proofs.lemmas.Bool.{le-leb, lt-leb}
+use Rattle.flop_base.specs.Standard.{sectors_at}
+use Rattle.flop_base.specs.declared.answers.Rate.{Rate}
+use Rattle.flop_base.specs.declared.answers.Rate.TheVariants.{R500}
+use Rattle.flop_base.specs.declared.answers.Code.{Code}
+use Rattle.flop_base.specs.declared.answers.Code.TheVariants.{BadRequest, Changed, Protected}
+use Rattle.raw_image.specs.Disk.{Disk}
+use Rattle.bay_model.specs.Bays.{Two, in_bay}
+use Rattle.bay_model.specs.Counters.{DriveCounts, Counters, GoesOn, IsFaultless, DisturbedLess, IsDriven}
+use Rattle.bay_model.proofs.Counted.{goes_on_after, faults_go_on}
+use Rattle.sector_map.specs.Layings.{Format, IsFormattable}
+use Rattle.sector_model.specs.Stations.{Bay, StationState, bay_of, set_bay}
+use Rattle.sector_model.specs.Orders.{is_bay, is_place, is_acknowledged, is_protected, most_format_gap, is_format_request, IsRefusedAtOnce}
+use Rattle.sector_model.specs.Formats.{IsFormatCause, FormatsDrive, FormatsTo}
+use Rattle.single_commands.specs.Rigs.{Rig, OnlyAsks}
+use Rattle.floppy_driver.specs.Shown.{notes_of, is_held, with_waiting, shown, HasAsked}
+use Rattle.floppy_driver.specs.Formattings.{IsAttemptRefusal, FormatsIn, HasOnlyMedium}
+use Rattle.floppy_driver.specs.declared.driver.Driver.{Driver}
+use Rattle.floppy_driver.proofs.Shows.{bay_shown_at, acknowledged_held, asks_shown, driven_after}
+use Rattle.floppy_driver.proofs.Asking.{refused_asking}
+use Rattle.floppy_driver.proofs.ReadBacks.{heads_stay_after}
+
+-- ---- the order of refusals
+
+module _ (old : StationState) (bay c h gap3 fill : ℕ) (answer : Result (Unit {0}) Code) (new : StationState) where
+  abbrev format : Format
+  format = record { c = c; h = h; rate = (bay_of old bay).rate; gap3 = gap3; fill = fill }
+
+  abbrev Ends : Option Code → Type 0
+  Ends refusal = MatchOption refusal (FormatsDrive format bay answer old new) (λ code. IsRefusedAtOnce old code answer new)
+
+  by_tests : (request acknowledged protected : Bool) → is_format_request old bay c h gap3 ≡ request → is_acknowledged old bay ≡ acknowledged → is_protected old bay ≡ protected → Ends (if not request then Some BadRequest else (if not acknowledged then Some Changed else (if protected then Some Protected else None))) → FormatsTo old bay c h gap3 fill answer new
+  by_tests request acknowledged protected first second third step =
+      subst (λ (b : Bool). Ends (if not b then Some BadRequest else (if not (is_acknowledged old bay) then Some Changed else (if is_protected old bay then Some Protected else None)))) (sym first)
+      (subst (λ (b : Bool). Ends (if not request then Some BadRequest else (if not b then Some Changed else (if is_protected old bay then Some Protected else None)))) (sym second)
+      (subst (λ (b : Bool). Ends (if not request then Some BadRequest else (if not acknowledged then Some Changed else (if b then Some Protected else None)))) (sym third) step))
+
+  step_unasked : is_format_request old bay c h gap3 ≡ false → IsRefusedAtOnce old BadRequest answer new → FormatsTo old bay c h gap3 fill answer new
+  step_unasked request step = by_tests false (is_acknowledged old bay) (is_protected old bay) request refl refl step
+
+  step_unheld : is_format_request old bay c h gap3 ≡ true → is_acknowledged old bay ≡ false → IsRefusedAtOnce old Changed answer new → FormatsTo old bay c h gap3 fill answer new
+  step_unheld request held step = by_tests true false (is_protected old bay) request held refl step
+
+  step_protected : is_format_request old bay c h gap3 ≡ true → is_acknowledged old bay ≡ true → is_protected old bay ≡ true → IsRefusedAtOnce old Protected answer new → FormatsTo old bay c h gap3 fill answer new
+  step_protected request held protected step = by_tests true true true request held protected step
+
+  step_driven : is_format_request old bay c h gap3 ≡ true → is_acknowledged old bay ≡ true → is_protected old bay ≡ false → FormatsDrive format bay answer old new → FormatsTo old bay c h gap3 fill answer new
+  step_driven request held protected step = by_tests true true false request held protected step
+
+-- ---- from attempts to the step
+
+-- a call that only asked comes before, and spare drives may wait
+module _ (n : ℕ) (format : Format) (bay : ℕ) (answer : Result (Unit {0}) Code) (before after : Option Disk) (old mid new : Counters) (waiting : List DriveCounts) (one : GoesOn old mid) (two : GoesOn mid new) (idle : IsDriven 0 old mid) (formats : FormatsIn n format bay answer before after mid new) where
+  abbrev from : Counters
+  from = with_waiting old waiting
+
+  abbrev to : Counters
+  to = with_waiting new waiting
+
+  fewer : (m : ℕ) → DisturbedLess m bay from to → DisturbedLess m bay mid new
+  fewer m less =
+      let f = faults_go_on old mid bay one in
+      let s = one.stalls in
+      let t = less.together in
+      record { faults = less.faults; stalls = less.stalls; together = omega arith }
+
+  quieter : IsFaultless bay from to → IsFaultless bay mid new
+  quieter quiet =
+      let f = faults_go_on old mid bay one in
+      let less = quiet.0 in
+      (omega arith, quiet.1)
+
+  same_reason : (a : Result (Unit {0}) Code) → IfErr a (λ c. IsAttemptRefusal bay c mid new) → IfErr a (λ c. IsAttemptRefusal bay c from to)
+  same_reason (Ok is) refused = tt
+  same_reason (Err c) refused =
+      let s = one.stalls in
+      let f = faults_go_on old mid bay one in
+      record {
+        device = refused.device;
+        undisturbed = λ quiet. refused.undisturbed (fewer 1 quiet);
+        overrun = λ e. let rose = refused.overrun e in omega arith;
+        lost = λ e. let rose = refused.lost e in omega arith;
+      }
+
+  formats_shown : FormatsIn n format bay answer before after from to
+  formats_shown =
+      let all = driven_after 0 (n * (1 + sectors_at format.rate)) old mid new one two idle formats.driven in
+      record {
+        layings = formats.layings;
+        few = formats.few;
+        lays = formats.lays;
+        only = λ quiet. formats.only (quieter quiet);
+        untouched = λ quiet. formats.untouched (fewer 1 quiet);
+        never = λ failed can less. formats.never failed can (fewer n less);
+        driven = record {
+          most_commands = let most = all.most_commands in omega arith;
+          interrupts = all.interrupts;
+          past_driver = all.past_driver;
+        };
+        ends = λ some.
+            let ends = formats.ends some in
+            record {
+              exactly = λ quiet. ends.exactly (fewer 1 quiet);
+              begun = λ quiet. ends.begun (fewer 1 quiet);
+              commands = λ ok. let rose = ends.commands ok in let d = one.data_commands in omega arith;
+              formatted_track = λ ok quiet. ends.formatted_track ok (quieter quiet);
+              refused = same_reason answer ends.refused;
+            };
+      }
+
+drive_cause : (format : Format) (bay : ℕ) (answer : Result (Unit {0}) Code) (old new : StationState) (medium : Option Disk) → (IsErr answer → IsFormattable format medium → DisturbedLess old.tries bay old.counters new.counters → ⊥) → 1 ≤ old.tries → IfErr answer (λ code. IsAttemptRefusal bay code old.counters new.counters) → IfErr answer (λ code. IsFormatCause format medium bay code old new)
+drive_cause format bay (Ok is) old new medium never some refused = tt
+drive_cause format bay (Err code) old new medium never some refused = record {
+  device = refused.device;
+  undisturbed = refused.undisturbed;
+  overrun = refused.overrun;
+  lost = refused.lost;
+  never = λ can less. never refl can (record { faults = less.faults; stalls = less.stalls; together = let t = less.together in omega arith });
+}
+
+-- as many attempts as the station has
+formats_drive : (format : Format) (bay : ℕ) (answer : Result (Unit {0}) Code) (old new : StationState) (before after : Option Disk) → 1 ≤ old.tries → (bay_of old bay).medium ≡ before → (bay_of new bay).medium ≡ after → HasOnlyMedium old bay after new → FormatsIn old.tries format bay answer before after old.counters new.counters → FormatsDrive format bay answer old new
+formats_drive format bay answer old new before after some was is becomes attempts =
+    let In : Option Disk → Option Disk → Type 0 = λ m n. FormatsIn old.tries format bay answer m n old.counters new.counters in
+    let formats : In (bay_of old bay).medium (bay_of new bay).medium = subst (λ (m : Option Disk). In m (bay_of new bay).medium) (sym was) (subst (In before) (sym is) attempts) in
+    let ends = formats.ends some in
+    record {
+      layings = formats.layings;
+      few = formats.few;
+      lays = formats.lays;
+      only = formats.only;
+      becomes = subst (λ (m : Option Disk). HasOnlyMedium old bay m new) (sym is) becomes;
+      exactly = ends.exactly;
+      begun = ends.begun;
+      untouched = formats.untouched;
+      commands = ends.commands;
+      formatted_track = ends.formatted_track;
+      refused = drive_cause format bay answer old new (bay_of old bay).medium formats.never some ends.refused;
+      driven = formats.driven;
+    }
+
+-- ---- driver and machine
+
+asks_after : (a b c : Rig) → OnlyAsks a b → OnlyAsks b c → OnlyAsks a c
+asks_after a b c one two = record {
+  heads = heads_stay_after a b c one.heads two.heads;
+  media = two.media ∙ one.media;
+  memory = two.memory ∙ one.memory;
+  page = two.page ∙ one.page;
+  counts = goes_on_after a.counters b.counters c.counters one.counts two.counts;
+  driven = driven_after 0 0 a.counters b.counters c.counters one.counts two.counts one.driven two.driven;
+}
+
+abbrev protects : Option Disk → Bool
+protects medium = option_map_or (λ disk. disk.protected) medium false
+
+medium_shown : (driver : Driver) (rig : Rig) (spares : ℕ) (waiting : List DriveCounts) (bay : ℕ) → (bay_of (shown driver rig spares waiting) bay).medium ≡ in_bay rig.media bay
+medium_shown driver rig spares waiting bay = ap (λ (b : Bay). b.medium) (bay_shown_at driver rig spares waiting bay)
+
+-- `middle` is the driver behind the question whether the bay is held, and `old` the machine before it
+module _ (driver middle : Driver) (old : Rig) (bay c h gap3 : ℕ) (held : Bool) (rate : Rate) (spares : ℕ) (waiting : List DriveCounts) (is : held ≡ is_held (notes_of driver bay) (in_bay old.changes bay)) (same : shown middle old spares waiting ≡ shown driver old spares waiting) (rate_is : rate ≡ (if held then (notes_of middle bay).rate else R500)) where
+  abbrev start : StationState
+  start = shown driver old spares waiting
+
+  acknowledged_is : is_acknowledged start bay ≡ held
+  acknowledged_is = acknowledged_held driver old spares waiting bay ∙ sym is
+
+  -- the driver behind the question holds the bay too
+  held_then : is_held (notes_of middle bay) (in_bay old.changes bay) ≡ held
+  held_then = sym (acknowledged_held middle old spares waiting bay) ∙ ap (λ (s : StationState). is_acknowledged s bay) same ∙ acknowledged_is
+
+  rate_shown : (bay_of start bay).rate ≡ rate
+  rate_shown =
+      ap (λ (s : StationState). (bay_of s bay).rate) (sym same)
+      ∙ ap (λ (b : Bay). b.rate) (bay_shown_at middle old spares waiting bay)
+      ∙ ap (λ (b : Bool). if b then (notes_of middle bay).rate else R500) held_then
+      ∙ sym rate_is
+
+  request_is : (fits : Bool) → (is_bay bay && is_place c h && nat_le 16 gap3) ≡ true → nat_le gap3 (most_format_gap rate) ≡ fits → is_format_request start bay c h gap3 ≡ fits
+  request_is fits asked gap =
+      ap (λ (b : Bool). b && nat_le gap3 (most_format_gap (bay_of start bay).rate)) asked
+      ∙ ap (λ (r : Rate). nat_le gap3 (most_format_gap r)) rate_shown
+      ∙ gap
+
+  module _ (asked : (is_bay bay && is_place c h && nat_le 16 gap3) ≡ true) (fill : ℕ) (new : Rig) (asks : OnlyAsks old new) where
+    abbrev now : StationState
+    now = shown middle new spares waiting
+
+    has_asked : HasAsked start now
+    has_asked = asks_shown driver middle old new spares waiting same asks
+
+    pub gap_refused : most_format_gap rate < gap3 → FormatsTo start bay c h gap3 fill (Err BadRequest) now
+    gap_refused long =
+        step_unasked start bay c h gap3 fill (Err BadRequest) now (request_is false asked (lt-leb gap3 (most_format_gap rate) long))
+        (refused_asking {A = Unit {0}} start BadRequest now has_asked)
+
+    pub change_refused : gap3 ≤ most_format_gap rate → held ≡ false → FormatsTo start bay c h gap3 fill (Err Changed) now
+    change_refused fits unheld =
+        step_unheld start bay c h gap3 fill (Err Changed) now (request_is true asked (le-leb gap3 (most_format_gap rate) fits)) (acknowledged_is ∙ unheld)
+        (refused_asking {A = Unit {0}} start Changed now has_asked)
+
+    protects_is : (answer : Bool) → answer ≡ protects (in_bay new.media bay) → is_protected start bay ≡ answer
+    protects_is answer line =
+        ap (λ (m : Option Disk). protects m) (medium_shown driver old spares waiting bay)
+        ∙ ap (λ (t : Two (Option Disk)). protects (in_bay t bay)) (sym asks.media)
+        ∙ sym line
+
+    -- and whether its medium is protected
+    module _ (fits : gap3 ≤ most_format_gap rate) (holds : held ≡ true) (last : Rig) (too : OnlyAsks new last) where
+      pub protection_refused : true ≡ protects (in_bay new.media bay) → FormatsTo start bay c h gap3 fill (Err Protected) (shown middle last spares waiting)
+      protection_refused line =
+          let after = shown middle last spares waiting in
+          step_protected start bay c h gap3 fill (Err Protected) after (request_is true asked (le-leb gap3 (most_format_gap rate) fits)) (acknowledged_is ∙ holds) (protects_is true line)
+          (refused_asking {A = Unit {0}} start Protected after (asks_shown driver middle old last spares waiting same (asks_after old new last asks too)))
+
+      -- a format in attempts is the step
+      pub format_step : false ≡ protects (in_bay new.media bay) → (after : Driver) (answer : Result (Unit {0}) Code) (end : Rig) → 1 ≤ driver.tries → middle.tries ≡ driver.tries → GoesOn last.counters end.counters → FormatsIn middle.tries (record { c = c; h = h; rate = rate; gap3 = gap3; fill = fill }) bay answer (in_bay last.media bay) (in_bay end.media bay) last.counters end.counters → HasOnlyMedium (shown middle last spares waiting) bay (in_bay end.media bay) (shown after end spares waiting) → FormatsTo start bay c h gap3 fill answer (shown after end spares waiting)
+      format_step line after answer end some tries goes formats medium =
+          let whole = asks_after old new last asks too in
+          let stop = shown after end spares waiting in
+          let asked_of : HasAsked start (shown middle last spares waiting) = asks_shown driver middle old last spares waiting same whole in
+          let of_rate : Rate → Format = λ r. record { c = c; h = h; rate = r; gap3 = gap3; fill = fill } in
+          let media : in_bay last.media bay ≡ in_bay old.media bay = ap (λ (t : Two (Option Disk)). in_bay t bay) whole.media in
+          let In : ℕ → Rate → Type 0 = λ n r. FormatsIn n (of_rate r) bay answer (in_bay last.media bay) (in_bay end.media bay) last.counters end.counters in
+          let attempts : In driver.tries (bay_of start bay).rate = subst (λ (n : ℕ). In n (bay_of start bay).rate) tries (subst (In middle.tries) (sym rate_shown) formats) in
+          let only : HasOnlyMedium start bay (in_bay end.media bay) stop =
+          medium ∙ ap (λ (s : StationState). record (set_bay s bay (record (bay_of s bay) { medium = in_bay end.media bay })) { counters = stop.counters }) asked_of.stays in
+          step_driven start bay c h gap3 fill answer stop (request_is true asked (le-leb gap3 (most_format_gap rate) fits)) (acknowledged_is ∙ holds) (protects_is false line)
+          (formats_drive (of_rate (bay_of start bay).rate) bay answer start stop (in_bay last.media bay) (in_bay end.media bay) some
+          (medium_shown driver old spares waiting bay ∙ sym media) (medium_shown after end spares waiting bay) only
+          (formats_shown driver.tries (of_rate (bay_of start bay).rate) bay answer (in_bay last.media bay) (in_bay end.media bay) old.counters last.counters end.counters waiting
+          whole.counts goes whole.driven attempts))

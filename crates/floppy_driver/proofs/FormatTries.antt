@@ -1,0 +1,237 @@
+-- Attempts of a format, one after the other.
+use Rattle.std.proofs.Common.{◌≡◌, ℕ, ◌+◌, ◌*◌, ◌≤◌, Bool, true, false, List, [], ◌∷◌, ◌++◌, Option, Some, None, Result, Ok, Err, IfErr, refl, sym, ap, ◌∙◌, subst, arith}
+use Rattle.std.specs.Prelude.{◌==◌, if◌then◌else◌}
+use Rattle.std.proofs.lemmas.Bool.{false≢true}
+use Rattle.std.proofs.lemmas.List.{length-append}
+use Rattle.std.proofs.lemmas.List.Elements.{All-append}
+use Rattle.flop_base.specs.Standard.{sectors_at, standard_code}
+use Rattle.flop_base.specs.declared.answers.Rate.{Rate}
+use Rattle.flop_base.specs.declared.answers.Rate.TheVariants.{R500, R250}
+use Rattle.flop_base.specs.declared.answers.Code.{Code}
+use Rattle.raw_image.specs.Disk.{Disk, HasTrack}
+use Rattle.track_model.specs.Layouts.{Fits}
+use Rattle.bay_model.specs.Bays.{Two}
+use Rattle.bay_model.specs.Counters.{Counters, GoesOn, IsUndisturbed}
+use Rattle.bay_model.proofs.Counted.{goes_on_itself, faults_go_on}
+use Rattle.sector_map.specs.Layings.{Format, Laying, format_keys, formatted, CanFormat, IsFormattable}
+use Rattle.sector_model.specs.Stations.{StationState, Bay, bay_of}
+use Rattle.sector_model.specs.Formats.{LaysDisk, Lays, IsFormatted, IsUnformatted}
+use Rattle.floppy_driver.specs.Formattings.{IsAttemptRefusal, EndsFormat, FormatsIn, HasOnlyMedium}
+use Rattle.floppy_driver.proofs.Shows.{driven_after, driven_within, undisturbed_part, disturbed_less_more}
+use Rattle.floppy_driver.proofs.LaidTracks.{lays_none, same_some}
+use Rattle.floppy_driver.proofs.FormatOnce.{faultless_first, faultless_later}
+
+-- ---- layings keep what a format asks of a disk
+
+-- both have the same tracks, rate and length of a track
+record HasShape (disk after : Disk) : Type 0 where
+  pub cylinders : after.cylinders ≡ disk.cylinders
+  pub heads : after.heads ≡ disk.heads
+  pub rate : after.rate ≡ disk.rate
+  pub words : after.words_per_track ≡ disk.words_per_track
+
+shape_of : (format : Format) (disk : Disk) (layings : List Laying) (after : Disk) → LaysDisk format disk layings after → HasShape disk after
+shape_of format disk [] after same = record {
+  cylinders = ap (λ (d : Disk). d.cylinders) same;
+  heads = ap (λ (d : Disk). d.heads) same;
+  rate = ap (λ (d : Disk). d.rate) same;
+  words = ap (λ (d : Disk). d.words_per_track) same;
+}
+shape_of format disk (laying ∷ later) after (next, first, rest) =
+    let shape = shape_of format next later after rest in
+    record {
+      cylinders = shape.cylinders ∙ first.laid.cylinders;
+      heads = shape.heads ∙ first.laid.heads;
+      rate = shape.rate ∙ first.laid.rate;
+      words = shape.words ∙ first.laid.words_per_track;
+    }
+
+shape_tracks : (disk after : Disk) (c h : ℕ) → HasShape disk after → HasTrack disk c h → HasTrack after c h
+shape_tracks disk after c h shape has =
+    let e = shape.cylinders in
+    let f = shape.heads in
+    let a = has.0 in
+    let b = has.1 in
+    (omega arith, omega arith)
+
+shape_back : (disk after : Disk) → HasShape disk after → HasShape after disk
+shape_back disk after shape = record { cylinders = sym shape.cylinders; heads = sym shape.heads; rate = sym shape.rate; words = sym shape.words }
+
+can_shape : (format : Format) (disk after : Disk) → HasShape disk after → CanFormat format disk → CanFormat format after
+can_shape format disk after shape can = record {
+  track = shape_tracks disk after format.c format.h shape can.track;
+  rate = shape.rate ∙ can.rate;
+  fits = subst (Fits (format_keys format) standard_code format.gap3) (sym shape.words) can.fits;
+}
+
+-- the disk that layings made of one
+lays_some : (format : Format) (before after : Option Disk) (layings : List Laying) (disk : Disk) → Lays format before layings after → before ≡ Some disk → (made : Disk) × (after ≡ Some made) × HasShape disk made
+lays_some format (Some first) (Some last) layings disk lays is =
+    (last, refl, subst (λ (d : Disk). HasShape d last) (same_some first disk is) (shape_of format first layings last lays))
+lays_some format (Some first) None layings disk lays is = absurd lays
+lays_some format None after layings disk lays is = absurd (cc is)
+
+-- and that from which they made one
+lays_from : (format : Format) (before after : Option Disk) (layings : List Laying) (made : Disk) → Lays format before layings after → after ≡ Some made → (disk : Disk) × (before ≡ Some disk) × HasShape disk made
+lays_from format (Some first) (Some last) layings made lays is =
+    (first, refl, subst (λ (d : Disk). HasShape first d) (same_some last made is) (shape_of format first layings last lays))
+lays_from format (Some first) None layings made lays is = absurd lays
+lays_from format None after layings made lays is = absurd (cc (lays.1, is))
+
+module _ (format : Format) (before after : Option Disk) (layings : List Laying) (lays : Lays format before layings after) where
+  formattable_then : IsFormattable format before → IsFormattable format after
+  formattable_then can =
+      let made = lays_some format before after layings can.0 lays can.1 in
+      (made.0, made.1, can_shape format can.0 made.0 made.2 can.2)
+
+  formattable_before : IsFormattable format after → IsFormattable format before
+  formattable_before can =
+      let from = lays_from format before after layings can.0 lays can.1 in
+      (from.0, from.1, can_shape format can.0 from.0 (shape_back from.0 can.0 from.2) can.2)
+
+  formatted_later : (last : Option Disk) → IsFormatted format after last → IsFormatted format before last
+  formatted_later last is disk was has rate =
+      let made = lays_some format before after layings disk lays was in
+      let there = is made.0 made.1 (shape_tracks disk made.0 format.c format.h made.2 has) (made.2.rate ∙ rate) in
+      (there.0, there.1, there.2 ∙ ap (λ n. formatted format n) made.2.words)
+
+unformatted_later : (format : Format) (before middle after : Option Disk) → IsUnformatted format before middle → IsUnformatted format middle after → IsUnformatted format before after
+unformatted_later format before middle after first second none =
+    let same = first none in
+    second (λ disk was has rate. none disk (sym same ∙ was) has rate) ∙ same
+
+disks_append : (format : Format) (disk middle after : Disk) (first second : List Laying) → LaysDisk format disk first middle → LaysDisk format middle second after → LaysDisk format disk (first ++ second) after
+disks_append format disk middle after [] second same later = subst (λ (d : Disk). LaysDisk format d second after) same later
+disks_append format disk middle after (laying ∷ rest) second (next, one, more) later = (next, one, disks_append format next middle after rest second more later)
+
+lays_append : (format : Format) (before middle after : Option Disk) (first second : List Laying) → Lays format before first middle → Lays format middle second after → Lays format before (first ++ second) after
+lays_append format (Some disk) (Some middle) (Some after) first second one two = disks_append format disk middle after first second one two
+lays_append format (Some disk) (Some middle) None first second one two = absurd two
+lays_append format (Some disk) None after first second one two = absurd one
+lays_append format None (Some middle) after first second one two = absurd (cc one.1)
+lays_append format None None after first second one two = (ap (λ (xs : List Laying). xs ++ second) one.0 ∙ two.0, two.1)
+
+-- ---- one attempt more
+
+more_commands : (rate : Rate) (n : ℕ) → n * (1 + sectors_at rate) + 1 * (1 + sectors_at rate) ≤ (n + 1) * (1 + sectors_at rate)
+more_commands R500 n = omega arith
+more_commands R250 n = omega arith
+
+fewer_commands : (rate : Rate) (few most : ℕ) → few ≤ most → few * (1 + sectors_at rate) ≤ most * (1 + sectors_at rate)
+fewer_commands R500 few most le = omega arith
+fewer_commands R250 few most le = omega arith
+
+-- no attempt was made yet
+pub formats_none : (format : Format) (bay : ℕ) (code : Code) (medium : Option Disk) (old : Counters) → FormatsIn 0 format bay (Err code) medium medium old old
+formats_none format bay code medium old = record {
+  layings = [];
+  few = omega arith;
+  lays = lays_none format medium medium refl;
+  only = λ quiet k d below. absurd (omega arith);
+  untouched = λ quiet none. refl;
+  never = λ failed can less. let t = less.together in omega arith;
+  driven = record { most_commands = omega arith; interrupts = omega arith; past_driver = refl };
+  ends = λ some. absurd (omega arith);
+}
+
+module _ (n : ℕ) (format : Format) (bay : ℕ) (code : Code) (answer : Result (Unit {0}) Code) (before middle after : Option Disk) (old mid new : Counters) (one : GoesOn old mid) (two : GoesOn mid new) (first : FormatsIn n format bay (Err code) before middle old mid) (second : FormatsIn 1 format bay answer middle after mid new) where
+  later : IsUndisturbed bay old new → IsUndisturbed bay mid new
+  later = undisturbed_part bay old mid new new one two (goes_on_itself new)
+
+  sooner : IsUndisturbed bay old new → IsUndisturbed bay old mid
+  sooner = undisturbed_part bay old old mid new (goes_on_itself old) one two
+
+  last : EndsFormat format bay answer middle after mid new
+  last = second.ends (omega arith)
+
+  to_middle : IsFormattable format before → IsFormattable format middle
+  to_middle = formattable_then format before middle first.layings first.lays
+
+  from_middle : IsFormattable format middle → IsFormattable format before
+  from_middle = formattable_before format before middle first.layings first.lays
+
+  by_now : IsFormatted format middle after → IsFormatted format before after
+  by_now = formatted_later format before middle first.layings first.lays after
+
+  reason : (a : Result (Unit {0}) Code) → IfErr a (λ c. IsAttemptRefusal bay c mid new) → IfErr a (λ c. IsAttemptRefusal bay c old new)
+  reason (Ok is) refused = tt
+  reason (Err c) refused =
+      let s = one.stalls in
+      let f = faults_go_on old mid bay one in
+      record {
+        device = refused.device;
+        undisturbed = λ quiet. refused.undisturbed (later quiet);
+        overrun = λ e. let rose = refused.overrun e in omega arith;
+        lost = λ e. let rose = refused.lost e in omega arith;
+      }
+
+  pub formats_more : FormatsIn (n + 1) format bay answer before after old new
+  formats_more = record {
+    layings = first.layings ++ second.layings;
+    few = let a = first.few in let b = second.few in omega (arith, length-append first.layings second.layings);
+    lays = lays_append format before middle after first.layings second.layings first.lays second.lays;
+    only = λ quiet.
+        All-append (λ laying. laying.cylinder ≡ format.c) first.layings second.layings
+        (first.only (faultless_first bay old mid new one two quiet)) (second.only (faultless_later bay old mid new one two quiet));
+    untouched = λ quiet. unformatted_later format before middle after (first.untouched (sooner quiet)) (second.untouched (later quiet));
+    never = λ failed can less.
+        disturbed_less_more n bay old mid new one two (first.never refl can) (second.never failed (to_middle can)) less;
+    driven =
+        driven_within (n * (1 + sectors_at format.rate) + 1 * (1 + sectors_at format.rate)) ((n + 1) * (1 + sectors_at format.rate)) old new
+        (more_commands format.rate n)
+        (driven_after (n * (1 + sectors_at format.rate)) (1 * (1 + sectors_at format.rate)) old mid new one two first.driven second.driven);
+    ends = λ some. record {
+      exactly = λ quiet.
+          let exact = last.exactly (later quiet) in
+          (λ ok. from_middle (exact.0 ok), λ can. exact.1 (to_middle can));
+      begun = λ quiet. by_now (last.begun (later quiet));
+      commands = λ ok. let rose = last.commands ok in let d = one.data_commands in omega arith;
+      formatted_track = λ ok quiet.
+          let so = last.formatted_track ok (faultless_later bay old mid new one two quiet) in
+          (from_middle so.0, by_now so.1);
+      refused = reason answer last.refused;
+    };
+  }
+
+-- attempts that were left over change nothing
+pub formats_done : (count most : ℕ) (format : Format) (bay : ℕ) (before after : Option Disk) (old new : Counters) → 1 ≤ count → count ≤ most → FormatsIn count format bay (Ok tt) before after old new → FormatsIn most format bay (Ok tt) before after old new
+formats_done count most format bay before after old new some within formats = record {
+  layings = formats.layings;
+  few = let few = formats.few in omega arith;
+  lays = formats.lays;
+  only = formats.only;
+  untouched = formats.untouched;
+  never = λ failed. absurd (false≢true failed);
+  driven = driven_within (count * (1 + sectors_at format.rate)) (most * (1 + sectors_at format.rate)) old new (fewer_commands format.rate count most within) formats.driven;
+  ends = λ any. formats.ends some;
+}
+
+-- ---- the station
+
+abbrev with_medium : Bay → Option Disk → Bay
+with_medium bay medium = record bay { medium = medium }
+
+-- with another medium in the bay of a number
+abbrev put_in : Bool → Two Bay → Option Disk → Two Bay
+put_in is_first bays medium =
+    if is_first then record bays { first = with_medium (if is_first then bays.first else bays.second) medium }
+    else record bays { second = with_medium (if is_first then bays.first else bays.second) medium }
+
+put_twice : (is_first : Bool) (bays : Two Bay) (first second : Option Disk) → put_in is_first (put_in is_first bays first) second ≡ put_in is_first bays second
+put_twice true bays first second = refl
+put_twice false bays first second = refl
+
+-- nothing but the medium of a bay and counters: twice
+pub medium_twice : (old middle new : StationState) (bay : ℕ) (first second : Option Disk) → HasOnlyMedium old bay first middle → HasOnlyMedium middle bay second new → HasOnlyMedium old bay second new
+medium_twice old middle new bay first second one two =
+    two
+    ∙ ap (λ (s : StationState). record s { bays = put_in (bay == 0) s.bays second; counters = new.counters }) one
+    ∙ ap (λ (b : Two Bay). record old { bays = b; counters = new.counters }) (put_twice (bay == 0) old.bays first second)
+
+-- not at all
+pub medium_itself : (old : StationState) (bay : ℕ) (medium : Option Disk) → (bay_of old bay).medium ≡ medium → HasOnlyMedium old bay medium old
+medium_itself old bay medium is = ap (λ (b : Two Bay). record old { bays = b }) (by_bay (bay == 0) is)
+  where
+    by_bay : (is_first : Bool) → (if is_first then old.bays.first else old.bays.second).medium ≡ medium → old.bays ≡ put_in is_first old.bays medium
+    by_bay true e = ap (λ (m : Option Disk). record old.bays { first = with_medium old.bays.first m }) e
+    by_bay false e = ap (λ (m : Option Disk). record old.bays { second = with_medium old.bays.second m }) e

@@ -1,0 +1,149 @@
+-- Reading a record back to the driver's page.
+use Rattle.std.proofs.Common.{◌≡◌, ℕ, ◌+◌, ◌≤◌, Bool, false, List, length, drop, replicate, get_or, Option, Ok, Err, sym, ap, ◌∙◌, subst, arith, inl, inr}
+use Rattle.std.proofs.lemmas.Bool.{false≢true}
+use Rattle.std.proofs.lemmas.List.{get_or_append_left, get_or-replicate}
+use Rattle.flop_base.specs.declared.key.Chrn.{Chrn}
+use Rattle.flop_base.specs.declared.answers.Rate.{Rate}
+use Rattle.flop_base.specs.declared.answers.Code.{Code}
+use Rattle.flop_base.specs.declared.answers.Code.TheVariants.{BadRequest, NoMark, Protected, NotFound, NotReady, Changed, Overrun, Page, BadCrc, Seek}
+use Rattle.raw_image.specs.Disk.{Disk, track_of}
+use Rattle.track_model.specs.declared.Look.TheVariants as look
+use Rattle.track_model.specs.Fields.{content_size, content_at}
+use Rattle.track_model.specs.Sectors.{IsSector}
+use Rattle.track_model.proofs.Unique.{one_look_at}
+use Rattle.bay_model.specs.Bays.{Two, in_bay}
+use Rattle.bay_model.proofs.Counted.{goes_on_after, goes_on_itself}
+use Rattle.sector_map.specs.Met.{met_in}
+use Rattle.sector_map.specs.Standard.{key_of}
+use Rattle.bay_model.specs.Counters.{IsUndisturbed}
+use Rattle.bay_model.specs.Memory.{with_bytes}
+use Rattle.sector_map.proofs.MetTracks.{met_track}
+use Rattle.single_commands.specs.Rigs.{Rig, HeadsStay, track_under}
+use Rattle.single_commands.specs.Reading.{IsReadReason, ReadsBack}
+use Rattle.floppy_driver.specs.Formattings.{IsFilled, HoldsRecord, HoldsRecords, ReadsRecords}
+use Rattle.floppy_driver.proofs.Shows.{driven_after, driven_within, undisturbed_part, undisturbed_faultless}
+
+-- a read of a record that is there has no reason to fail
+no_reason : (track : List ℕ) (key : Chrn) (fill : ℕ) (code : Code) → HoldsRecord track key fill → IsReadReason track key code → ⊥
+no_reason track key fill NoMark holds (inl none) = none holds.clear.0 holds.clear.1.clear
+no_reason track key fill NoMark holds (inr found) =
+    let there = holds.filled found.0 found.1 in
+    found.2 there.1.0 false there.1.1
+no_reason track key fill NotFound holds reason = reason.1 holds.clear
+no_reason track key fill BadCrc holds found =
+    let there = holds.filled found.0 found.1 in
+    let same : look.BadCrc ≡ look.Found false there.0 = one_look_at track found.0 key.n look.BadCrc (look.Found false there.0) found.2 there.1 in
+    absurd (cc same)
+no_reason track key fill BadRequest holds reason = reason
+no_reason track key fill Protected holds reason = reason
+no_reason track key fill NotReady holds reason = reason
+no_reason track key fill Changed holds reason = reason
+no_reason track key fill Overrun holds reason = reason
+no_reason track key fill Page holds reason = reason
+no_reason track key fill Seek holds reason = reason
+
+same_place : (a b : Bool) (p q : ℕ) → look.Found a p ≡ look.Found b q → p ≡ q
+same_place a b p q e = cc e
+
+-- a record of this byte has no other content
+held_content : (track : List ℕ) (key : Chrn) (fill : ℕ) (deleted : Bool) (content : List ℕ) → HoldsRecord track key fill → IsSector track key deleted content → content ≡ replicate (content_size key.n) fill
+held_content track key fill deleted content holds sector =
+    let there = holds.filled sector.0 sector.2 in
+    let same : look.Found deleted sector.1 ≡ look.Found false there.0 = one_look_at track sector.0 key.n (look.Found deleted sector.1) (look.Found false there.0) sector.3 there.1 in
+    sector.4 ∙ ap (λ place. content_at track place key.n) (same_place deleted false sector.1 there.0 same) ∙ there.2
+
+-- the beginning of a page of this byte
+filled_page : (page content new : List ℕ) (count fill : ℕ) → new ≡ with_bytes page 0 content → length content ≡ count → content ≡ replicate count fill → IsFilled new count fill
+unfolding with_bytes
+filled_page page content new count fill is long all k below =
+    ap (λ (bytes : List ℕ). get_or bytes k 0) is
+    ∙ get_or_append_left content (drop (0 + length content) page) 0 k (omega arith)
+    ∙ ap (λ (bytes : List ℕ). get_or bytes k 0) all
+    ∙ get_or-replicate count k fill 0 below
+
+module _ (old : Rig) (bay : ℕ) (key : Chrn) (rate : Rate) (fill : ℕ) where
+  abbrev track : List ℕ
+  track = track_under old bay rate key.h
+
+  abbrev Holds : Type 0
+  Holds = HoldsRecord track key fill
+
+  module _ (code : Code) (new : Rig) where
+    pub read_back_missed : ReadsBack old bay key rate (Err code) new → ReadsRecords old bay 1 Holds (Err code) new
+    read_back_missed reads = record {
+      heads = reads.sends.heads;
+      media = reads.sends.media;
+      memory = reads.memory;
+      counts = reads.sends.counts;
+      driven = reads.sends.driven;
+      commands = λ ok. absurd (false≢true ok);
+      refused = record {
+        coded = reads.refused.coded;
+        overrun = reads.refused.overrun;
+        disturbed = λ holds quiet. no_reason track key fill code holds (reads.refused.reason quiet);
+      };
+    }
+
+  module _ (deleted : Bool) (new : Rig) (reads : ReadsBack old bay key rate (Ok deleted) new) where
+    page_filled : Holds → IsUndisturbed bay old.counters new.counters → IsFilled new.page (content_size key.n) fill
+    page_filled holds quiet =
+        let content = reads.found.0 in
+        let field = reads.found.1 in
+        let there : List ℕ = track_of field.disk (in_bay old.cylinders bay) key.h in
+        let met : track ≡ there = met_track (in_bay old.media bay) rate (in_bay old.cylinders bay) key.h field.disk (record { is_in = field.medium; has = field.track; same_rate = field.same_rate }) in
+        let sector : IsSector there key deleted content = field.sector (inl (undisturbed_faultless bay old.counters new.counters reads.sends.counts quiet)) in
+        let holds_there : HoldsRecord there key fill = subst (λ (words : List ℕ). HoldsRecord words key fill) met holds in
+        filled_page old.page content new.page (content_size key.n) fill reads.found.2 field.size (held_content there key fill deleted content holds_there sector)
+
+    pub read_back_differs : (IsFilled new.page (content_size key.n) fill → ⊥) → ReadsRecords old bay 1 Holds (Err BadCrc) new
+    read_back_differs other = record {
+      heads = reads.sends.heads;
+      media = reads.sends.media;
+      memory = reads.memory;
+      counts = reads.sends.counts;
+      driven = reads.sends.driven;
+      commands = λ ok. absurd (false≢true ok);
+      refused = record {
+        coded = tt;
+        overrun = λ e. absurd (cc e);
+        disturbed = λ holds quiet. other (page_filled holds quiet);
+      };
+    }
+
+-- ---- one record after the other
+
+-- what is met stays where neither the medium nor the heads change
+same_under : (old new : Rig) (bay : ℕ) (rate : Rate) (h : ℕ) → HeadsStay old new → new.media ≡ old.media → track_under new bay rate h ≡ track_under old bay rate h
+same_under old new bay rate h heads media =
+    ap (λ (m : Two (Option Disk)). met_in (in_bay m bay) rate (in_bay new.cylinders bay) h) media
+    ∙ ap (λ (c : Two ℕ). met_in (in_bay old.media bay) rate (in_bay c bay) h) heads.cylinders
+
+pub heads_stay_after : (a b c : Rig) → HeadsStay a b → HeadsStay b c → HeadsStay a c
+heads_stay_after a b c one two = record {
+  cylinders = two.cylinders ∙ one.cylinders;
+  numbers = two.numbers ∙ one.numbers;
+  changes = two.changes ∙ one.changes;
+  spun = record { first = λ e. two.spun.first (one.spun.first e); second = λ e. two.spun.second (one.spun.second e) };
+}
+
+-- the record behind those that were read back could not be
+pub reads_failed : (old middle new : Rig) (bay so_far most : ℕ) (there next : Type 0) (code : Code) → so_far + 1 ≤ most → (there → next) → ReadsRecords old bay so_far there (Ok tt) middle → ReadsRecords middle bay 1 next (Err code) new → ReadsRecords old bay most there (Err code) new
+reads_failed old middle new bay so_far most there next code within has first second = record {
+  heads = heads_stay_after old middle new first.heads second.heads;
+  media = second.media ∙ first.media;
+  memory = second.memory ∙ first.memory;
+  counts = goes_on_after old.counters middle.counters new.counters first.counts second.counts;
+  driven =
+      driven_within (so_far + 1) most old.counters new.counters within
+      (driven_after so_far 1 old.counters middle.counters new.counters first.counts second.counts first.driven second.driven);
+  commands = λ ok. absurd (false≢true ok);
+  refused = record {
+    coded = second.refused.coded;
+    overrun = λ e. let rose = second.refused.overrun e in let s = first.counts.stalls in omega arith;
+    disturbed = λ holds quiet. second.refused.disturbed (has holds) (undisturbed_part bay old.counters middle.counters new.counters new.counters first.counts second.counts (goes_on_itself new.counters) quiet);
+  };
+}
+
+pub held_next : (old middle : Rig) (bay : ℕ) (rate : Rate) (c h last fill r : ℕ) → HeadsStay old middle → middle.media ≡ old.media → 1 ≤ r → r ≤ last → HoldsRecords (track_under old bay rate h) c h last fill → HoldsRecord (track_under middle bay rate h) (key_of c h r) fill
+held_next old middle bay rate c h last fill r heads media some most holds =
+    subst (λ (words : List ℕ). HoldsRecord words (key_of c h r) fill) (sym (same_under old middle bay rate h heads media)) (holds r some most)

@@ -1,0 +1,63 @@
+use Rattle.std.proofs.Common.{◌+◌, Ok, Err, refl, ap, ◌∙◌, arith}
+use Rattle.bay_model.specs.Bays.{in_bay}
+use Rattle.bay_model.proofs.Counted.{goes_on_itself, goes_on_after}
+use Rattle.sector_model.specs.Stations.{Bay}
+use Rattle.floppy_driver.specs.Shown.{shown}
+use Rattle.floppy_driver.specs.Formattings.{format_of}
+use Rattle.floppy_driver.proofs.Shows.{bay_shown_at}
+use Rattle.floppy_driver.proofs.FormatTries.{formats_none, formats_more, formats_done, medium_twice, medium_itself}
+use Rattle.floppy_driver.proofs.driver.Driver.format_in_attempts.Goals as goal
+
+pub loop-init : goal.loop-init
+loop-init g c =
+    let rig = g.C.Commands.rig c.args.machine.now in
+    let driver = c.args.self.now in
+    let medium = in_bay rig.media c.args.bay in
+    record {
+      idle = c.requires.idle;
+      can = c.requires.can;
+      tries = refl;
+      counts = goes_on_itself rig.counters;
+      formats = formats_none (format_of c.args.asked) c.args.bay _ medium rig.counters;
+      medium = λ spares waiting. medium_itself (shown driver rig spares waiting) c.args.bay medium (ap (λ (b : Bay). b.medium) (bay_shown_at driver rig spares waiting c.args.bay));
+    }
+
+pub returns-in-Ok-clause-formats : goal.returns-in-Ok-clause-formats
+returns-in-Ok-clause-formats g c =
+    let old = g.C.Commands.rig c.args.machine.now in
+    let middle = g.C.Commands.rig c.loop.machine in
+    let new = g.C.Commands.rig c.format_once.new.machine in
+    let bay = c.args.bay in
+    let so_far = c.loop.invariant in
+    formats_done (c.loop.counter + 1) c.args.self.now.tries (format_of c.args.asked) bay (in_bay old.media bay) (in_bay new.media bay) old.counters new.counters (omega arith) (omega arith)
+    (formats_more c.loop.counter (format_of c.args.asked) bay c.loop.last (Ok c.in-Ok.field-0) (in_bay old.media bay) (in_bay middle.media bay) (in_bay new.media bay)
+    old.counters middle.counters new.counters so_far.counts c.format_once.ensures.counts so_far.formats c.in-Ok.ensures.formats)
+
+pub returns-in-Ok-clause-medium : goal.returns-in-Ok-clause-medium
+returns-in-Ok-clause-medium g c = λ spares waiting.
+    let middle = g.C.Commands.rig c.loop.machine in
+    let new = g.C.Commands.rig c.format_once.new.machine in
+    let bay = c.args.bay in
+    medium_twice (shown c.args.self.now (g.C.Commands.rig c.args.machine.now) spares waiting) (shown c.loop.self middle spares waiting) (shown c.format_once.new.self new spares waiting) bay
+    (in_bay middle.media bay) (in_bay new.media bay) (c.loop.invariant.medium spares waiting) (c.format_once.ensures.medium spares waiting)
+
+pub loop-preserved : goal.loop-preserved
+loop-preserved g c =
+    let old = g.C.Commands.rig c.args.machine.now in
+    let middle = g.C.Commands.rig c.loop.machine in
+    let new = g.C.Commands.rig c.format_once.new.machine in
+    let bay = c.args.bay in
+    let so_far = c.loop.invariant in
+    let done = c.format_once.ensures in
+    record {
+      idle = done.idle;
+      can = done.can;
+      tries = done.tries ∙ so_far.tries;
+      counts = goes_on_after old.counters middle.counters new.counters so_far.counts done.counts;
+      formats =
+          formats_more c.loop.counter (format_of c.args.asked) bay c.loop.last (Err c.in-Err.code) (in_bay old.media bay) (in_bay middle.media bay) (in_bay new.media bay)
+          old.counters middle.counters new.counters so_far.counts done.counts so_far.formats c.in-Err.ensures.formats;
+      medium = λ spares waiting.
+          medium_twice (shown c.args.self.now old spares waiting) (shown c.loop.self middle spares waiting) (shown c.format_once.new.self new spares waiting) bay
+          (in_bay middle.media bay) (in_bay new.media bay) (so_far.medium spares waiting) (done.medium spares waiting);
+    }

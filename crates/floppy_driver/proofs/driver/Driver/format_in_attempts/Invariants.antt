@@ -1,0 +1,21 @@
+use Rattle.std.proofs.Common.{◌≡◌, ℕ, List, Err}
+use Rattle.bay_model.specs.Bays.{in_bay}
+use Rattle.bay_model.specs.Counters.{DriveCounts, GoesOn}
+use Rattle.floppy_driver.specs.Shown.{shown}
+use Rattle.floppy_driver.specs.Writings.{CanWrite}
+use Rattle.floppy_driver.specs.Formattings.{format_of, FormatsIn, HasOnlyMedium}
+use Rattle.floppy_driver.proofs.driver.Driver.format_in_attempts.Given as goal
+
+abbrev pub invariant-loop : goal.invariant-loop
+invariant-loop g l = record {
+  idle : g.C.Commands.is_idle l.machine;
+  can : CanWrite l.self (g.C.Commands.rig l.machine) l.bay;
+  tries : l.self.tries ≡ l.initial.self.tries;
+  counts : GoesOn (g.C.Commands.rig l.initial.machine).counters (g.C.Commands.rig l.machine).counters;
+  formats : FormatsIn l.counter (format_of l.asked) l.bay (Err l.last)
+      (in_bay (g.C.Commands.rig l.initial.machine).media l.bay) (in_bay (g.C.Commands.rig l.machine).media l.bay)
+      (g.C.Commands.rig l.initial.machine).counters (g.C.Commands.rig l.machine).counters;
+  medium : (spares : ℕ) (waiting : List DriveCounts) → HasOnlyMedium
+      (shown l.initial.self (g.C.Commands.rig l.initial.machine) spares waiting) l.bay (in_bay (g.C.Commands.rig l.machine).media l.bay)
+      (shown l.self (g.C.Commands.rig l.machine) spares waiting);
+}

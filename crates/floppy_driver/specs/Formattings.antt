@@ -1,0 +1,95 @@
+-- A format of a track, attempt by attempt.
+use Rattle.std.specs.Prelude.{◌≡◌, ◌↔◌, ℕ, ◌+◌, ◌*◌, ◌<◌, ◌≤◌, List, length, slice_index, All, Option, Result, IsOk, IsErr, IfErr}
+use Rattle.flop_base.specs.Counts.{RoseBy}
+use Rattle.flop_base.specs.Standard.{sectors_at}
+use Rattle.flop_base.specs.declared.key.Chrn.{Chrn}
+use Rattle.flop_base.specs.declared.answers.Code.{Code}
+use Rattle.flop_base.specs.declared.answers.Code.TheVariants.{NoMark, Overrun, Seek}
+use Rattle.raw_image.specs.Disk.{Disk}
+use Rattle.track_format.specs.Reads.{AllFilled}
+use Rattle.bay_model.specs.Counters.{Counters, IsFaultless, IsUndisturbed, DisturbedLess, FaultsRoseBy, GoesOn, IsDriven}
+use Rattle.sector_map.specs.Met.{HasClearAddress}
+use Rattle.sector_map.specs.Standard.{key_of}
+use Rattle.sector_map.specs.Layings.{Format, Laying, IsFormattable}
+use Rattle.sector_model.specs.Stations.{StationState, Becomes, bay_of, set_bay}
+use Rattle.sector_model.specs.Orders.{IsDeviceRefusal}
+use Rattle.sector_model.specs.Formats.{Lays, IsFormatted, IsUnformatted}
+use Rattle.single_commands.specs.Rigs.{Rig, HeadsStay}
+use Rattle.single_commands.specs.Reading.{IsReadCode}
+use Rattle.floppy_driver.specs.declared.formatting.Asked.{Asked}
+
+-- the format that is asked for
+abbrev pub format_of : Asked → Format
+format_of asked = record { c = asked.c; h = asked.h; rate = asked.rate; gap3 = asked.gap3; fill = asked.fill }
+
+-- a format of a track of a drive, with a gap 3 and a byte
+pub record IsValidFormat (format : Format) : Type 0 where
+  pub cylinder : format.c ≤ 79
+  pub head : format.h ≤ 1
+  pub gap : 16 ≤ format.gap3
+  pub byte : format.fill < 256
+
+-- ---- reading back
+
+-- the first bytes of the page, so many, are this one
+abbrev pub IsFilled : List ℕ → ℕ → ℕ → Type 0
+IsFilled page count fill = (k : ℕ) → k < count → slice_index page k ≡ fill
+
+-- a record of the key can be found on the track, and all of it is this byte
+pub record HoldsRecord (track : List ℕ) (key : Chrn) (fill : ℕ) : Type 0 where
+  pub clear : HasClearAddress track key
+  pub filled : AllFilled track key fill
+
+-- so it is with each record from 1 to the last
+abbrev pub HoldsRecords : List ℕ → ℕ → ℕ → ℕ → ℕ → Type 0
+HoldsRecords track c h last fill = (r : ℕ) → 1 ≤ r → r ≤ last → HoldsRecord track (key_of c h r) fill
+
+-- records could not be read back, and so it goes where they are there only if something disturbs
+pub record IsReadBackMiss (bay : ℕ) (there : Type 0) (code : Code) (old new : Counters) : Type 0 where
+  pub coded : IsReadCode code
+  pub overrun : code ≡ Overrun → RoseBy 1 old.stalls new.stalls
+  pub disturbed : there → IsUndisturbed bay old new → ⊥
+
+-- records, so many, were read back: nothing changed but counters and the driver's page
+pub record ReadsRecords (old : Rig) (bay count : ℕ) (there : Type 0) (answer : Result (Unit {0}) Code) (new : Rig) : Type 0 where
+  pub heads : HeadsStay old new
+  pub media : new.media ≡ old.media
+  pub memory : new.memory ≡ old.memory
+  pub counts : GoesOn old.counters new.counters
+  pub driven : IsDriven count old.counters new.counters
+  pub commands : IsOk answer → RoseBy count old.counters.data_commands new.counters.data_commands
+  pub refused : IfErr answer (λ code. IsReadBackMiss bay there code old.counters new.counters)
+
+-- ---- attempts
+
+-- why the last attempt was refused
+pub record IsAttemptRefusal (bay : ℕ) (code : Code) (old new : Counters) : Type 0 where
+  pub device : IsDeviceRefusal code
+  pub undisturbed : IsUndisturbed bay old new → code ≡ NoMark
+  pub overrun : code ≡ Overrun → RoseBy 1 old.stalls new.stalls
+  pub lost : code ≡ Seek → FaultsRoseBy 77 bay old new
+
+-- how the last attempt ended
+pub record EndsFormat (format : Format) (bay : ℕ) (answer : Result (Unit {0}) Code) (before after : Option Disk) (old new : Counters) : Type 0 where
+  pub exactly : IsUndisturbed bay old new → IsOk answer ↔ IsFormattable format before
+  pub begun : IsUndisturbed bay old new → IsFormatted format before after
+  pub commands : IsOk answer → RoseBy (1 + sectors_at format.rate) old.data_commands new.data_commands
+  pub formatted_track : IsOk answer → IsFaultless bay old new
+      → IsFormattable format before × IsFormatted format before after
+  pub refused : IfErr answer (λ code. IsAttemptRefusal bay code old new)
+
+-- a medium was formatted in so many attempts, the answer being that of the last
+pub record FormatsIn (count : ℕ) (format : Format) (bay : ℕ) (answer : Result (Unit {0}) Code) (before after : Option Disk) (old new : Counters) : Type 0 where
+  pub layings : List Laying
+  pub few : length layings ≤ count
+  pub lays : Lays format before layings after
+  pub only : IsFaultless bay old new → All (λ laying. laying.cylinder ≡ format.c) layings
+  pub untouched : IsUndisturbed bay old new → IsUnformatted format before after
+  -- each attempt that fails on a formattable medium was disturbed
+  pub never : IsErr answer → IsFormattable format before → DisturbedLess count bay old new → ⊥
+  pub driven : IsDriven (count * (1 + sectors_at format.rate)) old new
+  pub ends : 1 ≤ count → EndsFormat format bay answer before after old new
+
+-- nothing of the station changed but the medium in a bay, and counters
+abbrev pub HasOnlyMedium : StationState → ℕ → Option Disk → StationState → Type 0
+HasOnlyMedium old bay medium new = Becomes (set_bay old bay (record (bay_of old bay) { medium = medium })) new
