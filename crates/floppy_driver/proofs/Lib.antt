@@ -14,7 +14,7 @@ mod ReadStep
 mod ReadTries
 mod Shows
 mod Worked
-pub mod Rising
+mod Rising
 mod CheckedWrites
 mod WriteAttempts
 mod WriteChanges

@@ -1,11 +1,9 @@
 -- One attempt at a write, as the station shows it.
 use Rattle.std.proofs.Common.{MatchOption, IfErr, ◌≡◌, ◌↔◌, ℕ, zero, suc, ◌-◌, ◌≤◌, Bool, true, false, IsTrue, List, Option, Some, None, IsSome, is_some, Result, Ok, Err, refl, sym, ap, ◌∙◌, subst, arith}
 use Rattle.std.specs.Option.{option_map_or}
-use Rattle.std.proofs.lemmas.Bool.{false≢true}
 use Rattle.flop_base.specs.declared.key.Chrn.{Chrn}
 use Rattle.flop_base.specs.declared.answers.Rate.{Rate}
 use Rattle.flop_base.specs.declared.answers.Code.{Code}
-use Rattle.flop_base.specs.declared.answers.Code.TheVariants.{Seek}
 use Rattle.raw_image.specs.Disk.{Disk}
 use Rattle.bay_model.specs.Bays.{Two, in_bay}
 use Rattle.bay_model.specs.Memory.{bytes_from}
@@ -28,7 +26,7 @@ use Rattle.floppy_driver.proofs.Attempts.{prepared_ready, prepared_shown, prepar
 use Rattle.floppy_driver.specs.Attached.{IsAttached}
 use Rattle.floppy_driver.specs.Prepared.{IsPrepared}
 use Rattle.floppy_driver.specs.Writings.{CanWrite, IsMissCause, IsReadBack, WritesChecked, ChangesBay, TriesWrite}
-use Rattle.floppy_driver.proofs.Shows.{waiting_goes_on, waiting_driven, waiting_undisturbed, driven_after, driven_within, held_bay, bay_shown_at, held_bay_shown, held_lines_stay, attached_stays}
+use Rattle.floppy_driver.proofs.Shows.{waiting_goes_on, waiting_driven, waiting_undisturbed, driven_after, held_bay, bay_shown_at, held_bay_shown, held_lines_stay, attached_stays}
 use Rattle.floppy_driver.proofs.Rising.{less_first, less_later, disturbed_later, stalls_later, commands_later, rose_later}
 
 -- ---- earlier counts
@@ -158,32 +156,6 @@ module _ (driver after : Driver) (old mid : Rig) (bay target : ℕ) (way : Prepa
 
     asked : HasAsked (shown driver old spares waiting) (shown after mid spares waiting)
     asked = prepared_shown driver after old mid bay target way ready can.ready is prepared spares waiting
-
-    -- track 0 wasn't reached: no command was sent
-    pub tries_lost : (sure : Type 0) (written : Written) → ready ≡ false → TriesWrite sure written bay (Err Seek) (shown driver old spares waiting) (shown after mid spares waiting)
-    tries_lost sure written lost =
-        let here : (bay_of (shown after mid spares waiting) bay).medium ≡ in_bay mid.media bay = ap (λ (b : Bay). b.medium) (bay_shown_at after mid spares waiting bay) in
-        record {
-          cylinder = written.key.c;
-          change = None;
-          becomes = put_after (shown driver old spares waiting) (shown after mid spares waiting) (shown after mid spares waiting) bay (in_bay mid.media bay) asked.stays
-              (put_shown after mid mid spares waiting bay can.ready.in_range refl refl refl) here;
-          does = here ∙ sym medium_old;
-          here = tt;
-          steady = λ steady. refl;
-          surely = λ sure less. refl;
-          done = λ ok. absurd (false≢true ok);
-          refused = record {
-            device = tt;
-            no_mark = λ e. absurd (cc e);
-            not_found = λ e. absurd (cc e);
-            bad_data = λ e. absurd (cc e);
-            overrun = λ e. absurd (cc e);
-            lost = λ e. prepared.lost lost;
-          };
-          counts = asked.counts;
-          driven = driven_within 0 2 (shown driver old spares waiting).counters (shown after mid spares waiting).counters (omega arith) asked.idle;
-        }
 
     module _ (sure : Type 0) (written : Written) (answer : Result (Unit {0}) Code) (new : Rig) (wrote : WritesChecked mid bay (notes_of driver bay).rate written answer new) where
       medium_new : (bay_of (shown after new spares waiting) bay).medium ≡ in_bay new.media bay
