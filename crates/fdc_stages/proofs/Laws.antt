@@ -180,6 +180,11 @@ turned_few false turns e = subst (λ list. length list ≤ 1) (sym e) (omega ari
 pub searching_few : (past : Past) (wanted : Option Chrn) (searching : searched.Search) → IsSearching past wanted searching → HasFewTurns past
 searching_few past wanted searching is = turned_few searching.turned past.turns is.indexes
 
+-- with a word more, two have
+pub heard_few : (index : Bool) (word : ℕ) (past : Past) → HasFewTurns past → length (heard index word past).turns ≤ 2
+heard_few true word past few = omega arith
+heard_few false word past few = omega arith
+
 -- while the field is not over, one index has passed at most
 pub reading_few : (past : Past) (key : Chrn) (told : List ℕ) (stage : ReadStage) → IsReading past key told stage → ((deleted good : Bool) → stage ≡ Over deleted good → ⊥) → HasFewTurns past
 reading_few past key told (Search searching) reads on = searching_few past (Some key) searching reads.0

@@ -1,12 +1,14 @@
 -- What the ending of a reading says of the words heard.
-use Rattle.std.specs.Prelude.{◌≡◌, ◌⊎◌, ℕ, ◌+◌, Bool, true, Option, List, length}
+use Rattle.std.specs.Prelude.{◌≡◌, ◌⊎◌, ℕ, ◌+◌, Bool, true, Option, None, List, length}
 use Rattle.flop_base.specs.declared.key.Chrn.{Chrn}
 use Rattle.track_model.specs.declared.Look.TheVariants.{Found, NoData, BadCrc}
 use Rattle.track_model.specs.Fields.{IsAddressAt, content_size, content_at}
 use Rattle.track_model.specs.Looks.{HasAddressMark, LookAt}
 use Rattle.track_separator.specs.Parts.{IsPart}
+use Rattle.fdc_stages.specs.declared.ending.Ending.{Ending}
+use Rattle.fdc_stages.specs.declared.ending.Ending.TheVariants.{Done, NoMark, NoSector, Late}
 use Rattle.fdc_stages.specs.History.{Past, IsTurn, IsJustOver}
-use Rattle.fdc_stages.specs.Searches.{HasNoClear, HasMarkIn, IsBetween}
+use Rattle.fdc_stages.specs.Searches.{HasNoClear, HasMarkIn, IsBetween, IsMissed}
 
 -- a turn has the sector at p, its data mark at q; where as many bytes as its size were given, they are its content
 pub record IsFoundAt (past : Past) (key : Chrn) (given : List ℕ) (deleted : Bool) (turn : List ℕ) (p q : ℕ) : Type 0 where
@@ -28,6 +30,15 @@ pub record HasAddressIn (past : Past) (turn : List ℕ) (key : Chrn) (p : ℕ) :
 -- some turn has one
 abbrev pub HasAddress : Past → Chrn → Type 0
 HasAddress past key = (turn : List ℕ) × (p : ℕ) × HasAddressIn past turn key p
+
+-- how a READ ID ended, with this key: that of an address field in the words heard; without an address mark, or without an
+-- intact address field; or it took too long
+abbrev pub HasIdentified : Past → Chrn → Ending → Type 0
+HasIdentified past key (Done deleted) = HasAddress past key
+HasIdentified past key NoMark = IsMissed past None NoMark
+HasIdentified past key NoSector = IsMissed past None NoSector
+HasIdentified past key Late = past.steps ≡ 65536
+HasIdentified past key _ = ⊥
 
 -- a turn has an address field of the key, whose data field isn't whole
 abbrev pub FindsBadCheck : Past → Chrn → Type 0

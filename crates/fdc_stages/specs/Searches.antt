@@ -48,7 +48,7 @@ abbrev pub IsSearching : Past → Option Chrn → Search → Type 0
 IsSearching past wanted searching =
     IsSearchingIn past.turns past.seen wanted searching.separator searching.turned searching.marked
 
--- the words since the last index, the last of them among them, where the index may have followed it
+-- a search behind a word in which nothing was met, before an index that follows the word is counted
 pub record IsPassed (index : Bool) (past : Past) (word : ℕ) (wanted : Option Chrn) (separator : Separator) (turned marked : Bool) : Type 0 where
   pub follows : SFollows separator (turn_after index past.seen word)
   pub none : HasNoneIn wanted past.turns (with_word past.seen word)

@@ -6,7 +6,7 @@ ghost use Rattle.track_separator.specs.declared.state.Separator.{Separator};
 ghost use Rattle.fdc_stages.specs.History.{Past};
 ghost use Rattle.fdc_stages.specs.Searches.{IsMet, IsMissed};
 ghost use Rattle.fdc_stages.specs.Readings.{IsStart, IsReading, IsToldOf, HasRead};
-ghost use Rattle.fdc_stages.specs.Findings.{FindsSector, HasAddress, FindsBadCheck, FindsNoField, FindsNoMark, FindsNoSector};
+ghost use Rattle.fdc_stages.specs.Findings.{FindsSector, HasAddress, HasIdentified, FindsBadCheck, FindsNoField, FindsNoMark, FindsNoSector};
 
 use crate::ending::Ending;
 use crate::reading::ReadStage;
@@ -45,7 +45,12 @@ pub fn no_sector_is_heard(_wanted: Option<Chrn>)
     ensures { (past : Past) → IsMissed past _wanted Ending.NoSector → FindsNoSector past _wanted }
 {}
 
-/// The key that a search met is that of an address field in the words heard (READ ID).
+/// How a search for any address field ends is how a READ ID ends (82077AA, READ ID).
+pub fn missed_is_identified(_ending: Ending, _key: Chrn)
+    ensures { (past : Past) → IsMissed past Option.None _ending → HasIdentified past _key _ending }
+{}
+
+/// The key that a search met is that of an address field in the words heard.
 pub fn met_is_heard(_key: Chrn, _index: bool)
     ensures { (past : Past) (separator : Separator) → IsMet _index past _key separator → HasAddress past _key }
 {}
