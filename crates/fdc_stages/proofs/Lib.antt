@@ -1,0 +1,4 @@
+pub mod Laws
+pub mod Causes
+mod SearchWord
+mod ReadWord
