@@ -1,0 +1,5 @@
+pub mod Counted
+pub mod Drives
+pub mod Found
+pub mod Shown
+pub mod Sent
