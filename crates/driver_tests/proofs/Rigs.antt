@@ -1,5 +1,5 @@
 -- What commands make of the rig.
-use Rattle.std.proofs.Common.{◌≡◌, ℕ, ◌+◌, ◌<◌, ◌≤◌, ◌^◌, List, length, slice_index, Option, Some, None, IfSome, refl, sym, arith}
+use Rattle.std.proofs.Common.{Option, Some, None, IfSome, refl}
 use Rattle.std.specs.Option.{ForSome}
 
 pub if_some : {T : Type 0} (o : Option T) (P : T → Type 0) → ForSome o P → IfSome o P

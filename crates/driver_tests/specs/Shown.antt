@@ -1,5 +1,5 @@
 -- What a bench shows of itself.
-use Rattle.std.specs.Prelude.{ℕ, ◌+◌, ◌-◌, ◌==◌, [], List, None, min, if◌then◌else◌}
+use Rattle.std.specs.Prelude.{ℕ, ◌-◌, ◌==◌, [], List, None, if◌then◌else◌}
 use Rattle.flop_base.specs.Counts.{last_count}
 use Rattle.bay_model.specs.Counters.{DriveCounts, Counters}
 use Rattle.single_commands.specs.Rigs.{Rig}

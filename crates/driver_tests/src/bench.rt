@@ -4,7 +4,7 @@ ghost use Rattle.flop_base.specs.declared.answers.Code.{Code};
 ghost use Rattle.bay_model.specs.Memory.{user_bytes};
 ghost use Rattle.single_commands.specs.Rigs.{IsSound};
 ghost use Rattle.single_commands.specs.Reading.{IsReadCode};
-ghost use Rattle.single_commands.specs.Writing.{IsWriteCode};
+ghost use Rattle.single_commands.specs.Writing.{IsWriteCode, IsFormatCode};
 ghost use Rattle.floppy_driver.specs.declared.driver.Driver.{Driver};
 ghost use Rattle.floppy_driver.specs.Attached.{IsAttached, CanSetUp};
 ghost use Rattle.driver_tests.specs.Sent.{HasFault, IsDisturbed};
@@ -77,14 +77,14 @@ impl Bench {
 
     /// Plans the troubles of the data commands that come.
     pub fn plan(&mut self, troubles: &[Trouble]) -> Result<(), AllocError>
-        ensures { rig_shown self.new ≡ rig_shown self.old }
+        ensures { (driver : Driver) → IsAttached driver (rig_shown self.old) → IsAttached driver (rig_shown self.new) }
     {
         self.script.plan(troubles)
     }
 
     /// Plans how many pulses the movements of heads that come lose.
     pub fn lose(&mut self, lost: &[u8]) -> Result<(), AllocError>
-        ensures { rig_shown self.new ≡ rig_shown self.old }
+        ensures { (driver : Driver) → IsAttached driver (rig_shown self.old) → IsAttached driver (rig_shown self.new) }
     {
         self.script.lose(lost)
     }
@@ -129,7 +129,8 @@ impl Bench {
     /// A write or a format that fails so.
     pub(crate) fn refuse_write(&mut self, bay: u8, trouble: Trouble) -> Code
         requires { bay ≤ 1 }
-        ensures { IsDisturbed IsWriteCode (rig_shown self.old) bay result (rig_shown self.new) }
+        ensures write { IsDisturbed IsWriteCode (rig_shown self.old) bay result (rig_shown self.new) }
+        ensures format { IsDisturbed IsFormatCode (rig_shown self.old) bay result (rig_shown self.new) }
     {
         match trouble {
             Trouble::Stalled => {

@@ -159,7 +159,7 @@ impl Drive {
     /// The track under a head, where the medium has it at this rate.
     fn track(&self, rate: Rate, head: u8) -> Option<&[u16]>
         ensures { MatchOption result (HasNothing (met_in self.now.medium rate self.now.cylinder head))
-            (λ track. IsUnderHead self.now rate head track.now) }
+            (λ track. IsUnderHead self.now.medium rate self.now.cylinder head track.now) }
     {
         let Some(medium) = &self.medium else {
             return None;
@@ -174,7 +174,7 @@ impl Drive {
     pub fn read(&self, key: Chrn, rate: Rate, content: &mut [u8]) -> Result<bool, Code>
         requires coded { IsSizeCode key.n }
         requires room { length content.old ≡ content_size key.n }
-        ensures found { IfOk result (λ deleted. FindsOn self.now rate key deleted content.new) }
+        ensures found { IfOk result (λ deleted. FindsOn self.now.medium rate self.now.cylinder key deleted content.new) }
         ensures refused { IfErr result (λ code. IsMissedOn (met_in self.now.medium rate self.now.cylinder key.h) key code) }
         ensures kept { IfErr result (λ code. content.new ≡ content.old) }
     {

@@ -10,5 +10,14 @@ mod drives;
 mod reading;
 mod script;
 
+#[cfg(test)]
+mod acknowledging;
+#[cfg(test)]
+mod attempts;
+#[cfg(test)]
+mod media;
+#[cfg(test)]
+mod orders;
+
 pub use bench::Bench;
 pub use script::Trouble;

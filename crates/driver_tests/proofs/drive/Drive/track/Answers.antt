@@ -17,5 +17,5 @@ returns-then-not-same_rate c =
 
 pub returns : goal.returns
 returns c =
-    given_track c.args.self.now c.args.rate c.args.head c.in-Some.medium c.in-Some.is c.track.result c.track.ensures.valid
+    given_track c.args.self.now.medium c.args.rate c.args.self.now.cylinder c.args.head c.in-Some.medium c.in-Some.is c.track.result c.track.ensures.valid
     (sym c.rate.ensures ∙ c.same_rate.ensures.0 c.if-not-same_rate.false) c.track.ensures.found c.track.ensures.track
