@@ -1,3 +1,5 @@
+mod Putting
+mod ReadSteps
 mod Recorded
 mod Rigs
-mod ReadSteps
+mod WriteSteps

@@ -42,3 +42,11 @@ pub record Spins (old new : Drive) : Type 0 where
 pub record Exchanged (old new : Drive) : Type 0 where
   pub changed : new.changed ≡ true
   pub number : new.number ≡ old.number
+
+-- nothing of the drive changed but its medium
+pub record SameDrive (old new : Drive) : Type 0 where
+  pub cylinder : new.cylinder ≡ old.cylinder
+  pub number : new.number ≡ old.number
+  pub changed : new.changed ≡ old.changed
+  pub at_speed : new.at_speed ≡ old.at_speed
+  pub faults : new.faults ≡ old.faults

@@ -1,5 +1,6 @@
 pub mod Counted
 pub mod Drives
 pub mod Found
+pub mod Put
 pub mod Shown
 pub mod Sent

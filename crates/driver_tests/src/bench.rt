@@ -21,6 +21,9 @@ use std::alloc::{AllocError, Global};
 /// The bytes of the driver's page.
 const PAGE_BYTES: usize = 65_536;
 
+/// The most words of a track.
+const TRACK_WORDS: usize = 16_384;
+
 /// A machine in memory that runs one command at a time. Its commands do as a machine's do, but for the troubles that a test
 /// plans.
 #[derive(Drop)]
@@ -31,8 +34,11 @@ pub struct Bench {
     pub(crate) page: Vec<u8>,
     pub(crate) counts: Counts,
     pub(crate) script: Script,
+    // the words of a field or of a track that is written
+    pub(crate) words: Vec<u16>,
     ghost user: { length memory.items ≡ user_bytes },
     ghost paged: { length page.items ≡ 65536 },
+    ghost room: { length words.items ≡ 16384 },
 }
 
 /// The range of bytes; it does nothing.
@@ -49,6 +55,7 @@ impl Bench {
     {
         let memory = vec![in alloc; 0; USER_BYTES as usize]?;
         let page = vec![in alloc; 0; PAGE_BYTES]?;
+        let words = vec![in alloc; 0; TRACK_WORDS]?;
         Ok(Bench {
             alloc,
             drives: Drives {
@@ -63,6 +70,7 @@ impl Bench {
                 stalls: 0,
             },
             script: Script::calm(alloc),
+            words,
         })
     }
 

@@ -68,15 +68,14 @@ impl Commands for Bench {
     fn write(
         &mut self,
         bay: u8,
-        _key: Chrn,
-        _rate: Rate,
-        _address: u32,
-        _deleted: bool,
+        key: Chrn,
+        rate: Rate,
+        address: u32,
+        deleted: bool,
     ) -> Result<(), Code> {
-        let trouble = self.script.trouble();
-        let code = self.refuse_write(bay, trouble);
+        let answer = self.write_field(bay, key, rate, address, deleted);
         self.keep_ranges();
-        Err(code)
+        answer
     }
 
     fn format(

@@ -157,7 +157,7 @@ impl Drive {
     }
 
     /// The track under a head, where the medium has it at this rate.
-    fn track(&self, rate: Rate, head: u8) -> Option<&[u16]>
+    pub fn track(&self, rate: Rate, head: u8) -> Option<&[u16]>
         ensures { MatchOption result (HasNothing (met_in self.now.medium rate self.now.cylinder head))
             (λ track. IsUnderHead self.now.medium rate self.now.cylinder head track.now) }
     {

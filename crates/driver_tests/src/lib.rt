@@ -9,6 +9,7 @@ mod drive;
 mod drives;
 mod reading;
 mod script;
+mod writing;
 
 #[cfg(test)]
 mod acknowledging;

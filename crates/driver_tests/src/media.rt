@@ -9,9 +9,7 @@ use track_format::layout;
 const WORDS: u16 = 900;
 
 /// The key of a sector of 256 bytes.
-pub(crate) fn key(c: u8, h: u8, r: u8) -> Chrn
-    ensures { result ≡ record { c = c; h = h; r = r; n = 1 } }
-{
+pub(crate) fn key(c: u8, h: u8, r: u8) -> Chrn {
     Chrn { c, h, r, n: 1 }
 }
 
