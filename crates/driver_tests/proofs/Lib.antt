@@ -1,3 +1,5 @@
+mod FormatKeys
+mod FormatSteps
 mod Putting
 mod ReadSteps
 mod Recorded

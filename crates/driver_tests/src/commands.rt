@@ -78,19 +78,10 @@ impl Commands for Bench {
         answer
     }
 
-    fn format(
-        &mut self,
-        bay: u8,
-        _c: u8,
-        _h: u8,
-        _rate: Rate,
-        _gap3: u8,
-        _fill: u8,
-    ) -> Result<(), Code> {
-        let trouble = self.script.trouble();
-        let code = self.refuse_write(bay, trouble);
+    fn format(&mut self, bay: u8, c: u8, h: u8, rate: Rate, gap3: u8, fill: u8) -> Result<(), Code> {
+        let answer = self.format_track(bay, c, h, rate, gap3, fill);
         self.keep_ranges();
-        Err(code)
+        answer
     }
 
     fn memory(&self, address: u32) -> u8 {

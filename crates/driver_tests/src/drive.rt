@@ -31,7 +31,7 @@ pub(crate) struct Drive {
 }
 
 /// Whether two rates are the same.
-fn same_rate(a: Rate, b: Rate) -> bool
+pub(crate) fn same_rate(a: Rate, b: Rate) -> bool
     ensures { IsTrue result ↔ (a ≡ b) }
 {
     a == b

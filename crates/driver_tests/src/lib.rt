@@ -7,6 +7,7 @@ mod commands;
 mod counts;
 mod drive;
 mod drives;
+mod formatting;
 mod reading;
 mod script;
 mod writing;
