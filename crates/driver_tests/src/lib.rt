@@ -20,6 +20,8 @@ mod attempts;
 mod media;
 #[cfg(test)]
 mod orders;
+#[cfg(test)]
+mod rewriting;
 
 pub use bench::Bench;
 pub use script::Trouble;
