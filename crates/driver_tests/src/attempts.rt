@@ -72,12 +72,12 @@ fn as_many_attempts_are_made_as_are_set(rt: HostRuntime) -> Result<(), Fail> {
     bench.exchange(0, Some(small(rt.alloc(), Rate::R500)?));
     assert_eq!(rt; driver.ack(&mut bench, 0), Ok(()));
     assert_eq!(rt; driver.tries(), 3);
-    driver.set_tries(1);
+    bench.set_tries(&mut driver, 1);
     assert_eq!(rt; driver.tries(), 1);
     bench.plan(&[Trouble::Stalled])?;
     assert_eq!(rt; driver.read(&mut bench, 0, key(0, 0, 1), 0), Err(Code::Overrun));
     assert_eq!(rt; bench.commands(), 2);
-    driver.set_tries(10);
+    bench.set_tries(&mut driver, 10);
     bench.plan(&[Trouble::Stalled; 9])?;
     assert_eq!(rt; driver.read(&mut bench, 0, key(0, 0, 1), 0), Ok(false));
     assert_eq!(rt; bench.commands(), 12);
@@ -94,10 +94,10 @@ fn without_track_0_no_data_command_is_sent(rt: HostRuntime) -> Result<(), Fail> 
     assert_eq!(rt; driver.read(&mut bench, 0, key(1, 0, 1), 0), Ok(false));
     assert_eq!(rt; bench.commands(), 2);
     // the heads stay on cylinder 1
-    driver.set_tries(1);
+    bench.set_tries(&mut driver, 1);
     bench.lose(&[79, 79])?;
     assert_eq!(rt; driver.read(&mut bench, 0, key(0, 0, 1), 0), Err(Code::Seek));
-    driver.set_tries(3);
+    bench.set_tries(&mut driver, 3);
     bench.lose(&[79; 6])?;
     assert_eq!(rt; driver.read(&mut bench, 0, key(0, 0, 1), 0), Err(Code::Seek));
     assert_eq!(rt; bench.commands(), 2);

@@ -15,6 +15,7 @@ use crate::drives::Drives;
 use crate::script::{Script, Trouble};
 use bay_model::USER_BYTES;
 use flop_base::{Code, NoMemory};
+use floppy_driver::Driver;
 use raw_image::Medium;
 use std::alloc::{AllocError, Global};
 
@@ -103,6 +104,16 @@ impl Bench {
         ensures { (driver : Driver) → IsAttached driver (rig_shown self.old) → IsAttached driver (rig_shown self.new) }
     {
         self.memory[address as usize] = byte;
+    }
+
+    /// Sets the number of attempts of a driver that the bench is attached to.
+    pub fn set_tries(&self, driver: &mut Driver, tries: u8)
+        requires least { 1 ≤ tries }
+        requires most { tries ≤ 10 }
+        requires attached { IsAttached driver.old (rig_shown self.now) }
+        ensures { IsAttached driver.new (rig_shown self.now) }
+    {
+        driver.set_tries(tries);
     }
 
     /// How many data commands began.

@@ -28,3 +28,8 @@ pub(crate) fn small(alloc: Global, rate: Rate) -> Result<Medium, Fail> {
     }
     Ok(medium)
 }
+
+/// A blank diskette of one cylinder and two heads, with tracks of the usual length at 250 kbit/s.
+pub(crate) fn blank(alloc: Global) -> Result<Medium, Fail> {
+    Ok(Medium::blank_at(alloc, 1, 2, 6250, Rate::R250)?)
+}

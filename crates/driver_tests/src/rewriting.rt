@@ -1,10 +1,9 @@
 // Sectors that are written, and tracks that are formatted.
 use crate::bench::Bench;
-use crate::media::{key, small};
+use crate::media::{blank, key, small};
 use crate::script::Trouble;
 use flop_base::{Chrn, Code, Rate};
 use floppy_driver::Driver;
-use raw_image::Medium;
 use single_commands::Commands;
 use std::test::Fail;
 
@@ -51,7 +50,7 @@ fn a_write_is_repeated_where_it_or_its_reading_back_fails(rt: HostRuntime) -> Re
 fn a_track_is_formatted_and_read_back(rt: HostRuntime) -> Result<(), Fail> {
     let mut bench = Bench::new(rt.alloc())?;
     let mut driver = Driver::set_up(&mut bench);
-    bench.exchange(0, Some(Medium::blank_at(rt.alloc(), 1, 2, 6250, Rate::R250)?));
+    bench.exchange(0, Some(blank(rt.alloc())?));
     assert_eq!(rt; driver.ack(&mut bench, 0), Ok(()));
     assert_eq!(rt; driver.set_rate(&mut bench, 0, Rate::R250), Ok(()));
     assert_eq!(rt; bench.commands(), 6);
