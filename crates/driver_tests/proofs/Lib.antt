@@ -1,0 +1,7 @@
+mod FormatKeys
+mod FormatSteps
+mod Putting
+mod ReadSteps
+mod Recorded
+mod Rigs
+mod WriteSteps

@@ -1,0 +1,26 @@
+-- Data commands that fail.
+use Rattle.std.specs.Prelude.{◌≡◌, ℕ}
+use Rattle.flop_base.specs.Counts.{RoseBy}
+use Rattle.flop_base.specs.declared.answers.Code.{Code}
+use Rattle.flop_base.specs.declared.answers.Code.TheVariants.{Overrun}
+use Rattle.bay_model.specs.Counters.{IsUndisturbed, FaultsRoseBy}
+use Rattle.single_commands.specs.Rigs.{Rig}
+use Rattle.single_commands.specs.Reading.{SendsRead}
+
+-- a data command changed no memory, and nothing else but counters
+pub record Fails (old new : Rig) : Type 0 where
+  pub sends : SendsRead old new
+  pub memory : new.memory ≡ old.memory
+  pub page : new.page ≡ old.page
+
+-- it had a fault of the drive
+pub record HasFault (old : Rig) (bay : ℕ) (new : Rig) : Type 0 where
+  pub fails : Fails old new
+  pub fault : FaultsRoseBy 1 bay old.counters new.counters
+
+-- it was disturbed, and is refused so
+pub record IsDisturbed (IsCode : Code → Type 0) (old : Rig) (bay : ℕ) (code : Code) (new : Rig) : Type 0 where
+  pub fails : Fails old new
+  pub coded : IsCode code
+  pub disturbed : IsUndisturbed bay old.counters new.counters → ⊥
+  pub overrun : code ≡ Overrun → RoseBy 1 old.counters.stalls new.counters.stalls
