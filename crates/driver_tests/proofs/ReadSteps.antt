@@ -188,6 +188,7 @@ module _ (drives : Drives) (memory page memory_after page_after : List ℕ) (cou
         found_as : (a : Result Bool Code) → IfOk a (λ deleted. FindsOn drive.medium rate drive.cylinder key deleted content) → IfOk a (λ deleted. (bytes : List ℕ) × FindsField old bay key rate deleted bytes new × (memory_after ≡ with_bytes memory address bytes))
         found_as (Ok deleted) f = (content, done deleted f, is)
         found_as (Err code) f = tt
+
         refused_as : (a : Result Bool Code) → IfErr a (λ code. IsMissedOn (met_in drive.medium rate drive.cylinder key.h) key code) → IfErr a (λ code. IsReadMiss (track_under old bay rate key.h) key bay code old.counters new.counters)
         refused_as (Ok deleted) f = tt
         refused_as (Err code) f = refused code f
@@ -203,6 +204,7 @@ module _ (drives : Drives) (memory page memory_after page_after : List ℕ) (cou
         found_as : (a : Result Bool Code) → IfOk a (λ deleted. FindsOn drive.medium rate drive.cylinder key deleted content) → IfOk a (λ deleted. (bytes : List ℕ) × FindsField old bay key rate deleted bytes new × (page_after ≡ with_bytes page 0 bytes))
         found_as (Ok deleted) f = (content, done deleted f, is)
         found_as (Err code) f = tt
+
         refused_as : (a : Result Bool Code) → IfErr a (λ code. IsMissedOn (met_in drive.medium rate drive.cylinder key.h) key code) → IfErr a (λ code. IsReadMiss (track_under old bay rate key.h) key bay code old.counters new.counters)
         refused_as (Ok deleted) f = tt
         refused_as (Err code) f = refused code f
@@ -213,10 +215,10 @@ no_id drives memory page counts next bay head rate drive first Is sent at is fou
     let None_at : Type 0 = (p : ℕ) (key : Chrn) → IsAddressAt (met_in drive.medium rate drive.cylinder head) p key → ⊥ in
     let none : None_at = subst (λ o. MatchOption o None_at Is) is found in
     record {
-  sends = sends drives memory page memory page counts next sent;
-  found = tt;
-  refused = λ faultless key clear.
-      at_bay drives bay drive (λ m c. (p : ℕ) (k : Chrn) → IsAddressAt (met_in m rate c head) p k → ⊥) at none clear.0 key clear.1.address;
-  memory = refl;
-  page = refl;
-}
+      sends = sends drives memory page memory page counts next sent;
+      found = tt;
+      refused = λ faultless key clear.
+          at_bay drives bay drive (λ m c. (p : ℕ) (k : Chrn) → IsAddressAt (met_in m rate c head) p k → ⊥) at none clear.0 key clear.1.address;
+      memory = refl;
+      page = refl;
+    }

@@ -39,15 +39,15 @@ wrote_absent medium rate c written code absent = record {
   done = λ ok. absurd (false≢true ok);
   refused = elim absent.by_code [
     | inl e ↦ subst (IsWriteRefusal (met_in medium rate c written.key.h) written.key) (sym e.0) (record {
-        coded = tt;
-        reason = inl (nothing_from _ e.1).clear_marks;
-        no_overrun = λ is. cc is;
-      })
+      coded = tt;
+      reason = inl (nothing_from _ e.1).clear_marks;
+      no_overrun = λ is. cc is;
+    })
     | inr e ↦ subst (IsWriteRefusal (met_in medium rate c written.key.h) written.key) (sym e.0) (record {
-        coded = tt;
-        reason = (e.1, λ clear. absent.none clear.0 clear.1.address);
-        no_overrun = λ is. cc is;
-      })
+      coded = tt;
+      reason = (e.1, λ clear. absent.none clear.0 clear.1.address);
+      no_overrun = λ is. cc is;
+    })
   ];
 }
 

@@ -51,14 +51,26 @@ fn the_last_refusal_is_the_answer(rt: HostRuntime) -> Result<(), Fail> {
     bench.exchange(0, Some(small(rt.alloc(), Rate::R500)?));
     assert_eq!(rt; driver.ack(&mut bench, 0), Ok(()));
     bench.plan(&[Trouble::Damaged, Trouble::Stalled, Trouble::Unmarked])?;
-    assert_eq!(rt; driver.read(&mut bench, 0, key(0, 0, 1), 0), Err(Code::NoMark));
+    assert_eq!(rt;
+        driver.read(&mut bench, 0, key(0, 0, 1), 0),
+        Err(Code::NoMark)
+    );
     assert_eq!(rt; bench.commands(), 4);
     bench.plan(&[Trouble::Unmarked, Trouble::Stalled, Trouble::Damaged])?;
-    assert_eq!(rt; driver.read(&mut bench, 0, key(0, 0, 1), 0), Err(Code::BadCrc));
+    assert_eq!(rt;
+        driver.read(&mut bench, 0, key(0, 0, 1), 0),
+        Err(Code::BadCrc)
+    );
     assert_eq!(rt; bench.commands(), 7);
     // no such sector; a blank cylinder
-    assert_eq!(rt; driver.read(&mut bench, 0, key(0, 0, 3), 0), Err(Code::NotFound));
-    assert_eq!(rt; driver.read(&mut bench, 0, key(2, 0, 1), 0), Err(Code::NoMark));
+    assert_eq!(rt;
+        driver.read(&mut bench, 0, key(0, 0, 3), 0),
+        Err(Code::NotFound)
+    );
+    assert_eq!(rt;
+        driver.read(&mut bench, 0, key(2, 0, 1), 0),
+        Err(Code::NoMark)
+    );
     assert_eq!(rt; bench.commands(), 13);
     assert_eq!(rt; bench.taken(), 13);
     assert_eq!(rt; bench.memory(0), 0);
@@ -75,7 +87,10 @@ fn as_many_attempts_are_made_as_are_set(rt: HostRuntime) -> Result<(), Fail> {
     bench.set_tries(&mut driver, 1);
     assert_eq!(rt; driver.tries(), 1);
     bench.plan(&[Trouble::Stalled])?;
-    assert_eq!(rt; driver.read(&mut bench, 0, key(0, 0, 1), 0), Err(Code::Overrun));
+    assert_eq!(rt;
+        driver.read(&mut bench, 0, key(0, 0, 1), 0),
+        Err(Code::Overrun)
+    );
     assert_eq!(rt; bench.commands(), 2);
     bench.set_tries(&mut driver, 10);
     bench.plan(&[Trouble::Stalled; 9])?;
@@ -96,10 +111,16 @@ fn without_track_0_no_data_command_is_sent(rt: HostRuntime) -> Result<(), Fail> 
     // the heads stay on cylinder 1
     bench.set_tries(&mut driver, 1);
     bench.lose(&[79, 79])?;
-    assert_eq!(rt; driver.read(&mut bench, 0, key(0, 0, 1), 0), Err(Code::Seek));
+    assert_eq!(rt;
+        driver.read(&mut bench, 0, key(0, 0, 1), 0),
+        Err(Code::Seek)
+    );
     bench.set_tries(&mut driver, 3);
     bench.lose(&[79; 6])?;
-    assert_eq!(rt; driver.read(&mut bench, 0, key(0, 0, 1), 0), Err(Code::Seek));
+    assert_eq!(rt;
+        driver.read(&mut bench, 0, key(0, 0, 1), 0),
+        Err(Code::Seek)
+    );
     assert_eq!(rt; bench.commands(), 2);
     // reached the second time
     bench.lose(&[79])?;

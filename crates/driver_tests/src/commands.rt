@@ -78,7 +78,15 @@ impl Commands for Bench {
         answer
     }
 
-    fn format(&mut self, bay: u8, c: u8, h: u8, rate: Rate, gap3: u8, fill: u8) -> Result<(), Code> {
+    fn format(
+        &mut self,
+        bay: u8,
+        c: u8,
+        h: u8,
+        rate: Rate,
+        gap3: u8,
+        fill: u8,
+    ) -> Result<(), Code> {
         let answer = self.format_track(bay, c, h, rate, gap3, fill);
         self.keep_ranges();
         answer

@@ -120,7 +120,10 @@ impl Drive {
             return;
         }
         if from < target {
-            self.cylinder = self.cylinder.saturating_add(target - from).min(LAST_CYLINDER);
+            self.cylinder = self
+                .cylinder
+                .saturating_add(target - from)
+                .min(LAST_CYLINDER);
         } else {
             self.cylinder = self.cylinder.saturating_sub(from - target);
         }

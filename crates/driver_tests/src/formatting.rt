@@ -11,8 +11,8 @@ ghost use Rattle.driver_tests.specs.Laid.{HasTrackOn, FormatsOn};
 use crate::bench::Bench;
 use crate::drive::{Drive, same_rate};
 use crate::script::Trouble;
-use flop_base::{Code, Rate};
 use flop_base::standard::SIZE_CODE;
+use flop_base::{Code, Rate};
 use track_format::FormatStream;
 
 /// The answer of a format of a track of so many words: whether so many sectors of 512 bytes fit on it.

@@ -2,26 +2,25 @@
 //! plans.
 #![tactic(auto)]
 
+#[cfg(test)]
+mod acknowledging;
+#[cfg(test)]
+mod attempts;
 mod bench;
 mod commands;
 mod counts;
 mod drive;
 mod drives;
 mod formatting;
-mod reading;
-mod script;
-mod writing;
-
-#[cfg(test)]
-mod acknowledging;
-#[cfg(test)]
-mod attempts;
 #[cfg(test)]
 mod media;
 #[cfg(test)]
 mod orders;
+mod reading;
 #[cfg(test)]
 mod rewriting;
+mod script;
+mod writing;
 
 pub use bench::Bench;
 pub use script::Trouble;

@@ -16,7 +16,10 @@ fn a_sector_is_written_and_read_back(rt: HostRuntime) -> Result<(), Fail> {
     assert_eq!(rt; driver.read(&mut bench, 0, key(1, 1, 2), 0x2000), Ok(false));
     bench.set_memory(0x20FF, 0x5A);
     assert_eq!(rt; bench.commands(), 2);
-    assert_eq!(rt; driver.write(&mut bench, 0, key(0, 0, 1), 0x2000, true), Ok(()));
+    assert_eq!(rt;
+        driver.write(&mut bench, 0, key(0, 0, 1), 0x2000, true),
+        Ok(())
+    );
     assert_eq!(rt; bench.commands(), 4);
     assert_eq!(rt; bench.taken(), 4);
     assert_eq!(rt; driver.read(&mut bench, 0, key(0, 0, 1), 0x3000), Ok(true));
@@ -40,8 +43,14 @@ fn a_write_is_repeated_where_it_or_its_reading_back_fails(rt: HostRuntime) -> Re
     assert_eq!(rt; driver.write(&mut bench, 0, key(1, 0, 1), 0, false), Ok(()));
     assert_eq!(rt; bench.commands(), 8);
     bench.plan(&[Trouble::Stalled; 3])?;
-    assert_eq!(rt; driver.write(&mut bench, 0, key(1, 0, 1), 0, false), Err(Code::Overrun));
-    assert_eq!(rt; driver.write(&mut bench, 0, key(1, 0, 3), 0, false), Err(Code::NotFound));
+    assert_eq!(rt;
+        driver.write(&mut bench, 0, key(1, 0, 1), 0, false),
+        Err(Code::Overrun)
+    );
+    assert_eq!(rt;
+        driver.write(&mut bench, 0, key(1, 0, 3), 0, false),
+        Err(Code::NotFound)
+    );
     assert_eq!(rt; bench.commands(), 14);
     Ok(())
 }
@@ -73,7 +82,10 @@ fn a_track_is_formatted_and_read_back(rt: HostRuntime) -> Result<(), Fail> {
     assert_eq!(rt; driver.format(&mut bench, 0, 0, 0, 0x50, 0xF6), Ok(()));
     assert_eq!(rt; bench.commands(), 35);
     // the diskette has no such track
-    assert_eq!(rt; driver.format(&mut bench, 0, 1, 0, 0x50, 0xF6), Err(Code::NoMark));
+    assert_eq!(rt;
+        driver.format(&mut bench, 0, 1, 0, 0x50, 0xF6),
+        Err(Code::NoMark)
+    );
     assert_eq!(rt; bench.commands(), 38);
     Ok(())
 }
