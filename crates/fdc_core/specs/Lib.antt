@@ -1,0 +1,9 @@
+pub mod Rates
+pub mod Answers
+pub mod State
+pub mod Commands
+pub mod Ports
+pub mod Phases
+pub mod Dma
+pub mod Reading
+pub mod Steps

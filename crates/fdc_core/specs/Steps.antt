@@ -1,0 +1,64 @@
+-- Device steps.
+use Rattle.std.specs.Prelude.{◌≡◌, ◌⊎◌, ◌<◌, ℕ, ◌+◌, Bool, true, false, not, ◌&&◌, ◌||◌, if◌then◌else◌}
+use Rattle.flop_base.specs.declared.key.Chrn.{Chrn}
+use Rattle.fdc_fifo.specs.Fifo.{Fifo}
+use Rattle.fdc_seek.specs.Seeking.{with_polls, stepped, is_seeking}
+use Rattle.fdc_stages.specs.declared.ending.Ending.{Ending}
+use Rattle.fdc_stages.specs.declared.ending.Ending.TheVariants.{Late}
+use Rattle.fdc_core.specs.Phases.{key_as_sent}
+use Rattle.fdc_core.specs.Reading.{after_searched, after_heard}
+use Rattle.fdc_core.specs.State.{is_held, finished}
+use Rattle.fdc_core.specs.declared.controller.Fdc.{Fdc}
+use Rattle.fdc_core.specs.declared.phases.Phase.{Phase}
+use Rattle.fdc_core.specs.declared.phases.Phase.TheVariants.{Command, Execute, Result}
+use Rattle.fdc_core.specs.declared.phases.Execution.{Execution}
+use Rattle.fdc_core.specs.declared.phases.Task.{Task}
+use Rattle.fdc_core.specs.declared.phases.Task.TheVariants.{ReadId, Read}
+use Rattle.fdc_stages.specs.declared.reading.ReadHeard.{ReadHeard}
+use Rattle.fdc_stages.specs.declared.search.Searched.{Searched}
+
+-- the poll after a reset: INT rises, and each drive has a result; it waits while DOR holds the controller in reset
+abbrev pub polled : Fdc → Fdc
+polled old =
+    if old.poll_due && not (is_held old) then record old { poll_due = false; interrupt = true; seeks = with_polls old.seeks }
+    else old
+
+-- a seek goes on by a device step, and INT rises where it ends
+abbrev pub seek_stepped : Bool → Fdc → Fdc
+seek_stepped track0 old = record old {
+  seeks = stepped old.seeks track0;
+  interrupt = old.interrupt || (is_seeking old.seeks && not (is_seeking (stepped old.seeks track0)));
+}
+
+abbrev pub RestsIn : Phase → Fdc → Bool → Fdc → Type 0
+RestsIn (Execute _) old track0 new = Unit {0}
+RestsIn _ old track0 new = new ≡ seek_stepped track0 old
+
+-- outside execution a device step moves a seek alone
+abbrev pub Rests : Fdc → Bool → Fdc → Type 0
+Rests old track0 new = RestsIn old.phase old track0 new
+
+-- the command took too many steps: it ends with MA
+abbrev pub late : Execution → Fdc → Fdc
+late execution old = finished Late execution.head_drive (key_as_sent execution.task) old
+
+-- a device step of a data command that listens, by its task
+abbrev pub Hears : ℕ → ℕ → Task → Fdc → Fdc → Type 0
+Hears head_drive steps (ReadId _) old new =
+    (searched : Searched) × (new ≡ after_searched head_drive steps searched old)
+Hears head_drive steps (Read reading) old new =
+    (heard : ReadHeard) × (new ≡ after_heard head_drive steps reading heard old)
+
+-- the last step ends a command, whatever it does; each other step counts
+abbrev pub StepsOn : Execution → Fdc → Fdc → Type 0
+StepsOn execution old new =
+    (execution.steps ≡ 65535 → new ≡ late execution old)
+    × (execution.steps < 65535 → Hears execution.head_drive (execution.steps + 1) execution.task old new)
+
+abbrev pub ExecutesIn : Phase → Fdc → Fdc → Type 0
+ExecutesIn (Execute execution) old new = StepsOn execution old new
+ExecutesIn _ old new = Unit {0}
+
+-- a device step in execution
+abbrev pub Executes : Fdc → Fdc → Type 0
+Executes old new = ExecutesIn old.phase old new
