@@ -6,8 +6,8 @@
 
 mod ending;
 mod reading;
-mod search;
+mod searching;
 
 pub use ending::Ending;
-pub use reading::{ReadHeard, ReadStage};
-pub use search::{Search, Searched};
+pub use reading::{ReadHeard, ReadStage, over_ending};
+pub use searching::{Search, Searched};

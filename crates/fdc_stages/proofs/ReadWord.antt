@@ -1,0 +1,183 @@
+-- A word heard while a data mark is awaited or a data field is read.
+use Rattle.std.proofs.Common.{◌≡◌, ◌⊎◌, ℕ, ◌+◌, ◌*◌, ◌≤◌, ◌<◌, Bool, true, false, List, [], ◌∷◌, ◌++◌, length, min, refl, sym, ap, subst, ◌∙◌, arith, inl, inr}
+use Rattle.std.proofs.lemmas.Bool.{false≢true}
+use Rattle.flop_base.specs.declared.key.Chrn.{Chrn}
+use Rattle.track_model.specs.Bytes.{byte_at, bytes_at}
+use Rattle.track_model.specs.Fields.{content_size}
+use Rattle.track_model.proofs.Places.{bytes_at-more}
+use Rattle.track_separator.specs.declared.state.Seen.{Seen}
+use Rattle.track_separator.specs.declared.state.Seen.TheVariants.{Nothing, Mark, Address, Mode, Byte, End, NoData}
+use Rattle.track_separator.specs.declared.state.Separator.{Separator}
+use Rattle.track_separator.specs.Parts.{with_word, IsPart}
+use Rattle.track_separator.specs.Waits.{SWaits, IsCutOff}
+use Rattle.track_separator.specs.Turns.{SWaitFed, SReadFed}
+use Rattle.track_separator.proofs.Laws.{part_with_word, length-with_word, address_stays, bytes_stay, cut_is_no_data, late_is_no_data, reads_mark, reads_within, reads_most}
+use Rattle.fdc_stages.specs.declared.ending.Ending.TheVariants.{NoField}
+use Rattle.fdc_stages.specs.declared.reading.ReadStage.TheVariants.{Wait, Content, Over}
+use Rattle.fdc_stages.specs.History.{Past, heard, IsJustOver}
+use Rattle.fdc_stages.specs.Searches.{IsMet, IsMetAt}
+use Rattle.fdc_stages.specs.Readings.{IsWaitingAt, IsContentAt, IsFieldOver, IsOver, IsReading, HasRead, IsToldFrom, IsToldOf}
+use Rattle.fdc_stages.proofs.Laws.{last_heard, told_stays}
+
+-- the turn that the index ends behind a word
+ended_turn : (past : Past) (word : ℕ) → IsJustOver (heard true word past) (with_word past.seen word)
+ended_turn past word = record { earlier = past.turns; last = refl; nothing = refl }
+
+-- ---- an address field was met
+
+-- the index followed it
+pub met_over : (index : Bool) (past : Past) (key : Chrn) (separator : Separator) → index ≡ true → IsMet index past key separator → HasRead past key [] NoField
+met_over true past key separator is (turn, p, met) = record {
+  bytes = inl refl;
+  cause = inl (turn, p, record { over = met.over; address = met.address; none = late_is_no_data turn p key.n met.ends });
+}
+met_over false past key separator is met = absurd (false≢true is)
+
+-- its turn goes on
+pub met_within : (index : Bool) (past : Past) (key : Chrn) (separator waiting : Separator) → index ≡ false → ((p : ℕ) → IsMetAt past key separator p → SWaits waiting past.seen p (content_size key.n)) → IsMet index past key separator → IsReading past key [] (Wait waiting)
+met_within false past key separator waiting is waits (p, met) = ((p, record { address = met.address; waits = waits p met; few = met.few }), refl)
+met_within true past key separator waiting is waits met = absurd (false≢true (sym is))
+
+-- ---- a data mark is awaited
+
+module _ (past : Past) (key : Chrn) (word p : ℕ) (before now : Separator) (was : IsWaitingAt past key before p) where
+  waited_mode : (index deleted : Bool) → SWaitFed index (with_word past.seen word) p (content_size key.n) now (Mode deleted) → IsReading (heard index word past) key [] (Content now deleted)
+  waited_mode false deleted (q, reads) =
+      let nothing : 0 ≡ min 0 (content_size key.n) = omega arith in
+      (p, q, 0, record { address = address_stays past.seen (with_word past.seen word) (part_with_word past.seen word) p key was.address; reads = reads; bytes = ap (bytes_at (with_word past.seen word) (q + 64)) nothing; few = was.few })
+  waited_mode true deleted given = absurd given
+
+  waited_none : (index : Bool) → SWaitFed index (with_word past.seen word) p (content_size key.n) now NoData → HasRead (heard index word past) key [] NoField
+  waited_none false (none, reach, hunts) = record {
+    bytes = inl refl;
+    cause = inr (p, record { address = address_stays past.seen (with_word past.seen word) (part_with_word past.seen word) p key was.address; none = none; reach = reach });
+  }
+  waited_none true cut = record {
+    bytes = inl refl;
+    cause = inl ((with_word past.seen word), p, record {
+      over = ended_turn past word;
+      address = address_stays past.seen (with_word past.seen word) (part_with_word past.seen word) p key was.address;
+      none = cut_is_no_data (with_word past.seen word) p key.n (content_size key.n) refl cut;
+    });
+  }
+
+  waited_on : (index : Bool) (event : Seen) → ((deleted : Bool) → event ≡ Mode deleted → ⊥) → (event ≡ NoData → ⊥) → SWaitFed index (with_word past.seen word) p (content_size key.n) now event → IsReading (heard index word past) key [] (Wait now)
+  waited_on false Nothing mode none waits = ((p, record { address = address_stays past.seen (with_word past.seen word) (part_with_word past.seen word) p key was.address; waits = waits; few = was.few }), refl)
+  waited_on true Nothing mode none given = absurd given
+  waited_on false Mark mode none given = absurd given
+  waited_on true Mark mode none given = absurd given
+  waited_on false (Address other) mode none given = absurd given
+  waited_on true (Address other) mode none given = absurd given
+  waited_on index (Mode deleted) mode none given = absurd (mode deleted refl)
+  waited_on false (Byte value) mode none given = absurd given
+  waited_on true (Byte value) mode none given = absurd given
+  waited_on false (End good) mode none given = absurd given
+  waited_on true (End good) mode none given = absurd given
+  waited_on index NoData mode none given = absurd (none refl)
+
+pub wait_mode : (past : Past) (key : Chrn) (word p : ℕ) (before now : Separator) (index deleted : Bool) (event : Seen) → event ≡ Mode deleted → IsWaitingAt past key before p → SWaitFed index (with_word past.seen word) p (content_size key.n) now event → IsReading (heard index word past) key [] (Content now deleted)
+wait_mode past key word p before now index deleted event is was given =
+    waited_mode past key word p before now was index deleted (subst (SWaitFed index (with_word past.seen word) p (content_size key.n) now) is given)
+
+pub wait_none : (past : Past) (key : Chrn) (word p : ℕ) (before now : Separator) (index : Bool) (event : Seen) → event ≡ NoData → IsWaitingAt past key before p → SWaitFed index (with_word past.seen word) p (content_size key.n) now event → HasRead (heard index word past) key [] NoField
+wait_none past key word p before now index event is was given =
+    waited_none past key word p before now was index (subst (SWaitFed index (with_word past.seen word) p (content_size key.n) now) is given)
+
+pub wait_goes_on : (past : Past) (key : Chrn) (word p : ℕ) (before now : Separator) (index : Bool) (event : Seen) → ((deleted : Bool) → event ≡ Mode deleted → ⊥) → (event ≡ NoData → ⊥) → IsWaitingAt past key before p → SWaitFed index (with_word past.seen word) p (content_size key.n) now event → IsReading (heard index word past) key [] (Wait now)
+wait_goes_on past key word p before now index event mode none was given = waited_on past key word p before now was index event mode none given
+
+-- ---- a data field is read
+
+-- the bytes told while a data field is read
+pub content_told : (past : Past) (key : Chrn) (told : List ℕ) (separator : Separator) (deleted : Bool) (p q taken : ℕ) → IsContentAt past key told separator deleted p q taken → IsToldOf past key told
+content_told past key told separator deleted p q taken was =
+    let within = reads_within separator past.seen p q deleted (content_size key.n) taken was.reads in
+    inr (past.seen, inl refl, (p, q, min taken (content_size key.n), deleted, record {
+      address = was.address;
+      mark = reads_mark separator past.seen p q deleted (content_size key.n) taken was.reads;
+      most = omega arith;
+      inside = omega arith;
+      bytes = was.bytes;
+    }))
+
+module _ (past : Past) (key : Chrn) (told : List ℕ) (word p q taken : ℕ) (deleted : Bool) (before now : Separator) (was : IsContentAt past key told before deleted p q taken) where
+  within : q + 64 + 16 * taken ≤ 16 * length past.seen
+  within = reads_within before past.seen p q deleted (content_size key.n) taken was.reads
+
+  -- what was told stands in the longer turn
+  told_so_far : told ≡ bytes_at (with_word past.seen word) (q + 64) (min taken (content_size key.n))
+  told_so_far = let reach = within in was.bytes ∙ bytes_stay past.seen (with_word past.seen word) (part_with_word past.seen word) (q + 64) (min taken (content_size key.n)) (omega arith)
+
+  read_byte : (index : Bool) (value : ℕ) → SReadFed index (with_word past.seen word) p q deleted (content_size key.n) taken now (Byte value) → IsReading (heard index word past) key (told ++ value ∷ []) (Content now deleted)
+  read_byte true value given = absurd given
+  read_byte false value (less, is, reads) =
+      let now_size : min taken (content_size key.n) ≡ taken = omega arith in
+      let after : min (taken + 1) (content_size key.n) ≡ taken + 1 = omega arith in
+      let so_far : told ≡ bytes_at (with_word past.seen word) (q + 64) taken = told_so_far ∙ ap (bytes_at (with_word past.seen word) (q + 64)) now_size in
+      (p, q, taken + 1, record {
+        address = address_stays past.seen (with_word past.seen word) (part_with_word past.seen word) p key was.address;
+        reads = reads;
+        bytes = ap (λ bytes. bytes ++ value ∷ []) so_far ∙ ap (λ byte. bytes_at (with_word past.seen word) (q + 64) taken ++ byte ∷ []) is ∙ sym (bytes_at-more (with_word past.seen word) (q + 64) taken) ∙ ap (bytes_at (with_word past.seen word) (q + 64)) (sym after);
+        few = was.few;
+      })
+
+  read_quiet : (index : Bool) → SReadFed index (with_word past.seen word) p q deleted (content_size key.n) taken now Nothing → IsReading (heard index word past) key told (Content now deleted)
+  read_quiet true given = absurd given
+  read_quiet false (is, reads) =
+      let same : min taken (content_size key.n) ≡ min (taken + 1) (content_size key.n) = omega arith in
+      (p, q, taken + 1, record {
+        address = address_stays past.seen (with_word past.seen word) (part_with_word past.seen word) p key was.address;
+        reads = reads;
+        bytes = told_so_far ∙ ap (bytes_at (with_word past.seen word) (q + 64)) same;
+        few = was.few;
+      })
+
+  field_of : (good : Bool) → SReadFed true (with_word past.seen word) p q deleted (content_size key.n) taken now (End good) → IsFieldOver (with_word past.seen word) key told deleted good p q
+  field_of good (is, ended, tells) =
+      let full : min taken (content_size key.n) ≡ (content_size key.n) = omega arith in
+      record {
+        address = address_stays past.seen (with_word past.seen word) (part_with_word past.seen word) p key was.address;
+        ended = ended;
+        tells = tells;
+        bytes = told_so_far ∙ ap (bytes_at (with_word past.seen word) (q + 64)) full;
+      }
+
+  read_end : (index good : Bool) → SReadFed index (with_word past.seen word) p q deleted (content_size key.n) taken now (End good) → IsReading (heard index word past) key told (Over deleted good)
+  read_end true good given = ((with_word past.seen word), last_heard true word past, (p, q, field_of good given))
+  read_end false good (is, ended, tells, hunts) = ((with_word past.seen word), last_heard false word past, (p, q, field_of good (is, ended, tells)))
+
+  read_cut : (index : Bool) → SReadFed index (with_word past.seen word) p q deleted (content_size key.n) taken now NoData → HasRead (heard index word past) key told NoField
+  read_cut false given = absurd given
+  read_cut true cut = record {
+    bytes = told_stays true word past key told (content_told past key told before deleted p q taken was);
+    cause = inl ((with_word past.seen word), p, record {
+      over = ended_turn past word;
+      address = address_stays past.seen (with_word past.seen word) (part_with_word past.seen word) p key was.address;
+      none = cut_is_no_data (with_word past.seen word) p key.n (content_size key.n) refl cut;
+    });
+  }
+
+  read_on : (index : Bool) (event : Seen) → ((value : ℕ) → event ≡ Byte value → ⊥) → ((good : Bool) → event ≡ End good → ⊥) → (event ≡ NoData → ⊥) → SReadFed index (with_word past.seen word) p q deleted (content_size key.n) taken now event → IsReading (heard index word past) key told (Content now deleted)
+  read_on index Nothing byte ends none given = read_quiet index given
+  read_on false Mark byte ends none given = absurd given
+  read_on true Mark byte ends none given = absurd given
+  read_on false (Address other) byte ends none given = absurd given
+  read_on true (Address other) byte ends none given = absurd given
+  read_on false (Mode other) byte ends none given = absurd given
+  read_on true (Mode other) byte ends none given = absurd given
+  read_on index (Byte value) byte ends none given = absurd (byte value refl)
+  read_on index (End good) byte ends none given = absurd (ends good refl)
+  read_on index NoData byte ends none given = absurd (none refl)
+
+module _ (past : Past) (key : Chrn) (told : List ℕ) (word p q taken : ℕ) (deleted : Bool) (before now : Separator) (index : Bool) (event : Seen) (was : IsContentAt past key told before deleted p q taken) (given : SReadFed index (with_word past.seen word) p q deleted (content_size key.n) taken now event) where
+  pub content_byte : (value : ℕ) → event ≡ Byte value → IsReading (heard index word past) key (told ++ value ∷ []) (Content now deleted)
+  content_byte value is = read_byte past key told word p q taken deleted before now was index value (subst (SReadFed index (with_word past.seen word) p q deleted (content_size key.n) taken now) is given)
+
+  pub content_end : (good : Bool) → event ≡ End good → IsReading (heard index word past) key told (Over deleted good)
+  content_end good is = read_end past key told word p q taken deleted before now was index good (subst (SReadFed index (with_word past.seen word) p q deleted (content_size key.n) taken now) is given)
+
+  pub content_none : event ≡ NoData → HasRead (heard index word past) key told NoField
+  content_none is = read_cut past key told word p q taken deleted before now was index (subst (SReadFed index (with_word past.seen word) p q deleted (content_size key.n) taken now) is given)
+
+  pub content_goes_on : ((value : ℕ) → event ≡ Byte value → ⊥) → ((good : Bool) → event ≡ End good → ⊥) → (event ≡ NoData → ⊥) → IsReading (heard index word past) key told (Content now deleted)
+  content_goes_on byte ends none = read_on past key told word p q taken deleted before now was index event byte ends none given

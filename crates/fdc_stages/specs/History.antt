@@ -1,0 +1,65 @@
+-- What a data command has heard and moved since it began.
+use Rattle.std.specs.Prelude.{◌≡◌, ◌⊎◌, ℕ, ◌+◌, ◌≤◌, Bool, true, false, List, [], ◌∷◌, length}
+use Rattle.track_separator.specs.Parts.{with_word, turn_after}
+
+pub record Past : Type 0 where
+  -- the turns that an index ended, the latest first
+  pub turns : List (List ℕ)
+  -- the words heard since the last index
+  pub seen : List ℕ
+  -- how many words have passed since it, heard or not
+  pub place : ℕ
+  -- the bytes given to memory
+  pub given : List ℕ
+  -- the bytes taken from memory
+  pub taken : List ℕ
+  -- the words written
+  pub words : List ℕ
+  -- the device steps
+  pub steps : ℕ
+  -- whether the terminal count came
+  pub counted : Bool
+
+-- a command that begins
+abbrev pub begun : Past
+begun = record { turns = []; seen = []; place = 0; given = []; taken = []; words = []; steps = 0; counted = false }
+
+-- the turns, where the index followed these words or did not
+abbrev pub turns_after : Bool → List (List ℕ) → List ℕ → List (List ℕ)
+turns_after true turns words = words ∷ turns
+turns_after false turns words = turns
+
+-- the words that have passed, where the index followed one or did not
+abbrev pub place_after : Bool → ℕ → ℕ
+place_after true place = 0
+place_after false place = place + 1
+
+-- a word was heard, and the index followed it or did not
+abbrev pub heard : Bool → ℕ → Past → Past
+heard index word past = record past {
+  turns = turns_after index past.turns (with_word past.seen word);
+  seen = turn_after index past.seen word;
+  place = place_after index past.place;
+}
+
+-- the words are one of these turns
+abbrev pub IsAmong : List (List ℕ) → List ℕ → Type 0
+IsAmong [] words = ⊥
+IsAmong (turn ∷ turns) words = (words ≡ turn) ⊎ IsAmong turns words
+
+-- the words are those of one turn: since the last index, or of a turn that is over
+abbrev pub IsTurnIn : List (List ℕ) → List ℕ → List ℕ → Type 0
+IsTurnIn turns seen words = (words ≡ seen) ⊎ IsAmong turns words
+
+abbrev pub IsTurn : Past → List ℕ → Type 0
+IsTurn past words = IsTurnIn past.turns past.seen words
+
+-- the turn is the one that the last word ended
+pub record IsJustOver (past : Past) (turn : List ℕ) : Type 0 where
+  pub earlier : List (List ℕ)
+  pub last : past.turns ≡ turn ∷ earlier
+  pub nothing : past.seen ≡ []
+
+-- one index has passed at most
+abbrev pub HasFewTurns : Past → Type 0
+HasFewTurns past = length past.turns ≤ 1

@@ -1,0 +1,118 @@
+-- What a reading has heard and told.
+use Rattle.std.specs.Prelude.{◌≡◌, ◌⊎◌, ℕ, ◌+◌, ◌*◌, ◌≤◌, Bool, true, false, Some, List, [], ◌∷◌, ◌++◌, min, length}
+use Rattle.flop_base.specs.declared.key.Chrn.{Chrn}
+use Rattle.track_model.specs.declared.Look.TheVariants as look
+use Rattle.track_model.specs.Bytes.{bytes_at}
+use Rattle.track_model.specs.Fields.{IsAddressAt, content_size}
+use Rattle.track_model.specs.Looks.{IsFirstDataMark, LookAt}
+use Rattle.track_separator.specs.declared.state.Separator.{Separator}
+use Rattle.track_separator.specs.Waits.{SWaits, SReads, EndsReach, HasNoDataMark, HasEnded, TellsWhole}
+use Rattle.fdc_stages.specs.declared.ending.Ending.{Ending}
+use Rattle.fdc_stages.specs.declared.ending.Ending.TheVariants.{Done, NoMark, NoSector, NoField, BadCheck, Overrun, NoCount, Protected, Late}
+use Rattle.fdc_stages.specs.declared.reading.ReadStage.{ReadStage}
+use Rattle.fdc_stages.specs.declared.reading.ReadStage.TheVariants.{Search, Wait, Content, Over}
+use Rattle.fdc_stages.specs.declared.reading.ReadHeard.{ReadHeard}
+use Rattle.fdc_stages.specs.declared.reading.ReadHeard.TheVariants as given
+use Rattle.fdc_stages.specs.History.{Past, IsTurn, IsJustOver, HasFewTurns}
+use Rattle.fdc_stages.specs.Searches.{IsSearching, IsMissed}
+
+-- the bytes are all of these, or after the terminal count the first of them
+abbrev pub IsStart : Bool → List ℕ → List ℕ → Type 0
+IsStart false bytes told = bytes ≡ told
+IsStart true bytes told = (rest : List ℕ) × (told ≡ bytes ++ rest)
+
+-- the data mark of the address field at p is awaited
+pub record IsWaitingAt (past : Past) (key : Chrn) (separator : Separator) (p : ℕ) : Type 0 where
+  pub address : IsAddressAt past.seen p key
+  pub waits : SWaits separator past.seen p (content_size key.n)
+  pub few : HasFewTurns past
+
+-- its data field at q is read, and these bytes of the content were told
+pub record IsContentAt (past : Past) (key : Chrn) (told : List ℕ) (separator : Separator) (deleted : Bool) (p q taken : ℕ) : Type 0 where
+  pub address : IsAddressAt past.seen p key
+  pub reads : SReads separator past.seen p q deleted (content_size key.n) taken
+  pub bytes : told ≡ bytes_at past.seen (q + 64) (min taken (content_size key.n))
+  pub few : HasFewTurns past
+
+-- a turn has an address field of the key at p, and its data field at q, which is over; its content was told
+pub record IsFieldOver (turn : List ℕ) (key : Chrn) (told : List ℕ) (deleted good : Bool) (p q : ℕ) : Type 0 where
+  pub address : IsAddressAt turn p key
+  pub ended : HasEnded turn p q deleted (content_size key.n)
+  pub tells : TellsWhole turn q (content_size key.n) good
+  pub bytes : told ≡ bytes_at turn (q + 64) (content_size key.n)
+
+abbrev pub IsOver : Past → Chrn → List ℕ → Bool → Bool → Type 0
+IsOver past key told deleted good =
+    (turn : List ℕ) × IsTurn past turn × ((p : ℕ) × (q : ℕ) × IsFieldOver turn key told deleted good p q)
+
+-- a reading, what was heard since it began, and the bytes that it told
+abbrev pub IsReading : Past → Chrn → List ℕ → ReadStage → Type 0
+IsReading past key told (Search searching) = IsSearching past (Some key) searching × (told ≡ [])
+IsReading past key told (Wait separator) = ((p : ℕ) × IsWaitingAt past key separator p) × (told ≡ [])
+IsReading past key told (Content separator deleted) =
+    (p : ℕ) × (q : ℕ) × (taken : ℕ) × IsContentAt past key told separator deleted p q taken
+IsReading past key told (Over deleted good) = IsOver past key told deleted good
+
+-- the bytes are the first behind the first data mark of an address field of the key
+pub record IsToldFrom (turn : List ℕ) (key : Chrn) (told : List ℕ) (p q count : ℕ) (deleted : Bool) : Type 0 where
+  pub address : IsAddressAt turn p key
+  pub mark : IsFirstDataMark turn p q deleted
+  pub most : count ≤ content_size key.n
+  pub inside : q + 64 + 16 * count ≤ 16 * length turn
+  pub bytes : told ≡ bytes_at turn (q + 64) count
+
+-- nothing was told, or such bytes of one turn were
+abbrev pub IsToldOf : Past → Chrn → List ℕ → Type 0
+IsToldOf past key told =
+    (told ≡ [])
+    ⊎ ((turn : List ℕ) × IsTurn past turn
+    × ((p : ℕ) × (q : ℕ) × (count : ℕ) × (deleted : Bool) × IsToldFrom turn key told p q count deleted))
+
+-- an address field of the key in the turn that is over has no data field in it
+pub record IsCutField (past : Past) (key : Chrn) (turn : List ℕ) (p : ℕ) : Type 0 where
+  pub over : IsJustOver past turn
+  pub address : IsAddressAt turn p key
+  pub none : LookAt turn p key.n look.NoData
+
+-- an address field of the key has no data mark, however its turn goes on
+pub record IsBareField (past : Past) (key : Chrn) (p : ℕ) : Type 0 where
+  pub address : IsAddressAt past.seen p key
+  pub none : HasNoDataMark past.seen p
+  pub reach : EndsReach past.seen p
+
+abbrev pub HasNoField : Past → Chrn → Type 0
+HasNoField past key = ((turn : List ℕ) × (p : ℕ) × IsCutField past key turn p) ⊎ ((p : ℕ) × IsBareField past key p)
+
+-- the cause of each ending of a reading
+abbrev pub HasCause : Past → Chrn → List ℕ → Ending → Type 0
+HasCause past key told (Done deleted) = (past.counted ≡ true) × IsOver past key told deleted true
+HasCause past key told NoCount = (past.counted ≡ false) × ((deleted : Bool) × IsOver past key told deleted true)
+HasCause past key told BadCheck = (deleted : Bool) × IsOver past key told deleted false
+HasCause past key told NoField = HasNoField past key
+HasCause past key told NoMark = IsMissed past (Some key) NoMark
+HasCause past key told NoSector = IsMissed past (Some key) NoSector
+HasCause past key told Overrun = past.counted ≡ false
+HasCause past key told Late = past.steps ≡ 65536
+HasCause past key told Protected = ⊥
+
+-- a reading that ended, and the bytes that it told
+pub record HasRead (past : Past) (key : Chrn) (told : List ℕ) (ending : Ending) : Type 0 where
+  pub bytes : IsToldOf past key told
+  pub cause : HasCause past key told ending
+
+-- what a word gave a reading
+abbrev pub HasHeard : Past → Chrn → List ℕ → ReadHeard → Type 0
+HasHeard past key told (given.On stage) = IsReading past key told stage
+HasHeard past key told (given.Byte stage value) = IsReading past key (told ++ value ∷ []) stage
+HasHeard past key told (given.Ended ending) = HasRead past key told ending
+
+-- a word ends a reading where a search misses or where there is no field, and in no other way
+abbrev pub IsFailure : Ending → Type 0
+IsFailure NoMark = Unit {0}
+IsFailure NoSector = Unit {0}
+IsFailure NoField = Unit {0}
+IsFailure _ = ⊥
+
+abbrev pub FailsWell : ReadHeard → Type 0
+FailsWell (given.Ended ending) = IsFailure ending
+FailsWell _ = Unit {0}

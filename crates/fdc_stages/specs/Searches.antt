@@ -1,0 +1,109 @@
+-- What a search for an address field has heard.
+use Rattle.std.specs.Prelude.{◌≡◌, ◌⊎◌, ℕ, ◌+◌, Bool, true, false, MatchBool, Option, Some, None, List, [], ◌∷◌}
+use Rattle.flop_base.specs.declared.key.Chrn.{Chrn}
+use Rattle.track_model.specs.Fields.{IsAddressAt}
+use Rattle.track_model.specs.Looks.{HasAddressMark}
+use Rattle.track_model.specs.Sectors.{HasNoRunWithin}
+use Rattle.track_separator.specs.declared.state.Separator.{Separator}
+use Rattle.track_separator.specs.Parts.{EndsInLast, with_word, turn_after}
+use Rattle.track_separator.specs.Hunts.{SFollows, SAddressed}
+use Rattle.track_separator.specs.Turns.{SBegins}
+use Rattle.fdc_stages.specs.declared.ending.Ending.{Ending}
+use Rattle.fdc_stages.specs.declared.ending.Ending.TheVariants.{NoMark, NoSector}
+use Rattle.fdc_stages.specs.declared.searching.Search.{Search}
+use Rattle.fdc_stages.specs.declared.searching.Searched.{Searched}
+use Rattle.fdc_stages.specs.declared.searching.Searched.TheVariants.{On, Met, Missed}
+use Rattle.fdc_stages.specs.History.{Past, IsTurnIn, IsTurn, IsJustOver, HasFewTurns}
+
+-- an address field of this key is searched for; without a wanted key each one is
+abbrev pub Wants : Option Chrn → Chrn → Type 0
+Wants None key = Unit {0}
+Wants (Some only) key = key ≡ only
+
+-- the words have no intact address field that is wanted and in which no run begins
+abbrev pub HasNoClear : Option Chrn → List ℕ → Type 0
+HasNoClear wanted words = (p : ℕ) (key : Chrn) → Wants wanted key → IsAddressAt words p key → HasNoRunWithin words p → ⊥
+
+-- no turn that was heard has one
+abbrev pub HasNoneIn : Option Chrn → List (List ℕ) → List ℕ → Type 0
+HasNoneIn wanted turns seen = (words : List ℕ) → IsTurnIn turns seen words → HasNoClear wanted words
+
+-- an address mark was heard
+abbrev pub HasMarkIn : List (List ℕ) → List ℕ → Type 0
+HasMarkIn turns seen = (words : List ℕ) × IsTurnIn turns seen words × HasAddressMark words
+
+-- no index has passed, or one
+abbrev pub HasTurned : Bool → List (List ℕ) → Type 0
+HasTurned false turns = turns ≡ []
+HasTurned true turns = (first : List ℕ) × (turns ≡ first ∷ [])
+
+-- a search, and what was heard since it began
+pub record IsSearchingIn (turns : List (List ℕ)) (seen : List ℕ) (wanted : Option Chrn) (separator : Separator) (turned marked : Bool) : Type 0 where
+  pub follows : SFollows separator seen
+  pub none : HasNoneIn wanted turns seen
+  pub marks : MatchBool marked (HasMarkIn turns seen) (HasMarkIn turns seen → ⊥)
+  pub indexes : HasTurned turned turns
+
+abbrev pub IsSearching : Past → Option Chrn → Search → Type 0
+IsSearching past wanted searching =
+    IsSearchingIn past.turns past.seen wanted searching.separator searching.turned searching.marked
+
+-- the words since the last index, the last of them among them, where the index may have followed it
+pub record IsPassed (index : Bool) (past : Past) (word : ℕ) (wanted : Option Chrn) (separator : Separator) (turned marked : Bool) : Type 0 where
+  pub follows : SFollows separator (turn_after index past.seen word)
+  pub none : HasNoneIn wanted past.turns (with_word past.seen word)
+  pub marks : MatchBool marked (HasMarkIn past.turns (with_word past.seen word)) (HasMarkIn past.turns (with_word past.seen word) → ⊥)
+  pub indexes : HasTurned turned past.turns
+
+-- the address field at p ended in the last word, and its data field may be asked for
+pub record IsMetAt (past : Past) (key : Chrn) (separator : Separator) (p : ℕ) : Type 0 where
+  pub address : IsAddressAt past.seen p key
+  pub ends : EndsInLast past.seen (p + 160)
+  pub asks : SAddressed separator past.seen p
+  pub few : HasFewTurns past
+
+-- the address field at p ended in the last word of a turn
+pub record IsMetLast (past : Past) (key : Chrn) (separator : Separator) (turn : List ℕ) (p : ℕ) : Type 0 where
+  pub over : IsJustOver past turn
+  pub address : IsAddressAt turn p key
+  pub ends : EndsInLast turn (p + 160)
+  pub begins : SBegins separator
+
+-- an address field of this key ended in the last word, where the index followed it or did not
+abbrev pub IsMet : Bool → Past → Chrn → Separator → Type 0
+IsMet false past key separator = (p : ℕ) × IsMetAt past key separator p
+IsMet true past key separator = (turn : List ℕ) × (p : ℕ) × IsMetLast past key separator turn p
+
+-- the words are those between the two indexes that ended a search
+pub record IsBetween (past : Past) (words : List ℕ) : Type 0 where
+  pub first : List ℕ
+  pub turns : past.turns ≡ words ∷ first ∷ []
+  pub nothing : past.seen ≡ []
+
+-- the second index has passed, and no turn has a clear address field that is wanted
+pub record HasMissed (past : Past) (wanted : Option Chrn) : Type 0 where
+  pub between : List ℕ
+  pub is : IsBetween past between
+  pub none : HasNoneIn wanted past.turns past.seen
+
+-- how a search ended: without any address mark, or with some
+abbrev pub IsMissed : Past → Option Chrn → Ending → Type 0
+IsMissed past wanted NoMark = HasMissed past wanted × (HasMarkIn past.turns past.seen → ⊥)
+IsMissed past wanted NoSector = HasMissed past wanted × HasMarkIn past.turns past.seen
+IsMissed past wanted _ = ⊥
+
+-- what a word gave a search, where the index followed it or did not
+abbrev pub HasSearched : Bool → Past → Option Chrn → Searched → Type 0
+HasSearched index past wanted (On searching) = IsSearching past wanted searching
+HasSearched index past wanted (Met key separator) = Wants wanted key × IsMet index past key separator
+HasSearched index past wanted (Missed ending) = IsMissed past wanted ending
+
+-- a search misses without an address mark, or with some, and in no other way
+abbrev pub IsMiss : Ending → Type 0
+IsMiss NoMark = Unit {0}
+IsMiss NoSector = Unit {0}
+IsMiss _ = ⊥
+
+abbrev pub MissesWell : Searched → Type 0
+MissesWell (Missed ending) = IsMiss ending
+MissesWell _ = Unit {0}

@@ -1,0 +1,130 @@
+// The search for an address field.
+ghost use Rattle.std.specs.Prelude.{◌≡◌, ◌⊎◌, ◌↔◌, ℕ, Bool, true, false, IsTrue, MatchBool, MatchOption, Option, List};
+ghost use Rattle.flop_base.specs.declared.key.Chrn.{Chrn};
+ghost use Rattle.fdc_stages.specs.History.{Past, begun, heard};
+ghost use Rattle.fdc_stages.specs.Searches.{Wants, IsSearching, IsPassed, IsMissed, HasMissed, HasMarkIn, HasSearched, IsMiss, MissesWell};
+
+use crate::ending::Ending;
+use flop_base::Chrn;
+use track_separator::{Seen, Separator};
+
+/// A search for an address field. It begins at any place of a turn and ends at the second index (82077AA, READ DATA).
+#[derive(Clone, Copy)]
+pub struct Search {
+    pub(crate) separator: Separator,
+    /// Whether an index has passed.
+    pub(crate) turned: bool,
+    /// Whether an address mark was heard.
+    pub(crate) marked: bool,
+}
+
+/// What a word gives a search.
+#[derive(Clone, Copy)]
+pub enum Searched {
+    /// The search goes on.
+    On(Search),
+    /// An address field that is wanted ended in this word: its key, and the separator that heard it.
+    Met { key: Chrn, separator: Separator },
+    /// The second index has passed: NoMark where no address mark was heard, else NoSector.
+    Missed(Ending),
+}
+
+/// Whether an address field of this key is searched for; without a wanted key each one is.
+fn is_wanted(wanted: Option<Chrn>, key: Chrn) -> bool
+    ensures { IsTrue result ↔ Wants wanted key }
+{
+    match wanted {
+        Some(only) => key == only,
+        None => true,
+    }
+}
+
+/// The key of the address field that ended in a word, where it is wanted.
+fn met_key(wanted: Option<Chrn>, seen: Seen) -> Option<Chrn>
+    ensures { MatchOption result ((key : Chrn) → seen ≡ Seen.Address key → Wants wanted key → ⊥)
+        (λ key. (seen ≡ Seen.Address key) × Wants wanted key) }
+{
+    match seen {
+        Seen::Address { key } => {
+            if is_wanted(wanted, key) {
+                Some(key)
+            } else {
+                None
+            }
+        }
+        _ => None,
+    }
+}
+
+/// Whether an address mark was heard by now.
+fn is_marked(before: bool, seen: Seen) -> bool
+    ensures { MatchBool result ((before ≡ true) ⊎ (seen ≡ Seen.Mark)) ((before ≡ false) × (seen ≡ Seen.Mark → ⊥)) }
+{
+    match seen {
+        Seen::Mark => true,
+        _ => before,
+    }
+}
+
+/// How a search that met nothing ends the command.
+fn missed(marked: bool) -> Ending
+    ensures is { (past : Past) (wanted : Option Chrn) → HasMissed past wanted
+        → MatchBool marked (HasMarkIn past.turns past.seen) (HasMarkIn past.turns past.seen → ⊥)
+        → IsMissed past wanted result }
+    ensures well { IsMiss result }
+{
+    if marked {
+        Ending::NoSector
+    } else {
+        Ending::NoMark
+    }
+}
+
+impl Search {
+    /// A search that begins.
+    pub fn new() -> Search
+        ensures { (wanted : Option Chrn) → IsSearching begun wanted result }
+    {
+        Search {
+            separator: Separator::new(),
+            turned: false,
+            marked: false,
+        }
+    }
+
+    /// Hears a word. `index` says that the index follows it. Without a wanted key any intact address field is met.
+    pub fn hear(self, wanted: Option<Chrn>, word: u16, index: bool) -> Searched
+        ensures hears { (past : Past) → IsSearching past wanted self → HasSearched index (heard index word past) wanted result }
+        ensures well { MissesWell result }
+    {
+        let mut separator = self.separator;
+        let seen = separator.feed(word, index);
+        match met_key(wanted, seen) {
+            Some(key) => Searched::Met { key, separator },
+            None => go_on(separator, self.turned, is_marked(self.marked, seen), index),
+        }
+    }
+}
+
+/// Goes on searching behind a word in which nothing was met, unless the second index followed it.
+fn go_on(separator: Separator, turned: bool, marked: bool, index: bool) -> Searched
+    ensures hears { (past : Past) (word : ℕ) (wanted : Option Chrn) → IsPassed index past word wanted separator turned marked
+        → HasSearched index (heard index word past) wanted result }
+    ensures well { MissesWell result }
+{
+    if !index {
+        return Searched::On(Search {
+            separator,
+            turned,
+            marked,
+        });
+    }
+    if turned {
+        return Searched::Missed(missed(marked));
+    }
+    Searched::On(Search {
+        separator,
+        turned: true,
+        marked,
+    })
+}
