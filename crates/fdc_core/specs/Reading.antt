@@ -6,8 +6,8 @@ use Rattle.fdc_stages.specs.declared.ending.Ending.TheVariants.{Done, Overrun}
 use Rattle.fdc_stages.specs.declared.reading.ReadHeard.{ReadHeard}
 use Rattle.fdc_stages.specs.declared.reading.ReadHeard.TheVariants as heard
 use Rattle.fdc_stages.specs.declared.reading.ReadStage.{ReadStage}
-use Rattle.fdc_stages.specs.declared.search.Searched.{Searched}
-use Rattle.fdc_stages.specs.declared.search.Searched.TheVariants as searched
+use Rattle.fdc_stages.specs.declared.searching.Searched.{Searched}
+use Rattle.fdc_stages.specs.declared.searching.Searched.TheVariants as searched
 use Rattle.fdc_core.specs.Answers.{key_after, no_key}
 use Rattle.fdc_core.specs.Dma.{gone_on}
 use Rattle.fdc_core.specs.Phases.{ending_of}

@@ -15,7 +15,7 @@ use Rattle.fdc_core.specs.declared.phases.Execution.{Execution}
 use Rattle.fdc_core.specs.declared.phases.Task.{Task}
 use Rattle.fdc_core.specs.declared.phases.Task.TheVariants.{ReadId, Read}
 use Rattle.fdc_stages.specs.declared.reading.ReadHeard.{ReadHeard}
-use Rattle.fdc_stages.specs.declared.search.Searched.{Searched}
+use Rattle.fdc_stages.specs.declared.searching.Searched.{Searched}
 
 -- the poll after a reset: INT rises, and each drive has a result; it waits while DOR holds the controller in reset
 abbrev pub polled : Fdc → Fdc

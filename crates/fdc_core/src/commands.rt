@@ -1,5 +1,6 @@
 // The commands, once their last byte came.
-ghost use Rattle.std.specs.Prelude.{◌≡◌, ◌≤◌};
+ghost use Rattle.std.specs.Prelude.{◌≡◌};
+ghost use Rattle.track_model.specs.Fields.{IsSizeCode};
 ghost use Rattle.fdc_seek.specs.Seeking.{seek_bits};
 ghost use Rattle.fdc_commands.specs.Table.{SizeInRange};
 ghost use Rattle.fdc_core.specs.Commands.{answered, IsReadingId, IsReadingData, status_of_lines, sensing, configured, begun, BeginsTask, Begins, ObeysAtRest, Obeys, Takes};
@@ -155,8 +156,7 @@ impl Fdc {
 
     /// READ DATA begins.
     fn begin_reading(&mut self, head_drive: u8, key: Chrn, last_sector: u8)
-        requires at_least { 1 ≤ key.n }
-        requires at_most { key.n ≤ 6 }
+        requires { IsSizeCode key.n }
         ensures { BeginsTask head_drive (IsReadingData key last_sector) self.old self.new }
     {
         let task = reading_data(key, last_sector);
@@ -191,8 +191,7 @@ fn reading_id() -> Task
 
 /// READ DATA as it begins.
 fn reading_data(key: Chrn, last_sector: u8) -> Task
-    requires at_least { 1 ≤ key.n }
-    requires at_most { key.n ≤ 6 }
+    requires { IsSizeCode key.n }
     ensures { IsReadingData key last_sector result }
 {
     Task::Read {

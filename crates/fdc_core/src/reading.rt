@@ -1,7 +1,7 @@
 // READ ID and READ DATA, word by word.
 ghost use Rattle.std.specs.Prelude.{◌≡◌};
 ghost use Rattle.fdc_stages.specs.declared.reading.ReadHeard.{ReadHeard};
-ghost use Rattle.fdc_stages.specs.declared.search.Searched.{Searched};
+ghost use Rattle.fdc_stages.specs.declared.searching.Searched.{Searched};
 ghost use Rattle.fdc_core.specs.Dma.{gone_on};
 ghost use Rattle.fdc_core.specs.Reading.{after_searched, after_heard, gone_on_reading, byte_taken};
 
@@ -16,11 +16,11 @@ impl Fdc {
         ensures { (searched : Searched) × (self.new ≡ after_searched head_drive steps searched self.old) }
     {
         match search.hear(None, turn.word, turn.index) {
-            Searched::On { search } => self.go_on(head_drive, steps, Task::ReadId { search }),
+            Searched::On(search) => self.go_on(head_drive, steps, Task::ReadId { search }),
             Searched::Met { key, .. } => {
                 self.finish(Ending::Done { deleted: false }, head_drive, key);
             }
-            Searched::Missed { ending } => self.finish(ending, head_drive, NO_KEY),
+            Searched::Missed(ending) => self.finish(ending, head_drive, NO_KEY),
         }
     }
 
@@ -39,11 +39,11 @@ impl Fdc {
         ensures { self.new ≡ after_heard head_drive steps reading heard self.old }
     {
         match heard {
-            ReadHeard::On { stage } => self.go_on_reading(head_drive, steps, reading.at(stage)),
+            ReadHeard::On(stage) => self.go_on_reading(head_drive, steps, reading.at(stage)),
             ReadHeard::Byte { stage, value } => {
                 self.take_byte(head_drive, steps, reading.at(stage), value);
             }
-            ReadHeard::Ended { ending } => self.finish(ending, head_drive, reading.wanted.key),
+            ReadHeard::Ended(ending) => self.finish(ending, head_drive, reading.wanted.key),
         }
     }
 
