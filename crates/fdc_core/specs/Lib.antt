@@ -6,4 +6,5 @@ pub mod Ports
 pub mod Phases
 pub mod Dma
 pub mod Reading
+pub mod Heard
 pub mod Steps

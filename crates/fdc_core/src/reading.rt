@@ -1,5 +1,8 @@
 // READ ID and READ DATA, word by word.
-ghost use Rattle.std.specs.Prelude.{◌≡◌};
+ghost use Rattle.std.specs.Prelude.{◌≡◌, ◌++◌, List, ℕ};
+ghost use Rattle.flop_base.specs.declared.key.Chrn.{Chrn};
+ghost use Rattle.fdc_stages.specs.History.{Past, heard};
+ghost use Rattle.fdc_core.specs.Heard.{IsUnderway, MayRead};
 ghost use Rattle.fdc_stages.specs.declared.reading.ReadHeard.{ReadHeard};
 ghost use Rattle.fdc_stages.specs.declared.searching.Searched.{Searched};
 ghost use Rattle.fdc_core.specs.Dma.{gone_on};
@@ -26,7 +29,9 @@ impl Fdc {
 
     /// READ DATA hears a word.
     pub(crate) fn hear_reading(&mut self, head_drive: u8, steps: u16, reading: Reading, turn: Turn)
-        ensures { (heard : ReadHeard) × (self.new ≡ after_heard head_drive steps reading heard self.old) }
+        ensures follows { (heard : ReadHeard) × (self.new ≡ after_heard head_drive steps reading heard self.old) }
+        ensures reads { (past : Past) (key : Chrn) (told : List ℕ) → IsUnderway past key reading steps (past.given ++ self.old.fifo.bytes) told
+            → MayRead (heard turn.index turn.word past) key self.new }
     {
         let heard = reading
             .stage

@@ -1,7 +1,11 @@
 // Device steps: one word time each, with the selected drive or with none.
-ghost use Rattle.std.specs.Prelude.{◌≡◌, ◌<◌, ◌+◌, ◌==◌, ℕ, false};
+ghost use Rattle.std.specs.Prelude.{◌≡◌, ◌<◌, ◌+◌, ◌==◌, ℕ, true, false};
 ghost use Rattle.drive_model.specs.Drive.{Becomes, Reads, passed, at_index, rate_of};
 ghost use Rattle.fdc_seek.specs.Seeking.{pulse_due};
+ghost use Rattle.flop_base.specs.declared.key.Chrn.{Chrn};
+ghost use Rattle.fdc_stages.specs.History.{Past, heard};
+ghost use Rattle.fdc_core.specs.Heard.{MayRead, MayReadTask, SeesUnder, SeesWord, is_executing, after_step, stepped};
+ghost use Rattle.fdc_core.specs.Phases.{head_of};
 ghost use Rattle.fdc_core.specs.Rates.{rate_fits, seen_of};
 ghost use Rattle.fdc_core.specs.Steps.{polled, seek_stepped, late, Executes, StepsOn, Hears, Rests};
 
@@ -24,8 +28,24 @@ impl Fdc {
     pub fn step<D: Drive>(&mut self, drive: &mut D)
         ensures rests { Rests (polled self.old) ((D.state drive.old).cylinder == 0) self.new }
         ensures executes { Executes (polled self.old) self.new }
+        ensures reads { (word : ℕ)
+            × SeesWord self.old.phase self.old.rate (D.state drive.old) word (D.state drive.new)
+            × ((past : Past) (key : Chrn) → MayRead past key self.old
+            → MayRead (after_step (is_executing self.old.phase) (at_index (D.state drive.old)) word past) key self.new) }
     {
         self.poll();
+        self.advance(drive);
+    }
+
+    /// A device step once the poll is done.
+    fn advance<D: Drive>(&mut self, drive: &mut D)
+        ensures rests { Rests self.old ((D.state drive.old).cylinder == 0) self.new }
+        ensures executes { Executes self.old self.new }
+        ensures reads { (word : ℕ)
+            × SeesWord self.old.phase self.old.rate (D.state drive.old) word (D.state drive.new)
+            × ((past : Past) (key : Chrn) → MayRead past key self.old
+            → MayRead (after_step (is_executing self.old.phase) (at_index (D.state drive.old)) word past) key self.new) }
+    {
         match self.phase {
             Phase::Execute { execution } => self.execute(execution, drive),
             _ => self.rest(drive),
@@ -36,8 +56,20 @@ impl Fdc {
     pub fn step_empty(&mut self)
         ensures rests { Rests (polled self.old) false self.new }
         ensures executes { Executes (polled self.old) self.new }
+        ensures reads { (past : Past) (key : Chrn) → MayRead past key self.old
+            → MayRead (after_step (is_executing self.old.phase) false 0 past) key self.new }
     {
         self.poll();
+        self.advance_empty();
+    }
+
+    /// A device step where no drive is selected, once the poll is done.
+    fn advance_empty(&mut self)
+        ensures rests { Rests self.old false self.new }
+        ensures executes { Executes self.old self.new }
+        ensures reads { (past : Past) (key : Chrn) → MayRead past key self.old
+            → MayRead (after_step (is_executing self.old.phase) false 0 past) key self.new }
+    {
         match self.phase {
             Phase::Execute { execution } => self.execute_empty(execution),
             _ => {
@@ -83,7 +115,11 @@ impl Fdc {
 
     /// A device step of a data command.
     fn execute<D: Drive>(&mut self, execution: Execution, drive: &mut D)
-        ensures { StepsOn execution self.old self.new }
+        ensures steps { StepsOn execution self.old self.new }
+        ensures reads { (word : ℕ)
+            × SeesUnder self.old.rate (head_of execution) (D.state drive.old) word (D.state drive.new)
+            × ((past : Past) (key : Chrn) → MayReadTask past key execution.steps execution.task self.old.asking self.old.fifo.bytes
+            → MayRead (after_step true (at_index (D.state drive.old)) word past) key self.new) }
     {
         if execution.steps == LAST_STEP {
             drive.pass();
@@ -96,7 +132,9 @@ impl Fdc {
 
     /// A device step of a data command where no drive is selected.
     fn execute_empty(&mut self, execution: Execution)
-        ensures { StepsOn execution self.old self.new }
+        ensures steps { StepsOn execution self.old self.new }
+        ensures reads { (past : Past) (key : Chrn) → MayReadTask past key execution.steps execution.task self.old.asking self.old.fifo.bytes
+            → MayRead (after_step true false 0 past) key self.new }
     {
         if execution.steps == LAST_STEP {
             self.finish_late(execution);
@@ -138,7 +176,9 @@ impl Fdc {
     /// A data command that only listens hears a word.
     fn hear(&mut self, execution: Execution, turn: Turn)
         requires { execution.steps < 65535 }
-        ensures { Hears execution.head_drive (execution.steps + 1) execution.task self.old self.new }
+        ensures hears { Hears execution.head_drive (execution.steps + 1) execution.task self.old self.new }
+        ensures reads { (past : Past) (key : Chrn) → MayReadTask past key execution.steps execution.task self.old.asking self.old.fifo.bytes
+            → MayRead (heard turn.index turn.word (stepped past)) key self.new }
     {
         let Execution {
             head_drive,
