@@ -1,5 +1,5 @@
 -- What a device step, a transfer and the terminal count leave of a READ DATA.
-use Rattle.std.proofs.Common.{rules, ◌≡◌, ◌⊎◌, ℕ, ◌+◌, ◌*◌, ◌≤◌, Bool, true, false, not, ◌&&◌, if◌then◌else◌, ◌==◌, List, [], ◌∷◌, ◌++◌, length, min, Option, Some, None, IfSome, refl, sym, ap, subst, ◌∙◌, arith, inl, inr, append_assoc}
+use Rattle.std.proofs.Common.{rules, ◌≡◌, ◌⊎◌, ℕ, ◌+◌, ◌*◌, ◌≤◌, Bool, true, false, not, ◌&&◌, if◌then◌else◌, ◌==◌, List, [], ◌∷◌, ◌++◌, length, min, drop, get_or, nat_le, Option, Some, None, IfSome, refl, sym, ap, subst, ◌∙◌, arith, inl, inr, append_assoc}
 use Rattle.std.proofs.lemmas.Bool.{false≢true}
 use Rattle.flop_base.specs.declared.key.Chrn.{Chrn}
 use Rattle.track_model.specs.Fields.{content_size}
@@ -14,16 +14,22 @@ use Rattle.fdc_stages.specs.declared.reading.ReadStage.{ReadStage}
 use Rattle.fdc_stages.specs.declared.reading.ReadStage.TheVariants.{Search, Wait, Content, Over}
 use Rattle.fdc_stages.proofs.Laws.{over_told, told_stays}
 use Rattle.drive_model.specs.Drive.{DriveState}
-use Rattle.fdc_core.specs.Heard.{IsUnderway, HasEndedAs, MayRead, MayReadIn, MayReadTask, AsksRightly, SeesWord, is_executing, after_step, stepped, gave}
+use Rattle.fdc_core.specs.Heard.{IsUnderway, HasEndedAs, MayRead, MayReadIn, MayReadTask, MayReadAnswer, AsksRightly, told_in, SeesWord, is_executing, after_step, stepped, gave}
 use Rattle.fdc_core.specs.State.{finished}
 use Rattle.fdc_core.specs.Steps.{late}
-use Rattle.fdc_core.specs.Phases.{ending_at, ending_over, ending_of}
+use Rattle.fdc_fifo.specs.Fifo.{Fifo}
+use Rattle.fdc_core.specs.Answers.{after_byte}
+use Rattle.fdc_core.specs.Dma.{phase_asks, task_asks, phase_told, task_told, fifo_told, asking_told}
+use Rattle.fdc_core.specs.Phases.{ending_at, ending_over, ending_of, is_read, is_reading}
+use Rattle.fdc_core.specs.Ports.{phase_after}
 use Rattle.fdc_core.specs.Reading.{over_or_on, gone_on_reading, byte_taken, after_heard, at_stage, pushed, is_full}
 use Rattle.fdc_core.specs.declared.controller.Fdc.{Fdc}
 use Rattle.fdc_core.specs.declared.phases.Reading.{Reading}
 use Rattle.fdc_core.specs.declared.phases.Execution.{Execution}
 use Rattle.fdc_core.specs.declared.phases.Phase.{Phase}
 use Rattle.fdc_core.specs.declared.phases.Phase.TheVariants.{Command, Execute, Result}
+use Rattle.fdc_core.specs.declared.answers.Answer.{Answer}
+use Rattle.fdc_core.specs.declared.answers.Answer.TheVariants.{Short, Long}
 use Rattle.fdc_core.specs.declared.phases.Task.{Task}
 use Rattle.fdc_core.specs.declared.phases.Task.TheVariants.{ReadId, Read}
 use Rattle.fdc_core.specs.declared.rates.DataRate.{DataRate}
@@ -200,3 +206,60 @@ pub late_reads : (index : Bool) (word : ℕ) (execution : Execution) (old new : 
     → (past : Past) (key : Chrn) → MayReadTask past key execution.steps execution.task old.asking old.fifo.bytes → MayRead (heard index word (stepped past)) key new
 late_reads index word execution old new last is past key was =
     subst (λ fdc. MayRead (heard index word (stepped past)) key fdc) (sym is) (late_task index word past key execution.steps execution.task old.asking old.fifo.bytes last was)
+
+-- ---- a byte goes to memory
+
+out_task : (past : Past) (key : Chrn) (steps : ℕ) (task : Task) (asking on : Bool) (bytes : List ℕ) (threshold : ℕ) → asking ≡ true → is_read task ≡ true → MayReadTask past key steps task asking bytes
+    → MayReadTask (gave (get_or bytes 0 0xFF) past) key steps task (task_asks task asking (record { bytes = drop 1 bytes; on = on; threshold = threshold })) (drop 1 bytes)
+out_task past key steps (ReadId search) asking on bytes threshold up is was = absurd was
+out_task past key steps (Read reading) asking on [] threshold up is (asks, was) = absurd (false≢true (sym (asks up)))
+out_task past key steps (Read reading) asking on (byte ∷ rest) threshold up is (asks, (told, was)) = (asks_bytes (length rest == 0) _, (told, record {
+  key_is = was.key_is;
+  counted_is = was.counted_is;
+  steps_are = was.steps_are;
+  reads = same_stage (past.given ++ byte ∷ []) past.steps past.counted past key told reading.stage was.reads;
+  bytes_are = subst (λ bytes. IsStart reading.counted bytes told) (sym (append_assoc past.given (byte ∷ []) rest)) was.bytes_are;
+}))
+
+pub out_reads : (past : Past) (key : Chrn) (phase : Phase) (asking : Bool) (fifo : Fifo) → asking ≡ true → is_reading phase ≡ true → MayReadIn past key phase asking fifo.bytes
+    → MayReadIn (gave (get_or fifo.bytes 0 0xFF) past) key phase (phase_asks phase asking (record fifo { bytes = drop 1 fifo.bytes })) (drop 1 fifo.bytes)
+out_reads past key Command asking fifo up is was = absurd was
+out_reads past key (Result answer) asking fifo up is was = absurd (false≢true is)
+out_reads past key (Execute execution) asking fifo up is was = out_task past key execution.steps execution.task asking fifo.on fifo.bytes fifo.threshold up is was
+
+-- ---- the terminal count
+
+told_task : (past : Past) (key : Chrn) (steps : ℕ) (task : Task) (asking : Bool) (fifo : Fifo) → MayReadTask past key steps task asking fifo.bytes
+    → MayReadTask (told_in true past) key steps (task_told task) (asking_told (is_read task) asking) (fifo_told (is_read task) fifo).bytes
+told_task past key steps (ReadId search) asking fifo was = absurd was
+told_task past key steps (Read reading) asking fifo (asks, (told, was)) =
+    let (rest, all) = starts_given past.given fifo.bytes told (starts reading.counted (past.given ++ fifo.bytes) told was.bytes_are) in
+    (λ up. absurd (false≢true up), (told, record {
+      key_is = was.key_is;
+      counted_is = refl;
+      steps_are = was.steps_are;
+      reads = same_stage past.given past.steps true past key told reading.stage was.reads;
+      bytes_are = (rest, all ∙ sym (append_assoc past.given [] rest));
+    }))
+
+pub told_reads : (past : Past) (key : Chrn) (phase : Phase) (asking : Bool) (fifo : Fifo) → MayReadIn past key phase asking fifo.bytes
+    → MayReadIn (told_in (is_executing phase) past) key (phase_told phase) (asking_told (is_reading phase) asking) (fifo_told (is_reading phase) fifo).bytes
+told_reads past key Command asking fifo was = absurd was
+told_reads past key (Result answer) asking fifo was = was
+told_reads past key (Execute execution) asking fifo was = told_task past key execution.steps execution.task asking fifo was
+
+-- ---- a result byte is read
+
+pub given_reads : (past : Past) (key : Chrn) (phase : Phase) (asking : Bool) (fifo : List ℕ) → MayReadIn past key phase asking fifo → MayReadIn past key (phase_after phase) asking fifo ⊎ (phase_after phase ≡ Command)
+given_reads past key Command asking fifo was = absurd was
+given_reads past key (Execute execution) asking fifo was = inl was
+given_reads past key (Result (Short next last)) asking fifo was = absurd was
+given_reads past key (Result (Long ending results taken)) asking fifo was = behind (nat_le 6 taken)
+  where
+    behind : (b : Bool) → MayReadIn past key (if b then Command else Result (Long ending results (taken + 1))) asking fifo ⊎ ((if b then Command else Result (Long ending results (taken + 1))) ≡ Command)
+    behind true = inr refl
+    behind false = inl was
+
+pub second_true : (a b : Bool) → (a && b) ≡ true → b ≡ true
+second_true true b is = is
+second_true false b is = absurd (false≢true is)

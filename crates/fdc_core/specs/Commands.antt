@@ -13,6 +13,8 @@ use Rattle.fdc_commands.specs.declared.command.Command.TheVariants as command
 use Rattle.fdc_fifo.specs.Fifo.{emptied}
 use Rattle.fdc_seek.specs.Seeking.{with_motion, seek_bits, sensed, after_sense}
 use Rattle.fdc_seek.specs.declared.motion.Motion.TheVariants.{Outward, Toward}
+use Rattle.fdc_stages.specs.History.{begun as new_past}
+use Rattle.fdc_core.specs.Heard.{MayReadTask}
 use Rattle.fdc_core.specs.declared.answers.Answer.TheVariants.{Short}
 use Rattle.fdc_core.specs.declared.controller.Fdc.{Fdc}
 use Rattle.fdc_core.specs.declared.controller.Lines.{Lines}
@@ -79,11 +81,11 @@ abbrev pub IsReadingId : Task → Type 0
 IsReadingId (ReadId search) = Unit {0}
 IsReadingId _ = ⊥
 
--- READ DATA of this key, before the terminal count
+-- READ DATA of this key, which has heard and given nothing
 abbrev pub IsReadingData : Chrn → ℕ → Task → Type 0
 IsReadingData key last_sector (Read reading) =
-    (reading.wanted.key ≡ key) × (reading.last_sector ≡ last_sector) × (reading.counted ≡ false)
-IsReadingData key last_sector _ = ⊥
+    (reading.last_sector ≡ last_sector) × MayReadTask new_past key 0 (Read reading) false []
+IsReadingData key last_sector (ReadId _) = ⊥
 
 -- the execution of such a task begins
 abbrev pub BeginsTask : ℕ → (Task → Type 0) → Fdc → Fdc → Type 0

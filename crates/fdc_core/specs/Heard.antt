@@ -1,5 +1,5 @@
 -- READ DATA, what it heard and what it gave since it began.
-use Rattle.std.specs.Prelude.{◌≡◌, ℕ, ◌+◌, Bool, true, false, ◌==◌, List, [], ◌∷◌, ◌++◌, length, if◌then◌else◌}
+use Rattle.std.specs.Prelude.{◌≡◌, ◌⊎◌, ℕ, ◌+◌, Bool, true, false, ◌==◌, List, [], ◌∷◌, ◌++◌, length, if◌then◌else◌}
 use Rattle.drive_model.specs.Drive.{DriveState, Reads, rate_of}
 use Rattle.flop_base.specs.declared.key.Chrn.{Chrn}
 use Rattle.fdc_stages.specs.History.{Past, heard}
@@ -89,3 +89,7 @@ MayReadIn past key Command asking fifo = ⊥
 -- the controller executes a READ DATA of this key, or gives its results, and this is what it heard and gave
 abbrev pub MayRead : Past → Chrn → Fdc → Type 0
 MayRead past key fdc = MayReadIn past key fdc.phase fdc.asking fdc.fifo.bytes
+
+-- an access to a port keeps it, or the controller takes commands again
+abbrev pub KeepsRead : Fdc → Fdc → Type 0
+KeepsRead old new = (past : Past) (key : Chrn) → MayRead past key old → MayRead past key new ⊎ (new.phase ≡ Command)

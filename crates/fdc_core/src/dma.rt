@@ -1,5 +1,8 @@
 // The controller's side of the DMA channel.
 ghost use Rattle.std.specs.Prelude.{◌≡◌, IsTrue};
+ghost use Rattle.flop_base.specs.declared.key.Chrn.{Chrn};
+ghost use Rattle.fdc_stages.specs.History.{Past};
+ghost use Rattle.fdc_core.specs.Heard.{MayRead, gave, told_in, is_executing};
 ghost use Rattle.fdc_core.specs.State.{asks};
 ghost use Rattle.fdc_core.specs.Dma.{asked, byte_out, taken_out, told_count, to_memory_of};
 
@@ -23,6 +26,15 @@ impl Fdc {
         requires to_memory { IsTrue (to_memory_of self.old) }
         ensures byte { result ≡ byte_out self.old }
         ensures after { self.new ≡ taken_out self.old }
+        ensures reads { (past : Past) (key : Chrn) → MayRead past key self.old → MayRead (gave result past) key self.new }
+    {
+        self.take_out()
+    }
+
+    /// Takes the oldest byte out of the FIFO.
+    fn take_out(&mut self) -> u8
+        ensures byte { result ≡ byte_out self.old }
+        ensures after { self.new ≡ taken_out self.old }
     {
         let byte = self.fifo.pop().unwrap_or(NOTHING);
         self.ask();
@@ -31,6 +43,14 @@ impl Fdc {
 
     /// The channel tells the terminal count. A READ DATA then gives no further byte.
     pub fn tc(&mut self)
+        ensures after { self.new ≡ told_count self.old }
+        ensures reads { (past : Past) (key : Chrn) → MayRead past key self.old → MayRead (told_in (is_executing self.old.phase) past) key self.new }
+    {
+        self.end_transfer();
+    }
+
+    /// No further byte is moved.
+    fn end_transfer(&mut self)
         ensures { self.new ≡ told_count self.old }
     {
         if let Phase::Execute { execution } = self.phase {
