@@ -1,3 +1,4 @@
 pub mod Laws
+pub mod Causes
 mod SearchWord
 mod ReadWord

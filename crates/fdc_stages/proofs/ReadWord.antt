@@ -1,23 +1,23 @@
 -- A word heard while a data mark is awaited or a data field is read.
-use Rattle.std.proofs.Common.{◌≡◌, ◌⊎◌, ℕ, ◌+◌, ◌*◌, ◌≤◌, ◌<◌, Bool, true, false, List, [], ◌∷◌, ◌++◌, length, min, refl, sym, ap, subst, ◌∙◌, arith, inl, inr}
+use Rattle.std.proofs.Common.{◌≡◌, ℕ, ◌+◌, ◌*◌, ◌≤◌, Bool, true, false, List, [], ◌∷◌, ◌++◌, length, min, refl, sym, ap, subst, ◌∙◌, arith, inl, inr}
 use Rattle.std.proofs.lemmas.Bool.{false≢true}
 use Rattle.flop_base.specs.declared.key.Chrn.{Chrn}
-use Rattle.track_model.specs.Bytes.{byte_at, bytes_at}
+use Rattle.track_model.specs.Bytes.{bytes_at}
 use Rattle.track_model.specs.Fields.{content_size}
 use Rattle.track_model.proofs.Places.{bytes_at-more}
 use Rattle.track_separator.specs.declared.state.Seen.{Seen}
 use Rattle.track_separator.specs.declared.state.Seen.TheVariants.{Nothing, Mark, Address, Mode, Byte, End, NoData}
 use Rattle.track_separator.specs.declared.state.Separator.{Separator}
-use Rattle.track_separator.specs.Parts.{with_word, IsPart}
-use Rattle.track_separator.specs.Waits.{SWaits, IsCutOff}
+use Rattle.track_separator.specs.Parts.{with_word}
+use Rattle.track_separator.specs.Waits.{SWaits}
 use Rattle.track_separator.specs.Turns.{SWaitFed, SReadFed}
-use Rattle.track_separator.proofs.Laws.{part_with_word, length-with_word, address_stays, bytes_stay, cut_is_no_data, late_is_no_data, reads_mark, reads_within, reads_most}
+use Rattle.track_separator.proofs.Laws.{part_with_word, address_stays, bytes_stay, cut_is_no_data, late_is_no_data, reads_within}
 use Rattle.fdc_stages.specs.declared.ending.Ending.TheVariants.{NoField}
 use Rattle.fdc_stages.specs.declared.reading.ReadStage.TheVariants.{Wait, Content, Over}
 use Rattle.fdc_stages.specs.History.{Past, heard, IsJustOver}
 use Rattle.fdc_stages.specs.Searches.{IsMet, IsMetAt}
-use Rattle.fdc_stages.specs.Readings.{IsWaitingAt, IsContentAt, IsFieldOver, IsOver, IsReading, HasRead, IsToldFrom, IsToldOf}
-use Rattle.fdc_stages.proofs.Laws.{last_heard, told_stays}
+use Rattle.fdc_stages.specs.Readings.{IsWaitingAt, IsContentAt, IsFieldOver, IsReading, HasRead}
+use Rattle.fdc_stages.proofs.Laws.{last_heard, told_stays, content_told}
 
 -- the turn that the index ends behind a word
 ended_turn : (past : Past) (word : ℕ) → IsJustOver (heard true word past) (with_word past.seen word)
@@ -54,11 +54,15 @@ module _ (past : Past) (key : Chrn) (word p : ℕ) (before now : Separator) (was
   }
   waited_none true cut = record {
     bytes = inl refl;
-    cause = inl ((with_word past.seen word), p, record {
-      over = ended_turn past word;
-      address = address_stays past.seen (with_word past.seen word) (part_with_word past.seen word) p key was.address;
-      none = cut_is_no_data (with_word past.seen word) p key.n (content_size key.n) refl cut;
-    });
+    cause = inl (
+      (with_word past.seen word),
+      p,
+      record {
+        over = ended_turn past word;
+        address = address_stays past.seen (with_word past.seen word) (part_with_word past.seen word) p key was.address;
+        none = cut_is_no_data (with_word past.seen word) p key.n (content_size key.n) refl cut;
+      },
+    );
   }
 
   waited_on : (index : Bool) (event : Seen) → ((deleted : Bool) → event ≡ Mode deleted → ⊥) → (event ≡ NoData → ⊥) → SWaitFed index (with_word past.seen word) p (content_size key.n) now event → IsReading (heard index word past) key [] (Wait now)
@@ -88,18 +92,6 @@ wait_goes_on past key word p before now index event mode none was given = waited
 
 -- ---- a data field is read
 
--- the bytes told while a data field is read
-pub content_told : (past : Past) (key : Chrn) (told : List ℕ) (separator : Separator) (deleted : Bool) (p q taken : ℕ) → IsContentAt past key told separator deleted p q taken → IsToldOf past key told
-content_told past key told separator deleted p q taken was =
-    let within = reads_within separator past.seen p q deleted (content_size key.n) taken was.reads in
-    inr (past.seen, inl refl, (p, q, min taken (content_size key.n), deleted, record {
-      address = was.address;
-      mark = reads_mark separator past.seen p q deleted (content_size key.n) taken was.reads;
-      most = omega arith;
-      inside = omega arith;
-      bytes = was.bytes;
-    }))
-
 module _ (past : Past) (key : Chrn) (told : List ℕ) (word p q taken : ℕ) (deleted : Bool) (before now : Separator) (was : IsContentAt past key told before deleted p q taken) where
   within : q + 64 + 16 * taken ≤ 16 * length past.seen
   within = reads_within before past.seen p q deleted (content_size key.n) taken was.reads
@@ -113,24 +105,32 @@ module _ (past : Past) (key : Chrn) (told : List ℕ) (word p q taken : ℕ) (de
   read_byte false value (less, is, reads) =
       let now_size : min taken (content_size key.n) ≡ taken = omega arith in
       let after : min (taken + 1) (content_size key.n) ≡ taken + 1 = omega arith in
-      let so_far : told ≡ bytes_at (with_word past.seen word) (q + 64) taken = told_so_far ∙ ap (bytes_at (with_word past.seen word) (q + 64)) now_size in
-      (p, q, taken + 1, record {
-        address = address_stays past.seen (with_word past.seen word) (part_with_word past.seen word) p key was.address;
-        reads = reads;
-        bytes = ap (λ bytes. bytes ++ value ∷ []) so_far ∙ ap (λ byte. bytes_at (with_word past.seen word) (q + 64) taken ++ byte ∷ []) is ∙ sym (bytes_at-more (with_word past.seen word) (q + 64) taken) ∙ ap (bytes_at (with_word past.seen word) (q + 64)) (sym after);
-        few = was.few;
-      })
+      let so_far : told ≡ bytes_at (with_word past.seen word) (q + 64) taken = told_so_far ∙ ap (bytes_at (with_word past.seen word) (q + 64)) now_size in (
+        p,
+        q,
+        taken + 1,
+        record {
+          address = address_stays past.seen (with_word past.seen word) (part_with_word past.seen word) p key was.address;
+          reads = reads;
+          bytes = ap (λ bytes. bytes ++ value ∷ []) so_far ∙ ap (λ byte. bytes_at (with_word past.seen word) (q + 64) taken ++ byte ∷ []) is ∙ sym (bytes_at-more (with_word past.seen word) (q + 64) taken) ∙ ap (bytes_at (with_word past.seen word) (q + 64)) (sym after);
+          few = was.few;
+        },
+      )
 
   read_quiet : (index : Bool) → SReadFed index (with_word past.seen word) p q deleted (content_size key.n) taken now Nothing → IsReading (heard index word past) key told (Content now deleted)
   read_quiet true given = absurd given
   read_quiet false (is, reads) =
-      let same : min taken (content_size key.n) ≡ min (taken + 1) (content_size key.n) = omega arith in
-      (p, q, taken + 1, record {
-        address = address_stays past.seen (with_word past.seen word) (part_with_word past.seen word) p key was.address;
-        reads = reads;
-        bytes = told_so_far ∙ ap (bytes_at (with_word past.seen word) (q + 64)) same;
-        few = was.few;
-      })
+      let same : min taken (content_size key.n) ≡ min (taken + 1) (content_size key.n) = omega arith in (
+        p,
+        q,
+        taken + 1,
+        record {
+          address = address_stays past.seen (with_word past.seen word) (part_with_word past.seen word) p key was.address;
+          reads = reads;
+          bytes = told_so_far ∙ ap (bytes_at (with_word past.seen word) (q + 64)) same;
+          few = was.few;
+        },
+      )
 
   field_of : (good : Bool) → SReadFed true (with_word past.seen word) p q deleted (content_size key.n) taken now (End good) → IsFieldOver (with_word past.seen word) key told deleted good p q
   field_of good (is, ended, tells) =
@@ -150,11 +150,15 @@ module _ (past : Past) (key : Chrn) (told : List ℕ) (word p q taken : ℕ) (de
   read_cut false given = absurd given
   read_cut true cut = record {
     bytes = told_stays true word past key told (content_told past key told before deleted p q taken was);
-    cause = inl ((with_word past.seen word), p, record {
-      over = ended_turn past word;
-      address = address_stays past.seen (with_word past.seen word) (part_with_word past.seen word) p key was.address;
-      none = cut_is_no_data (with_word past.seen word) p key.n (content_size key.n) refl cut;
-    });
+    cause = inl (
+      (with_word past.seen word),
+      p,
+      record {
+        over = ended_turn past word;
+        address = address_stays past.seen (with_word past.seen word) (part_with_word past.seen word) p key was.address;
+        none = cut_is_no_data (with_word past.seen word) p key.n (content_size key.n) refl cut;
+      },
+    );
   }
 
   read_on : (index : Bool) (event : Seen) → ((value : ℕ) → event ≡ Byte value → ⊥) → ((good : Bool) → event ≡ End good → ⊥) → (event ≡ NoData → ⊥) → SReadFed index (with_word past.seen word) p q deleted (content_size key.n) taken now event → IsReading (heard index word past) key told (Content now deleted)

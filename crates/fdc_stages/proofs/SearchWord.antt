@@ -1,18 +1,18 @@
 -- A word heard by a search.
-use Rattle.std.proofs.Common.{◌≡◌, ◌⊎◌, ℕ, ◌+◌, ◌*◌, ◌≤◌, Bool, true, false, MatchBool, Option, List, [], ◌∷◌, ◌++◌, length, refl, sym, ap, subst, ◌∙◌, arith, inl, inr}
+use Rattle.std.proofs.Common.{◌≡◌, ◌⊎◌, ℕ, ◌+◌, Bool, true, false, MatchBool, Option, List, [], ◌∷◌, refl, sym, ap, subst, arith, inl, inr}
 use Rattle.std.proofs.lemmas.Bool.{false≢true}
 use Rattle.flop_base.specs.declared.key.Chrn.{Chrn}
 use Rattle.track_model.specs.Marks.{IsAddressMark}
-use Rattle.track_model.specs.Fields.{IsAddressAt}
 use Rattle.track_model.specs.Looks.{HasAddressMark}
 use Rattle.track_separator.specs.declared.state.Seen.{Seen}
 use Rattle.track_separator.specs.declared.state.Seen.TheVariants.{Mark, Address}
 use Rattle.track_separator.specs.declared.state.Separator.{Separator}
-use Rattle.track_separator.specs.Parts.{with_word, turn_after, IsPart, EndsInLast}
+use Rattle.track_separator.specs.Parts.{with_word, turn_after, EndsInLast}
 use Rattle.track_separator.specs.Hunts.{SHunts, SFollows, SHuntSeen, GivesAll, Stands}
 use Rattle.track_separator.specs.Turns.{SBegins}
 use Rattle.track_separator.proofs.Laws.{part_with_word, mark_stays, no_run_stood, mark_old_or_new, address_old_or_new, follows_hunts}
-use Rattle.fdc_stages.specs.History.{Past, heard, IsTurnIn, HasFewTurns}
+use Rattle.fdc_stages.specs.History.{Past, heard}
+use Rattle.fdc_stages.proofs.Laws.{turned_few}
 use Rattle.fdc_stages.specs.Searches.{Wants, HasNoClear, HasNoneIn, HasMarkIn, HasTurned, IsSearchingIn, IsPassed, IsMet, HasMissed}
 
 -- ---- behind a turn that is over nothing was heard
@@ -133,14 +133,10 @@ passed_of index past word wanted old new turned marked now_marked event searchin
 
 -- ---- an address field that was met
 
-few_of : (turned : Bool) (turns : List (List ℕ)) → HasTurned turned turns → length turns ≤ 1
-few_of true turns (first, e) = subst (λ list. length list ≤ 1) (sym e) (omega arith)
-few_of false turns e = subst (λ list. length list ≤ 1) (sym e) (omega arith)
-
 pub met_of : (index : Bool) (past : Past) (word : ℕ) (wanted : Option Chrn) (old new : Separator) (turned marked : Bool) (event : Seen) (key : Chrn) → IsSearchingIn past.turns past.seen wanted old turned marked → ((fed : List ℕ) → SHunts old fed → Stands (with_word fed word) event) → ((fed : List ℕ) → SHunts old fed → index ≡ false → SHuntSeen (with_word fed word) new event) → (index ≡ true → SBegins new) → event ≡ Address key → IsMet index (heard index word past) key new
 met_of false past word wanted old new turned marked event key searching stands address begins is =
     let met : SHuntSeen (with_word past.seen word) new (Address key) = subst (SHuntSeen (with_word past.seen word) new) is (address past.seen (follows_hunts old past.seen searching.follows) refl) in
-    (met.0, record { address = met.2; ends = met.1; asks = met.3; few = few_of turned past.turns searching.indexes })
+    (met.0, record { address = met.2; ends = met.1; asks = met.3; few = turned_few turned past.turns searching.indexes })
 met_of true past word wanted old new turned marked event key searching stands address begins is =
     let met : Stands (with_word past.seen word) (Address key) = subst (Stands (with_word past.seen word)) is (stands past.seen (follows_hunts old past.seen searching.follows)) in (
       with_word past.seen word,

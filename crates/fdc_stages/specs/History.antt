@@ -60,6 +60,14 @@ pub record IsJustOver (past : Past) (turn : List ℕ) : Type 0 where
   pub last : past.turns ≡ turn ∷ earlier
   pub nothing : past.seen ≡ []
 
+-- how many words were heard
+abbrev pub words_in : List (List ℕ) → List ℕ → ℕ
+words_in [] seen = length seen
+words_in (turn ∷ turns) seen = length turn + words_in turns seen
+
+abbrev pub words_heard : Past → ℕ
+words_heard past = words_in past.turns past.seen
+
 -- one index has passed at most
 abbrev pub HasFewTurns : Past → Type 0
 HasFewTurns past = length past.turns ≤ 1

@@ -1,3 +1,4 @@
 pub mod History
 pub mod Searches
 pub mod Readings
+pub mod Findings

@@ -1,5 +1,5 @@
 -- What a search for an address field has heard.
-use Rattle.std.specs.Prelude.{◌≡◌, ◌⊎◌, ℕ, ◌+◌, Bool, true, false, MatchBool, Option, Some, None, List, [], ◌∷◌}
+use Rattle.std.specs.Prelude.{◌≡◌, ℕ, ◌+◌, Bool, true, false, MatchBool, Option, Some, None, List, [], ◌∷◌}
 use Rattle.flop_base.specs.declared.key.Chrn.{Chrn}
 use Rattle.track_model.specs.Fields.{IsAddressAt}
 use Rattle.track_model.specs.Looks.{HasAddressMark}
@@ -13,7 +13,7 @@ use Rattle.fdc_stages.specs.declared.ending.Ending.TheVariants.{NoMark, NoSector
 use Rattle.fdc_stages.specs.declared.searching.Search.{Search}
 use Rattle.fdc_stages.specs.declared.searching.Searched.{Searched}
 use Rattle.fdc_stages.specs.declared.searching.Searched.TheVariants.{On, Met, Missed}
-use Rattle.fdc_stages.specs.History.{Past, IsTurnIn, IsTurn, IsJustOver, HasFewTurns}
+use Rattle.fdc_stages.specs.History.{Past, IsTurnIn, IsJustOver, HasFewTurns}
 
 -- an address field of this key is searched for; without a wanted key each one is
 abbrev pub Wants : Option Chrn → Chrn → Type 0
@@ -48,7 +48,7 @@ abbrev pub IsSearching : Past → Option Chrn → Search → Type 0
 IsSearching past wanted searching =
     IsSearchingIn past.turns past.seen wanted searching.separator searching.turned searching.marked
 
--- the words since the last index, the last of them among them, where the index may have followed it
+-- a search behind a word in which nothing was met, before an index that follows the word is counted
 pub record IsPassed (index : Bool) (past : Past) (word : ℕ) (wanted : Option Chrn) (separator : Separator) (turned marked : Bool) : Type 0 where
   pub follows : SFollows separator (turn_after index past.seen word)
   pub none : HasNoneIn wanted past.turns (with_word past.seen word)

@@ -95,15 +95,6 @@ fn read_on(before: Separator, deleted: bool, key: Chrn, word: u16, index: bool) 
     }
 }
 
-/// Hears a word behind the data field.
-fn stay_over(deleted: bool, good: bool, word: u16, index: bool) -> ReadHeard
-    ensures hears { (past : Past) (key : Chrn) (told : List ℕ) → IsOver past key told deleted good
-        → HasHeard (heard index word past) key told result }
-    ensures well { FailsWell result }
-{
-    ReadHeard::On(ReadStage::Over { deleted, good })
-}
-
 /// How a reading ends whose data field is over. `counted` says that the terminal count came.
 pub fn over_ending(deleted: bool, good: bool, counted: bool) -> Ending
     ensures { (past : Past) (key : Chrn) (told : List ℕ) → past.counted ≡ counted → IsOver past key told deleted good
@@ -138,7 +129,7 @@ impl ReadStage {
             ReadStage::Content { separator, deleted } => {
                 read_on(separator, deleted, key, word, index)
             }
-            ReadStage::Over { deleted, good } => stay_over(deleted, good, word, index),
+            ReadStage::Over { .. } => ReadHeard::On(self),
         }
     }
 }

@@ -1,0 +1,77 @@
+-- What the ending of a reading says of the words heard.
+use Rattle.std.proofs.Common.{◌≡◌, ℕ, Bool, true, false, Option, None, List, length, refl, sym, subst, ◌∙◌, inl, inr}
+use Rattle.flop_base.specs.declared.key.Chrn.{Chrn}
+use Rattle.track_model.specs.Fields.{IsSizeCode, content_size}
+use Rattle.track_separator.specs.declared.state.Separator.{Separator}
+use Rattle.track_separator.proofs.Laws.{whole_part, field_stays, address_stays, no_data_stays}
+use Rattle.fdc_stages.specs.declared.ending.Ending.{Ending}
+use Rattle.fdc_stages.specs.declared.ending.Ending.TheVariants.{Done, NoMark, NoSector, NoField, BadCheck, Overrun, NoCount, Protected, Late}
+use Rattle.fdc_stages.specs.History.{Past, IsTurn, IsTurnIn, IsAmong}
+use Rattle.fdc_stages.specs.Searches.{IsMet, IsBetween, IsMissed}
+use Rattle.fdc_stages.specs.Readings.{IsStart, HasNoField, IsFieldOver, HasRead}
+use Rattle.fdc_stages.specs.Findings.{FindsSector, HasAddress, HasIdentified, FindsBadCheck, FindsNoField, FindsNoMark, FindsNoSector}
+use Rattle.fdc_stages.proofs.Laws.{start_full, over_full}
+
+-- a reading that is done has found the sector
+pub found_of : (past : Past) (key : Chrn) (told given : List ℕ) (deleted : Bool) → IsSizeCode key.n → HasRead past key told (Done deleted) → IsStart past.counted given told → FindsSector past key given deleted
+found_of past key told given deleted coded read start =
+    let turn = read.cause.1.0 in
+    let p = read.cause.1.2.0 in
+    let q = read.cause.1.2.1 in
+    let over : IsFieldOver turn key told deleted true p q = read.cause.1.2.2 in
+    let long : length told ≡ content_size key.n = over_full past key told deleted true read.cause.1 in (
+      read.cause.0,
+      (
+        turn,
+        p,
+        q,
+        record {
+          among = read.cause.1.1;
+          address = over.address;
+          finds = field_stays turn turn (whole_part turn) p q key.n (content_size key.n) deleted true coded refl over.ended over.tells;
+          content = λ full. start_full past.counted given told start (full ∙ sym long) ∙ over.bytes;
+        },
+      ),
+    )
+
+-- a wrong check
+pub bad_check_of : (past : Past) (key : Chrn) (told : List ℕ) → IsSizeCode key.n → HasRead past key told BadCheck → FindsBadCheck past key
+bad_check_of past key told coded read =
+    let deleted = read.cause.0 in
+    let turn = read.cause.1.0 in
+    let p = read.cause.1.2.0 in
+    let q = read.cause.1.2.1 in
+    let over : IsFieldOver turn key told deleted false p q = read.cause.1.2.2 in
+    (turn, p, record { among = read.cause.1.1; address = over.address }, field_stays turn turn (whole_part turn) p q key.n (content_size key.n) deleted false coded refl over.ended over.tells)
+
+-- no data field
+pub no_field_of : (past : Past) (key : Chrn) → HasNoField past key → FindsNoField past key
+no_field_of past key (inl (turn, p, cut)) = inl (turn, p, cut.over, cut.address, cut.none)
+no_field_of past key (inr (p, bare)) = inr (p, λ whole part. (address_stays past.seen whole part p key bare.address, no_data_stays past.seen whole part p key.n bare.none))
+
+-- the turn between the indexes is one of those heard
+between_heard : (past : Past) (between : List ℕ) → IsBetween past between → IsTurn past between
+between_heard past between is = subst (λ turns. IsTurnIn turns past.seen between) (sym is.turns) (inr (inl refl))
+
+pub no_mark_of : (past : Past) (wanted : Option Chrn) → IsMissed past wanted NoMark → FindsNoMark past
+no_mark_of past wanted (missed, none) = (missed.between, missed.is, λ mark. none (missed.between, between_heard past missed.between missed.is, mark))
+
+pub no_sector_of : (past : Past) (wanted : Option Chrn) → IsMissed past wanted NoSector → FindsNoSector past wanted
+no_sector_of past wanted (missed, marked) = (marked, (missed.between, missed.is, missed.none missed.between (between_heard past missed.between missed.is)))
+
+-- a search for any address field that missed is how a READ ID ends
+pub identified_of : (past : Past) (key : Chrn) (ending : Ending) → IsMissed past None ending → HasIdentified past key ending
+identified_of past key NoMark missed = missed
+identified_of past key NoSector missed = missed
+identified_of past key (Done deleted) missed = absurd missed
+identified_of past key NoField missed = absurd missed
+identified_of past key BadCheck missed = absurd missed
+identified_of past key Overrun missed = absurd missed
+identified_of past key NoCount missed = absurd missed
+identified_of past key Protected missed = absurd missed
+identified_of past key Late missed = absurd missed
+
+-- an address field that was met stands in the words heard
+pub met_heard : (index : Bool) (past : Past) (key : Chrn) (separator : Separator) → IsMet index past key separator → HasAddress past key
+met_heard false past key separator (p, met) = (past.seen, p, record { among = inl refl; address = met.address })
+met_heard true past key separator (turn, p, met) = (turn, p, record { among = inr (subst (λ turns. IsAmong turns turn) (sym met.over.last) (inl refl)); address = met.address })
