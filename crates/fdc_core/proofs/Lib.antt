@@ -1,1 +1,2 @@
 pub mod MayRead
+pub mod MayReadId

@@ -14,7 +14,7 @@ use Rattle.fdc_fifo.specs.Fifo.{emptied}
 use Rattle.fdc_seek.specs.Seeking.{with_motion, seek_bits, sensed, after_sense}
 use Rattle.fdc_seek.specs.declared.motion.Motion.TheVariants.{Outward, Toward}
 use Rattle.fdc_stages.specs.History.{begun as new_past}
-use Rattle.fdc_core.specs.Heard.{MayReadTask}
+use Rattle.fdc_core.specs.Heard.{MayReadTask, MayReadIdTask}
 use Rattle.fdc_core.specs.declared.answers.Answer.TheVariants.{Short}
 use Rattle.fdc_core.specs.declared.controller.Fdc.{Fdc}
 use Rattle.fdc_core.specs.declared.controller.Lines.{Lines}
@@ -76,10 +76,9 @@ begun head_drive task old = record old {
   data_commands = min (old.data_commands + 1) last_count;
 }
 
--- READ ID
+-- READ ID, which has heard nothing
 abbrev pub IsReadingId : Task → Type 0
-IsReadingId (ReadId search) = Unit {0}
-IsReadingId _ = ⊥
+IsReadingId task = MayReadIdTask new_past 0 task
 
 -- READ DATA of this key, which has heard and given nothing
 abbrev pub IsReadingData : Chrn → ℕ → Task → Type 0

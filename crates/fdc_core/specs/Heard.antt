@@ -1,8 +1,10 @@
 -- READ DATA, what it heard and what it gave since it began.
-use Rattle.std.specs.Prelude.{◌≡◌, ◌⊎◌, ℕ, ◌+◌, Bool, true, false, ◌==◌, List, [], ◌∷◌, ◌++◌, length, if◌then◌else◌}
+use Rattle.std.specs.Prelude.{◌≡◌, ◌⊎◌, ℕ, ◌+◌, Bool, true, false, ◌==◌, List, [], ◌∷◌, ◌++◌, length, None, if◌then◌else◌}
 use Rattle.drive_model.specs.Drive.{DriveState, Reads, rate_of}
 use Rattle.flop_base.specs.declared.key.Chrn.{Chrn}
 use Rattle.fdc_stages.specs.History.{Past, heard}
+use Rattle.fdc_stages.specs.Searches.{IsSearching}
+use Rattle.fdc_stages.specs.Findings.{HasIdentified}
 use Rattle.fdc_stages.specs.Readings.{IsStart, IsReading, HasRead}
 use Rattle.fdc_stages.specs.declared.ending.Ending.{Ending}
 use Rattle.fdc_core.specs.Phases.{head_of}
@@ -93,3 +95,43 @@ MayRead past key fdc = MayReadIn past key fdc.phase fdc.asking fdc.fifo.bytes
 -- an access to a port keeps it, or the controller takes commands again
 abbrev pub KeepsRead : Fdc → Fdc → Type 0
 KeepsRead old new = (past : Past) (key : Chrn) → MayRead past key old → MayRead past key new ⊎ (new.phase ≡ Command)
+
+-- ---- READ ID
+
+abbrev pub MayReadIdTask : Past → ℕ → Task → Type 0
+MayReadIdTask past steps (ReadId search) = (past.steps ≡ steps) × IsSearching past None search
+MayReadIdTask past steps (Read _) = ⊥
+
+abbrev pub MayReadIdAnswer : Past → Answer → Type 0
+MayReadIdAnswer past (Long ending results _) = HasIdentified past results.key ending
+MayReadIdAnswer past (Short _ _) = ⊥
+
+abbrev pub MayReadIdIn : Past → Phase → Type 0
+MayReadIdIn past (Execute execution) = MayReadIdTask past execution.steps execution.task
+MayReadIdIn past (Result answer) = MayReadIdAnswer past answer
+MayReadIdIn past Command = ⊥
+
+-- the controller executes a READ ID, or gives its results, and this is what it heard
+abbrev pub MayReadId : Past → Fdc → Type 0
+MayReadId past fdc = MayReadIdIn past fdc.phase
+
+-- ---- device steps
+
+-- a device step in this phase: the word that is seen of the drive, and what is then known of a READ DATA and of a READ ID
+abbrev pub StepHears : Phase → DataRate → Bool → List ℕ → Bool → DriveState → DriveState → Fdc → Type 0
+StepHears phase rate asking fifo index before after new =
+    (word : ℕ) × SeesWord phase rate before word after
+    × ((past : Past) (key : Chrn) → MayReadIn past key phase asking fifo → MayRead (after_step (is_executing phase) index word past) key new)
+    × ((past : Past) → MayReadIdIn past phase → MayReadId (after_step (is_executing phase) index word past) new)
+
+abbrev pub Listens : Fdc → Bool → DriveState → DriveState → Fdc → Type 0
+Listens old index before after new = StepHears old.phase old.rate old.asking old.fifo.bytes index before after new
+
+-- a device step where no drive is selected: words 0000, and no index
+abbrev pub StepHearsNone : Phase → Bool → List ℕ → Fdc → Type 0
+StepHearsNone phase asking fifo new =
+    ((past : Past) (key : Chrn) → MayReadIn past key phase asking fifo → MayRead (after_step (is_executing phase) false 0 past) key new)
+    × ((past : Past) → MayReadIdIn past phase → MayReadId (after_step (is_executing phase) false 0 past) new)
+
+abbrev pub ListensToNone : Fdc → Fdc → Type 0
+ListensToNone old new = StepHearsNone old.phase old.asking old.fifo.bytes new

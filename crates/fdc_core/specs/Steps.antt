@@ -1,8 +1,8 @@
 -- Device steps.
-use Rattle.std.specs.Prelude.{◌≡◌, ◌⊎◌, ◌<◌, ℕ, ◌+◌, Bool, true, false, not, ◌&&◌, ◌||◌, if◌then◌else◌}
+use Rattle.std.specs.Prelude.{◌≡◌, ◌⊎◌, ◌<◌, ℕ, ◌+◌, ◌==◌, Option, Some, None, Bool, true, false, not, ◌&&◌, ◌||◌, if◌then◌else◌}
 use Rattle.flop_base.specs.declared.key.Chrn.{Chrn}
-use Rattle.fdc_fifo.specs.Fifo.{Fifo}
-use Rattle.fdc_seek.specs.Seeking.{with_polls, stepped, is_seeking}
+use Rattle.drive_model.specs.Drive.{DriveState, Becomes, Pulses, passed}
+use Rattle.fdc_seek.specs.Seeking.{with_polls, stepped, pulse_due, is_seeking}
 use Rattle.fdc_stages.specs.declared.ending.Ending.{Ending}
 use Rattle.fdc_stages.specs.declared.ending.Ending.TheVariants.{Late}
 use Rattle.fdc_core.specs.Phases.{key_as_sent}
@@ -62,3 +62,17 @@ ExecutesIn _ old new = Unit {0}
 -- a device step in execution
 abbrev pub Executes : Fdc → Fdc → Type 0
 Executes old new = ExecutesIn old.phase old new
+
+-- one word time passes at the drive, behind the pulse of a seek
+abbrev pub Moves : Option Bool → DriveState → DriveState → Type 0
+Moves None before after = Becomes before (passed before) after
+Moves (Some inward) before after =
+    (between : DriveState) × Pulses before inward between × Becomes between (passed between) after
+
+abbrev pub MovesIn : Phase → Fdc → DriveState → DriveState → Type 0
+MovesIn (Execute _) fdc before after = Moves None before after
+MovesIn _ fdc before after = Moves (pulse_due fdc.seeks (before.cylinder == 0)) before after
+
+-- a device step with a drive: outside execution a seek gives its pulse
+abbrev pub MovesDrive : Fdc → DriveState → DriveState → Type 0
+MovesDrive fdc before after = MovesIn fdc.phase fdc before after

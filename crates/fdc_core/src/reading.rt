@@ -1,8 +1,9 @@
 // READ ID and READ DATA, word by word.
-ghost use Rattle.std.specs.Prelude.{◌≡◌, ◌++◌, List, ℕ};
+ghost use Rattle.std.specs.Prelude.{◌≡◌, ◌++◌, List, None, ℕ};
 ghost use Rattle.flop_base.specs.declared.key.Chrn.{Chrn};
 ghost use Rattle.fdc_stages.specs.History.{Past, heard};
-ghost use Rattle.fdc_core.specs.Heard.{IsUnderway, MayRead};
+ghost use Rattle.fdc_stages.specs.Searches.{IsSearching};
+ghost use Rattle.fdc_core.specs.Heard.{IsUnderway, MayRead, MayReadId};
 ghost use Rattle.fdc_stages.specs.declared.reading.ReadHeard.{ReadHeard};
 ghost use Rattle.fdc_stages.specs.declared.searching.Searched.{Searched};
 ghost use Rattle.fdc_core.specs.Dma.{gone_on};
@@ -16,9 +17,19 @@ use fdc_stages::{Ending, ReadHeard, Search, Searched};
 impl Fdc {
     /// READ ID hears a word.
     pub(crate) fn hear_id(&mut self, head_drive: u8, steps: u16, search: Search, turn: Turn)
-        ensures { (searched : Searched) × (self.new ≡ after_searched head_drive steps searched self.old) }
+        ensures follows { (searched : Searched) × (self.new ≡ after_searched head_drive steps searched self.old) }
+        ensures identifies { (past : Past) → past.steps ≡ steps → IsSearching past None search
+            → MayReadId (heard turn.index turn.word past) self.new }
     {
-        match search.hear(None, turn.word, turn.index) {
+        let searched = search.hear(None, turn.word, turn.index);
+        self.follow_id(head_drive, steps, searched);
+    }
+
+    /// READ ID does what the word that it heard asks for.
+    fn follow_id(&mut self, head_drive: u8, steps: u16, searched: Searched)
+        ensures { self.new ≡ after_searched head_drive steps searched self.old }
+    {
+        match searched {
             Searched::On(search) => self.go_on(head_drive, steps, Task::ReadId { search }),
             Searched::Met { key, .. } => {
                 self.finish(Ending::Done { deleted: false }, head_drive, key);

@@ -1,13 +1,12 @@
 // Device steps: one word time each, with the selected drive or with none.
-ghost use Rattle.std.specs.Prelude.{◌≡◌, ◌<◌, ◌+◌, ◌==◌, ℕ, true, false};
+ghost use Rattle.std.specs.Prelude.{◌≡◌, ◌<◌, ◌+◌, ◌==◌, ℕ, None, true, false};
 ghost use Rattle.drive_model.specs.Drive.{Becomes, Reads, passed, at_index, rate_of};
 ghost use Rattle.fdc_seek.specs.Seeking.{pulse_due};
 ghost use Rattle.flop_base.specs.declared.key.Chrn.{Chrn};
 ghost use Rattle.fdc_stages.specs.History.{Past, heard};
-ghost use Rattle.fdc_core.specs.Heard.{MayRead, MayReadTask, SeesUnder, SeesWord, is_executing, after_step, stepped};
-ghost use Rattle.fdc_core.specs.Phases.{head_of};
+ghost use Rattle.fdc_core.specs.Heard.{MayRead, MayReadTask, MayReadId, MayReadIdTask, Listens, StepHears, ListensToNone, StepHearsNone, stepped};
 ghost use Rattle.fdc_core.specs.Rates.{rate_fits, seen_of};
-ghost use Rattle.fdc_core.specs.Steps.{polled, seek_stepped, late, Executes, StepsOn, Hears, Rests};
+ghost use Rattle.fdc_core.specs.Steps.{polled, seek_stepped, late, Executes, StepsOn, Hears, Rests, Moves, MovesDrive};
 
 use crate::controller::Fdc;
 use crate::phases::{Execution, Phase, Task};
@@ -28,10 +27,8 @@ impl Fdc {
     pub fn step<D: Drive>(&mut self, drive: &mut D)
         ensures rests { Rests (polled self.old) ((D.state drive.old).cylinder == 0) self.new }
         ensures executes { Executes (polled self.old) self.new }
-        ensures reads { (word : ℕ)
-            × SeesWord self.old.phase self.old.rate (D.state drive.old) word (D.state drive.new)
-            × ((past : Past) (key : Chrn) → MayRead past key self.old
-            → MayRead (after_step (is_executing self.old.phase) (at_index (D.state drive.old)) word past) key self.new) }
+        ensures reads { Listens self.old (at_index (D.state drive.old)) (D.state drive.old) (D.state drive.new) self.new }
+        ensures drive { MovesDrive (polled self.old) (D.state drive.old) (D.state drive.new) }
     {
         self.poll();
         self.advance(drive);
@@ -41,10 +38,8 @@ impl Fdc {
     fn advance<D: Drive>(&mut self, drive: &mut D)
         ensures rests { Rests self.old ((D.state drive.old).cylinder == 0) self.new }
         ensures executes { Executes self.old self.new }
-        ensures reads { (word : ℕ)
-            × SeesWord self.old.phase self.old.rate (D.state drive.old) word (D.state drive.new)
-            × ((past : Past) (key : Chrn) → MayRead past key self.old
-            → MayRead (after_step (is_executing self.old.phase) (at_index (D.state drive.old)) word past) key self.new) }
+        ensures reads { Listens self.old (at_index (D.state drive.old)) (D.state drive.old) (D.state drive.new) self.new }
+        ensures drive { MovesDrive self.old (D.state drive.old) (D.state drive.new) }
     {
         match self.phase {
             Phase::Execute { execution } => self.execute(execution, drive),
@@ -56,8 +51,7 @@ impl Fdc {
     pub fn step_empty(&mut self)
         ensures rests { Rests (polled self.old) false self.new }
         ensures executes { Executes (polled self.old) self.new }
-        ensures reads { (past : Past) (key : Chrn) → MayRead past key self.old
-            → MayRead (after_step (is_executing self.old.phase) false 0 past) key self.new }
+        ensures reads { ListensToNone self.old self.new }
     {
         self.poll();
         self.advance_empty();
@@ -67,8 +61,7 @@ impl Fdc {
     fn advance_empty(&mut self)
         ensures rests { Rests self.old false self.new }
         ensures executes { Executes self.old self.new }
-        ensures reads { (past : Past) (key : Chrn) → MayRead past key self.old
-            → MayRead (after_step (is_executing self.old.phase) false 0 past) key self.new }
+        ensures reads { ListensToNone self.old self.new }
     {
         match self.phase {
             Phase::Execute { execution } => self.execute_empty(execution),
@@ -91,13 +84,19 @@ impl Fdc {
 
     /// A device step outside execution: a seek goes on, and a word passes.
     fn rest<D: Drive>(&mut self, drive: &mut D)
-        ensures { self.new ≡ seek_stepped ((D.state drive.old).cylinder == 0) self.old }
+        ensures state { self.new ≡ seek_stepped ((D.state drive.old).cylinder == 0) self.old }
+        ensures drive { Moves (pulse_due self.old.seeks ((D.state drive.old).cylinder == 0)) (D.state drive.old) (D.state drive.new) }
     {
         let track0 = drive.track0();
-        if let Some(inward) = self.step_seek(track0) {
-            drive.pulse(inward);
+        match self.step_seek(track0) {
+            Some(inward) => {
+                drive.pulse(inward);
+                drive.pass();
+            }
+            None => {
+                drive.pass();
+            }
         }
-        drive.pass();
     }
 
     /// The pulse that a seek gives in this device step. At its end INT rises.
@@ -116,10 +115,9 @@ impl Fdc {
     /// A device step of a data command.
     fn execute<D: Drive>(&mut self, execution: Execution, drive: &mut D)
         ensures steps { StepsOn execution self.old self.new }
-        ensures reads { (word : ℕ)
-            × SeesUnder self.old.rate (head_of execution) (D.state drive.old) word (D.state drive.new)
-            × ((past : Past) (key : Chrn) → MayReadTask past key execution.steps execution.task self.old.asking self.old.fifo.bytes
-            → MayRead (after_step true (at_index (D.state drive.old)) word past) key self.new) }
+        ensures reads { StepHears (Phase.Execute execution) self.old.rate self.old.asking self.old.fifo.bytes (at_index (D.state drive.old))
+            (D.state drive.old) (D.state drive.new) self.new }
+        ensures drive { Moves None (D.state drive.old) (D.state drive.new) }
     {
         if execution.steps == LAST_STEP {
             drive.pass();
@@ -133,8 +131,7 @@ impl Fdc {
     /// A device step of a data command where no drive is selected.
     fn execute_empty(&mut self, execution: Execution)
         ensures steps { StepsOn execution self.old self.new }
-        ensures reads { (past : Past) (key : Chrn) → MayReadTask past key execution.steps execution.task self.old.asking self.old.fifo.bytes
-            → MayRead (after_step true false 0 past) key self.new }
+        ensures reads { StepHearsNone (Phase.Execute execution) self.old.asking self.old.fifo.bytes self.new }
     {
         if execution.steps == LAST_STEP {
             self.finish_late(execution);
@@ -179,6 +176,8 @@ impl Fdc {
         ensures hears { Hears execution.head_drive (execution.steps + 1) execution.task self.old self.new }
         ensures reads { (past : Past) (key : Chrn) → MayReadTask past key execution.steps execution.task self.old.asking self.old.fifo.bytes
             → MayRead (heard turn.index turn.word (stepped past)) key self.new }
+        ensures identifies { (past : Past) → MayReadIdTask past execution.steps execution.task
+            → MayReadId (heard turn.index turn.word (stepped past)) self.new }
     {
         let Execution {
             head_drive,
