@@ -1,2 +1,3 @@
 pub mod MayRead
 pub mod MayReadId
+pub mod Ending

@@ -1,5 +1,5 @@
 -- Device steps.
-use Rattle.std.specs.Prelude.{◌≡◌, ◌⊎◌, ◌<◌, ℕ, ◌+◌, ◌==◌, Option, Some, None, Bool, true, false, not, ◌&&◌, ◌||◌, if◌then◌else◌}
+use Rattle.std.specs.Prelude.{◌≡◌, ◌⊎◌, ◌<◌, ℕ, ◌+◌, ◌-◌, ◌==◌, Option, Some, None, Bool, true, false, not, ◌&&◌, ◌||◌, if◌then◌else◌}
 use Rattle.flop_base.specs.declared.key.Chrn.{Chrn}
 use Rattle.drive_model.specs.Drive.{DriveState, Becomes, Pulses, passed}
 use Rattle.fdc_seek.specs.Seeking.{with_polls, stepped, pulse_due, is_seeking}
@@ -76,3 +76,13 @@ MovesIn _ fdc before after = Moves (pulse_due fdc.seeks (before.cylinder == 0)) 
 -- a device step with a drive: outside execution a seek gives its pulse
 abbrev pub MovesDrive : Fdc → DriveState → DriveState → Type 0
 MovesDrive fdc before after = MovesIn fdc.phase fdc before after
+
+-- so many device steps at most are left of a data command in execution: 65,536 when it begins
+abbrev pub steps_left : Phase → ℕ
+steps_left (Execute execution) = 65536 - execution.steps
+steps_left _ = 0
+
+-- a device step of a data command leaves fewer
+abbrev pub EndsIn : Phase → Phase → Type 0
+EndsIn (Execute execution) new = steps_left new < steps_left (Execute execution)
+EndsIn _ new = Unit {0}

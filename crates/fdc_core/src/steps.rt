@@ -6,7 +6,7 @@ ghost use Rattle.flop_base.specs.declared.key.Chrn.{Chrn};
 ghost use Rattle.fdc_stages.specs.History.{Past, heard};
 ghost use Rattle.fdc_core.specs.Heard.{MayRead, MayReadTask, MayReadId, MayReadIdTask, Listens, StepHears, ListensToNone, StepHearsNone, stepped};
 ghost use Rattle.fdc_core.specs.Rates.{rate_fits, seen_of};
-ghost use Rattle.fdc_core.specs.Steps.{polled, seek_stepped, late, Executes, StepsOn, Hears, Rests, Moves, MovesDrive};
+ghost use Rattle.fdc_core.specs.Steps.{polled, seek_stepped, late, Executes, StepsOn, Hears, Rests, Moves, MovesDrive, EndsIn};
 
 use crate::controller::Fdc;
 use crate::phases::{Execution, Phase, Task};
@@ -29,6 +29,7 @@ impl Fdc {
         ensures executes { Executes (polled self.old) self.new }
         ensures reads { Listens self.old (at_index (D.state drive.old)) (D.state drive.old) (D.state drive.new) self.new }
         ensures drive { MovesDrive (polled self.old) (D.state drive.old) (D.state drive.new) }
+        ensures ends { EndsIn self.old.phase self.new.phase }
     {
         self.poll();
         self.advance(drive);
@@ -40,6 +41,7 @@ impl Fdc {
         ensures executes { Executes self.old self.new }
         ensures reads { Listens self.old (at_index (D.state drive.old)) (D.state drive.old) (D.state drive.new) self.new }
         ensures drive { MovesDrive self.old (D.state drive.old) (D.state drive.new) }
+        ensures ends { EndsIn self.old.phase self.new.phase }
     {
         match self.phase {
             Phase::Execute { execution } => self.execute(execution, drive),
@@ -52,6 +54,7 @@ impl Fdc {
         ensures rests { Rests (polled self.old) false self.new }
         ensures executes { Executes (polled self.old) self.new }
         ensures reads { ListensToNone self.old self.new }
+        ensures ends { EndsIn self.old.phase self.new.phase }
     {
         self.poll();
         self.advance_empty();
@@ -62,6 +65,7 @@ impl Fdc {
         ensures rests { Rests self.old false self.new }
         ensures executes { Executes self.old self.new }
         ensures reads { ListensToNone self.old self.new }
+        ensures ends { EndsIn self.old.phase self.new.phase }
     {
         match self.phase {
             Phase::Execute { execution } => self.execute_empty(execution),
@@ -73,7 +77,8 @@ impl Fdc {
 
     /// The poll that a reset leaves comes in the first device step after it.
     fn poll(&mut self)
-        ensures { self.new ≡ polled self.old }
+        ensures state { self.new ≡ polled self.old }
+        ensures phase { self.new.phase ≡ self.old.phase }
     {
         if self.poll_due && !self.is_held() {
             self.poll_due = false;
@@ -118,6 +123,7 @@ impl Fdc {
         ensures reads { StepHears (Phase.Execute execution) self.old.rate self.old.asking self.old.fifo.bytes (at_index (D.state drive.old))
             (D.state drive.old) (D.state drive.new) self.new }
         ensures drive { Moves None (D.state drive.old) (D.state drive.new) }
+        ensures ends { EndsIn (Phase.Execute execution) self.new.phase }
     {
         if execution.steps == LAST_STEP {
             drive.pass();
@@ -132,6 +138,7 @@ impl Fdc {
     fn execute_empty(&mut self, execution: Execution)
         ensures steps { StepsOn execution self.old self.new }
         ensures reads { StepHearsNone (Phase.Execute execution) self.old.asking self.old.fifo.bytes self.new }
+        ensures ends { EndsIn (Phase.Execute execution) self.new.phase }
     {
         if execution.steps == LAST_STEP {
             self.finish_late(execution);
@@ -173,6 +180,7 @@ impl Fdc {
     /// A data command that only listens hears a word.
     fn hear(&mut self, execution: Execution, turn: Turn)
         requires { execution.steps < 65535 }
+        ensures few { execution.steps < 65535 }
         ensures hears { Hears execution.head_drive (execution.steps + 1) execution.task self.old self.new }
         ensures reads { (past : Past) (key : Chrn) → MayReadTask past key execution.steps execution.task self.old.asking self.old.fifo.bytes
             → MayRead (heard turn.index turn.word (stepped past)) key self.new }

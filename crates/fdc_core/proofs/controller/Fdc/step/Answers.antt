@@ -5,4 +5,4 @@ use Rattle.fdc_core.proofs.controller.Fdc.step.Goals as goal
 pub returns-clause-reads : goal.returns-clause-reads
 returns-clause-reads g c =
     let drive = g.D.Drive.state c.args.drive.now in
-    polled_hears (at_index drive) c.args.self.now c.poll.new.self c.advance.new.self drive (g.D.Drive.state c.advance.new.drive) c.poll.ensures c.advance.ensures.reads
+    polled_hears (at_index drive) c.args.self.now c.poll.new.self c.advance.new.self drive (g.D.Drive.state c.advance.new.drive) c.poll.ensures.state c.advance.ensures.reads
