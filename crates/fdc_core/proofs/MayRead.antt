@@ -18,9 +18,9 @@ use Rattle.fdc_core.specs.Heard.{IsUnderway, HasEndedAs, MayRead, MayReadIn, May
 use Rattle.fdc_core.specs.State.{finished}
 use Rattle.fdc_core.specs.Steps.{late}
 use Rattle.fdc_fifo.specs.Fifo.{Fifo}
-use Rattle.fdc_core.specs.Answers.{after_byte}
+use Rattle.fdc_core.specs.Answers.{after_byte, key_after}
 use Rattle.fdc_core.specs.Dma.{phase_asks, task_asks, phase_told, task_told, fifo_told, asking_told}
-use Rattle.fdc_core.specs.Phases.{ending_at, ending_over, ending_of, is_read, is_reading}
+use Rattle.fdc_core.specs.Phases.{ending_at, ending_over, ending_of, is_read, is_reading, key_as_sent}
 use Rattle.fdc_core.specs.Ports.{phase_after}
 use Rattle.fdc_core.specs.Reading.{over_or_on, gone_on_reading, byte_taken, after_heard, at_stage, pushed, is_full}
 use Rattle.fdc_core.specs.declared.controller.Fdc.{Fdc}
@@ -102,7 +102,7 @@ module _ (past : Past) (key : Chrn) (head_drive steps : ℕ) (old : Fdc) where
   over_on None empty reading told ends is = (asks_bytes (length old.fifo.bytes == 0) _, (told, is))
   over_on (Some ending) true reading told ends is =
       let (rest, all) = starts_given past.given old.fifo.bytes told (starts reading.counted (past.given ++ old.fifo.bytes) told is.bytes_are) in
-      (told, record { read = ends; rest = rest; bytes_are = all })
+      ((head_drive, key_after ending reading.wanted.key reading.last_sector, refl), (told, record { read = ends; rest = rest; bytes_are = all }))
   over_on (Some ending) false reading told ends is = (asks_bytes (length old.fifo.bytes == 0) _, (told, is))
 
   on_reads : (reading : Reading) (told : List ℕ) → IsUnderway past key reading steps (past.given ++ old.fifo.bytes) told → MayRead past key (gone_on_reading head_drive steps reading old)
@@ -128,11 +128,11 @@ module _ (past : Past) (key : Chrn) (head_drive steps : ℕ) (old : Fdc) (readin
   })
   byte_reads false true value told is reads start =
       let (rest, all) = starts_given past.given old.fifo.bytes (told ++ value ∷ []) (value ∷ [], ap (λ bytes. bytes ++ value ∷ []) (sym start)) in
-      (told ++ value ∷ [], record {
+      ((head_drive, reading.wanted.key, refl), (told ++ value ∷ [], record {
         read = record { bytes = told_of past key (told ++ value ∷ []) reading.stage reads; cause = counted_is ∙ is };
         rest = rest;
         bytes_are = all;
-      })
+      }))
   byte_reads false false value told is reads start = on_reads past key head_drive steps (pushed value old) reading (told ++ value ∷ []) (record {
     key_is = key_is;
     counted_is = counted_is;
@@ -147,7 +147,7 @@ module _ (past : Past) (key : Chrn) (head_drive steps : ℕ) (old : Fdc) (readin
       on_reads past key head_drive steps old (at_stage reading stage) told (record { key_is = key_is; counted_is = counted_is; steps_are = steps_are; reads = reads; bytes_are = start })
   follow_reads (given.Byte stage value) reads =
       byte_reads past key head_drive steps old (at_stage reading stage) key_is counted_is steps_are reading.counted (is_full old) value told refl reads start
-  follow_reads (given.Ended ending) read = (told, ended_reads past key head_drive steps old ending reading.counted told read start)
+  follow_reads (given.Ended ending) read = ((head_drive, reading.wanted.key, refl), (told, ended_reads past key head_drive steps old ending reading.counted told read start))
 
 -- a READ DATA follows the word that it heard
 pub hear_reads : (index : Bool) (word head_drive steps : ℕ) (reading : Reading) (after : ReadHeard) (old new : Fdc) → ((past : Past) (told : List ℕ) → IsReading past reading.wanted.key told reading.stage → HasHeard (heard index word past) reading.wanted.key told after) → new ≡ after_heard head_drive steps reading after old
@@ -205,7 +205,7 @@ step_task index word steps reading task asking fifo new is reads past key was =
 pub late_reads : (index : Bool) (word : ℕ) (execution : Execution) (old new : Fdc) → execution.steps ≡ 65535 → new ≡ late execution old
     → (past : Past) (key : Chrn) → MayReadTask past key execution.steps execution.task old.asking old.fifo.bytes → MayRead (heard index word (stepped past)) key new
 late_reads index word execution old new last is past key was =
-    subst (λ fdc. MayRead (heard index word (stepped past)) key fdc) (sym is) (late_task index word past key execution.steps execution.task old.asking old.fifo.bytes last was)
+    subst (λ fdc. MayRead (heard index word (stepped past)) key fdc) (sym is) ((execution.head_drive, key_as_sent execution.task, refl), late_task index word past key execution.steps execution.task old.asking old.fifo.bytes last was)
 
 -- ---- a byte goes to memory
 

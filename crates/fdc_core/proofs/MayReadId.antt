@@ -44,8 +44,8 @@ missed_id past key Late is = absurd is
 
 follow_id : (index : Bool) (past : Past) (head_drive steps : ℕ) (old : Fdc) (after : Searched) → past.steps ≡ steps → HasSearched index past None after → MayReadId past (after_searched head_drive steps after old)
 follow_id index past head_drive steps old (searched.On search) counts is = (counts, is)
-follow_id index past head_drive steps old (searched.Met key separator) counts is = met_address index past key separator is.1
-follow_id index past head_drive steps old (searched.Missed ending) counts is = missed_id past no_key ending is
+follow_id index past head_drive steps old (searched.Met key separator) counts is = ((head_drive, key, refl), met_address index past key separator is.1)
+follow_id index past head_drive steps old (searched.Missed ending) counts is = ((head_drive, no_key, refl), missed_id past no_key ending is)
 
 -- a READ ID follows the word that it heard
 pub hear_id_reads : (index : Bool) (word head_drive steps : ℕ) (search : Search) (after : Searched) (old new : Fdc) → ((past : Past) → IsSearching past None search → HasSearched index (heard index word past) None after) → new ≡ after_searched head_drive steps after old
@@ -69,7 +69,7 @@ late_id_task index word past key steps (Read reading) last was = absurd was
 pub late_id_reads : (index : Bool) (word : ℕ) (execution : Execution) (old new : Fdc) → execution.steps ≡ 65535 → new ≡ late execution old
     → (past : Past) → MayReadIdTask past execution.steps execution.task → MayReadId (heard index word (stepped past)) new
 late_id_reads index word execution old new last is past was =
-    subst (λ fdc. MayReadId (heard index word (stepped past)) fdc) (sym is) (late_id_task index word past (key_as_sent execution.task) execution.steps execution.task last was)
+    subst (λ fdc. MayReadId (heard index word (stepped past)) fdc) (sym is) ((execution.head_drive, key_as_sent execution.task, refl), late_id_task index word past (key_as_sent execution.task) execution.steps execution.task last was)
 
 rests_id : (phase : Phase) → ((execution : Execution) → phase ≡ Execute execution → ⊥) → (index : Bool) (past : Past) → MayReadIdIn past phase → MayReadIdIn (after_step (is_executing phase) index 0 past) phase
 rests_id Command other index past was = was

@@ -7,6 +7,8 @@ use Rattle.fdc_stages.specs.Searches.{IsSearching}
 use Rattle.fdc_stages.specs.Findings.{HasIdentified}
 use Rattle.fdc_stages.specs.Readings.{IsStart, IsReading, HasRead}
 use Rattle.fdc_stages.specs.declared.ending.Ending.{Ending}
+use Rattle.fdc_commands.specs.declared.results.Results.{Results}
+use Rattle.fdc_core.specs.Answers.{results_of}
 use Rattle.fdc_core.specs.Phases.{head_of}
 use Rattle.fdc_core.specs.Rates.{rate_fits, seen_of}
 use Rattle.fdc_core.specs.declared.answers.Answer.{Answer}
@@ -79,8 +81,12 @@ pub record HasEndedAs (past : Past) (key : Chrn) (ending : Ending) (told : List 
   pub rest : List ℕ
   pub bytes_are : told ≡ past.given ++ rest
 
+-- the results tell of this ending, on some head and drive and with some key
+abbrev pub TellsOf : Ending → Results → Type 0
+TellsOf ending results = (head_drive : ℕ) × (key : Chrn) × (results ≡ results_of ending head_drive key)
+
 abbrev pub MayReadAnswer : Past → Chrn → Answer → Type 0
-MayReadAnswer past key (Long ending _ _) = (told : List ℕ) × HasEndedAs past key ending told
+MayReadAnswer past key (Long ending results _) = TellsOf ending results × ((told : List ℕ) × HasEndedAs past key ending told)
 MayReadAnswer past key (Short _ _) = ⊥
 
 abbrev pub MayReadIn : Past → Chrn → Phase → Bool → List ℕ → Type 0
@@ -103,7 +109,7 @@ MayReadIdTask past steps (ReadId search) = (past.steps ≡ steps) × IsSearching
 MayReadIdTask past steps (Read _) = ⊥
 
 abbrev pub MayReadIdAnswer : Past → Answer → Type 0
-MayReadIdAnswer past (Long ending results _) = HasIdentified past results.key ending
+MayReadIdAnswer past (Long ending results _) = TellsOf ending results × HasIdentified past results.key ending
 MayReadIdAnswer past (Short _ _) = ⊥
 
 abbrev pub MayReadIdIn : Past → Phase → Type 0
