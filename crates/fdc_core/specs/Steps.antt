@@ -1,10 +1,11 @@
 -- Device steps.
-use Rattle.std.specs.Prelude.{◌≡◌, ◌⊎◌, ◌<◌, ℕ, ◌+◌, ◌-◌, ◌==◌, Option, Some, None, Bool, true, false, not, ◌&&◌, ◌||◌, if◌then◌else◌}
+use Rattle.std.specs.Prelude.{◌≡◌, ◌⊎◌, ◌<◌, ◌≤◌, List, length, ℕ, ◌+◌, ◌-◌, ◌==◌, Option, Some, None, Bool, true, false, not, ◌&&◌, ◌||◌, if◌then◌else◌}
 use Rattle.flop_base.specs.declared.key.Chrn.{Chrn}
 use Rattle.drive_model.specs.Drive.{DriveState, Becomes, Pulses, passed}
 use Rattle.fdc_seek.specs.Seeking.{with_polls, stepped, pulse_due, is_seeking}
 use Rattle.fdc_stages.specs.declared.ending.Ending.{Ending}
 use Rattle.fdc_stages.specs.declared.ending.Ending.TheVariants.{Late}
+use Rattle.fdc_core.specs.Dma.{phase_asks}
 use Rattle.fdc_core.specs.Phases.{key_as_sent}
 use Rattle.fdc_core.specs.Reading.{after_searched, after_heard}
 use Rattle.fdc_core.specs.State.{is_held, finished}
@@ -86,3 +87,21 @@ steps_left _ = 0
 abbrev pub EndsIn : Phase → Phase → Type 0
 EndsIn (Execute execution) new = steps_left new < steps_left (Execute execution)
 EndsIn _ new = Unit {0}
+
+-- what no device step changes: DOR, the rate, what SPECIFY and CONFIGURE set, the bytes of a command that has begun and the
+-- count of data commands; the FIFO gets one byte at most
+pub record Stays (old new : Fdc) : Type 0 where
+  pub dor : new.dor ≡ old.dor
+  pub rate : new.rate ≡ old.rate
+  pub non_dma : new.non_dma ≡ old.non_dma
+  pub polling : new.polling ≡ old.polling
+  pub command : new.command ≡ old.command
+  pub data_commands : new.data_commands ≡ old.data_commands
+  pub on : new.fifo.on ≡ old.fifo.on
+  pub threshold : new.fifo.threshold ≡ old.fifo.threshold
+  pub few : length new.fifo.bytes ≤ length old.fifo.bytes + 1
+
+-- in execution DRQ goes by the FIFO's rule
+abbrev pub FlowsIn : Phase → Bool → Fdc → Type 0
+FlowsIn (Execute _) asking new = new.asking ≡ phase_asks new.phase asking new.fifo
+FlowsIn _ asking new = Unit {0}

@@ -6,7 +6,7 @@ ghost use Rattle.flop_base.specs.declared.key.Chrn.{Chrn};
 ghost use Rattle.fdc_stages.specs.History.{Past, heard};
 ghost use Rattle.fdc_core.specs.Heard.{MayRead, MayReadTask, MayReadId, MayReadIdTask, Listens, StepHears, ListensToNone, StepHearsNone, stepped};
 ghost use Rattle.fdc_core.specs.Rates.{rate_fits, seen_of};
-ghost use Rattle.fdc_core.specs.Steps.{polled, seek_stepped, late, Executes, StepsOn, Hears, Rests, Moves, MovesDrive, EndsIn};
+ghost use Rattle.fdc_core.specs.Steps.{polled, seek_stepped, late, Executes, StepsOn, Hears, Rests, Moves, MovesDrive, EndsIn, Stays, FlowsIn};
 
 use crate::controller::Fdc;
 use crate::phases::{Execution, Phase, Task};
@@ -30,6 +30,8 @@ impl Fdc {
         ensures reads { Listens self.old (at_index (D.state drive.old)) (D.state drive.old) (D.state drive.new) self.new }
         ensures drive { MovesDrive (polled self.old) (D.state drive.old) (D.state drive.new) }
         ensures ends { EndsIn self.old.phase self.new.phase }
+        ensures stays { Stays self.old self.new }
+        ensures flows { FlowsIn self.old.phase self.old.asking self.new }
     {
         self.poll();
         self.advance(drive);
@@ -42,6 +44,8 @@ impl Fdc {
         ensures reads { Listens self.old (at_index (D.state drive.old)) (D.state drive.old) (D.state drive.new) self.new }
         ensures drive { MovesDrive self.old (D.state drive.old) (D.state drive.new) }
         ensures ends { EndsIn self.old.phase self.new.phase }
+        ensures stays { Stays self.old self.new }
+        ensures flows { FlowsIn self.old.phase self.old.asking self.new }
     {
         match self.phase {
             Phase::Execute { execution } => self.execute(execution, drive),
@@ -55,6 +59,8 @@ impl Fdc {
         ensures executes { Executes (polled self.old) self.new }
         ensures reads { ListensToNone self.old self.new }
         ensures ends { EndsIn self.old.phase self.new.phase }
+        ensures stays { Stays self.old self.new }
+        ensures flows { FlowsIn self.old.phase self.old.asking self.new }
     {
         self.poll();
         self.advance_empty();
@@ -66,6 +72,8 @@ impl Fdc {
         ensures executes { Executes self.old self.new }
         ensures reads { ListensToNone self.old self.new }
         ensures ends { EndsIn self.old.phase self.new.phase }
+        ensures stays { Stays self.old self.new }
+        ensures flows { FlowsIn self.old.phase self.old.asking self.new }
     {
         match self.phase {
             Phase::Execute { execution } => self.execute_empty(execution),
@@ -124,6 +132,8 @@ impl Fdc {
             (D.state drive.old) (D.state drive.new) self.new }
         ensures drive { Moves None (D.state drive.old) (D.state drive.new) }
         ensures ends { EndsIn (Phase.Execute execution) self.new.phase }
+        ensures stays { Stays self.old self.new }
+        ensures flows { FlowsIn (Phase.Execute execution) self.old.asking self.new }
     {
         if execution.steps == LAST_STEP {
             drive.pass();
@@ -139,6 +149,8 @@ impl Fdc {
         ensures steps { StepsOn execution self.old self.new }
         ensures reads { StepHearsNone (Phase.Execute execution) self.old.asking self.old.fifo.bytes self.new }
         ensures ends { EndsIn (Phase.Execute execution) self.new.phase }
+        ensures stays { Stays self.old self.new }
+        ensures flows { FlowsIn (Phase.Execute execution) self.old.asking self.new }
     {
         if execution.steps == LAST_STEP {
             self.finish_late(execution);
@@ -182,6 +194,8 @@ impl Fdc {
         requires { execution.steps < 65535 }
         ensures few { execution.steps < 65535 }
         ensures hears { Hears execution.head_drive (execution.steps + 1) execution.task self.old self.new }
+        ensures stays { Stays self.old self.new }
+        ensures flows { FlowsIn (Phase.Execute execution) self.old.asking self.new }
         ensures reads { (past : Past) (key : Chrn) → MayReadTask past key execution.steps execution.task self.old.asking self.old.fifo.bytes
             → MayRead (heard turn.index turn.word (stepped past)) key self.new }
         ensures identifies { (past : Past) → MayReadIdTask past execution.steps execution.task
