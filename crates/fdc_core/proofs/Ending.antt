@@ -1,5 +1,5 @@
 -- A data command comes to its end.
-use Rattle.std.proofs.Common.{◌≡◌, ℕ, ◌+◌, ◌-◌, ◌<◌, ◌≤◌, Bool, true, false, if◌then◌else◌, ◌==◌, length, Option, None, Some, refl, sym, subst, arith}
+use Rattle.std.proofs.Common.{◌≡◌, ℕ, ◌+◌, ◌-◌, ◌<◌, ◌≤◌, Bool, true, false, if◌then◌else◌, ◌==◌, length, Option, None, Some, sym, subst, arith}
 use Rattle.fdc_stages.specs.declared.ending.Ending.{Ending}
 use Rattle.fdc_stages.specs.declared.ending.Ending.TheVariants.{Overrun}
 use Rattle.fdc_stages.specs.declared.reading.ReadHeard.{ReadHeard}
@@ -7,7 +7,7 @@ use Rattle.fdc_stages.specs.declared.reading.ReadHeard.TheVariants as heard
 use Rattle.fdc_stages.specs.declared.searching.Searched.{Searched}
 use Rattle.fdc_stages.specs.declared.searching.Searched.TheVariants as searched
 use Rattle.fdc_core.specs.Phases.{ending_of}
-use Rattle.fdc_core.specs.Reading.{after_searched, after_heard, over_or_on, gone_on_reading, byte_taken, at_stage, pushed, is_full}
+use Rattle.fdc_core.specs.Reading.{after_searched, after_heard, over_or_on, gone_on_reading, at_stage, pushed, is_full}
 use Rattle.fdc_core.specs.State.{finished}
 use Rattle.fdc_core.specs.Steps.{Hears, late, steps_left}
 use Rattle.fdc_core.specs.declared.controller.Fdc.{Fdc}

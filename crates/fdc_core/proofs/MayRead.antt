@@ -1,34 +1,33 @@
 -- What a device step, a transfer and the terminal count leave of a READ DATA.
-use Rattle.std.proofs.Common.{rules, ◌≡◌, ◌⊎◌, ℕ, ◌+◌, ◌*◌, ◌≤◌, Bool, true, false, not, ◌&&◌, if◌then◌else◌, ◌==◌, List, [], ◌∷◌, ◌++◌, length, min, drop, get_or, nat_le, Option, Some, None, IfSome, refl, sym, ap, subst, ◌∙◌, arith, inl, inr, append_assoc}
+use Rattle.std.proofs.Common.{rules, ◌≡◌, ◌⊎◌, ℕ, ◌+◌, Bool, true, false, not, ◌&&◌, if◌then◌else◌, ◌==◌, List, [], ◌∷◌, ◌++◌, length, min, drop, get_or, nat_le, Option, Some, None, IfSome, refl, sym, ap, subst, ◌∙◌, arith, inl, inr, append_assoc}
 use Rattle.std.proofs.lemmas.Bool.{false≢true}
 use Rattle.flop_base.specs.declared.key.Chrn.{Chrn}
 use Rattle.track_model.specs.Fields.{content_size}
 use Rattle.track_separator.proofs.Laws.{reads_mark, reads_within}
 use Rattle.fdc_stages.specs.History.{Past, heard}
-use Rattle.fdc_stages.specs.Readings.{IsStart, IsReading, HasRead, HasHeard, IsOver, IsToldOf, IsContentAt}
+use Rattle.fdc_stages.specs.Readings.{IsStart, IsReading, HasRead, HasHeard, IsOver, IsToldOf}
 use Rattle.fdc_stages.specs.declared.ending.Ending.{Ending}
-use Rattle.fdc_stages.specs.declared.ending.Ending.TheVariants.{Done, NoMark, NoSector, NoField, BadCheck, Overrun, NoCount, Protected, Late}
+use Rattle.fdc_stages.specs.declared.ending.Ending.TheVariants.{Overrun, Late}
 use Rattle.fdc_stages.specs.declared.reading.ReadHeard.{ReadHeard}
 use Rattle.fdc_stages.specs.declared.reading.ReadHeard.TheVariants as given
 use Rattle.fdc_stages.specs.declared.reading.ReadStage.{ReadStage}
 use Rattle.fdc_stages.specs.declared.reading.ReadStage.TheVariants.{Search, Wait, Content, Over}
 use Rattle.fdc_stages.proofs.Laws.{over_told, told_stays}
 use Rattle.drive_model.specs.Drive.{DriveState}
-use Rattle.fdc_core.specs.Heard.{IsUnderway, HasEndedAs, MayRead, MayReadIn, MayReadTask, MayReadAnswer, AsksRightly, told_in, SeesWord, is_executing, after_step, stepped, gave}
+use Rattle.fdc_core.specs.Heard.{IsUnderway, HasEndedAs, MayRead, MayReadIn, MayReadTask, told_in, SeesWord, is_executing, after_step, stepped, gave}
 use Rattle.fdc_core.specs.State.{finished}
 use Rattle.fdc_core.specs.Steps.{late}
 use Rattle.fdc_fifo.specs.Fifo.{Fifo}
-use Rattle.fdc_core.specs.Answers.{after_byte, key_after}
+use Rattle.fdc_core.specs.Answers.{key_after}
 use Rattle.fdc_core.specs.Dma.{phase_asks, task_asks, phase_told, task_told, fifo_told, asking_told}
 use Rattle.fdc_core.specs.Phases.{ending_at, ending_over, ending_of, is_read, is_reading, key_as_sent}
 use Rattle.fdc_core.specs.Ports.{phase_after}
-use Rattle.fdc_core.specs.Reading.{over_or_on, gone_on_reading, byte_taken, after_heard, at_stage, pushed, is_full}
+use Rattle.fdc_core.specs.Reading.{over_or_on, gone_on_reading, after_heard, at_stage, pushed, is_full}
 use Rattle.fdc_core.specs.declared.controller.Fdc.{Fdc}
 use Rattle.fdc_core.specs.declared.phases.Reading.{Reading}
 use Rattle.fdc_core.specs.declared.phases.Execution.{Execution}
 use Rattle.fdc_core.specs.declared.phases.Phase.{Phase}
 use Rattle.fdc_core.specs.declared.phases.Phase.TheVariants.{Command, Execute, Result}
-use Rattle.fdc_core.specs.declared.answers.Answer.{Answer}
 use Rattle.fdc_core.specs.declared.answers.Answer.TheVariants.{Short, Long}
 use Rattle.fdc_core.specs.declared.phases.Task.{Task}
 use Rattle.fdc_core.specs.declared.phases.Task.TheVariants.{ReadId, Read}
@@ -54,13 +53,23 @@ told_of past key told (Search searching) was = inl was.1
 told_of past key told (Wait separator) was = inl was.1
 told_of past key told (Content separator deleted) (p, q, taken, was) =
     let within = reads_within separator past.seen p q deleted (content_size key.n) taken was.reads in
-    inr (past.seen, inl refl, (p, q, min taken (content_size key.n), deleted, record {
-      address = was.address;
-      mark = reads_mark separator past.seen p q deleted (content_size key.n) taken was.reads;
-      most = omega arith;
-      inside = omega arith;
-      bytes = was.bytes;
-    }))
+    inr (
+      past.seen,
+      inl refl,
+      (
+        p,
+        q,
+        min taken (content_size key.n),
+        deleted,
+        record {
+          address = was.address;
+          mark = reads_mark separator past.seen p q deleted (content_size key.n) taken was.reads;
+          most = omega arith;
+          inside = omega arith;
+          bytes = was.bytes;
+        },
+      ),
+    )
 told_of past key told (Over deleted good) was = over_told past key told deleted good was
 
 -- ---- the bytes
@@ -127,12 +136,17 @@ module _ (past : Past) (key : Chrn) (head_drive steps : ℕ) (old : Fdc) (readin
     bytes_are = subst (λ c. IsStart c (past.given ++ old.fifo.bytes) (told ++ value ∷ [])) (sym is) (told_more (past.given ++ old.fifo.bytes) told value start);
   })
   byte_reads false true value told is reads start =
-      let (rest, all) = starts_given past.given old.fifo.bytes (told ++ value ∷ []) (value ∷ [], ap (λ bytes. bytes ++ value ∷ []) (sym start)) in
-      ((head_drive, reading.wanted.key, refl), (told ++ value ∷ [], record {
-        read = record { bytes = told_of past key (told ++ value ∷ []) reading.stage reads; cause = counted_is ∙ is };
-        rest = rest;
-        bytes_are = all;
-      }))
+      let (rest, all) = starts_given past.given old.fifo.bytes (told ++ value ∷ []) (value ∷ [], ap (λ bytes. bytes ++ value ∷ []) (sym start)) in (
+        (head_drive, reading.wanted.key, refl),
+        (
+          told ++ value ∷ [],
+          record {
+            read = record { bytes = told_of past key (told ++ value ∷ []) reading.stage reads; cause = counted_is ∙ is };
+            rest = rest;
+            bytes_are = all;
+          },
+        ),
+      )
   byte_reads false false value told is reads start = on_reads past key head_drive steps (pushed value old) reading (told ++ value ∷ []) (record {
     key_is = key_is;
     counted_is = counted_is;
@@ -154,7 +168,7 @@ pub hear_reads : (index : Bool) (word head_drive steps : ℕ) (reading : Reading
     → (past : Past) (key : Chrn) (told : List ℕ) → IsUnderway past key reading steps (past.given ++ old.fifo.bytes) told → MayRead (heard index word past) key new
 hear_reads index word head_drive steps reading after old new hears is past key told was =
     subst (λ fdc. MayRead (heard index word past) key fdc) (sym is) (subst (λ k. MayRead (heard index word past) k (after_heard head_drive steps reading after old)) was.key_is
-        (follow_reads (heard index word past) reading.wanted.key head_drive steps old reading told refl was.counted_is was.steps_are was.bytes_are after (hears past told (subst (λ k. IsReading past k told reading.stage) (sym was.key_is) was.reads))))
+    (follow_reads (heard index word past) reading.wanted.key head_drive steps old reading told refl was.counted_is was.steps_are was.bytes_are after (hears past told (subst (λ k. IsReading past k told reading.stage) (sym was.key_is) was.reads))))
 
 -- a device step counts
 pub step_underway : (past : Past) (key : Chrn) (reading : Reading) (steps : ℕ) (bytes told : List ℕ) → IsUnderway past key reading steps bytes told → IsUnderway (stepped past) key reading (steps + 1) bytes told
@@ -213,13 +227,19 @@ out_task : (past : Past) (key : Chrn) (steps : ℕ) (task : Task) (asking on : B
     → MayReadTask (gave (get_or bytes 0 0xFF) past) key steps task (task_asks task asking (record { bytes = drop 1 bytes; on = on; threshold = threshold })) (drop 1 bytes)
 out_task past key steps (ReadId search) asking on bytes threshold up is was = absurd was
 out_task past key steps (Read reading) asking on [] threshold up is (asks, was) = absurd (false≢true (sym (asks up)))
-out_task past key steps (Read reading) asking on (byte ∷ rest) threshold up is (asks, (told, was)) = (asks_bytes (length rest == 0) _, (told, record {
-  key_is = was.key_is;
-  counted_is = was.counted_is;
-  steps_are = was.steps_are;
-  reads = same_stage (past.given ++ byte ∷ []) past.steps past.counted past key told reading.stage was.reads;
-  bytes_are = subst (λ bytes. IsStart reading.counted bytes told) (sym (append_assoc past.given (byte ∷ []) rest)) was.bytes_are;
-}))
+out_task past key steps (Read reading) asking on (byte ∷ rest) threshold up is (asks, (told, was)) = (
+  asks_bytes (length rest == 0) _,
+  (
+    told,
+    record {
+      key_is = was.key_is;
+      counted_is = was.counted_is;
+      steps_are = was.steps_are;
+      reads = same_stage (past.given ++ byte ∷ []) past.steps past.counted past key told reading.stage was.reads;
+      bytes_are = subst (λ bytes. IsStart reading.counted bytes told) (sym (append_assoc past.given (byte ∷ []) rest)) was.bytes_are;
+    },
+  ),
+)
 
 pub out_reads : (past : Past) (key : Chrn) (phase : Phase) (asking : Bool) (fifo : Fifo) → asking ≡ true → is_reading phase ≡ true → MayReadIn past key phase asking fifo.bytes
     → MayReadIn (gave (get_or fifo.bytes 0 0xFF) past) key phase (phase_asks phase asking (record fifo { bytes = drop 1 fifo.bytes })) (drop 1 fifo.bytes)
@@ -233,14 +253,19 @@ told_task : (past : Past) (key : Chrn) (steps : ℕ) (task : Task) (asking : Boo
     → MayReadTask (told_in true past) key steps (task_told task) (asking_told (is_read task) asking) (fifo_told (is_read task) fifo).bytes
 told_task past key steps (ReadId search) asking fifo was = absurd was
 told_task past key steps (Read reading) asking fifo (asks, (told, was)) =
-    let (rest, all) = starts_given past.given fifo.bytes told (starts reading.counted (past.given ++ fifo.bytes) told was.bytes_are) in
-    (λ up. absurd (false≢true up), (told, record {
-      key_is = was.key_is;
-      counted_is = refl;
-      steps_are = was.steps_are;
-      reads = same_stage past.given past.steps true past key told reading.stage was.reads;
-      bytes_are = (rest, all ∙ sym (append_assoc past.given [] rest));
-    }))
+    let (rest, all) = starts_given past.given fifo.bytes told (starts reading.counted (past.given ++ fifo.bytes) told was.bytes_are) in (
+      λ up. absurd (false≢true up),
+      (
+        told,
+        record {
+          key_is = was.key_is;
+          counted_is = refl;
+          steps_are = was.steps_are;
+          reads = same_stage past.given past.steps true past key told reading.stage was.reads;
+          bytes_are = (rest, all ∙ sym (append_assoc past.given [] rest));
+        },
+      ),
+    )
 
 pub told_reads : (past : Past) (key : Chrn) (phase : Phase) (asking : Bool) (fifo : Fifo) → MayReadIn past key phase asking fifo.bytes
     → MayReadIn (told_in (is_executing phase) past) key (phase_told phase) (asking_told (is_reading phase) asking) (fifo_told (is_reading phase) fifo).bytes

@@ -1,5 +1,5 @@
 -- What a device step leaves of a READ ID, and of what the controller hears.
-use Rattle.std.proofs.Common.{◌≡◌, ◌⊎◌, ℕ, ◌+◌, Bool, true, false, not, ◌&&◌, if◌then◌else◌, List, [], ◌∷◌, Option, None, Some, refl, sym, ap, subst, ◌∙◌, arith, inl, inr}
+use Rattle.std.proofs.Common.{◌≡◌, ℕ, ◌+◌, Bool, true, false, not, ◌&&◌, if◌then◌else◌, None, refl, sym, ap, subst, arith, inl, inr}
 use Rattle.flop_base.specs.declared.key.Chrn.{Chrn}
 use Rattle.track_separator.specs.declared.state.Separator.{Separator}
 use Rattle.fdc_stages.specs.History.{Past, heard, IsAmong}

@@ -1,5 +1,5 @@
 -- What a device step leaves as it was, and DRQ in execution.
-use Rattle.std.proofs.Common.{◌≡◌, ℕ, ◌+◌, ◌≤◌, Bool, true, false, not, ◌&&◌, if◌then◌else◌, ◌==◌, List, [], ◌∷◌, ◌++◌, length, Option, None, Some, refl, sym, subst, arith, length-append}
+use Rattle.std.proofs.Common.{◌≡◌, ℕ, Bool, true, false, not, ◌&&◌, if◌then◌else◌, ◌==◌, [], ◌∷◌, length, Option, None, Some, refl, sym, subst, arith, length-append}
 use Rattle.fdc_seek.specs.Seeking.{with_polls}
 use Rattle.fdc_stages.specs.declared.ending.Ending.{Ending}
 use Rattle.fdc_stages.specs.declared.ending.Ending.TheVariants.{Done, Overrun}
@@ -11,7 +11,7 @@ use Rattle.flop_base.specs.declared.key.Chrn.{Chrn}
 use Rattle.fdc_core.specs.Answers.{key_after, no_key}
 use Rattle.fdc_core.specs.Dma.{gone_on, phase_asks}
 use Rattle.fdc_core.specs.Phases.{ending_of}
-use Rattle.fdc_core.specs.Reading.{after_searched, after_heard, over_or_on, gone_on_reading, byte_taken, at_stage, pushed, is_full}
+use Rattle.fdc_core.specs.Reading.{after_searched, after_heard, over_or_on, gone_on_reading, at_stage, pushed, is_full}
 use Rattle.fdc_core.specs.State.{finished, is_held}
 use Rattle.fdc_core.specs.Steps.{Hears, Stays, polled}
 use Rattle.fdc_core.specs.declared.controller.Fdc.{Fdc}

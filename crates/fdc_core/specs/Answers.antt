@@ -1,5 +1,5 @@
 -- The result bytes of commands.
-use Rattle.std.specs.Prelude.{ℕ, ◌+◌, ◌%◌, Bool, true, false, List, Option, Some, None, if◌then◌else◌, nat_le, get_or, bit_and, ◌==◌}
+use Rattle.std.specs.Prelude.{ℕ, ◌+◌, ◌%◌, Bool, false, Some, None, if◌then◌else◌, nat_le, get_or, bit_and, ◌==◌}
 use Rattle.std.specs.Int.RustNames.{bit_or}
 use Rattle.flop_base.specs.declared.key.Chrn.{Chrn}
 use Rattle.fdc_registers.specs.declared.results.St0.{St0}
@@ -15,7 +15,7 @@ use Rattle.fdc_stages.specs.declared.ending.Ending.TheVariants.{Done, NoMark, No
 use Rattle.fdc_core.specs.declared.answers.Answer.{Answer}
 use Rattle.fdc_core.specs.declared.answers.Answer.TheVariants.{Short, Long}
 use Rattle.fdc_core.specs.declared.phases.Phase.{Phase}
-use Rattle.fdc_core.specs.declared.phases.Phase.TheVariants.{Command, Execute, Result}
+use Rattle.fdc_core.specs.declared.phases.Phase.TheVariants.{Command, Result}
 
 -- status register 0: IC 00 where all was done, else IC 01, with the head and the drive as they were sent
 abbrev pub st0_of : Ending → ℕ → St0

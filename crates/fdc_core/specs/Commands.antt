@@ -1,7 +1,6 @@
 -- What the commands do, once their last byte came.
-use Rattle.std.specs.Prelude.{◌≡◌, ℕ, ◌+◌, ◌%◌, min, Bool, true, false, not, ◌&&◌, ◌||◌, ◌==◌, List, [], ◌∷◌, ◌++◌, Option, Some, None, if◌then◌else◌, bit_and, slice_index}
+use Rattle.std.specs.Prelude.{◌≡◌, ℕ, ◌+◌, ◌%◌, min, Bool, true, false, not, ◌==◌, [], ◌∷◌, ◌++◌, Option, Some, None, if◌then◌else◌, bit_and, slice_index}
 use Rattle.std.specs.Int.RustNames.{bit_or}
-use Rattle.std.specs.Option.{option_map_or}
 use Rattle.flop_base.specs.Counts.{last_count}
 use Rattle.flop_base.specs.declared.key.Chrn.{Chrn}
 use Rattle.fdc_registers.specs.St3.{always_one, track_0, protected}

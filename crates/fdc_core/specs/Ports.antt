@@ -1,5 +1,5 @@
 -- The controller's ports.
-use Rattle.std.specs.Prelude.{◌≡◌, ℕ, Bool, true, false, not, ◌&&◌, ◌==◌, if◌then◌else◌, bit_and}
+use Rattle.std.specs.Prelude.{◌≡◌, ℕ, Bool, true, false, not, ◌==◌, if◌then◌else◌, bit_and}
 use Rattle.std.specs.Int.RustNames.{bit_or}
 use Rattle.fdc_registers.specs.Dir.{changed}
 use Rattle.fdc_registers.specs.Msr.{rqm, dio, busy}
@@ -9,7 +9,6 @@ use Rattle.fdc_core.specs.Answers.{next_byte, after_byte, is_fresh}
 use Rattle.fdc_core.specs.Commands.{Takes}
 use Rattle.fdc_core.specs.Rates.{rate_chosen}
 use Rattle.fdc_core.specs.State.{is_held, reset}
-use Rattle.fdc_core.specs.declared.answers.Answer.{Answer}
 use Rattle.fdc_core.specs.declared.controller.Fdc.{Fdc}
 use Rattle.fdc_core.specs.declared.controller.Lines.{Lines}
 use Rattle.fdc_core.specs.declared.phases.Phase.{Phase}

@@ -1,10 +1,9 @@
 -- The controller's state: words for what it shows, and what resets and ends make of it.
-use Rattle.std.specs.Prelude.{ℕ, Bool, true, false, not, ◌&&◌, ◌==◌, [], bit_and, if◌then◌else◌}
+use Rattle.std.specs.Prelude.{ℕ, Bool, true, false, not, ◌&&◌, ◌==◌, [], bit_and}
 use Rattle.flop_base.specs.declared.key.Chrn.{Chrn}
 use Rattle.fdc_registers.specs.Dor.{not_reset, gate}
-use Rattle.fdc_registers.specs.declared.drive_lines.Dor.{Dor}
-use Rattle.fdc_fifo.specs.Fifo.{Fifo, emptied}
-use Rattle.fdc_seek.specs.Seeking.{Seeking, at_rest}
+use Rattle.fdc_fifo.specs.Fifo.{emptied}
+use Rattle.fdc_seek.specs.Seeking.{at_rest}
 use Rattle.fdc_stages.specs.declared.ending.Ending.{Ending}
 use Rattle.fdc_core.specs.Answers.{results_of}
 use Rattle.fdc_core.specs.declared.answers.Answer.TheVariants.{Long}

@@ -1,9 +1,7 @@
 -- Device steps.
-use Rattle.std.specs.Prelude.{◌≡◌, ◌⊎◌, ◌<◌, ◌≤◌, List, length, ℕ, ◌+◌, ◌-◌, ◌==◌, Option, Some, None, Bool, true, false, not, ◌&&◌, ◌||◌, if◌then◌else◌}
-use Rattle.flop_base.specs.declared.key.Chrn.{Chrn}
+use Rattle.std.specs.Prelude.{◌≡◌, ◌<◌, ◌≤◌, length, ℕ, ◌+◌, ◌-◌, ◌==◌, Option, Some, None, Bool, true, false, not, ◌&&◌, ◌||◌, if◌then◌else◌}
 use Rattle.drive_model.specs.Drive.{DriveState, Becomes, Pulses, passed}
 use Rattle.fdc_seek.specs.Seeking.{with_polls, stepped, pulse_due, is_seeking}
-use Rattle.fdc_stages.specs.declared.ending.Ending.{Ending}
 use Rattle.fdc_stages.specs.declared.ending.Ending.TheVariants.{Late}
 use Rattle.fdc_core.specs.Dma.{phase_asks}
 use Rattle.fdc_core.specs.Phases.{key_as_sent}
@@ -11,7 +9,7 @@ use Rattle.fdc_core.specs.Reading.{after_searched, after_heard}
 use Rattle.fdc_core.specs.State.{is_held, finished}
 use Rattle.fdc_core.specs.declared.controller.Fdc.{Fdc}
 use Rattle.fdc_core.specs.declared.phases.Phase.{Phase}
-use Rattle.fdc_core.specs.declared.phases.Phase.TheVariants.{Command, Execute, Result}
+use Rattle.fdc_core.specs.declared.phases.Phase.TheVariants.{Execute}
 use Rattle.fdc_core.specs.declared.phases.Execution.{Execution}
 use Rattle.fdc_core.specs.declared.phases.Task.{Task}
 use Rattle.fdc_core.specs.declared.phases.Task.TheVariants.{ReadId, Read}

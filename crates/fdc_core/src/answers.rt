@@ -14,9 +14,16 @@ use flop_base::Chrn;
 #[derive(Clone, Copy)]
 pub enum Answer {
     /// Those of a command without execution.
-    Short { next: u8, last: Option<u8> },
+    Short {
+        next: u8,
+        last: Option<u8>,
+    },
     /// The seven of a data command that ended so; so many were read.
-    Long { ending: Ending, results: Results, read: u8 },
+    Long {
+        ending: Ending,
+        results: Results,
+        read: u8,
+    },
 }
 
 /// The number of result bytes of a data command.
@@ -101,7 +108,10 @@ impl Answer {
         ensures { result ≡ after_byte self }
     {
         match self {
-            Answer::Short { last: Some(next), .. } => Phase::Result {
+            Answer::Short {
+                last: Some(next),
+                ..
+            } => Phase::Result {
                 answer: Answer::Short { next, last: None },
             },
             Answer::Short { last: None, .. } => Phase::Command,

@@ -35,8 +35,16 @@ fn drive_status(lines: Lines, head_drive: u8) -> u8
     ensures { result ≡ status_of_lines lines head_drive }
 {
     let place = St3(head_drive & 0x07).union(St3::ALWAYS_ONE);
-    let placed = if lines.track0 { place.union(St3::TRACK_0) } else { place };
-    let told = if lines.protected { placed.union(St3::PROTECTED) } else { placed };
+    let placed = if lines.track0 {
+        place.union(St3::TRACK_0)
+    } else {
+        place
+    };
+    let told = if lines.protected {
+        placed.union(St3::PROTECTED)
+    } else {
+        placed
+    };
     told.bits()
 }
 

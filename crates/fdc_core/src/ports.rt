@@ -134,5 +134,9 @@ impl Fdc {
 fn line_bits(lines: Lines) -> u8
     ensures { result ≡ line_bits lines }
 {
-    if lines.changed { Dir::CHANGED.bits() } else { 0 }
+    if lines.changed {
+        Dir::CHANGED.bits()
+    } else {
+        0
+    }
 }

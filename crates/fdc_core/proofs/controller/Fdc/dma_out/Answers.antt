@@ -10,4 +10,4 @@ returns-clause-reads c = λ past key was.
     let old = c.args.self.now in
     let up = second_true (is_gated old) old.asking c.requires.drq in
     subst (λ byte. MayRead (gave byte past) key c.take_out.new.self) (sym c.take_out.ensures.byte)
-        (subst (λ fdc. MayRead (gave (byte_out old) past) key fdc) (sym c.take_out.ensures.after) (out_reads past key old.phase old.asking old.fifo up c.requires.to_memory was))
+    (subst (λ fdc. MayRead (gave (byte_out old) past) key fdc) (sym c.take_out.ensures.after) (out_reads past key old.phase old.asking old.fifo up c.requires.to_memory was))

@@ -5,9 +5,10 @@ use Rattle.fdc_core.proofs.MayReadId.{late_id_reads}
 use Rattle.fdc_core.proofs.controller.Fdc.execute_empty.Goals as goal
 
 pub returns-then-execution-eq-LAST_STEP-clause-reads : goal.returns-then-execution-eq-LAST_STEP-clause-reads
-returns-then-execution-eq-LAST_STEP-clause-reads c =
-    (late_reads false 0 c.args.execution c.args.self.now c.finish_late.new.self c.if-execution-eq-LAST_STEP.true c.finish_late.ensures,
-        late_id_reads false 0 c.args.execution c.args.self.now c.finish_late.new.self c.if-execution-eq-LAST_STEP.true c.finish_late.ensures)
+returns-then-execution-eq-LAST_STEP-clause-reads c = (
+  late_reads false 0 c.args.execution c.args.self.now c.finish_late.new.self c.if-execution-eq-LAST_STEP.true c.finish_late.ensures,
+  late_id_reads false 0 c.args.execution c.args.self.now c.finish_late.new.self c.if-execution-eq-LAST_STEP.true c.finish_late.ensures,
+)
 
 pub returns-clause-reads : goal.returns-clause-reads
 returns-clause-reads c = (c.hear.ensures.reads, c.hear.ensures.identifies)
