@@ -74,3 +74,7 @@ asks fdc = is_gated fdc && fdc.asking
 -- how many data commands began
 abbrev pub data_commands_of : Fdc → ℕ
 data_commands_of fdc = fdc.data_commands
+
+-- the byte of DOR
+abbrev pub dor_of : Fdc → ℕ
+dor_of fdc = fdc.dor.0

@@ -103,3 +103,9 @@ pub record Stays (old new : Fdc) : Type 0 where
 abbrev pub FlowsIn : Phase → Bool → Fdc → Type 0
 FlowsIn (Execute _) asking new = new.asking ≡ phase_asks new.phase asking new.fifo
 FlowsIn _ asking new = Unit {0}
+
+abbrev pub Ends : Fdc → Fdc → Type 0
+Ends old new = EndsIn old.phase new.phase
+
+abbrev pub Flows : Fdc → Fdc → Type 0
+Flows old new = FlowsIn old.phase old.asking new

@@ -1,6 +1,6 @@
 // The controller's state, its reset and its lines.
 ghost use Rattle.std.specs.Prelude.{◌≡◌, ◌<◌, ◌+◌, ◌↔◌, ◌%◌, IfOk, IsTrue, IsBitSet, true, false};
-ghost use Rattle.fdc_core.specs.State.{at_power_up, reset, is_held, interrupts, asks, is_gated, data_commands_of, finished};
+ghost use Rattle.fdc_core.specs.State.{at_power_up, reset, is_held, interrupts, asks, is_gated, data_commands_of, dor_of, finished};
 
 use crate::answers::{Answer, results};
 use crate::phases::Phase;
@@ -129,7 +129,7 @@ impl Fdc {
 
     /// The drive that DOR selects, 0 to 3.
     pub fn selected(&self) -> u8
-        ensures { result ≡ self.now.dor.0 % 4 }
+        ensures { result ≡ dor_of self.now % 4 }
     {
         self.dor.selected()
     }
@@ -137,7 +137,7 @@ impl Fdc {
     /// Whether DOR turns the motor of a drive on.
     pub fn motor(&self, bay: u8) -> bool
         requires { bay < 4 }
-        ensures { IsTrue result ↔ IsBitSet self.now.dor.0 (4 + bay) }
+        ensures { IsTrue result ↔ IsBitSet (dor_of self.now) (4 + bay) }
     {
         self.dor.is_motor_on(bay)
     }

@@ -6,7 +6,7 @@ ghost use Rattle.flop_base.specs.declared.key.Chrn.{Chrn};
 ghost use Rattle.fdc_stages.specs.History.{Past, heard};
 ghost use Rattle.fdc_core.specs.Heard.{MayRead, MayReadTask, MayReadId, MayReadIdTask, Listens, StepHears, ListensToNone, StepHearsNone, stepped};
 ghost use Rattle.fdc_core.specs.Rates.{rate_fits, seen_of};
-ghost use Rattle.fdc_core.specs.Steps.{polled, seek_stepped, late, Executes, StepsOn, Hears, Rests, Moves, MovesDrive, EndsIn, Stays, FlowsIn};
+ghost use Rattle.fdc_core.specs.Steps.{polled, seek_stepped, late, Executes, StepsOn, Hears, Rests, Moves, MovesDrive, Ends, EndsIn, Stays, Flows, FlowsIn};
 
 use crate::controller::Fdc;
 use crate::phases::{Execution, Phase, Task};
@@ -29,9 +29,9 @@ impl Fdc {
         ensures executes { Executes (polled self.old) self.new }
         ensures reads { Listens self.old (at_index (D.state drive.old)) (D.state drive.old) (D.state drive.new) self.new }
         ensures drive { MovesDrive (polled self.old) (D.state drive.old) (D.state drive.new) }
-        ensures ends { EndsIn self.old.phase self.new.phase }
+        ensures ends { Ends self.old self.new }
         ensures stays { Stays self.old self.new }
-        ensures flows { FlowsIn self.old.phase self.old.asking self.new }
+        ensures flows { Flows self.old self.new }
     {
         self.poll();
         self.advance(drive);
@@ -43,9 +43,9 @@ impl Fdc {
         ensures executes { Executes self.old self.new }
         ensures reads { Listens self.old (at_index (D.state drive.old)) (D.state drive.old) (D.state drive.new) self.new }
         ensures drive { MovesDrive self.old (D.state drive.old) (D.state drive.new) }
-        ensures ends { EndsIn self.old.phase self.new.phase }
+        ensures ends { Ends self.old self.new }
         ensures stays { Stays self.old self.new }
-        ensures flows { FlowsIn self.old.phase self.old.asking self.new }
+        ensures flows { Flows self.old self.new }
     {
         match self.phase {
             Phase::Execute { execution } => self.execute(execution, drive),
@@ -58,9 +58,9 @@ impl Fdc {
         ensures rests { Rests (polled self.old) false self.new }
         ensures executes { Executes (polled self.old) self.new }
         ensures reads { ListensToNone self.old self.new }
-        ensures ends { EndsIn self.old.phase self.new.phase }
+        ensures ends { Ends self.old self.new }
         ensures stays { Stays self.old self.new }
-        ensures flows { FlowsIn self.old.phase self.old.asking self.new }
+        ensures flows { Flows self.old self.new }
     {
         self.poll();
         self.advance_empty();
@@ -71,9 +71,9 @@ impl Fdc {
         ensures rests { Rests self.old false self.new }
         ensures executes { Executes self.old self.new }
         ensures reads { ListensToNone self.old self.new }
-        ensures ends { EndsIn self.old.phase self.new.phase }
+        ensures ends { Ends self.old self.new }
         ensures stays { Stays self.old self.new }
-        ensures flows { FlowsIn self.old.phase self.old.asking self.new }
+        ensures flows { Flows self.old self.new }
     {
         match self.phase {
             Phase::Execute { execution } => self.execute_empty(execution),
