@@ -1,0 +1,4 @@
+pub mod MayRead
+pub mod MayReadId
+pub mod Ending
+pub mod Staying

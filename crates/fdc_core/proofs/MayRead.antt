@@ -1,0 +1,290 @@
+-- What a device step, a transfer and the terminal count leave of a READ DATA.
+use Rattle.std.proofs.Common.{rules, ◌≡◌, ◌⊎◌, ℕ, ◌+◌, Bool, true, false, not, ◌&&◌, if◌then◌else◌, ◌==◌, List, [], ◌∷◌, ◌++◌, length, min, drop, get_or, nat_le, Option, Some, None, IfSome, refl, sym, ap, subst, ◌∙◌, arith, inl, inr, append_assoc}
+use Rattle.std.proofs.lemmas.Bool.{false≢true}
+use Rattle.flop_base.specs.declared.key.Chrn.{Chrn}
+use Rattle.track_model.specs.Fields.{content_size}
+use Rattle.track_separator.proofs.Laws.{reads_mark, reads_within}
+use Rattle.fdc_stages.specs.History.{Past, heard}
+use Rattle.fdc_stages.specs.Readings.{IsStart, IsReading, HasRead, HasHeard, IsOver, IsToldOf}
+use Rattle.fdc_stages.specs.declared.ending.Ending.{Ending}
+use Rattle.fdc_stages.specs.declared.ending.Ending.TheVariants.{Overrun, Late}
+use Rattle.fdc_stages.specs.declared.reading.ReadHeard.{ReadHeard}
+use Rattle.fdc_stages.specs.declared.reading.ReadHeard.TheVariants as given
+use Rattle.fdc_stages.specs.declared.reading.ReadStage.{ReadStage}
+use Rattle.fdc_stages.specs.declared.reading.ReadStage.TheVariants.{Search, Wait, Content, Over}
+use Rattle.fdc_stages.proofs.Laws.{over_told, told_stays}
+use Rattle.drive_model.specs.Drive.{DriveState}
+use Rattle.fdc_core.specs.Heard.{IsUnderway, HasEndedAs, MayRead, MayReadIn, MayReadTask, told_in, SeesWord, is_executing, after_step, stepped, gave}
+use Rattle.fdc_core.specs.State.{finished}
+use Rattle.fdc_core.specs.Steps.{late}
+use Rattle.fdc_fifo.specs.Fifo.{Fifo}
+use Rattle.fdc_core.specs.Answers.{key_after}
+use Rattle.fdc_core.specs.Dma.{phase_asks, task_asks, phase_told, task_told, fifo_told, asking_told}
+use Rattle.fdc_core.specs.Phases.{ending_at, ending_over, ending_of, is_read, is_reading, key_as_sent}
+use Rattle.fdc_core.specs.Ports.{phase_after}
+use Rattle.fdc_core.specs.Reading.{over_or_on, gone_on_reading, after_heard, at_stage, pushed, is_full}
+use Rattle.fdc_core.specs.declared.controller.Fdc.{Fdc}
+use Rattle.fdc_core.specs.declared.phases.Reading.{Reading}
+use Rattle.fdc_core.specs.declared.phases.Execution.{Execution}
+use Rattle.fdc_core.specs.declared.phases.Phase.{Phase}
+use Rattle.fdc_core.specs.declared.phases.Phase.TheVariants.{Command, Execute, Result}
+use Rattle.fdc_core.specs.declared.answers.Answer.TheVariants.{Short, Long}
+use Rattle.fdc_core.specs.declared.phases.Task.{Task}
+use Rattle.fdc_core.specs.declared.phases.Task.TheVariants.{ReadId, Read}
+use Rattle.fdc_core.specs.declared.rates.DataRate.{DataRate}
+
+-- ---- the stage, apart from what else passed
+
+-- the same words, with other bytes, steps or terminal count
+abbrev pub moved : List ℕ → ℕ → Bool → Past → Past
+moved given steps counted past = record past { given = given; steps = steps; counted = counted }
+
+pub same_stage : (bytes : List ℕ) (steps : ℕ) (counted : Bool) (past : Past) (key : Chrn) (told : List ℕ) (stage : ReadStage) → IsReading past key told stage → IsReading (moved bytes steps counted past) key told stage
+same_stage bytes steps counted past key told (Search searching) was = was
+same_stage bytes steps counted past key told (Wait separator) ((p, at), none) =
+    ((p, record { address = at.address; waits = at.waits; few = at.few }), none)
+same_stage bytes steps counted past key told (Content separator deleted) (p, q, taken, at) =
+    (p, q, taken, record { address = at.address; reads = at.reads; bytes = at.bytes; few = at.few })
+same_stage bytes steps counted past key told (Over deleted good) was = was
+
+-- what a stage told is of a field of the key
+pub told_of : (past : Past) (key : Chrn) (told : List ℕ) (stage : ReadStage) → IsReading past key told stage → IsToldOf past key told
+told_of past key told (Search searching) was = inl was.1
+told_of past key told (Wait separator) was = inl was.1
+told_of past key told (Content separator deleted) (p, q, taken, was) =
+    let within = reads_within separator past.seen p q deleted (content_size key.n) taken was.reads in
+    inr (
+      past.seen,
+      inl refl,
+      (
+        p,
+        q,
+        min taken (content_size key.n),
+        deleted,
+        record {
+          address = was.address;
+          mark = reads_mark separator past.seen p q deleted (content_size key.n) taken was.reads;
+          most = omega arith;
+          inside = omega arith;
+          bytes = was.bytes;
+        },
+      ),
+    )
+told_of past key told (Over deleted good) was = over_told past key told deleted good was
+
+-- ---- the bytes
+
+-- the bytes that were told begin with these
+pub starts : (counted : Bool) (bytes told : List ℕ) → IsStart counted bytes told → (rest : List ℕ) × (told ≡ bytes ++ rest)
+starts false bytes told is = ([], search (rules, sym is))
+starts true bytes told was = was
+
+-- so they begin with what was given, whatever was in the FIFO
+pub starts_given : (given fifo told : List ℕ) → ((rest : List ℕ) × (told ≡ (given ++ fifo) ++ rest)) → (rest : List ℕ) × (told ≡ given ++ rest)
+starts_given given fifo told (rest, is) = (fifo ++ rest, is ∙ append_assoc given fifo rest)
+
+-- one byte more was told
+pub told_more : (bytes told : List ℕ) (value : ℕ) → IsStart true bytes told → IsStart true bytes (told ++ value ∷ [])
+told_more bytes told value (rest, is) = (rest ++ value ∷ [], ap (λ all. all ++ value ∷ []) is ∙ append_assoc bytes rest (value ∷ []))
+
+-- ---- a field that is over
+
+ended_over : (past : Past) (key : Chrn) (told : List ℕ) (deleted good counted : Bool) → IsOver past key told deleted good → past.counted ≡ counted → HasRead past key told (ending_over good counted deleted)
+ended_over past key told deleted true true over is = record { bytes = over_told past key told deleted true over; cause = (is, over) }
+ended_over past key told deleted true false over is = record { bytes = over_told past key told deleted true over; cause = (is, (deleted, over)) }
+ended_over past key told deleted false counted over is = record { bytes = over_told past key told deleted false over; cause = (deleted, over) }
+
+ended_at : (past : Past) (key : Chrn) (told : List ℕ) (stage : ReadStage) (counted : Bool) → IsReading past key told stage → past.counted ≡ counted → IfSome (ending_at stage counted) (λ ending. HasRead past key told ending)
+ended_at past key told (Search searching) counted was is = tt
+ended_at past key told (Wait separator) counted was is = tt
+ended_at past key told (Content separator deleted) counted was is = tt
+ended_at past key told (Over deleted good) counted was is = ended_over past key told deleted good counted was is
+
+-- ---- what follows a word
+
+asks_bytes : (empty rest : Bool) → (not empty && rest) ≡ true → empty ≡ false
+asks_bytes true rest is = absurd (false≢true is)
+asks_bytes false rest is = refl
+
+module _ (past : Past) (key : Chrn) (head_drive steps : ℕ) (old : Fdc) where
+  over_on : (ending : Option Ending) (empty : Bool) (reading : Reading) (told : List ℕ) → IfSome ending (λ e. HasRead past key told e) → IsUnderway past key reading steps (past.given ++ old.fifo.bytes) told → MayRead past key (over_or_on ending empty head_drive steps reading old)
+  over_on None empty reading told ends is = (asks_bytes (length old.fifo.bytes == 0) _, (told, is))
+  over_on (Some ending) true reading told ends is =
+      let (rest, all) = starts_given past.given old.fifo.bytes told (starts reading.counted (past.given ++ old.fifo.bytes) told is.bytes_are) in
+      ((head_drive, key_after ending reading.wanted.key reading.last_sector, refl), (told, record { read = ends; rest = rest; bytes_are = all }))
+  over_on (Some ending) false reading told ends is = (asks_bytes (length old.fifo.bytes == 0) _, (told, is))
+
+  on_reads : (reading : Reading) (told : List ℕ) → IsUnderway past key reading steps (past.given ++ old.fifo.bytes) told → MayRead past key (gone_on_reading head_drive steps reading old)
+  on_reads reading told is =
+      over_on (ending_of reading) (length old.fifo.bytes == 0) reading told (ended_at past key told reading.stage reading.counted is.reads is.counted_is) is
+
+  -- the bytes begin with what was given
+  ended_reads : (ending : Ending) (counted : Bool) (told : List ℕ) → HasRead past key told ending → IsStart counted (past.given ++ old.fifo.bytes) told → HasEndedAs past key ending told
+  ended_reads ending counted told read start =
+      let (rest, all) = starts_given past.given old.fifo.bytes told (starts counted (past.given ++ old.fifo.bytes) told start) in
+      record { read = read; rest = rest; bytes_are = all }
+
+module _ (past : Past) (key : Chrn) (head_drive steps : ℕ) (old : Fdc) (reading : Reading) (key_is : reading.wanted.key ≡ key) (counted_is : past.counted ≡ reading.counted) (steps_are : past.steps ≡ steps) where
+  -- a byte came
+  byte_reads : (counted full : Bool) (value : ℕ) (told : List ℕ) → reading.counted ≡ counted → IsReading past key (told ++ value ∷ []) reading.stage → IsStart counted (past.given ++ old.fifo.bytes) told
+      → MayRead past key (if counted then gone_on_reading head_drive steps reading old else (if full then finished Overrun head_drive reading.wanted.key old else gone_on_reading head_drive steps reading (pushed value old)))
+  byte_reads true full value told is reads start = on_reads past key head_drive steps old reading (told ++ value ∷ []) (record {
+    key_is = key_is;
+    counted_is = counted_is;
+    steps_are = steps_are;
+    reads = reads;
+    bytes_are = subst (λ c. IsStart c (past.given ++ old.fifo.bytes) (told ++ value ∷ [])) (sym is) (told_more (past.given ++ old.fifo.bytes) told value start);
+  })
+  byte_reads false true value told is reads start =
+      let (rest, all) = starts_given past.given old.fifo.bytes (told ++ value ∷ []) (value ∷ [], ap (λ bytes. bytes ++ value ∷ []) (sym start)) in (
+        (head_drive, reading.wanted.key, refl),
+        (
+          told ++ value ∷ [],
+          record {
+            read = record { bytes = told_of past key (told ++ value ∷ []) reading.stage reads; cause = counted_is ∙ is };
+            rest = rest;
+            bytes_are = all;
+          },
+        ),
+      )
+  byte_reads false false value told is reads start = on_reads past key head_drive steps (pushed value old) reading (told ++ value ∷ []) (record {
+    key_is = key_is;
+    counted_is = counted_is;
+    steps_are = steps_are;
+    reads = reads;
+    bytes_are = subst (λ c. IsStart c (past.given ++ (old.fifo.bytes ++ value ∷ [])) (told ++ value ∷ [])) (sym is) (sym (append_assoc past.given old.fifo.bytes (value ∷ [])) ∙ ap (λ bytes. bytes ++ value ∷ []) start);
+  })
+
+module _ (past : Past) (key : Chrn) (head_drive steps : ℕ) (old : Fdc) (reading : Reading) (told : List ℕ) (key_is : reading.wanted.key ≡ key) (counted_is : past.counted ≡ reading.counted) (steps_are : past.steps ≡ steps) (start : IsStart reading.counted (past.given ++ old.fifo.bytes) told) where
+  follow_reads : (heard : ReadHeard) → HasHeard past key told heard → MayRead past key (after_heard head_drive steps reading heard old)
+  follow_reads (given.On stage) reads =
+      on_reads past key head_drive steps old (at_stage reading stage) told (record { key_is = key_is; counted_is = counted_is; steps_are = steps_are; reads = reads; bytes_are = start })
+  follow_reads (given.Byte stage value) reads =
+      byte_reads past key head_drive steps old (at_stage reading stage) key_is counted_is steps_are reading.counted (is_full old) value told refl reads start
+  follow_reads (given.Ended ending) read = ((head_drive, reading.wanted.key, refl), (told, ended_reads past key head_drive steps old ending reading.counted told read start))
+
+-- a READ DATA follows the word that it heard
+pub hear_reads : (index : Bool) (word head_drive steps : ℕ) (reading : Reading) (after : ReadHeard) (old new : Fdc) → ((past : Past) (told : List ℕ) → IsReading past reading.wanted.key told reading.stage → HasHeard (heard index word past) reading.wanted.key told after) → new ≡ after_heard head_drive steps reading after old
+    → (past : Past) (key : Chrn) (told : List ℕ) → IsUnderway past key reading steps (past.given ++ old.fifo.bytes) told → MayRead (heard index word past) key new
+hear_reads index word head_drive steps reading after old new hears is past key told was =
+    subst (λ fdc. MayRead (heard index word past) key fdc) (sym is) (subst (λ k. MayRead (heard index word past) k (after_heard head_drive steps reading after old)) was.key_is
+    (follow_reads (heard index word past) reading.wanted.key head_drive steps old reading told refl was.counted_is was.steps_are was.bytes_are after (hears past told (subst (λ k. IsReading past k told reading.stage) (sym was.key_is) was.reads))))
+
+-- a device step counts
+pub step_underway : (past : Past) (key : Chrn) (reading : Reading) (steps : ℕ) (bytes told : List ℕ) → IsUnderway past key reading steps bytes told → IsUnderway (stepped past) key reading (steps + 1) bytes told
+step_underway past key reading steps bytes told was = record {
+  key_is = was.key_is;
+  counted_is = was.counted_is;
+  steps_are = ap (λ n. n + 1) was.steps_are;
+  reads = same_stage past.given (past.steps + 1) past.counted past key told reading.stage was.reads;
+  bytes_are = was.bytes_are;
+}
+
+-- the last step ends it
+late_underway : (index : Bool) (word : ℕ) (past : Past) (key : Chrn) (reading : Reading) (fifo told : List ℕ) → IsUnderway past key reading 65535 (past.given ++ fifo) told → HasEndedAs (heard index word (stepped past)) key Late told
+late_underway index word past key reading fifo told was =
+    let (rest, all) = starts_given past.given fifo told (starts reading.counted (past.given ++ fifo) told was.bytes_are) in
+    let steps = was.steps_are in
+    record {
+      read = record { bytes = told_stays index word (stepped past) key told (told_of past key told reading.stage was.reads); cause = omega arith };
+      rest = rest;
+      bytes_are = all;
+    }
+
+pub late_task : (index : Bool) (word : ℕ) (past : Past) (key : Chrn) (steps : ℕ) (task : Task) (asking : Bool) (fifo : List ℕ) → steps ≡ 65535 → MayReadTask past key steps task asking fifo → (told : List ℕ) × HasEndedAs (heard index word (stepped past)) key Late told
+late_task index word past key steps (ReadId search) asking fifo is was = absurd was
+late_task index word past key steps (Read reading) asking fifo is (asks, (told, was)) =
+    (told, late_underway index word past key reading fifo told (subst (λ n. IsUnderway past key reading n (past.given ++ fifo) told) is was))
+
+-- outside execution nothing passes
+pub rests_sees : (phase : Phase) → ((execution : Execution) → phase ≡ Execute execution → ⊥) → (rate : DataRate) (before after : DriveState) → SeesWord phase rate before 0 after
+rests_sees Command other rate before after = tt
+rests_sees (Result answer) other rate before after = tt
+rests_sees (Execute execution) other rate before after = absurd (other execution refl)
+
+pub rests_reads : (phase : Phase) → ((execution : Execution) → phase ≡ Execute execution → ⊥) → (index asking : Bool) (fifo : List ℕ) (past : Past) (key : Chrn) → MayReadIn past key phase asking fifo → MayReadIn (after_step (is_executing phase) index 0 past) key phase asking fifo
+rests_reads Command other index asking fifo past key was = was
+rests_reads (Result answer) other index asking fifo past key was = was
+rests_reads (Execute execution) other index asking fifo past key was = absurd (other execution refl)
+
+-- a device step of the task
+pub step_task : (index : Bool) (word steps : ℕ) (reading : Reading) (task : Task) (asking : Bool) (fifo : List ℕ) (new : Fdc) → task ≡ Read reading
+    → ((past : Past) (key : Chrn) (told : List ℕ) → IsUnderway past key reading (steps + 1) (past.given ++ fifo) told → MayRead (heard index word past) key new)
+    → (past : Past) (key : Chrn) → MayReadTask past key steps task asking fifo → MayRead (heard index word (stepped past)) key new
+step_task index word steps reading task asking fifo new is reads past key was =
+    let may : MayReadTask past key steps (Read reading) asking fifo = subst (λ t. MayReadTask past key steps t asking fifo) is was in
+    reads (stepped past) key may.1.0 (step_underway past key reading steps (past.given ++ fifo) may.1.0 may.1.1)
+
+-- the last step ends the command
+pub late_reads : (index : Bool) (word : ℕ) (execution : Execution) (old new : Fdc) → execution.steps ≡ 65535 → new ≡ late execution old
+    → (past : Past) (key : Chrn) → MayReadTask past key execution.steps execution.task old.asking old.fifo.bytes → MayRead (heard index word (stepped past)) key new
+late_reads index word execution old new last is past key was =
+    subst (λ fdc. MayRead (heard index word (stepped past)) key fdc) (sym is) ((execution.head_drive, key_as_sent execution.task, refl), late_task index word past key execution.steps execution.task old.asking old.fifo.bytes last was)
+
+-- ---- a byte goes to memory
+
+out_task : (past : Past) (key : Chrn) (steps : ℕ) (task : Task) (asking on : Bool) (bytes : List ℕ) (threshold : ℕ) → asking ≡ true → is_read task ≡ true → MayReadTask past key steps task asking bytes
+    → MayReadTask (gave (get_or bytes 0 0xFF) past) key steps task (task_asks task asking (record { bytes = drop 1 bytes; on = on; threshold = threshold })) (drop 1 bytes)
+out_task past key steps (ReadId search) asking on bytes threshold up is was = absurd was
+out_task past key steps (Read reading) asking on [] threshold up is (asks, was) = absurd (false≢true (sym (asks up)))
+out_task past key steps (Read reading) asking on (byte ∷ rest) threshold up is (asks, (told, was)) = (
+  asks_bytes (length rest == 0) _,
+  (
+    told,
+    record {
+      key_is = was.key_is;
+      counted_is = was.counted_is;
+      steps_are = was.steps_are;
+      reads = same_stage (past.given ++ byte ∷ []) past.steps past.counted past key told reading.stage was.reads;
+      bytes_are = subst (λ bytes. IsStart reading.counted bytes told) (sym (append_assoc past.given (byte ∷ []) rest)) was.bytes_are;
+    },
+  ),
+)
+
+pub out_reads : (past : Past) (key : Chrn) (phase : Phase) (asking : Bool) (fifo : Fifo) → asking ≡ true → is_reading phase ≡ true → MayReadIn past key phase asking fifo.bytes
+    → MayReadIn (gave (get_or fifo.bytes 0 0xFF) past) key phase (phase_asks phase asking (record fifo { bytes = drop 1 fifo.bytes })) (drop 1 fifo.bytes)
+out_reads past key Command asking fifo up is was = absurd was
+out_reads past key (Result answer) asking fifo up is was = absurd (false≢true is)
+out_reads past key (Execute execution) asking fifo up is was = out_task past key execution.steps execution.task asking fifo.on fifo.bytes fifo.threshold up is was
+
+-- ---- the terminal count
+
+told_task : (past : Past) (key : Chrn) (steps : ℕ) (task : Task) (asking : Bool) (fifo : Fifo) → MayReadTask past key steps task asking fifo.bytes
+    → MayReadTask (told_in true past) key steps (task_told task) (asking_told (is_read task) asking) (fifo_told (is_read task) fifo).bytes
+told_task past key steps (ReadId search) asking fifo was = absurd was
+told_task past key steps (Read reading) asking fifo (asks, (told, was)) =
+    let (rest, all) = starts_given past.given fifo.bytes told (starts reading.counted (past.given ++ fifo.bytes) told was.bytes_are) in (
+      λ up. absurd (false≢true up),
+      (
+        told,
+        record {
+          key_is = was.key_is;
+          counted_is = refl;
+          steps_are = was.steps_are;
+          reads = same_stage past.given past.steps true past key told reading.stage was.reads;
+          bytes_are = (rest, all ∙ sym (append_assoc past.given [] rest));
+        },
+      ),
+    )
+
+pub told_reads : (past : Past) (key : Chrn) (phase : Phase) (asking : Bool) (fifo : Fifo) → MayReadIn past key phase asking fifo.bytes
+    → MayReadIn (told_in (is_executing phase) past) key (phase_told phase) (asking_told (is_reading phase) asking) (fifo_told (is_reading phase) fifo).bytes
+told_reads past key Command asking fifo was = absurd was
+told_reads past key (Result answer) asking fifo was = was
+told_reads past key (Execute execution) asking fifo was = told_task past key execution.steps execution.task asking fifo was
+
+-- ---- a result byte is read
+
+pub given_reads : (past : Past) (key : Chrn) (phase : Phase) (asking : Bool) (fifo : List ℕ) → MayReadIn past key phase asking fifo → MayReadIn past key (phase_after phase) asking fifo ⊎ (phase_after phase ≡ Command)
+given_reads past key Command asking fifo was = absurd was
+given_reads past key (Execute execution) asking fifo was = inl was
+given_reads past key (Result (Short next last)) asking fifo was = absurd was
+given_reads past key (Result (Long ending results taken)) asking fifo was = behind (nat_le 6 taken)
+  where
+    behind : (b : Bool) → MayReadIn past key (if b then Command else Result (Long ending results (taken + 1))) asking fifo ⊎ ((if b then Command else Result (Long ending results (taken + 1))) ≡ Command)
+    behind true = inr refl
+    behind false = inl was
+
+pub second_true : (a b : Bool) → (a && b) ≡ true → b ≡ true
+second_true true b is = is
+second_true false b is = absurd (false≢true is)

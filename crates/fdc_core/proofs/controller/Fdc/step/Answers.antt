@@ -1,0 +1,12 @@
+use Rattle.drive_model.specs.Drive.{at_index}
+use Rattle.fdc_core.proofs.MayReadId.{polled_hears}
+use Rattle.fdc_core.proofs.Staying.{polled_stays}
+use Rattle.fdc_core.proofs.controller.Fdc.step.Goals as goal
+
+pub returns-clause-reads : goal.returns-clause-reads
+returns-clause-reads g c =
+    let drive = g.D.Drive.state c.args.drive.now in
+    polled_hears (at_index drive) c.args.self.now c.poll.new.self c.advance.new.self drive (g.D.Drive.state c.advance.new.drive) c.poll.ensures.state c.advance.ensures.reads
+
+pub returns-clause-stays : goal.returns-clause-stays
+returns-clause-stays g c = polled_stays c.args.self.now c.poll.new.self c.advance.new.self c.poll.ensures.state c.advance.ensures.stays

@@ -1,0 +1,64 @@
+-- The controller's side of the DMA channel.
+use Rattle.std.specs.Prelude.{ℕ, Bool, true, false, drop, get_or}
+use Rattle.fdc_fifo.specs.Fifo.{Fifo, emptied, wants}
+use Rattle.fdc_core.specs.Phases.{is_over, is_reading, told}
+use Rattle.fdc_core.specs.declared.controller.Fdc.{Fdc}
+use Rattle.fdc_core.specs.declared.phases.Phase.{Phase}
+use Rattle.fdc_core.specs.declared.phases.Phase.TheVariants.{Execute}
+use Rattle.fdc_core.specs.declared.phases.Task.{Task}
+use Rattle.fdc_core.specs.declared.phases.Task.TheVariants.{ReadId, Read}
+
+-- the bytes of the command go to memory
+abbrev pub to_memory_of : Fdc → Bool
+to_memory_of fdc = is_reading fdc.phase
+
+-- DRQ by the FIFO's rule, where it was `asking` before; only a command that moves bytes asks
+abbrev pub task_asks : Task → Bool → Fifo → Bool
+task_asks (Read reading) asking fifo = wants true asking (is_over reading.stage) fifo
+task_asks (ReadId _) asking fifo = false
+
+abbrev pub phase_asks : Phase → Bool → Fifo → Bool
+phase_asks (Execute execution) asking fifo = task_asks execution.task asking fifo
+phase_asks _ asking fifo = false
+
+-- DRQ goes by the FIFO's rule
+abbrev pub asked : Fdc → Fdc
+asked old = record old { asking = phase_asks old.phase old.asking old.fifo }
+
+-- the execution goes on with this task, and DRQ by the FIFO's rule
+abbrev pub gone_on : ℕ → ℕ → Task → Fdc → Fdc
+gone_on head_drive steps task old = record old {
+  phase = Execute (record { head_drive = head_drive; steps = steps; task = task });
+  asking = task_asks task old.asking old.fifo;
+}
+
+-- the channel takes the oldest byte
+abbrev pub byte_out : Fdc → ℕ
+byte_out old = get_or old.fifo.bytes 0 0xFF
+
+abbrev pub taken_out : Fdc → Fdc
+taken_out old = asked (record old { fifo = record old.fifo { bytes = drop 1 old.fifo.bytes } })
+
+-- the terminal count comes: a READ DATA gives no further byte, and its FIFO is emptied
+abbrev pub task_told : Task → Task
+task_told (Read reading) = Read (told reading)
+task_told task = task
+
+abbrev pub phase_told : Phase → Phase
+phase_told (Execute execution) = Execute (record execution { task = task_told execution.task })
+phase_told phase = phase
+
+abbrev pub fifo_told : Bool → Fifo → Fifo
+fifo_told true fifo = emptied fifo.on fifo.threshold
+fifo_told false fifo = fifo
+
+abbrev pub asking_told : Bool → Bool → Bool
+asking_told true asking = false
+asking_told false asking = asking
+
+abbrev pub told_count : Fdc → Fdc
+told_count old = record old {
+  phase = phase_told old.phase;
+  fifo = fifo_told (is_reading old.phase) old.fifo;
+  asking = asking_told (is_reading old.phase) old.asking;
+}

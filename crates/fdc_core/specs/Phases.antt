@@ -1,0 +1,54 @@
+-- What the controller is doing.
+use Rattle.std.specs.Prelude.{ℕ, ◌/◌, ◌%◌, Bool, true, false, Option, Some, None, if◌then◌else◌}
+use Rattle.flop_base.specs.declared.key.Chrn.{Chrn}
+use Rattle.fdc_stages.specs.declared.ending.Ending.{Ending}
+use Rattle.fdc_stages.specs.declared.ending.Ending.TheVariants.{Done, BadCheck, NoCount}
+use Rattle.fdc_stages.specs.declared.reading.ReadStage.{ReadStage}
+use Rattle.fdc_stages.specs.declared.reading.ReadStage.TheVariants.{Over}
+use Rattle.fdc_core.specs.Answers.{no_key}
+use Rattle.fdc_core.specs.declared.phases.Phase.{Phase}
+use Rattle.fdc_core.specs.declared.phases.Phase.TheVariants.{Execute}
+use Rattle.fdc_core.specs.declared.phases.Execution.{Execution}
+use Rattle.fdc_core.specs.declared.phases.Task.{Task}
+use Rattle.fdc_core.specs.declared.phases.Task.TheVariants.{ReadId, Read}
+use Rattle.fdc_core.specs.declared.phases.Reading.{Reading}
+
+-- READ DATA is the task
+abbrev pub is_read : Task → Bool
+is_read (Read _) = true
+is_read _ = false
+
+-- a READ DATA is in execution
+abbrev pub is_reading : Phase → Bool
+is_reading (Execute execution) = is_read execution.task
+is_reading _ = false
+
+-- the head, bit 2 of the byte that the command sent
+abbrev pub head_of : Execution → ℕ
+head_of execution = execution.head_drive / 4 % 2
+
+-- the key in the results of a failure: as it was sent, 00 00 00 00 where none was
+abbrev pub key_as_sent : Task → Chrn
+key_as_sent (ReadId _) = no_key
+key_as_sent (Read reading) = reading.wanted.key
+
+-- a reading once the terminal count came
+abbrev pub told : Reading → Reading
+told reading = record reading { counted = true }
+
+-- the field is over
+abbrev pub is_over : ReadStage → Bool
+is_over (Over _ _) = true
+is_over _ = false
+
+-- how a field that is over ends the command: its check counts before the terminal count
+abbrev pub ending_over : Bool → Bool → Bool → Ending
+ending_over good counted deleted = if good then (if counted then Done deleted else NoCount) else BadCheck
+
+-- how the command ends, where the field is over
+abbrev pub ending_at : ReadStage → Bool → Option Ending
+ending_at (Over deleted good) counted = Some (ending_over good counted deleted)
+ending_at _ counted = None
+
+abbrev pub ending_of : Reading → Option Ending
+ending_of reading = ending_at reading.stage reading.counted

@@ -1,0 +1,97 @@
+-- The controller's ports.
+use Rattle.std.specs.Prelude.{◌≡◌, ℕ, Bool, true, false, not, ◌==◌, if◌then◌else◌, bit_and}
+use Rattle.std.specs.Int.RustNames.{bit_or}
+use Rattle.fdc_registers.specs.Dir.{changed}
+use Rattle.fdc_registers.specs.Msr.{rqm, dio, busy}
+use Rattle.fdc_commands.specs.Table.{is_begun}
+use Rattle.fdc_seek.specs.Seeking.{seek_bits}
+use Rattle.fdc_core.specs.Answers.{next_byte, after_byte, is_fresh}
+use Rattle.fdc_core.specs.Commands.{Takes}
+use Rattle.fdc_core.specs.Rates.{rate_chosen}
+use Rattle.fdc_core.specs.State.{is_held, reset}
+use Rattle.fdc_core.specs.declared.controller.Fdc.{Fdc}
+use Rattle.fdc_core.specs.declared.controller.Lines.{Lines}
+use Rattle.fdc_core.specs.declared.phases.Phase.{Phase}
+use Rattle.fdc_core.specs.declared.phases.Phase.TheVariants.{Command, Execute, Result}
+
+-- the bits of MSR by the phase, and by whether a command has begun
+abbrev pub phase_bits : Bool → Phase → ℕ
+phase_bits begun Command = if begun then bit_or rqm busy else rqm
+phase_bits begun (Execute _) = busy
+phase_bits begun (Result _) = bit_or (bit_or rqm dio) busy
+
+-- MSR: 00 in reset, else the bits of the phase with the seek bits
+abbrev pub main_status : Fdc → ℕ
+main_status fdc =
+    if is_held fdc then 0 else bit_or (phase_bits (is_begun fdc.command) fdc.phase) (seek_bits fdc.seeks)
+
+-- DIR: the change line of the selected drive
+abbrev pub line_bits : Lines → ℕ
+line_bits lines = if lines.changed then changed else 0
+
+-- the data port gives the next result byte, and FF where there is none
+abbrev pub result_byte : Phase → ℕ
+result_byte (Result answer) = next_byte answer
+result_byte _ = 0xFF
+
+-- INT once the data port was read: it falls with the first result byte of a data command
+abbrev pub interrupt_after : Phase → Bool → Bool
+interrupt_after (Result answer) interrupt = if is_fresh answer then false else interrupt
+interrupt_after _ interrupt = interrupt
+
+-- the phase once the data port was read
+abbrev pub phase_after : Phase → Phase
+phase_after (Result answer) = after_byte answer
+phase_after phase = phase
+
+-- a read of the data port
+abbrev pub given : Fdc → Fdc
+given old = record old { interrupt = interrupt_after old.phase old.interrupt; phase = phase_after old.phase }
+
+-- what a read of a port gives
+abbrev pub value_read : ℕ → Lines → Fdc → ℕ
+value_read port lines fdc =
+    if port == 0x3F2 then fdc.dor.0 else (
+    if port == 0x3F4 then main_status fdc else (
+    if port == 0x3F5 then result_byte fdc.phase else (
+    if port == 0x3F7 then line_bits lines else
+    0xFF)))
+
+-- what a read of a port leaves
+abbrev pub after_read : ℕ → Fdc → Fdc
+after_read port old = if port == 0x3F5 then given old else old
+
+-- the data port takes a byte: in the command phase, unless DOR holds the controller in reset
+abbrev pub takes_in : Phase → Bool → Bool
+takes_in Command held = not held
+takes_in _ held = false
+
+abbrev pub is_taking : Fdc → Bool
+is_taking fdc = takes_in fdc.phase (is_held fdc)
+
+-- DOR is written; a zero in bit 2 resets the controller
+abbrev pub dor_written : ℕ → Fdc → Fdc
+dor_written value old =
+    let set : Fdc = record old { dor = record { 0 = value } } in if is_held set then reset set else set
+
+-- DSR is written: the rate in bits 1 and 0, and a one in bit 7 resets the controller
+abbrev pub dsr_written : ℕ → Fdc → Fdc
+dsr_written value old =
+    let set : Fdc = record old { rate = rate_chosen value } in if bit_and value 0x80 == 0 then set else reset set
+
+-- CCR is written: the rate in bits 1 and 0
+abbrev pub ccr_written : ℕ → Fdc → Fdc
+ccr_written value old = record old { rate = rate_chosen value }
+
+-- a byte is written to the data port: it is ignored where the port takes none
+abbrev pub WritesData : ℕ → Lines → Fdc → Fdc → Type 0
+WritesData value lines old new =
+    (is_taking old ≡ true → Takes value lines old new) × (is_taking old ≡ false → new ≡ old)
+
+-- a byte is written to a port
+pub record Writes (port value : ℕ) (lines : Lines) (old new : Fdc) : Type 0 where
+  pub output : port ≡ 0x3F2 → new ≡ dor_written value old
+  pub select : port ≡ 0x3F4 → new ≡ dsr_written value old
+  pub bytes : port ≡ 0x3F5 → WritesData value lines old new
+  pub control : port ≡ 0x3F7 → new ≡ ccr_written value old
+  pub others : (port == 0x3F2) ≡ false → (port == 0x3F4) ≡ false → (port == 0x3F5) ≡ false → (port == 0x3F7) ≡ false → new ≡ old

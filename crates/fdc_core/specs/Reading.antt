@@ -1,0 +1,62 @@
+-- READ ID and READ DATA, word by word.
+use Rattle.std.specs.Prelude.{ℕ, Bool, false, ◌==◌, [], ◌∷◌, ◌++◌, length, Option, Some, None, if◌then◌else◌}
+use Rattle.fdc_fifo.specs.Fifo.{room_of}
+use Rattle.fdc_stages.specs.declared.ending.Ending.{Ending}
+use Rattle.fdc_stages.specs.declared.ending.Ending.TheVariants.{Done, Overrun}
+use Rattle.fdc_stages.specs.declared.reading.ReadHeard.{ReadHeard}
+use Rattle.fdc_stages.specs.declared.reading.ReadHeard.TheVariants as heard
+use Rattle.fdc_stages.specs.declared.reading.ReadStage.{ReadStage}
+use Rattle.fdc_stages.specs.declared.searching.Searched.{Searched}
+use Rattle.fdc_stages.specs.declared.searching.Searched.TheVariants as searched
+use Rattle.fdc_core.specs.Answers.{key_after, no_key}
+use Rattle.fdc_core.specs.Dma.{gone_on}
+use Rattle.fdc_core.specs.Phases.{ending_of}
+use Rattle.fdc_core.specs.State.{finished}
+use Rattle.fdc_core.specs.declared.controller.Fdc.{Fdc}
+use Rattle.fdc_core.specs.declared.phases.Reading.{Reading}
+use Rattle.fdc_core.specs.declared.phases.Task.TheVariants.{ReadId, Read}
+
+-- the same command at a stage
+abbrev pub at_stage : Reading → ReadStage → Reading
+at_stage reading stage = record reading { stage = stage }
+
+-- READ ID after what its search heard
+abbrev pub after_searched : ℕ → ℕ → Searched → Fdc → Fdc
+after_searched head_drive steps (searched.On search) old = gone_on head_drive steps (ReadId search) old
+after_searched head_drive steps (searched.Met key _) old = finished (Done false) head_drive key old
+after_searched head_drive steps (searched.Missed ending) old = finished ending head_drive no_key old
+
+-- READ DATA ends where the field is over and the FIFO is empty
+abbrev pub over_or_on : Option Ending → Bool → ℕ → ℕ → Reading → Fdc → Fdc
+over_or_on None empty head_drive steps reading old = gone_on head_drive steps (Read reading) old
+over_or_on (Some ending) empty head_drive steps reading old =
+    if empty then finished ending head_drive (key_after ending reading.wanted.key reading.last_sector) old
+    else gone_on head_drive steps (Read reading) old
+
+abbrev pub gone_on_reading : ℕ → ℕ → Reading → Fdc → Fdc
+gone_on_reading head_drive steps reading old =
+    over_or_on (ending_of reading) (length old.fifo.bytes == 0) head_drive steps reading old
+
+-- with one more byte in the FIFO
+abbrev pub pushed : ℕ → Fdc → Fdc
+pushed value old = record old { fifo = record old.fifo { bytes = old.fifo.bytes ++ value ∷ [] } }
+
+-- the FIFO is full
+abbrev pub is_full : Fdc → Bool
+is_full fdc = length fdc.fifo.bytes == room_of fdc.fifo.on
+
+-- a byte of the field: after the terminal count it is dropped, and it may find the FIFO full
+abbrev pub byte_taken : ℕ → ℕ → Reading → ℕ → Fdc → Fdc
+byte_taken head_drive steps reading value old =
+    if reading.counted then gone_on_reading head_drive steps reading old
+    else (if is_full old then finished Overrun head_drive reading.wanted.key old
+    else gone_on_reading head_drive steps reading (pushed value old))
+
+-- READ DATA after what its stage heard
+abbrev pub after_heard : ℕ → ℕ → Reading → ReadHeard → Fdc → Fdc
+after_heard head_drive steps reading (heard.On stage) old =
+    gone_on_reading head_drive steps (at_stage reading stage) old
+after_heard head_drive steps reading (heard.Byte stage value) old =
+    byte_taken head_drive steps (at_stage reading stage) value old
+after_heard head_drive steps reading (heard.Ended ending) old =
+    finished ending head_drive reading.wanted.key old

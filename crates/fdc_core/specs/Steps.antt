@@ -1,0 +1,111 @@
+-- Device steps.
+use Rattle.std.specs.Prelude.{◌≡◌, ◌<◌, ◌≤◌, length, ℕ, ◌+◌, ◌-◌, ◌==◌, Option, Some, None, Bool, true, false, not, ◌&&◌, ◌||◌, if◌then◌else◌}
+use Rattle.drive_model.specs.Drive.{DriveState, Becomes, Pulses, passed}
+use Rattle.fdc_seek.specs.Seeking.{with_polls, stepped, pulse_due, is_seeking}
+use Rattle.fdc_stages.specs.declared.ending.Ending.TheVariants.{Late}
+use Rattle.fdc_core.specs.Dma.{phase_asks}
+use Rattle.fdc_core.specs.Phases.{key_as_sent}
+use Rattle.fdc_core.specs.Reading.{after_searched, after_heard}
+use Rattle.fdc_core.specs.State.{is_held, finished}
+use Rattle.fdc_core.specs.declared.controller.Fdc.{Fdc}
+use Rattle.fdc_core.specs.declared.phases.Phase.{Phase}
+use Rattle.fdc_core.specs.declared.phases.Phase.TheVariants.{Execute}
+use Rattle.fdc_core.specs.declared.phases.Execution.{Execution}
+use Rattle.fdc_core.specs.declared.phases.Task.{Task}
+use Rattle.fdc_core.specs.declared.phases.Task.TheVariants.{ReadId, Read}
+use Rattle.fdc_stages.specs.declared.reading.ReadHeard.{ReadHeard}
+use Rattle.fdc_stages.specs.declared.searching.Searched.{Searched}
+
+-- the poll after a reset: INT rises, and each drive has a result; it waits while DOR holds the controller in reset
+abbrev pub polled : Fdc → Fdc
+polled old =
+    if old.poll_due && not (is_held old) then record old { poll_due = false; interrupt = true; seeks = with_polls old.seeks }
+    else old
+
+-- a seek goes on by a device step, and INT rises where it ends
+abbrev pub seek_stepped : Bool → Fdc → Fdc
+seek_stepped track0 old = record old {
+  seeks = stepped old.seeks track0;
+  interrupt = old.interrupt || (is_seeking old.seeks && not (is_seeking (stepped old.seeks track0)));
+}
+
+abbrev pub RestsIn : Phase → Fdc → Bool → Fdc → Type 0
+RestsIn (Execute _) old track0 new = Unit {0}
+RestsIn _ old track0 new = new ≡ seek_stepped track0 old
+
+-- outside execution a device step moves a seek alone
+abbrev pub Rests : Fdc → Bool → Fdc → Type 0
+Rests old track0 new = RestsIn old.phase old track0 new
+
+-- the command took too many steps: it ends with MA
+abbrev pub late : Execution → Fdc → Fdc
+late execution old = finished Late execution.head_drive (key_as_sent execution.task) old
+
+-- a device step of a data command that listens, by its task
+abbrev pub Hears : ℕ → ℕ → Task → Fdc → Fdc → Type 0
+Hears head_drive steps (ReadId _) old new =
+    (searched : Searched) × (new ≡ after_searched head_drive steps searched old)
+Hears head_drive steps (Read reading) old new =
+    (heard : ReadHeard) × (new ≡ after_heard head_drive steps reading heard old)
+
+-- the last step ends a command, whatever it does; each other step counts
+abbrev pub StepsOn : Execution → Fdc → Fdc → Type 0
+StepsOn execution old new =
+    (execution.steps ≡ 65535 → new ≡ late execution old)
+    × (execution.steps < 65535 → Hears execution.head_drive (execution.steps + 1) execution.task old new)
+
+abbrev pub ExecutesIn : Phase → Fdc → Fdc → Type 0
+ExecutesIn (Execute execution) old new = StepsOn execution old new
+ExecutesIn _ old new = Unit {0}
+
+-- a device step in execution
+abbrev pub Executes : Fdc → Fdc → Type 0
+Executes old new = ExecutesIn old.phase old new
+
+-- one word time passes at the drive, behind the pulse of a seek
+abbrev pub Moves : Option Bool → DriveState → DriveState → Type 0
+Moves None before after = Becomes before (passed before) after
+Moves (Some inward) before after =
+    (between : DriveState) × Pulses before inward between × Becomes between (passed between) after
+
+abbrev pub MovesIn : Phase → Fdc → DriveState → DriveState → Type 0
+MovesIn (Execute _) fdc before after = Moves None before after
+MovesIn _ fdc before after = Moves (pulse_due fdc.seeks (before.cylinder == 0)) before after
+
+-- a device step with a drive: outside execution a seek gives its pulse
+abbrev pub MovesDrive : Fdc → DriveState → DriveState → Type 0
+MovesDrive fdc before after = MovesIn fdc.phase fdc before after
+
+-- so many device steps at most are left of a data command in execution: 65,536 when it begins
+abbrev pub steps_left : Phase → ℕ
+steps_left (Execute execution) = 65536 - execution.steps
+steps_left _ = 0
+
+-- a device step of a data command leaves fewer
+abbrev pub EndsIn : Phase → Phase → Type 0
+EndsIn (Execute execution) new = steps_left new < steps_left (Execute execution)
+EndsIn _ new = Unit {0}
+
+-- what no device step changes: DOR, the rate, what SPECIFY and CONFIGURE set, the bytes of a command that has begun and the
+-- count of data commands; the FIFO gets one byte at most
+pub record Stays (old new : Fdc) : Type 0 where
+  pub dor : new.dor ≡ old.dor
+  pub rate : new.rate ≡ old.rate
+  pub non_dma : new.non_dma ≡ old.non_dma
+  pub polling : new.polling ≡ old.polling
+  pub command : new.command ≡ old.command
+  pub data_commands : new.data_commands ≡ old.data_commands
+  pub on : new.fifo.on ≡ old.fifo.on
+  pub threshold : new.fifo.threshold ≡ old.fifo.threshold
+  pub few : length new.fifo.bytes ≤ length old.fifo.bytes + 1
+
+-- in execution DRQ goes by the FIFO's rule
+abbrev pub FlowsIn : Phase → Bool → Fdc → Type 0
+FlowsIn (Execute _) asking new = new.asking ≡ phase_asks new.phase asking new.fifo
+FlowsIn _ asking new = Unit {0}
+
+abbrev pub Ends : Fdc → Fdc → Type 0
+Ends old new = EndsIn old.phase new.phase
+
+abbrev pub Flows : Fdc → Fdc → Type 0
+Flows old new = FlowsIn old.phase old.asking new

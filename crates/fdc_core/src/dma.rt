@@ -1,0 +1,92 @@
+// The controller's side of the DMA channel.
+ghost use Rattle.std.specs.Prelude.{◌≡◌, IsTrue};
+ghost use Rattle.flop_base.specs.declared.key.Chrn.{Chrn};
+ghost use Rattle.fdc_stages.specs.History.{Past};
+ghost use Rattle.fdc_core.specs.Heard.{MayRead, gave, told_in, is_executing};
+ghost use Rattle.fdc_core.specs.State.{asks};
+ghost use Rattle.fdc_core.specs.Dma.{asked, byte_out, taken_out, told_count, to_memory_of};
+
+use crate::controller::Fdc;
+use crate::phases::{Execution, Phase, Task};
+
+/// What a transfer from an empty FIFO would give.
+const NOTHING: u8 = 0xFF;
+
+impl Fdc {
+    /// Whether the bytes of the command in execution go to memory.
+    pub fn to_memory(&self) -> bool
+        ensures { result ≡ to_memory_of self.now }
+    {
+        self.phase.is_reading()
+    }
+
+    /// The channel takes a byte.
+    pub fn dma_out(&mut self) -> u8
+        requires drq { IsTrue (asks self.old) }
+        requires to_memory { IsTrue (to_memory_of self.old) }
+        ensures byte { result ≡ byte_out self.old }
+        ensures after { self.new ≡ taken_out self.old }
+        ensures reads { (past : Past) (key : Chrn) → MayRead past key self.old → MayRead (gave result past) key self.new }
+    {
+        self.take_out()
+    }
+
+    /// Takes the oldest byte out of the FIFO.
+    fn take_out(&mut self) -> u8
+        ensures byte { result ≡ byte_out self.old }
+        ensures after { self.new ≡ taken_out self.old }
+    {
+        let byte = self.fifo.pop().unwrap_or(NOTHING);
+        self.ask();
+        byte
+    }
+
+    /// The channel tells the terminal count. A READ DATA then gives no further byte.
+    pub fn tc(&mut self)
+        ensures after { self.new ≡ told_count self.old }
+        ensures reads { (past : Past) (key : Chrn) → MayRead past key self.old → MayRead (told_in (is_executing self.old.phase) past) key self.new }
+    {
+        self.end_transfer();
+    }
+
+    /// No further byte is moved.
+    fn end_transfer(&mut self)
+        ensures { self.new ≡ told_count self.old }
+    {
+        if let Phase::Execute { execution } = self.phase {
+            let Execution {
+                head_drive,
+                steps,
+                task,
+            } = execution;
+            if let Task::Read { reading } = task {
+                self.fifo.clear();
+                self.phase = Phase::Execute {
+                    execution: Execution {
+                        head_drive,
+                        steps,
+                        task: Task::Read {
+                            reading: reading.told(),
+                        },
+                    },
+                };
+                self.ask();
+            }
+        }
+    }
+
+    /// DRQ goes by the FIFO's rule.
+    pub(crate) fn ask(&mut self)
+        ensures { self.new ≡ asked self.old }
+    {
+        self.asking = match self.phase {
+            Phase::Execute {
+                execution: Execution {
+                    task: Task::Read { reading },
+                    ..
+                },
+            } => self.fifo.wants(true, self.asking, reading.is_over()),
+            _ => false,
+        };
+    }
+}

@@ -1,0 +1,171 @@
+// What the controller is doing.
+ghost use Rattle.std.specs.Prelude.{◌≡◌};
+ghost use Rattle.fdc_core.specs.Answers.{next_key, key_after};
+ghost use Rattle.fdc_core.specs.Reading.{at_stage};
+ghost use Rattle.fdc_core.specs.Phases.{is_reading, head_of, key_as_sent, told, is_over, ending_of};
+
+use crate::answers::Answer;
+use crate::sized_key::SizedKey;
+use fdc_stages::{Ending, ReadStage, Search};
+use flop_base::Chrn;
+
+/// The key of a READ ID that found none.
+pub(crate) const NO_KEY: Chrn = Chrn {
+    c: 0,
+    h: 0,
+    r: 0,
+    n: 0,
+};
+
+/// The phase of the controller.
+#[derive(Clone, Copy)]
+pub enum Phase {
+    /// It takes command bytes.
+    Command,
+    /// It executes a data command, word time by word time.
+    Execute { execution: Execution },
+    /// It gives result bytes.
+    Result { answer: Answer },
+}
+
+/// A data command in execution.
+#[derive(Clone, Copy)]
+pub struct Execution {
+    /// The head in bit 2 and the drive in bits 1 and 0, as the command sent them.
+    pub head_drive: u8,
+    /// The device steps so far.
+    pub steps: u16,
+    /// What is done.
+    pub task: Task,
+}
+
+/// What a data command does.
+#[derive(Clone, Copy)]
+pub enum Task {
+    /// READ ID.
+    ReadId { search: Search },
+    /// READ DATA.
+    Read { reading: Reading },
+}
+
+/// A READ DATA.
+#[derive(Clone, Copy)]
+pub struct Reading {
+    /// The key of the sector.
+    pub wanted: SizedKey,
+    /// The number of the cylinder's last sector.
+    pub last_sector: u8,
+    /// The terminal count came.
+    pub counted: bool,
+    /// How far it is.
+    pub stage: ReadStage,
+}
+
+impl Phase {
+    /// Whether a READ DATA is in execution.
+    pub(crate) fn is_reading(self) -> bool
+        ensures { result ≡ is_reading self }
+    {
+        match self {
+            Phase::Execute { execution } => matches!(execution.task, Task::Read { .. }),
+            _ => false,
+        }
+    }
+}
+
+impl Execution {
+    /// The head, as the command sent it.
+    pub(crate) fn head(self) -> u8
+        ensures { result ≡ head_of self }
+    {
+        self.head_drive / 4 % 2
+    }
+}
+
+impl Task {
+    /// The key in the results of a failure: as it was sent, 00 00 00 00 where none was.
+    pub(crate) fn key_as_sent(self) -> Chrn
+        ensures { result ≡ key_as_sent self }
+    {
+        match self {
+            Task::ReadId { .. } => NO_KEY,
+            Task::Read { reading } => reading.wanted.key,
+        }
+    }
+}
+
+impl Reading {
+    /// The same command at this stage.
+    pub(crate) fn at(self, stage: ReadStage) -> Reading
+        ensures { result ≡ at_stage self stage }
+    {
+        Reading {
+            wanted: self.wanted,
+            last_sector: self.last_sector,
+            counted: self.counted,
+            stage,
+        }
+    }
+
+    /// The same command once the terminal count came.
+    pub(crate) fn told(self) -> Reading
+        ensures { result ≡ told self }
+    {
+        Reading {
+            wanted: self.wanted,
+            last_sector: self.last_sector,
+            counted: true,
+            stage: self.stage,
+        }
+    }
+
+    /// Whether the field is over.
+    pub(crate) fn is_over(self) -> bool
+        ensures { result ≡ is_over self.stage }
+    {
+        matches!(self.stage, ReadStage::Over { .. })
+    }
+
+    /// How the command ends, where the field is over and all its bytes went to memory.
+    pub(crate) fn ending(self) -> Option<Ending>
+        ensures { result ≡ ending_of self }
+    {
+        match self.stage {
+            ReadStage::Over { good: false, .. } => Some(Ending::BadCheck),
+            ReadStage::Over { .. } if !self.counted => Some(Ending::NoCount),
+            ReadStage::Over { deleted, .. } => Some(Ending::Done { deleted }),
+            _ => None,
+        }
+    }
+
+    /// The key in the results of this ending.
+    pub(crate) fn key_after(self, ending: Ending) -> Chrn
+        ensures { result ≡ key_after ending self.wanted.key self.last_sector }
+    {
+        match ending {
+            Ending::Done { .. } => next_key(self.wanted.key, self.last_sector),
+            _ => self.wanted.key,
+        }
+    }
+}
+
+/// The key of the next sector: the next record, or record 1 of the next cylinder behind the last.
+fn next_key(key: Chrn, last_sector: u8) -> Chrn
+    ensures { result ≡ next_key key last_sector }
+{
+    let Chrn { c, h, r, n } = key;
+    if r == last_sector {
+        return Chrn {
+            c: c.wrapping_add(1),
+            h,
+            r: 1,
+            n,
+        };
+    }
+    Chrn {
+        c,
+        h,
+        r: r.wrapping_add(1),
+        n,
+    }
+}

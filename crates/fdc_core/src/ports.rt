@@ -1,0 +1,142 @@
+// The controller's ports (PC/AT): 3F2 DOR, 3F4 MSR and DSR, 3F5 the data port, 3F7 DIR and CCR.
+ghost use Rattle.std.specs.Prelude.{◌≡◌};
+ghost use Rattle.fdc_core.specs.Heard.{KeepsRead};
+ghost use Rattle.fdc_core.specs.Ports.{is_taking, main_status, line_bits, result_byte, given, dor_written, dsr_written, Writes, value_read, after_read};
+
+use crate::controller::{Fdc, Lines};
+use crate::phases::Phase;
+use crate::rates::DataRate;
+use fdc_registers::{Dir, Dor, Flags, Msr};
+
+const DOR: u16 = 0x3F2;
+
+/// MSR where it is read, DSR where it is written.
+const STATUS: u16 = 0x3F4;
+
+const DATA: u16 = 0x3F5;
+
+/// DIR where it is read, CCR where it is written.
+const LINES: u16 = 0x3F7;
+
+/// What a port gives that has nothing to give.
+const NOTHING: u8 = 0xFF;
+
+/// The bit of DSR that resets the controller, and clears itself.
+const SOFT_RESET: u8 = 0x80;
+
+impl Fdc {
+    /// Reads a port.
+    pub fn read(&mut self, port: u16, lines: Lines) -> u8
+        ensures value { result ≡ value_read port lines self.old }
+        ensures after { self.new ≡ after_read port self.old }
+        ensures reads { KeepsRead self.old self.new }
+    {
+        match port {
+            DOR => self.dor.bits(),
+            STATUS => self.main_status(),
+            DATA => self.give_byte(),
+            LINES => line_bits(lines),
+            _ => NOTHING,
+        }
+    }
+
+    /// Writes a port.
+    pub fn write(&mut self, port: u16, value: u8, lines: Lines)
+        ensures writes { Writes port value lines self.old self.new }
+        ensures reads { KeepsRead self.old self.new }
+    {
+        match port {
+            DOR => self.write_dor(value),
+            STATUS => self.write_dsr(value),
+            DATA => {
+                if self.is_taking() {
+                    self.take_command_byte(value, lines);
+                }
+            }
+            LINES => self.rate = DataRate::chosen_by(value),
+            _ => {}
+        }
+    }
+
+    /// The main status register.
+    fn main_status(&self) -> u8
+        ensures { result ≡ main_status self.now }
+    {
+        if self.is_held() {
+            return 0;
+        }
+        let phase = match self.phase {
+            Phase::Command => {
+                if self.command.is_begun() {
+                    Msr::RQM.union(Msr::BUSY)
+                } else {
+                    Msr::RQM
+                }
+            }
+            Phase::Execute { .. } => Msr::BUSY,
+            Phase::Result { .. } => Msr::RQM.union(Msr::DIO).union(Msr::BUSY),
+        };
+        phase.union(Msr(self.seeks.bits())).bits()
+    }
+
+    /// Whether the data port takes a byte.
+    fn is_taking(&self) -> bool
+        ensures { result ≡ is_taking self.now }
+    {
+        match self.phase {
+            Phase::Command => !self.is_held(),
+            _ => false,
+        }
+    }
+
+    /// The next result byte. INT falls with the first one of a data command.
+    fn give_byte(&mut self) -> u8
+        ensures value { result ≡ result_byte self.old.phase }
+        ensures after { self.new ≡ given self.old }
+        ensures reads { KeepsRead self.old self.new }
+    {
+        match self.phase {
+            Phase::Result { answer } => {
+                if answer.is_fresh() {
+                    self.interrupt = false;
+                }
+                self.phase = answer.after();
+                answer.next()
+            }
+            _ => NOTHING,
+        }
+    }
+
+    /// DOR is written. A zero in bit 2 resets the controller.
+    fn write_dor(&mut self, value: u8)
+        ensures after { self.new ≡ dor_written value self.old }
+        ensures reads { KeepsRead self.old self.new }
+    {
+        self.dor = Dor(value);
+        if self.is_held() {
+            self.reset();
+        }
+    }
+
+    /// DSR is written.
+    fn write_dsr(&mut self, value: u8)
+        ensures after { self.new ≡ dsr_written value self.old }
+        ensures reads { KeepsRead self.old self.new }
+    {
+        self.rate = DataRate::chosen_by(value);
+        if value & SOFT_RESET != 0 {
+            self.reset();
+        }
+    }
+}
+
+/// The digital input register.
+fn line_bits(lines: Lines) -> u8
+    ensures { result ≡ line_bits lines }
+{
+    if lines.changed {
+        Dir::CHANGED.bits()
+    } else {
+        0
+    }
+}
