@@ -1,6 +1,6 @@
 -- The controller's side of the DMA channel.
-use Rattle.std.specs.Prelude.{ℕ, Bool, true, false, drop, get_or}
-use Rattle.fdc_fifo.specs.Fifo.{Fifo, emptied, wants}
+use Rattle.std.specs.Prelude.{ℕ, Bool, true, false, ◌==◌, [], ◌∷◌, ◌++◌, length, drop, get_or, if◌then◌else◌}
+use Rattle.fdc_fifo.specs.Fifo.{Fifo, emptied, room_of, wants}
 use Rattle.fdc_core.specs.Phases.{is_over, is_reading, told}
 use Rattle.fdc_core.specs.declared.controller.Fdc.{Fdc}
 use Rattle.fdc_core.specs.declared.phases.Phase.{Phase}
@@ -38,6 +38,15 @@ byte_out old = get_or old.fifo.bytes 0 0xFF
 
 abbrev pub taken_out : Fdc → Fdc
 taken_out old = asked (record old { fifo = record old.fifo { bytes = drop 1 old.fifo.bytes } })
+
+-- the FIFO with a byte at its end, where there is room
+abbrev pub with_byte : ℕ → Fifo → Fifo
+with_byte byte fifo =
+    if length fifo.bytes == room_of fifo.on then fifo else record fifo { bytes = fifo.bytes ++ byte ∷ [] }
+
+-- the channel gives a byte
+abbrev pub taken_in : ℕ → Fdc → Fdc
+taken_in byte old = asked (record old { fifo = with_byte byte old.fifo })
 
 -- the terminal count comes: a READ DATA gives no further byte, and its FIFO is emptied
 abbrev pub task_told : Task → Task

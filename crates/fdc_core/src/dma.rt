@@ -1,10 +1,10 @@
 // The controller's side of the DMA channel.
-ghost use Rattle.std.specs.Prelude.{◌≡◌, IsTrue};
+ghost use Rattle.std.specs.Prelude.{◌≡◌, IsTrue, IsFalse};
 ghost use Rattle.flop_base.specs.declared.key.Chrn.{Chrn};
 ghost use Rattle.fdc_stages.specs.History.{Past};
 ghost use Rattle.fdc_core.specs.Heard.{MayRead, gave, told_in, is_executing};
 ghost use Rattle.fdc_core.specs.State.{asks};
-ghost use Rattle.fdc_core.specs.Dma.{asked, byte_out, taken_out, told_count, to_memory_of};
+ghost use Rattle.fdc_core.specs.Dma.{asked, byte_out, taken_out, taken_in, with_byte, told_count, to_memory_of};
 
 use crate::controller::Fdc;
 use crate::phases::{Execution, Phase, Task};
@@ -39,6 +39,26 @@ impl Fdc {
         let byte = self.fifo.pop().unwrap_or(NOTHING);
         self.ask();
         byte
+    }
+
+    /// The channel gives a byte. Where DRQ goes by the FIFO's rule there is room for it.
+    pub fn dma_in(&mut self, byte: u8)
+        requires drq { IsTrue (asks self.old) }
+        requires from_memory { IsFalse (to_memory_of self.old) }
+        ensures after { self.new ≡ taken_in byte self.old }
+    {
+        self.put_in(byte);
+        self.ask();
+    }
+
+    /// Appends a byte to the FIFO, where there is room.
+    fn put_in(&mut self, byte: u8)
+        ensures { self.new ≡ record self.old { fifo = with_byte byte self.old.fifo } }
+    {
+        match self.fifo.push(byte) {
+            Ok(()) => {}
+            Err(_) => {}
+        }
     }
 
     /// The channel tells the terminal count. A READ DATA then gives no further byte.
