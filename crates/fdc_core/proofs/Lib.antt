@@ -2,3 +2,4 @@ pub mod MayRead
 pub mod MayReadId
 pub mod Ending
 pub mod Staying
+pub mod Hearing
