@@ -3,3 +3,4 @@ pub mod MayReadId
 pub mod Ending
 pub mod Staying
 pub mod Hearing
+pub mod Meanings

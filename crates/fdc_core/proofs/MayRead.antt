@@ -12,7 +12,7 @@ use Rattle.fdc_stages.specs.declared.reading.ReadHeard.{ReadHeard}
 use Rattle.fdc_stages.specs.declared.reading.ReadHeard.TheVariants as given
 use Rattle.fdc_stages.specs.declared.reading.ReadStage.{ReadStage}
 use Rattle.fdc_stages.specs.declared.reading.ReadStage.TheVariants.{Search, Wait, Content, Over}
-use Rattle.fdc_stages.proofs.Laws.{over_told, told_stays}
+use Rattle.fdc_stages.proofs.Laws.{over_told, told_stays, heard_count}
 use Rattle.drive_model.specs.Drive.{DriveState}
 use Rattle.fdc_core.specs.Heard.{Sent, sent_of, IsUnderway, HasEndedAs, MayRead, MayReadIn, MayReadTask, MayReadIdIn, told_in, stepped, gave}
 use Rattle.fdc_core.specs.Listening.{SeesWord, is_executing, after_step, Hears, StageHears}
@@ -181,27 +181,13 @@ module _ (past : Past) (head_drive steps : ℕ) (old : Fdc) (reading : Reading) 
     (told, ended_reads past head_drive steps old reading.wanted.key ending reading.counted told read start),
   )
 
--- a word more was heard
-more_in : (turns : List (List ℕ)) (seen : List ℕ) → words_in turns seen ≡ words_in turns [] + length seen
-more_in [] seen = omega arith
-more_in (turn ∷ turns) seen = let more = more_in turns seen in omega arith
-
-pub more_heard : (index : Bool) (word : ℕ) (past : Past) → words_heard (heard index word past) ≡ words_heard past + 1
-more_heard true word past =
-    let more = more_in past.turns past.seen in let one = length-append past.seen (word ∷ []) in omega arith
-more_heard false word past =
-    let more = more_in past.turns past.seen in
-    let after = more_in past.turns (past.seen ++ word ∷ []) in
-    let one = length-append past.seen (word ∷ []) in
-    omega arith
-
 -- a READ DATA follows the word that it heard
 hear_reads : (index : Bool) (word head_drive steps : ℕ) (reading : Reading) (after : ReadHeard) (old new : Fdc) → StageHears reading.wanted.key index word reading.stage after → new ≡ after_heard head_drive (steps + 1) reading after old
     → (past : Past) (sent : Sent) (told : List ℕ) → IsUnderway past sent head_drive reading steps (past.given ++ old.fifo.bytes) told → MayRead (heard index word (stepped past)) sent new
 hear_reads index word head_drive steps reading after old new hears is past sent told was =
     let later = heard index word (stepped past) in
     subst (λ fdc. MayRead later sent fdc) (sym is) (subst (λ s. MayRead later s (after_heard head_drive (steps + 1) reading after old)) was.sent_is
-    (follow_reads later head_drive (steps + 1) old reading told was.counted_is (ap (λ n. n + 1) was.steps_are) (more_heard index word (stepped past) ∙ ap (λ n. n + 1) was.heard_are) was.bytes_are after
+    (follow_reads later head_drive (steps + 1) old reading told was.counted_is (ap (λ n. n + 1) was.steps_are) (heard_count index word (stepped past) ∙ ap (λ n. n + 1) was.heard_are) was.bytes_are after
     (hears.0 (stepped past) told (same_stage past.given (past.steps + 1) past.counted past reading.wanted.key told reading.stage was.reads)) hears.1))
 
 pub hears_reads : (index : Bool) (word head_drive steps : ℕ) (task : Task) (old new : Fdc) → Hears head_drive (steps + 1) task index word old new

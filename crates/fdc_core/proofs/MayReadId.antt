@@ -17,7 +17,7 @@ use Rattle.fdc_core.specs.Reading.{after_searched}
 use Rattle.fdc_core.specs.Phases.{key_as_sent}
 use Rattle.fdc_core.specs.State.{finished}
 use Rattle.fdc_core.specs.Steps.{late}
-use Rattle.fdc_core.proofs.MayRead.{more_heard}
+use Rattle.fdc_stages.proofs.Laws.{heard_count}
 use Rattle.fdc_core.specs.declared.controller.Fdc.{Fdc}
 use Rattle.fdc_core.specs.declared.phases.Execution.{Execution}
 use Rattle.fdc_core.specs.declared.phases.Phase.{Phase}
@@ -56,7 +56,7 @@ hears_identifies index word head_drive steps (Read reading) old new hears past s
 hears_identifies index word head_drive steps (ReadId search) old new (after, hears, is) past sent was =
     let later = heard index word (stepped past) in
     subst (λ fdc. MayReadId later sent fdc) (sym is) (subst (λ s. MayReadId later s (after_searched head_drive (steps + 1) after old)) was.sent_is
-    (follow_id index later head_drive (steps + 1) old after (ap (λ n. n + 1) was.steps_are) (more_heard index word (stepped past) ∙ ap (λ n. n + 1) was.heard_are) (hears.0 (stepped past) (same_search past search was.searches))))
+    (follow_id index later head_drive (steps + 1) old after (ap (λ n. n + 1) was.steps_are) (heard_count index word (stepped past) ∙ ap (λ n. n + 1) was.heard_are) (hears.0 (stepped past) (same_search past search was.searches))))
 
 late_id_task : (index : Bool) (word : ℕ) (past : Past) (sent head_drive steps : ℕ) (task : Task) (old : Fdc) → steps ≡ 65535 → MayReadIdTask past sent head_drive steps task → MayReadId (heard index word (stepped past)) sent (finished Late head_drive (key_as_sent task) old)
 late_id_task index word past sent head_drive steps (Read reading) old last was = absurd was

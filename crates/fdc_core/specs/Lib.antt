@@ -9,3 +9,4 @@ pub mod Dma
 pub mod Reading
 pub mod Steps
 pub mod Listening
+pub mod Meaning
