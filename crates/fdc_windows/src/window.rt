@@ -93,29 +93,36 @@ impl Window {
     fn give_sync(self, more: u8) -> Given
         ensures { (byte : ℕ) → Gives (Part.Sync more) self byte result.word result.rest }
     {
-        let part = if more == 0 {
-            Part::Marks { more: MORE_MARKS }
-        } else {
-            Part::Sync { more: more - 1 }
-        };
-        Given {
-            word: encode_byte(false, 0),
-            rest: Some(Window { part, ..self }),
+        let word = encode_byte(false, 0);
+        if more == 0 {
+            let rest = Some(Window {
+                part: Part::Marks { more: MORE_MARKS },
+                ..self
+            });
+            return Given { word, rest };
         }
+        let rest = Some(Window {
+            part: Part::Sync { more: more - 1 },
+            ..self
+        });
+        Given { word, rest }
     }
 
     fn give_mark_word(self, more: u8) -> Given
         ensures { (byte : ℕ) → Gives (Part.Marks more) self byte result.word result.rest }
     {
-        let part = if more == 0 {
-            Part::Mark
-        } else {
-            Part::Marks { more: more - 1 }
-        };
-        Given {
-            word: MARK,
-            rest: Some(Window { part, ..self }),
+        if more == 0 {
+            let rest = Some(Window {
+                part: Part::Mark,
+                ..self
+            });
+            return Given { word: MARK, rest };
         }
+        let rest = Some(Window {
+            part: Part::Marks { more: more - 1 },
+            ..self
+        });
+        Given { word: MARK, rest }
     }
 
     fn give_mark(self) -> Given
@@ -136,20 +143,24 @@ impl Window {
     fn give_byte(self, more: u16, byte: u8) -> Given
         ensures { Gives (Part.Content more) self byte result.word result.rest }
     {
-        let part = if more == 0 {
-            Part::High
-        } else {
-            Part::Content { more: more - 1 }
+        let word = encode_byte(self.last, byte);
+        let checked = Window {
+            check: crc_step(self.check, byte),
+            last: byte % 2 == 1,
+            ..self
         };
-        Given {
-            word: encode_byte(self.last, byte),
-            rest: Some(Window {
-                part,
-                check: crc_step(self.check, byte),
-                last: byte % 2 == 1,
-                ..self
-            }),
+        if more == 0 {
+            let rest = Some(Window {
+                part: Part::High,
+                ..checked
+            });
+            return Given { word, rest };
         }
+        let rest = Some(Window {
+            part: Part::Content { more: more - 1 },
+            ..checked
+        });
+        Given { word, rest }
     }
 
     fn give_high(self) -> Given
