@@ -1,8 +1,8 @@
 // The words of a window, one by one.
-ghost use Rattle.std.specs.Prelude.{◌≡◌, ◌≤◌, ℕ, List};
+ghost use Rattle.std.specs.Prelude.{◌≡◌, ◌+◌, ◌≤◌, ℕ, List, false};
 ghost use Rattle.track_model.specs.Marks.{data_byte};
 ghost use Rattle.track_model.specs.Writing.{window};
-ghost use Rattle.fdc_windows.specs.Windows.{Gives, words_left, bytes_left, needs_byte};
+ghost use Rattle.fdc_windows.specs.Windows.{Gives, words_left, bytes_left, count_left, lead_left, needs_byte};
 
 use mfm_cells::encode_byte;
 use track_check::{crc_step, mark_crc};
@@ -59,6 +59,9 @@ impl Window {
         requires { 1 ≤ size }
         ensures words { (content : List ℕ) → words_left result content ≡ window deleted content }
         ensures bytes { bytes_left result ≡ size }
+        ensures count { count_left result ≡ size + 18 }
+        ensures lead { lead_left result ≡ 16 }
+        ensures begins { needs_byte result ≡ false }
     {
         Window {
             deleted,
