@@ -1,12 +1,13 @@
 -- What a writing has heard and written.
-use Rattle.std.specs.Prelude.{◌≡◌, ◌⊎◌, ℕ, zero, suc, ◌+◌, ◌<◌, ◌≤◌, Bool, true, false, Option, Some, None, List, [], ◌∷◌, ◌++◌, length}
+use Rattle.std.specs.Prelude.{◌≡◌, ◌⊎◌, ℕ, zero, suc, ◌+◌, ◌<◌, ◌≤◌, Bool, true, false, Option, Some, List, [], ◌++◌, length}
 use Rattle.flop_base.specs.declared.key.Chrn.{Chrn}
 use Rattle.track_model.specs.Fields.{IsAddressAt, content_size}
 use Rattle.track_model.specs.Windows.{window_word, window_words}
 use Rattle.track_model.specs.Writing.{window}
 use Rattle.track_separator.specs.Parts.{with_word}
 use Rattle.fdc_windows.specs.declared.window.Window.{Window}
-use Rattle.fdc_windows.specs.Windows as words
+use Rattle.fdc_windows.specs.Windows as windowed
+use Rattle.fdc_windows.specs.Windows.{words_behind, bytes_behind, count_behind, lead_left}
 use Rattle.fdc_stages.specs.declared.ending.Ending.{Ending}
 use Rattle.fdc_stages.specs.declared.ending.Ending.TheVariants.{Done, NoMark, NoSector, NoField, BadCheck, Overrun, NoCount, Protected, Late}
 use Rattle.fdc_stages.specs.History.{Past, heard, kept_out, IsJustOver}
@@ -37,14 +38,18 @@ is_due (stage.Window _) = true
 
 -- it is a byte of the content
 abbrev pub needs_byte : WriteStage → Bool
-needs_byte (stage.Window now) = words.needs_byte now
+needs_byte (stage.Window now) = windowed.needs_byte now
 needs_byte _ = false
+
+-- the same of a window's words
+abbrev pub window_needs : Window → Bool
+window_needs now = windowed.needs_byte now
 
 -- how many words pass before a byte of the content is needed, at the least; 16 where none is needed any more
 abbrev pub lead_of : WriteStage → ℕ
 lead_of (stage.Search _) = 39
 lead_of (stage.Gap left) = left + 16
-lead_of (stage.Window now) = words.lead_left now
+lead_of (stage.Window now) = lead_left now
 
 -- ---- what has passed
 
@@ -68,10 +73,10 @@ pub record IsBefore (seen : List ℕ) (key : Chrn) (left p : ℕ) : Type 0 where
 pub record IsInWindow (seen words : List ℕ) (key : Chrn) (deleted : Bool) (handed : List ℕ) (behind : Option Window) (p : ℕ) : Type 0 where
   pub address : IsAddressAt seen p key
   pub place : length seen ≡ window_word p
-  pub count : length words + words.count_behind behind ≡ window_words key.n
-  pub bytes : length handed + words.bytes_behind behind ≡ content_size key.n
-  pub goes_on : (rest : List ℕ) → length rest ≡ words.bytes_behind behind
-      → words ++ words.words_behind behind rest ≡ window deleted (handed ++ rest)
+  pub count : length words + count_behind behind ≡ window_words key.n
+  pub bytes : length handed + bytes_behind behind ≡ content_size key.n
+  pub goes_on : (rest : List ℕ) → length rest ≡ bytes_behind behind
+      → words ++ words_behind behind rest ≡ window deleted (handed ++ rest)
 
 -- nothing was handed in or written
 abbrev pub IsUnwritten : List ℕ → List ℕ → Type 0

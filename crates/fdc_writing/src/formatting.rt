@@ -1,4 +1,5 @@
 // The stages of a format.
+ghost use Rattle.std.specs.Prelude.{◌≤◌};
 
 use fdc_stages::Ending;
 use flop_base::Chrn;
