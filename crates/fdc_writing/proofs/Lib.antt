@@ -1,2 +1,5 @@
 mod Gaps
 mod Windowed
+mod Keyed
+mod Laying
+mod Turned

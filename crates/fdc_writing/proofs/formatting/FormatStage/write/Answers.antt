@@ -1,0 +1,6 @@
+use Rattle.fdc_writing.proofs.Turned.{write_laid}
+use Rattle.fdc_writing.proofs.formatting.FormatStage.write.Goals as goal
+
+pub returns : goal.returns
+returns c = λ past numbers handed takes due was is.
+    write_laid past numbers handed c.args.self c.next-word.new.self c.key_behind-key.result c.args.byte c.next-word.result takes c.needs_byte.result due was is c.needs_byte.ensures c.next-word.ensures (c.key_behind-key.ensures handed)
