@@ -3,3 +3,4 @@ mod Windowed
 mod Keyed
 mod Laying
 mod Turned
+mod Ended

@@ -218,3 +218,15 @@ IsEnd _ = ⊥
 abbrev pub EndsWell : FormatNext → Type 0
 EndsWell (next.Ended ending key) = IsEnd ending
 EndsWell _ = Unit {0}
+
+-- the words are the first of the layout of the keys that were handed in, with 00 for what is missing
+abbrev pub LaysFirst : Past → Numbers → List ℕ → Type 0
+LaysFirst past numbers handed =
+    past.words ≡ lay (keys_from numbers.sectors handed) numbers.n numbers.gap3 numbers.fill (length past.words)
+
+-- they are the whole turn, the layout fits in it, and all keys were handed in
+pub record LaysWhole (past : Past) (numbers : Numbers) (handed : List ℕ) : Type 0 where
+  pub index : past.place ≡ 0
+  pub words : LaysFirst past numbers handed
+  pub fits : Fits (keys_from numbers.sectors handed) numbers.n numbers.gap3 (length past.words)
+  pub all : length handed ≡ 4 * numbers.sectors
