@@ -37,7 +37,7 @@ length-sectors size gap3 fill (key ∷ keys) =
     omega (arith, many, length-append (address ++ content) others, length-append address content, length-field (address_content key) 22, length-field (data_content size fill) gap3, length-replicate size (Byte fill)) in
     long ∙ (grind arith)
 
-length-before : length before_sectors ≡ 146
+pub length-before : length before_sectors ≡ 146
 unfolding before_sectors
 length-before = refl
 

@@ -4,3 +4,4 @@ mod Keyed
 mod Laying
 mod Turned
 mod Ended
+mod Leading

@@ -1,9 +1,10 @@
 // The stages of a format.
-ghost use Rattle.std.specs.Prelude.{◌≡◌, ◌≤◌, ℕ, Bool, true, false, List, []};
+ghost use Rattle.std.specs.Prelude.{◌≡◌, ◌-◌, ◌≤◌, ℕ, Bool, true, false, List, []};
 ghost use Rattle.flop_base.specs.declared.key.Chrn.{Chrn};
 ghost use Rattle.fdc_stages.specs.History.{Past, begun, heard, wrote};
 ghost use Rattle.fdc_writing.specs.Writings.{handed_with, heard_where};
 ghost use Rattle.fdc_writing.specs.Formats.{Numbers, is_open, opens, is_due, Takes, IsLaid, IsLastKey, IsFormatting, IsNextLaid, HasWholeTurn, HasLaid, IsUnopened, HasNext, FailsWell, EndsWell};
+ghost use Rattle.fdc_writing.specs.Leads.{StreamLeads, HasLead, LeadsOn};
 
 use fdc_stages::Ending;
 use flop_base::Chrn;
@@ -64,7 +65,8 @@ impl FormatStage {
     pub fn new(n: u8, sectors: u8, gap3: u8, fill: u8) -> FormatStage
         requires at_least { 1 ≤ n }
         requires at_most { n ≤ 6 }
-        ensures { IsFormatting begun (record { n = n; sectors = sectors; gap3 = gap3; fill = fill }) [] result }
+        ensures begins { IsFormatting begun (record { n = n; sectors = sectors; gap3 = gap3; fill = fill }) [] result }
+        ensures lead { HasLead result 162 }
     {
         FormatStage {
             part: FormatPart::Await,
@@ -91,6 +93,7 @@ impl FormatStage {
     pub fn needs_byte(&self) -> bool
         ensures takes { is_due self.now ≡ true → Takes self.now result }
         ensures due { is_due self.now ≡ false → result ≡ false }
+        ensures lead { (lead : ℕ) → HasLead self.now lead → result ≡ true → lead ≡ 0 }
     {
         if !self.is_due() {
             return false;
@@ -105,6 +108,7 @@ impl FormatStage {
             → IsFormatting past numbers handed self
             → HasNext (heard_where (opens self) index word past) numbers handed result }
         ensures well { FailsWell result }
+        ensures lead { (lead : ℕ) → HasLead self lead → LeadsOn lead result }
     {
         match self.part {
             FormatPart::Await => self.wait(index),
@@ -116,9 +120,10 @@ impl FormatStage {
 
     /// The word that is written next, where one is due. Where `needs_byte` says so, `byte` is the byte that it records.
     pub fn write(self, byte: u8) -> FormatWord
-        ensures { (past : Past) (numbers : Numbers) (handed : List ℕ) (takes : Bool) → is_due self ≡ true
+        ensures writes { (past : Past) (numbers : Numbers) (handed : List ℕ) (takes : Bool) → is_due self ≡ true
             → IsFormatting past numbers handed self → Takes self takes
             → IsNextLaid past numbers (handed_with takes byte handed) result.word result.stream result.key }
+        ensures lead { (lead : ℕ) → HasLead self lead → StreamLeads result.stream (lead - 1) }
     {
         let mut stream = self.stream;
         let key = key_behind(stream.needs_byte(), self.key, byte);
@@ -131,6 +136,7 @@ impl FormatStage {
         ensures hears { (past : Past) (numbers : Numbers) (handed : List ℕ) (word : ℕ) → self.part ≡ FormatPart.Await
             → IsFormatting past numbers handed self → HasNext (heard index word past) numbers handed result }
         ensures well { FailsWell result }
+        ensures lead { (lead : ℕ) → HasLead self lead → LeadsOn lead result }
     {
         if index {
             return FormatNext::On(FormatStage {
@@ -150,6 +156,7 @@ impl FormatStage {
             → IsLaid past.words numbers handed self.stream → IsLastKey handed self.key
             → HasNext past numbers handed result }
         ensures well { FailsWell result }
+        ensures lead { (lead : ℕ) → HasLead self lead → LeadsOn lead result }
     {
         if index {
             return FormatNext::Ended {
@@ -172,6 +179,7 @@ impl FormatWord {
             → IsNextLaid past numbers handed self.word self.stream self.key
             → HasNext (wrote index self.word past) numbers handed result }
         ensures well { EndsWell result }
+        ensures lead { (lead : ℕ) → StreamLeads self.stream lead → LeadsOn lead result }
     {
         if !index {
             return FormatNext::On(FormatStage {
@@ -211,6 +219,7 @@ fn whole(key: Chrn, counted: bool) -> FormatNext
         → HasWholeTurn past numbers handed → HasLaid past numbers handed → IsLastKey handed key
         → HasNext past numbers handed result }
     ensures well { EndsWell result }
+    ensures lead { (lead : ℕ) → LeadsOn lead result }
 {
     if counted {
         return FormatNext::Ended {

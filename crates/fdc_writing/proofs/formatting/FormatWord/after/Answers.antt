@@ -16,3 +16,6 @@ returns-clause-goes_on c = λ past numbers handed counted was.
     (whole_turn c.args.index c.args.self.word past numbers handed c.args.self.stream c.args.self.key c.if-not-index.false (subst (StreamIsWhole c.args.self.stream) c.if-not-is_whole.false whole) was)
     (turn_begun c.args.index c.args.self.word past numbers handed c.args.self.stream c.args.self.key was)
     was.2
+
+pub returns-clause-lead : goal.returns-clause-lead
+returns-clause-lead c = λ lead leads. c.whole.ensures.lead lead
