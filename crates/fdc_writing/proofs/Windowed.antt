@@ -94,7 +94,7 @@ some_from part.High more = omega arith
 some_from part.Low more = omega arith
 
 -- the words are the first of the window, whatever the rest of the content
-begun_in : (seen words : List ℕ) (key : Chrn) (deleted : Bool) (handed : List ℕ) (behind : Option Window) (p : ℕ) → 1 ≤ length words → IsInWindow seen words key deleted handed behind p → IsBegun seen words key deleted handed p
+pub begun_in : (seen words : List ℕ) (key : Chrn) (deleted : Bool) (handed : List ℕ) (behind : Option Window) (p : ℕ) → 1 ≤ length words → IsInWindow seen words key deleted handed behind p → IsBegun seen words key deleted handed p
 begun_in seen words key deleted handed behind p some was = record {
   address = was.address;
   place = was.place;

@@ -1,5 +1,5 @@
 -- What a writing has heard and written.
-use Rattle.std.specs.Prelude.{◌≡◌, ◌⊎◌, ℕ, zero, suc, ◌+◌, ◌<◌, ◌≤◌, Bool, true, false, Option, Some, List, [], ◌++◌, length}
+use Rattle.std.specs.Prelude.{◌≡◌, ◌⊎◌, ℕ, zero, suc, ◌+◌, ◌<◌, ◌≤◌, Bool, true, false, Option, Some, List, [], ◌++◌, length, replicate}
 use Rattle.flop_base.specs.declared.key.Chrn.{Chrn}
 use Rattle.track_model.specs.Fields.{IsAddressAt, content_size}
 use Rattle.track_model.specs.Windows.{window_word, window_words}
@@ -159,8 +159,8 @@ HasCause past key deleted handed NoMark = (past.words ≡ []) × IsMissed past (
 HasCause past key deleted handed NoSector = (past.words ≡ []) × IsMissed past (Some key) NoSector
 HasCause past key deleted handed Overrun = past.counted ≡ false
 HasCause past key deleted handed Late = past.steps ≡ 65536
+HasCause past key deleted handed Protected = past.words ≡ []
 HasCause past key deleted handed BadCheck = ⊥
-HasCause past key deleted handed Protected = ⊥
 
 -- a writing that ended, and the content that was handed in
 pub record HasWritten (past : Past) (key : Chrn) (deleted : Bool) (handed : List ℕ) (ending : Ending) : Type 0 where
@@ -199,8 +199,21 @@ abbrev pub LeadsOn : ℕ → WriteNext → Type 0
 LeadsOn before (next.On now) = before ≤ lead_of now + 1
 LeadsOn before (next.Ended _) = Unit {0}
 
--- what ends a writing from outside: a missing byte without the terminal count, or the number of steps
+-- what stops a command from outside: a byte that is missing without the terminal count, the number of steps, or a medium that
+-- is protected before anything is written
 abbrev pub IsStopped : Past → Ending → Type 0
 IsStopped past Overrun = past.counted ≡ false
 IsStopped past Late = past.steps ≡ 65536
+IsStopped past Protected = past.words ≡ []
 IsStopped past _ = ⊥
+
+-- the words are the first of the window of the address field of the key at p, at its place; its content is what was handed in
+-- and then so many bytes 00
+pub record IsFirstAt (past : Past) (key : Chrn) (deleted : Bool) (handed : List ℕ) (p zeros : ℕ) : Type 0 where
+  pub address : IsAddressAt past.seen p key
+  pub place : length past.seen ≡ window_word p
+  pub size : length handed + zeros ≡ content_size key.n
+  pub first : IsFirstOf past.words (window deleted (handed ++ replicate zeros 0))
+
+abbrev pub WritesFirst : Past → Chrn → Bool → List ℕ → Type 0
+WritesFirst past key deleted handed = (past.words ≡ []) ⊎ ((p : ℕ) × (zeros : ℕ) × IsFirstAt past key deleted handed p zeros)
