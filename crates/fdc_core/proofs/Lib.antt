@@ -5,3 +5,5 @@ pub mod Staying
 pub mod Hearing
 pub mod Meanings
 pub mod Words
+pub mod MayWrite
+pub mod Writes

@@ -15,7 +15,7 @@ use Rattle.fdc_core.specs.Answers.{key_after}
 use Rattle.fdc_core.specs.Dma.{gone_on}
 use Rattle.fdc_core.specs.Phases.{head_of, write_at}
 use Rattle.fdc_core.specs.State.{finished}
-use Rattle.fdc_core.specs.Times.{WordTime, Saw, KeptOut, Wrote, Stopped, IsTime, IsHeardTime, Closes}
+use Rattle.fdc_core.specs.Times.{WordTime, Saw, KeptOut, Wrote, Stopped, IsTime, IsHeardTime, Opens, Closes}
 use Rattle.fdc_core.specs.declared.controller.Fdc.{Fdc}
 use Rattle.fdc_core.specs.declared.phases.Task.TheVariants.{Write}
 use Rattle.fdc_core.specs.declared.transfers.Writing.{Writing}
@@ -124,12 +124,14 @@ pub record HearsAWord (head_drive steps : ℕ) (writing : Writing) (old : Fdc) (
   pub is : IsHeardTime index word old.rate (head_of head_drive) before after
   pub does : HearsWord head_drive steps writing index word old new
 
--- a word that records this byte is written, and the gate closes behind the last
-pub record PutsByte (head_drive steps : ℕ) (writing : Writing) (byte : ℕ) (old : Fdc) (from after : DriveState) (new : Fdc) : Type 0 where
+-- a word that records this byte is written; the gate opens before the first, and closes behind the last
+pub record PutsByte (head_drive steps : ℕ) (writing : Writing) (byte : ℕ) (old : Fdc) (before after : DriveState) (new : Fdc) : Type 0 where
+  pub from : DriveState
   pub mid : DriveState
   pub given : WriteWord
   pub next : WriteNext
-  pub writes : StageWritesWord writing byte (at_index from) given next
+  pub writes : StageWritesWord writing byte (at_index before) given next
+  pub opens_it : Opens (opens writing.stage) before from
   pub puts : Writes from (head_of head_drive) given.word mid
   pub range_from : InRange from
   pub range_mid : InRange mid
