@@ -2,10 +2,10 @@
 use Rattle.std.proofs.Common.{◌≡◌, ℕ, ◌+◌, ◌-◌, ◌<◌, ◌≤◌, Bool, true, false, if◌then◌else◌, ◌==◌, length, Option, None, Some, refl, sym, subst, arith, inl, inr}
 use Rattle.fdc_stages.specs.declared.ending.Ending.{Ending}
 use Rattle.fdc_stages.specs.declared.ending.Ending.TheVariants.{Done, NoMark, NoSector, NoField, BadCheck, Overrun, NoCount, Protected, Late}
-use Rattle.fdc_stages.specs.declared.reading.ReadHeard.{ReadHeard}
-use Rattle.fdc_stages.specs.declared.reading.ReadHeard.TheVariants as heard
-use Rattle.fdc_stages.specs.declared.searching.Searched.{Searched}
-use Rattle.fdc_stages.specs.declared.searching.Searched.TheVariants as searched
+use Rattle.fdc_stages.specs.Readings.{ReadOutcome}
+use Rattle.fdc_stages.specs.Readings as heard
+use Rattle.fdc_stages.specs.Searches.{SearchOutcome}
+use Rattle.fdc_stages.specs.Searches as searched
 use Rattle.fdc_core.specs.Phases.{ending_of, is_listening}
 use Rattle.fdc_core.specs.Reading.{after_searched, after_heard, over_or_on, gone_on_reading, at_stage, pushed, is_full}
 use Rattle.fdc_core.specs.State.{finished}
@@ -32,7 +32,7 @@ use Rattle.fdc_core.specs.declared.phases.Reading.{Reading}
 use Rattle.fdc_core.specs.declared.phases.Task.{Task}
 use Rattle.fdc_core.specs.declared.phases.Task.TheVariants.{ReadId, Read, Write, Format}
 
-searched_left : (head_drive steps : ℕ) (old : Fdc) (after : Searched) → steps_left (after_searched head_drive steps after old).phase ≤ 65536 - steps
+searched_left : (head_drive steps : ℕ) (old : Fdc) (after : SearchOutcome) → steps_left (after_searched head_drive steps after old).phase ≤ 65536 - steps
 searched_left head_drive steps old (searched.On search) = omega arith
 searched_left head_drive steps old (searched.Met key separator) = omega arith
 searched_left head_drive steps old (searched.Missed ending) = omega arith
@@ -51,7 +51,7 @@ byte_left true full head_drive steps value reading old = on_left head_drive step
 byte_left false true head_drive steps value reading old = omega arith
 byte_left false false head_drive steps value reading old = on_left head_drive steps reading (pushed value old)
 
-heard_left : (head_drive steps : ℕ) (reading : Reading) (old : Fdc) (after : ReadHeard) → steps_left (after_heard head_drive steps reading after old).phase ≤ 65536 - steps
+heard_left : (head_drive steps : ℕ) (reading : Reading) (old : Fdc) (after : ReadOutcome) → steps_left (after_heard head_drive steps reading after old).phase ≤ 65536 - steps
 heard_left head_drive steps reading old (heard.On stage) = on_left head_drive steps (at_stage reading stage) old
 heard_left head_drive steps reading old (heard.Byte stage value) = byte_left reading.counted (is_full old) head_drive steps value (at_stage reading stage) old
 heard_left head_drive steps reading old (heard.Ended ending) = omega arith

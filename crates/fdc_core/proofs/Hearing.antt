@@ -7,12 +7,12 @@ use Rattle.fdc_stages.specs.Searches.{IsMiss, MissesWell}
 use Rattle.fdc_stages.specs.Readings.{IsFailure, FailsWell}
 use Rattle.fdc_stages.specs.declared.ending.Ending.{Ending}
 use Rattle.fdc_stages.specs.declared.ending.Ending.TheVariants.{Done, NoMark, NoSector, NoField, BadCheck, Overrun, NoCount, Protected, Late}
-use Rattle.fdc_stages.specs.declared.reading.ReadHeard.{ReadHeard}
-use Rattle.fdc_stages.specs.declared.reading.ReadHeard.TheVariants as given
+use Rattle.fdc_stages.specs.Readings.{ReadOutcome}
+use Rattle.fdc_stages.specs.Readings as given
 use Rattle.fdc_stages.specs.declared.reading.ReadStage.{ReadStage}
 use Rattle.fdc_stages.specs.declared.reading.ReadStage.TheVariants as stages
-use Rattle.fdc_stages.specs.declared.searching.Searched.{Searched}
-use Rattle.fdc_stages.specs.declared.searching.Searched.TheVariants as searched
+use Rattle.fdc_stages.specs.Searches.{SearchOutcome}
+use Rattle.fdc_stages.specs.Searches as searched
 use Rattle.flop_base.specs.declared.key.Chrn.{Chrn}
 use Rattle.fdc_core.specs.Answers.{key_after, no_key}
 use Rattle.fdc_core.specs.Listening.{SeesWord, Listens, ListensToNone, StepHears, Follows, StepsOn, ExecutesTask, ExecutesIn, OverrunsIn, OverrunsTask, FindsFull, Hears, SearchHears, StageHears, is_executing, after_step}
@@ -46,7 +46,7 @@ miss_overruns NoCount head_drive key old is = absurd is
 miss_overruns Protected head_drive key old is = absurd is
 miss_overruns Late head_drive key old is = absurd is
 
-searched_overruns : (head_drive steps : ℕ) (old : Fdc) (after : Searched) → MissesWell after → is_overrun (after_searched head_drive steps after old).phase ≡ false
+searched_overruns : (head_drive steps : ℕ) (old : Fdc) (after : SearchOutcome) → MissesWell after → is_overrun (after_searched head_drive steps after old).phase ≡ false
 searched_overruns head_drive steps old (searched.On search) well = refl
 searched_overruns head_drive steps old (searched.Met key separator) well = refl
 searched_overruns head_drive steps old (searched.Missed ending) well = miss_overruns ending head_drive no_key old well
@@ -86,7 +86,7 @@ byte_overruns true full head_drive steps value reading old up = clash _ (on_over
 byte_overruns false true head_drive steps value reading old up = (refl, refl)
 byte_overruns false false head_drive steps value reading old up = clash _ (on_overruns head_drive steps reading (pushed value old)) up
 
-heard_overruns : (index : Bool) (word head_drive steps : ℕ) (reading : Reading) (old : Fdc) (after : ReadHeard) → StageHears reading.wanted.key index word reading.stage after
+heard_overruns : (index : Bool) (word head_drive steps : ℕ) (reading : Reading) (old : Fdc) (after : ReadOutcome) → StageHears reading.wanted.key index word reading.stage after
     → is_overrun (after_heard head_drive steps reading after old).phase ≡ true → FindsFull reading index word old
 heard_overruns index word head_drive steps reading old (given.On stage) hears up = clash _ (on_overruns head_drive steps (at_stage reading stage) old) up
 heard_overruns index word head_drive steps reading old (given.Byte stage value) hears up =

@@ -4,6 +4,7 @@ pub mod Ending
 pub mod Staying
 pub mod Hearing
 pub mod Meanings
+mod Following
 pub mod Words
 pub mod MayWrite
 pub mod Writes

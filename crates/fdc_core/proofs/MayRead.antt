@@ -8,8 +8,8 @@ use Rattle.fdc_stages.specs.History.{Past, heard, words_in, words_heard}
 use Rattle.fdc_stages.specs.Readings.{IsStart, IsReading, HasRead, HasHeard, FailsWell, IsFailure, IsOver, IsToldOf}
 use Rattle.fdc_stages.specs.declared.ending.Ending.{Ending}
 use Rattle.fdc_stages.specs.declared.ending.Ending.TheVariants.{Done, NoMark, NoSector, NoField, BadCheck, Overrun, NoCount, Protected, Late}
-use Rattle.fdc_stages.specs.declared.reading.ReadHeard.{ReadHeard}
-use Rattle.fdc_stages.specs.declared.reading.ReadHeard.TheVariants as given
+use Rattle.fdc_stages.specs.Readings.{ReadOutcome}
+use Rattle.fdc_stages.specs.Readings as given
 use Rattle.fdc_stages.specs.declared.reading.ReadStage.{ReadStage}
 use Rattle.fdc_stages.specs.declared.reading.ReadStage.TheVariants.{Search, Wait, Content, Over}
 use Rattle.fdc_stages.proofs.Laws.{over_told, told_stays, heard_count}
@@ -170,7 +170,7 @@ module _ (past : Past) (head_drive steps : ℕ) (old : Fdc) (reading : Reading) 
   })
 
 module _ (past : Past) (head_drive steps : ℕ) (old : Fdc) (reading : Reading) (told : List ℕ) (counted_is : past.counted ≡ reading.counted) (steps_are : past.steps ≡ steps) (heard_are : words_heard past ≡ steps) (start : IsStart reading.counted (past.given ++ old.fifo.bytes) told) where
-  follow_reads : (heard : ReadHeard) → HasHeard past reading.wanted.key told heard → FailsWell heard → MayRead past (sent_of head_drive reading) (after_heard head_drive steps reading heard old)
+  follow_reads : (heard : ReadOutcome) → HasHeard past reading.wanted.key told heard → FailsWell heard → MayRead past (sent_of head_drive reading) (after_heard head_drive steps reading heard old)
   follow_reads (given.On stage) reads well =
       on_reads past head_drive steps old (at_stage reading stage) told (record { sent_is = refl; counted_is = counted_is; steps_are = steps_are; heard_are = heard_are; reads = reads; bytes_are = start })
   follow_reads (given.Byte stage value) reads well =
@@ -181,7 +181,7 @@ module _ (past : Past) (head_drive steps : ℕ) (old : Fdc) (reading : Reading) 
   )
 
 -- a READ DATA follows the word that it heard
-hear_reads : (index : Bool) (word head_drive steps : ℕ) (reading : Reading) (after : ReadHeard) (old new : Fdc) → StageHears reading.wanted.key index word reading.stage after → new ≡ after_heard head_drive (steps + 1) reading after old
+hear_reads : (index : Bool) (word head_drive steps : ℕ) (reading : Reading) (after : ReadOutcome) (old new : Fdc) → StageHears reading.wanted.key index word reading.stage after → new ≡ after_heard head_drive (steps + 1) reading after old
     → (past : Past) (sent : Sent) (told : List ℕ) → IsUnderway past sent head_drive reading steps (past.given ++ old.fifo.bytes) told → MayRead (heard index word (stepped past)) sent new
 hear_reads index word head_drive steps reading after old new hears is past sent told was =
     let later = heard index word (stepped past) in

@@ -8,8 +8,8 @@ use Rattle.fdc_stages.specs.Findings.{HasAddress, HasIdentified}
 use Rattle.fdc_stages.specs.declared.ending.Ending.{Ending}
 use Rattle.fdc_stages.specs.declared.ending.Ending.TheVariants.{Done, NoMark, NoSector, NoField, BadCheck, Overrun, NoCount, Protected, Late}
 use Rattle.fdc_stages.specs.declared.searching.Search.{Search}
-use Rattle.fdc_stages.specs.declared.searching.Searched.{Searched}
-use Rattle.fdc_stages.specs.declared.searching.Searched.TheVariants as searched
+use Rattle.fdc_stages.specs.Searches.{SearchOutcome}
+use Rattle.fdc_stages.specs.Searches as searched
 use Rattle.fdc_core.specs.Answers.{no_key, results_of}
 use Rattle.fdc_core.specs.Heard.{MayReadId, MayReadIdIn, MayReadIdTask, IsIdentifying, IdentifiedAs, stepped}
 use Rattle.fdc_core.specs.Listening.{Hears, is_executing, after_step}
@@ -40,7 +40,7 @@ missed_id past sent NoCount is = absurd is
 missed_id past sent Protected is = absurd is
 missed_id past sent Late is = absurd is
 
-follow_id : (index : Bool) (past : Past) (head_drive steps : ℕ) (old : Fdc) (after : Searched) → past.steps ≡ steps → words_heard past ≡ steps → HasSearched index past None after → MayReadId past head_drive (after_searched head_drive steps after old)
+follow_id : (index : Bool) (past : Past) (head_drive steps : ℕ) (old : Fdc) (after : SearchOutcome) → past.steps ≡ steps → words_heard past ≡ steps → HasSearched index past None after → MayReadId past head_drive (after_searched head_drive steps after old)
 follow_id index past head_drive steps old (searched.On search) counts hears is = record { sent_is = refl; steps_are = counts; heard_are = hears; searches = is }
 follow_id index past head_drive steps old (searched.Met key separator) counts hears is = (refl, met_address index past key separator is.1)
 follow_id index past head_drive steps old (searched.Missed ending) counts hears is = missed_id past head_drive ending is

@@ -3,10 +3,10 @@ use Rattle.std.proofs.Common.{◌≡◌, ℕ, Bool, true, false, not, ◌&&◌, 
 use Rattle.fdc_seek.specs.Seeking.{with_polls}
 use Rattle.fdc_stages.specs.declared.ending.Ending.{Ending}
 use Rattle.fdc_stages.specs.declared.ending.Ending.TheVariants.{Done, Overrun, Late}
-use Rattle.fdc_stages.specs.declared.reading.ReadHeard.{ReadHeard}
-use Rattle.fdc_stages.specs.declared.reading.ReadHeard.TheVariants as heard
-use Rattle.fdc_stages.specs.declared.searching.Searched.{Searched}
-use Rattle.fdc_stages.specs.declared.searching.Searched.TheVariants as searched
+use Rattle.fdc_stages.specs.Readings.{ReadOutcome}
+use Rattle.fdc_stages.specs.Readings as heard
+use Rattle.fdc_stages.specs.Searches.{SearchOutcome}
+use Rattle.fdc_stages.specs.Searches as searched
 use Rattle.flop_base.specs.declared.key.Chrn.{Chrn}
 use Rattle.fdc_core.specs.Answers.{key_after, no_key}
 use Rattle.fdc_core.specs.Dma.{gone_on, phase_asks}
@@ -59,7 +59,7 @@ same_stays old = record { dor = refl; rate = refl; non_dma = refl; polling = ref
 pushed_stays : (value : ℕ) (old : Fdc) → Stays old (pushed value old)
 pushed_stays value old = record { dor = refl; rate = refl; non_dma = refl; polling = refl; command = refl; data_commands = refl; on = refl; threshold = refl; few = omega (arith, length-append old.fifo.bytes (value ∷ [])) }
 
-searched_keeps : (head_drive steps : ℕ) (old : Fdc) (after : Searched) → Keeps old (after_searched head_drive steps after old)
+searched_keeps : (head_drive steps : ℕ) (old : Fdc) (after : SearchOutcome) → Keeps old (after_searched head_drive steps after old)
 searched_keeps head_drive steps old (searched.On search) = goes head_drive steps (ReadId search) old old refl (same_stays old)
 searched_keeps head_drive steps old (searched.Met key separator) = finishes (Done false) head_drive key old old (same_stays old)
 searched_keeps head_drive steps old (searched.Missed ending) = finishes ending head_drive no_key old old (same_stays old)
@@ -78,7 +78,7 @@ byte_keeps true full head_drive steps value reading old = on_keeps head_drive st
 byte_keeps false true head_drive steps value reading old = finishes Overrun head_drive reading.wanted.key old old (same_stays old)
 byte_keeps false false head_drive steps value reading old = on_keeps head_drive steps reading old (pushed value old) refl (pushed_stays value old)
 
-heard_keeps : (head_drive steps : ℕ) (reading : Reading) (old : Fdc) (after : ReadHeard) → Keeps old (after_heard head_drive steps reading after old)
+heard_keeps : (head_drive steps : ℕ) (reading : Reading) (old : Fdc) (after : ReadOutcome) → Keeps old (after_heard head_drive steps reading after old)
 heard_keeps head_drive steps reading old (heard.On stage) = on_keeps head_drive steps (at_stage reading stage) old old refl (same_stays old)
 heard_keeps head_drive steps reading old (heard.Byte stage value) = byte_keeps reading.counted (is_full old) head_drive steps value (at_stage reading stage) old
 heard_keeps head_drive steps reading old (heard.Ended ending) = finishes ending head_drive reading.wanted.key old old (same_stays old)

@@ -6,11 +6,11 @@ use Rattle.fdc_stages.specs.History.{Past, heard}
 use Rattle.fdc_stages.specs.Searches.{IsSearching, HasSearched, MissesWell}
 use Rattle.fdc_stages.specs.Readings.{IsReading, HasHeard, FailsWell}
 use Rattle.fdc_stages.specs.declared.ending.Ending.TheVariants.{Late}
-use Rattle.fdc_stages.specs.declared.reading.ReadHeard.{ReadHeard}
-use Rattle.fdc_stages.specs.declared.reading.ReadHeard.TheVariants as given
+use Rattle.fdc_stages.specs.Readings.{ReadOutcome}
+use Rattle.fdc_stages.specs.Readings as given
 use Rattle.fdc_stages.specs.declared.reading.ReadStage.{ReadStage}
 use Rattle.fdc_stages.specs.declared.searching.Search.{Search}
-use Rattle.fdc_stages.specs.declared.searching.Searched.{Searched}
+use Rattle.fdc_stages.specs.Searches.{SearchOutcome}
 use Rattle.fdc_core.specs.Heard.{Sent, MayReadIn, MayRead, MayReadIdIn, MayReadId, stepped}
 use Rattle.fdc_core.specs.Phases.{head_of, is_overrun, is_listening, key_as_sent}
 use Rattle.fdc_core.specs.Rates.{rate_fits, seen_of}
@@ -52,12 +52,12 @@ is_executing _ = false
 
 -- ---- what a stage makes of it, whatever was heard before
 
-abbrev pub SearchHears : Bool → ℕ → Search → Searched → Type 0
+abbrev pub SearchHears : Bool → ℕ → Search → SearchOutcome → Type 0
 SearchHears index word search searched =
     ((past : Past) → IsSearching past None search → HasSearched index (heard index word past) None searched)
     × MissesWell searched
 
-abbrev pub StageHears : Chrn → Bool → ℕ → ReadStage → ReadHeard → Type 0
+abbrev pub StageHears : Chrn → Bool → ℕ → ReadStage → ReadOutcome → Type 0
 StageHears key index word stage after =
     ((past : Past) (told : List ℕ) → IsReading past key told stage → HasHeard (heard index word past) key told after)
     × FailsWell after
@@ -65,11 +65,20 @@ StageHears key index word stage after =
 -- a device step of a data command that listens, by its task
 abbrev pub Hears : ℕ → ℕ → Task → Bool → ℕ → Fdc → Fdc → Type 0
 Hears head_drive steps (ReadId search) index word old new =
-    (searched : Searched) × SearchHears index word search searched × (new ≡ after_searched head_drive steps searched old)
+    (searched : SearchOutcome) × SearchHears index word search searched × (new ≡ after_searched head_drive steps searched old)
 Hears head_drive steps (Read reading) index word old new =
-    (after : ReadHeard) × StageHears reading.wanted.key index word reading.stage after
+    (after : ReadOutcome) × StageHears reading.wanted.key index word reading.stage after
     × (new ≡ after_heard head_drive steps reading after old)
 Hears head_drive steps _ index word old new = Unit {0}
+
+-- the step of a data command isn't its last
+abbrev pub HasStepsLeft : Phase → Type 0
+HasStepsLeft (Execute execution) = execution.steps < 65535
+HasStepsLeft _ = Unit {0}
+
+abbrev pub HearsIn : Phase → Bool → ℕ → Fdc → Fdc → Type 0
+HearsIn (Execute execution) index word old new = Hears execution.head_drive (execution.steps + 1) execution.task index word old new
+HearsIn _ index word old new = Unit {0}
 
 -- the last step ends a command, whatever it does; each other step counts
 abbrev pub StepsOn : ℕ → ℕ → Task → Bool → ℕ → Fdc → Fdc → Type 0

@@ -5,7 +5,8 @@ use Rattle.fdc_stages.specs.declared.ending.Ending.{Ending}
 use Rattle.fdc_stages.specs.declared.ending.Ending.TheVariants.{Done, BadCheck, Overrun, NoCount}
 use Rattle.fdc_stages.specs.declared.reading.ReadStage.{ReadStage}
 use Rattle.fdc_stages.specs.declared.reading.ReadStage.TheVariants.{Over}
-use Rattle.fdc_core.specs.Answers.{no_key}
+use Rattle.fdc_core.specs.Answers.{no_key, key_after}
+use Rattle.fdc_core.specs.declared.phases.End.{End}
 use Rattle.fdc_core.specs.declared.answers.Answer.{Answer}
 use Rattle.fdc_core.specs.declared.answers.Answer.TheVariants.{Long}
 use Rattle.fdc_core.specs.declared.phases.Phase.{Phase}
@@ -102,3 +103,17 @@ answers_overrun _ = false
 abbrev pub is_overrun : Phase → Bool
 is_overrun (Result answer) = answers_overrun answer
 is_overrun _ = false
+
+-- how READ DATA ends where its field is over, and the key in its results
+abbrev pub over_with : Option Ending → ℕ → Reading → Option End
+over_with None head_drive reading = None
+over_with (Some ending) head_drive reading =
+    Some (record { ending = ending; head_drive = head_drive; key = key_after ending reading.wanted.key reading.last_sector })
+
+abbrev pub over_at : Task → ℕ → Option End
+over_at (Read reading) head_drive = over_with (ending_of reading) head_drive reading
+over_at _ head_drive = None
+
+abbrev pub over_of : Phase → Option End
+over_of (Execute execution) = over_at execution.task execution.head_drive
+over_of _ = None

@@ -3,14 +3,20 @@ use Rattle.std.specs.Prelude.{ℕ, Bool, false, ◌==◌, [], ◌∷◌, ◌++�
 use Rattle.fdc_fifo.specs.Fifo.{room_of}
 use Rattle.fdc_stages.specs.declared.ending.Ending.{Ending}
 use Rattle.fdc_stages.specs.declared.ending.Ending.TheVariants.{Done, Overrun}
-use Rattle.fdc_stages.specs.declared.reading.ReadHeard.{ReadHeard}
-use Rattle.fdc_stages.specs.declared.reading.ReadHeard.TheVariants as heard
+use Rattle.fdc_stages.specs.Readings.{ReadOutcome}
+use Rattle.fdc_stages.specs.Readings as heard
 use Rattle.fdc_stages.specs.declared.reading.ReadStage.{ReadStage}
+use Rattle.fdc_stages.specs.declared.reading.ReadHeard.{ReadHeard}
+use Rattle.fdc_stages.specs.declared.reading.ReadHeard.TheVariants as answer
 use Rattle.fdc_stages.specs.declared.searching.Searched.{Searched}
-use Rattle.fdc_stages.specs.declared.searching.Searched.TheVariants as searched
+use Rattle.fdc_stages.specs.declared.searching.Searched.TheVariants as found
+use Rattle.flop_base.specs.declared.key.Chrn.{Chrn}
+use Rattle.fdc_stages.specs.Searches.{SearchOutcome}
+use Rattle.fdc_stages.specs.Searches as searched
 use Rattle.fdc_core.specs.Answers.{key_after, no_key}
-use Rattle.fdc_core.specs.Dma.{gone_on}
-use Rattle.fdc_core.specs.Phases.{ending_of}
+use Rattle.fdc_core.specs.Dma.{gone_on, asked}
+use Rattle.fdc_core.specs.Phases.{ending_of, over_of}
+use Rattle.fdc_core.specs.declared.phases.End.{End}
 use Rattle.fdc_core.specs.State.{finished}
 use Rattle.fdc_core.specs.declared.controller.Fdc.{Fdc}
 use Rattle.fdc_core.specs.declared.phases.Reading.{Reading}
@@ -21,7 +27,7 @@ abbrev pub at_stage : Reading → ReadStage → Reading
 at_stage reading stage = record reading { stage = stage }
 
 -- READ ID after what its search heard
-abbrev pub after_searched : ℕ → ℕ → Searched → Fdc → Fdc
+abbrev pub after_searched : ℕ → ℕ → SearchOutcome → Fdc → Fdc
 after_searched head_drive steps (searched.On search) old = gone_on head_drive steps (ReadId search) old
 after_searched head_drive steps (searched.Met key _) old = finished (Done false) head_drive key old
 after_searched head_drive steps (searched.Missed ending) old = finished ending head_drive no_key old
@@ -53,10 +59,45 @@ byte_taken head_drive steps reading value old =
     else gone_on_reading head_drive steps reading (pushed value old))
 
 -- READ DATA after what its stage heard
-abbrev pub after_heard : ℕ → ℕ → Reading → ReadHeard → Fdc → Fdc
+abbrev pub after_heard : ℕ → ℕ → Reading → ReadOutcome → Fdc → Fdc
 after_heard head_drive steps reading (heard.On stage) old =
     gone_on_reading head_drive steps (at_stage reading stage) old
 after_heard head_drive steps reading (heard.Byte stage value) old =
     byte_taken head_drive steps (at_stage reading stage) value old
 after_heard head_drive steps reading (heard.Ended ending) old =
     finished ending head_drive reading.wanted.key old
+
+-- ---- the same in place, once the stage is the one behind the word
+
+-- READ DATA ends where the field is over and the FIFO is empty, else DRQ goes by the FIFO's rule
+abbrev pub settled_by : Option End → Bool → Fdc → Fdc
+settled_by None empty old = asked old
+settled_by (Some over) empty old = if empty then finished over.ending over.head_drive over.key old else asked old
+
+abbrev pub settled : Fdc → Fdc
+settled old = settled_by (over_of old.phase) (length old.fifo.bytes == 0) old
+
+-- how it ends, where the word failed it, or its byte found the FIFO full before the terminal count
+abbrev pub failure_of : Bool → ReadHeard → Fdc → Option Ending
+failure_of counted answer.On old = None
+failure_of counted (answer.Byte value) old = if counted then None else (if is_full old then Some Overrun else None)
+failure_of counted (answer.Ended ending) old = Some ending
+
+-- the byte goes to the FIFO
+abbrev pub with_heard : Bool → ReadHeard → Fdc → Fdc
+with_heard counted answer.On old = old
+with_heard counted (answer.Byte value) old = if counted then old else (if is_full old then old else pushed value old)
+with_heard counted (answer.Ended ending) old = old
+
+abbrev pub followed_by : Option Ending → ℕ → Chrn → Fdc → Fdc
+followed_by None head_drive key old = settled old
+followed_by (Some ending) head_drive key old = finished ending head_drive key old
+
+abbrev pub followed : ℕ → Chrn → Bool → ReadHeard → Fdc → Fdc
+followed head_drive key counted heard old =
+    followed_by (failure_of counted heard old) head_drive key (with_heard counted heard old)
+
+abbrev pub followed_id : ℕ → Searched → Fdc → Fdc
+followed_id head_drive found.On old = asked old
+followed_id head_drive (found.Met key) old = finished (Done false) head_drive key old
+followed_id head_drive (found.Missed ending) old = finished ending head_drive no_key old

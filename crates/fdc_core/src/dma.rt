@@ -127,15 +127,15 @@ impl Fdc {
     pub(crate) fn ask(&mut self)
         ensures { self.new ≡ asked self.old }
     {
-        self.asking = match self.phase {
-            Phase::Execute { execution } => self.wants(execution.task),
+        self.asking = match &self.phase {
+            Phase::Execute { execution } => self.wants(&execution.task),
             _ => false,
         };
     }
 
     /// Whether DRQ is up now in this task.
-    fn wants(&self, task: Task) -> bool
-        ensures { result ≡ task_asks task self.now.asking self.now.fifo }
+    fn wants(&self, task: &Task) -> bool
+        ensures { result ≡ task_asks task.now self.now.asking self.now.fifo }
     {
         match task {
             Task::ReadId { .. } => false,

@@ -18,6 +18,4 @@ mod transfers;
 mod writing;
 
 pub use controller::{Fdc, Lines};
-pub use laws::{
-    listening_is_paced, read_data_gives_the_field, read_data_tells, read_id_tells,
-};
+pub use laws::{listening_is_paced, read_data_gives_the_field, read_data_tells, read_id_tells};

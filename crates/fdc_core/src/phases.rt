@@ -2,8 +2,7 @@
 ghost use Rattle.std.specs.Prelude.{◌≡◌};
 ghost use Rattle.fdc_core.specs.Answers.{next_key, key_after};
 ghost use Rattle.fdc_core.specs.Dma.{task_told};
-ghost use Rattle.fdc_core.specs.Reading.{at_stage};
-ghost use Rattle.fdc_core.specs.Phases.{is_reading, head_of, key_as_sent, told, is_over, ending_of};
+ghost use Rattle.fdc_core.specs.Phases.{is_reading, head_of, key_as_sent, told, is_over, ending_of, over_at, over_of};
 
 use crate::answers::Answer;
 use crate::sized_key::SizedKey;
@@ -70,14 +69,34 @@ pub struct Reading {
     pub stage: ReadStage,
 }
 
+/// How a data command ends whose field is over.
+#[derive(Clone, Copy)]
+pub(crate) struct End {
+    pub(crate) ending: Ending,
+    /// The head and the drive, as the command sent them.
+    pub(crate) head_drive: u8,
+    /// The key in its results.
+    pub(crate) key: Chrn,
+}
+
 impl Phase {
     /// Whether a READ DATA is in execution.
-    pub(crate) fn is_reading(self) -> bool
-        ensures { result ≡ is_reading self }
+    pub(crate) fn is_reading(&self) -> bool
+        ensures { result ≡ is_reading self.now }
     {
         match self {
             Phase::Execute { execution } => matches!(execution.task, Task::Read { .. }),
             _ => false,
+        }
+    }
+
+    /// How a READ DATA ends, where its field is over.
+    pub(crate) fn over(&self) -> Option<End>
+        ensures { result ≡ over_of self.now }
+    {
+        match self {
+            Phase::Execute { execution } => execution.over(),
+            _ => None,
         }
     }
 }
@@ -87,6 +106,25 @@ pub(crate) fn head_of(head_drive: u8) -> u8
     ensures { result ≡ head_of head_drive }
 {
     head_drive / 4 % 2
+}
+
+impl Execution {
+    /// How a READ DATA ends, where its field is over.
+    fn over(&self) -> Option<End>
+        ensures { result ≡ over_at self.now.task self.now.head_drive }
+    {
+        match &self.task {
+            Task::Read { reading } => match reading.ending() {
+                Some(ending) => Some(End {
+                    ending,
+                    head_drive: self.head_drive,
+                    key: reading.key_after(ending),
+                }),
+                None => None,
+            },
+            _ => None,
+        }
+    }
 }
 
 impl Task {
@@ -121,13 +159,6 @@ impl Task {
 }
 
 impl Reading {
-    /// The same command at this stage.
-    pub(crate) fn at(self, stage: ReadStage) -> Reading
-        ensures { result ≡ at_stage self stage }
-    {
-        Reading { stage, ..self }
-    }
-
     /// The same command once the terminal count came.
     pub(crate) fn told(self) -> Reading
         ensures { result ≡ told self }
@@ -139,15 +170,15 @@ impl Reading {
     }
 
     /// Whether the field is over.
-    pub(crate) fn is_over(self) -> bool
-        ensures { result ≡ is_over self.stage }
+    pub(crate) fn is_over(&self) -> bool
+        ensures { result ≡ is_over self.now.stage }
     {
         matches!(self.stage, ReadStage::Over { .. })
     }
 
     /// How the command ends, where the field is over and all its bytes went to memory.
-    pub(crate) fn ending(self) -> Option<Ending>
-        ensures { result ≡ ending_of self }
+    fn ending(&self) -> Option<Ending>
+        ensures { result ≡ ending_of self.now }
     {
         match self.stage {
             ReadStage::Over { good: false, .. } => Some(Ending::BadCheck),
@@ -158,8 +189,8 @@ impl Reading {
     }
 
     /// The key in the results of this ending.
-    pub(crate) fn key_after(self, ending: Ending) -> Chrn
-        ensures { result ≡ key_after ending self.wanted.key self.last_sector }
+    fn key_after(&self, ending: Ending) -> Chrn
+        ensures { result ≡ key_after ending self.now.wanted.key self.now.last_sector }
     {
         match ending {
             Ending::Done { .. } => next_key(self.wanted.key, self.last_sector),

@@ -34,9 +34,9 @@ impl DataRate {
     pub(crate) fn fits(self, medium: Rate) -> bool
         ensures { result ≡ rate_fits self medium }
     {
-        match (self, medium) {
-            (DataRate::Kbit500, Rate::R500) | (DataRate::Kbit250, Rate::R250) => true,
-            _ => false,
+        match medium {
+            Rate::R500 => matches!(self, DataRate::Kbit500),
+            Rate::R250 => matches!(self, DataRate::Kbit250),
         }
     }
 }

@@ -1,90 +1,71 @@
-// READ ID and READ DATA, word by word.
+// READ ID and READ DATA, word by word. What a word changes is changed in place: a stage is large.
 ghost use Rattle.std.specs.Prelude.{◌≡◌};
-ghost use Rattle.fdc_stages.specs.declared.reading.ReadHeard.{ReadHeard};
-ghost use Rattle.fdc_stages.specs.declared.searching.Searched.{Searched};
 ghost use Rattle.fdc_core.specs.Dma.{gone_on};
-ghost use Rattle.fdc_core.specs.Listening.{SearchHears, StageHears};
-ghost use Rattle.fdc_core.specs.Reading.{after_searched, after_heard, gone_on_reading, byte_taken};
+ghost use Rattle.fdc_core.specs.Reading.{followed_id, followed, failure_of, with_heard, settled};
 
 use crate::controller::Fdc;
-use crate::phases::{Execution, NO_KEY, Phase, Reading, Task};
-use drive_model::Turn;
-use fdc_stages::{Ending, ReadHeard, Search, Searched};
+use crate::phases::{Execution, NO_KEY, Phase, Task};
+use fdc_stages::{Ending, ReadHeard, Searched};
+use flop_base::Chrn;
 
 impl Fdc {
-    /// READ ID hears a word.
-    pub(crate) fn hear_id(&mut self, head_drive: u8, steps: u16, search: Search, turn: Turn)
-        ensures { (searched : Searched) × SearchHears turn.index turn.word search searched
-            × (self.new ≡ after_searched head_drive steps searched self.old) }
-    {
-        let searched = search.hear(None, turn.word, turn.index);
-        self.follow_id(head_drive, steps, searched);
-    }
-
     /// READ ID does what the word that it heard asks for.
-    fn follow_id(&mut self, head_drive: u8, steps: u16, searched: Searched)
-        ensures { self.new ≡ after_searched head_drive steps searched self.old }
+    pub(crate) fn follow_id(&mut self, head_drive: u8, searched: Searched)
+        ensures { self.new ≡ followed_id head_drive searched self.old }
     {
         match searched {
-            Searched::On(search) => self.go_on(head_drive, steps, Task::ReadId { search }),
-            Searched::Met { key, .. } => {
+            Searched::On => self.ask(),
+            Searched::Met { key } => {
                 self.finish(Ending::Done { deleted: false }, head_drive, key);
             }
             Searched::Missed(ending) => self.finish(ending, head_drive, NO_KEY),
         }
     }
 
-    /// READ DATA hears a word.
-    pub(crate) fn hear_reading(&mut self, head_drive: u8, steps: u16, reading: Reading, turn: Turn)
-        ensures { (heard : ReadHeard) × StageHears reading.wanted.key turn.index turn.word reading.stage heard
-            × (self.new ≡ after_heard head_drive steps reading heard self.old) }
+    /// READ DATA does what the word that it heard asks for.
+    pub(crate) fn follow(&mut self, head_drive: u8, key: Chrn, counted: bool, heard: ReadHeard)
+        ensures { self.new ≡ followed head_drive key counted heard self.old }
     {
-        let heard = reading
-            .stage
-            .hear(reading.wanted.key, turn.word, turn.index);
-        self.follow(head_drive, steps, reading, heard);
+        match self.take(counted, heard) {
+            None => self.settle(),
+            Some(ending) => self.finish(ending, head_drive, key),
+        }
     }
 
-    /// READ DATA does what the word that it heard asks for.
-    fn follow(&mut self, head_drive: u8, steps: u16, reading: Reading, heard: ReadHeard)
-        ensures { self.new ≡ after_heard head_drive steps reading heard self.old }
+    /// A byte of the field goes to the FIFO, unless the terminal count came. How the command ends, where it failed: the byte
+    /// may have found the FIFO full.
+    fn take(&mut self, counted: bool, heard: ReadHeard) -> Option<Ending>
+        ensures failed { result ≡ failure_of counted heard self.old }
+        ensures after { self.new ≡ with_heard counted heard self.old }
     {
         match heard {
-            ReadHeard::On(stage) => self.go_on_reading(head_drive, steps, reading.at(stage)),
-            ReadHeard::Byte { stage, value } => {
-                self.take_byte(head_drive, steps, reading.at(stage), value);
+            ReadHeard::On => None,
+            ReadHeard::Byte { value } => {
+                if counted {
+                    return None;
+                }
+                match self.fifo.push(value) {
+                    Ok(()) => None,
+                    Err(_) => Some(Ending::Overrun),
+                }
             }
-            ReadHeard::Ended(ending) => self.finish(ending, head_drive, reading.wanted.key),
-        }
-    }
-
-    /// A byte of the field goes to the FIFO, unless the terminal count came. It may find the FIFO full.
-    fn take_byte(&mut self, head_drive: u8, steps: u16, reading: Reading, value: u8)
-        ensures { self.new ≡ byte_taken head_drive steps reading value self.old }
-    {
-        if reading.counted {
-            self.go_on_reading(head_drive, steps, reading);
-            return;
-        }
-        match self.fifo.push(value) {
-            Ok(()) => self.go_on_reading(head_drive, steps, reading),
-            Err(_) => self.finish(Ending::Overrun, head_drive, reading.wanted.key),
+            ReadHeard::Ended(ending) => Some(ending),
         }
     }
 
     /// The command goes on, unless the field is over and the FIFO is empty.
-    fn go_on_reading(&mut self, head_drive: u8, steps: u16, reading: Reading)
-        ensures { self.new ≡ gone_on_reading head_drive steps reading self.old }
+    fn settle(&mut self)
+        ensures { self.new ≡ settled self.old }
     {
-        match reading.ending() {
-            Some(ending) => {
+        match self.phase.over() {
+            Some(over) => {
                 if self.fifo.is_empty() {
-                    self.finish(ending, head_drive, reading.key_after(ending));
+                    self.finish(over.ending, over.head_drive, over.key);
                 } else {
-                    self.go_on(head_drive, steps, Task::Read { reading });
+                    self.ask();
                 }
             }
-            None => self.go_on(head_drive, steps, Task::Read { reading }),
+            None => self.ask(),
         }
     }
 

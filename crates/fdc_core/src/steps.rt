@@ -2,16 +2,16 @@
 ghost use Rattle.std.specs.Prelude.{◌≡◌, ◌==◌, false};
 ghost use Rattle.drive_model.specs.Drive.{Becomes, at_index};
 ghost use Rattle.fdc_seek.specs.Seeking.{pulse_due};
-ghost use Rattle.fdc_core.specs.Listening.{Listens, ListensToNone, SeesUnder};
+ghost use Rattle.fdc_core.specs.Listening.{Listens, ListensToNone, SeesUnder, HearsIn, HasStepsLeft};
 ghost use Rattle.fdc_core.specs.Steps.{polled, seek_stepped, let_pass, Rests, Moves, MovesDrive, Ends, Stays, Flows};
 ghost use Rattle.fdc_core.specs.Tasks.{IsListenStep, TaskSteps, TaskStepsNowhere};
 ghost use Rattle.fdc_core.specs.Writes.{WritesOn};
 
 use crate::controller::Fdc;
-use crate::phases::{Execution, LAST_STEP, NO_KEY, Phase, Reading, Task, head_of};
+use crate::phases::{Execution, LAST_STEP, Phase, Task, head_of};
 use crate::writing::let_pass;
 use drive_model::{Drive, Turn};
-use fdc_stages::{Ending, Search};
+use fdc_stages::Ending;
 
 /// What passes where no drive is selected.
 const NO_TURN: Turn = Turn {
@@ -120,6 +120,7 @@ impl Fdc {
 
     /// A device step of a data command, by its task.
     fn execute<D: Drive>(&mut self, execution: Execution, drive: &mut D)
+        requires { self.old.phase ≡ Phase.Execute execution }
         ensures { TaskSteps execution.task execution.head_drive execution.steps self.old (D.state drive.old) (D.state drive.new) self.new }
     {
         let Execution {
@@ -128,8 +129,9 @@ impl Fdc {
             task,
         } = execution;
         match task {
-            Task::ReadId { search } => self.step_id(head_drive, steps, search, drive),
-            Task::Read { reading } => self.step_reading(head_drive, steps, reading, drive),
+            Task::ReadId { .. } | Task::Read { .. } => {
+                self.listen_on(head_drive, steps, task, drive);
+            }
             Task::Write { writing } => self.step_writing(head_drive, steps, writing, drive),
             Task::Format { formatting } => {
                 self.step_formatting(head_drive, steps, formatting, drive);
@@ -139,6 +141,7 @@ impl Fdc {
 
     /// A device step of a data command where no drive is selected, by its task.
     fn execute_empty(&mut self, execution: Execution)
+        requires { self.old.phase ≡ Phase.Execute execution }
         ensures { TaskStepsNowhere execution.task execution.head_drive execution.steps self.old self.new }
     {
         let Execution {
@@ -151,35 +154,50 @@ impl Fdc {
             return;
         }
         match task {
-            Task::ReadId { search } => self.hear_id(head_drive, steps + 1, search, NO_TURN),
-            Task::Read { reading } => self.hear_reading(head_drive, steps + 1, reading, NO_TURN),
+            Task::ReadId { .. } | Task::Read { .. } => self.hear(NO_TURN),
             Task::Write { writing } => self.hear_nothing(head_drive, steps + 1, writing),
             Task::Format { formatting } => self.await_nothing(head_drive, steps + 1, formatting),
         }
     }
 
-    /// A device step of a READ ID, behind `steps` others.
-    fn step_id<D: Drive>(&mut self, head_drive: u8, steps: u16, search: Search, drive: &mut D)
-        ensures { IsListenStep head_drive steps (Task.ReadId search) self.old (D.state drive.old) (D.state drive.new) self.new }
+    /// A device step of a READ ID or READ DATA, behind `steps` others.
+    fn listen_on<D: Drive>(&mut self, head_drive: u8, steps: u16, task: Task, drive: &mut D)
+        requires { self.old.phase ≡ Phase.Execute (record { head_drive = head_drive; steps = steps; task = task }) }
+        ensures { IsListenStep head_drive steps task self.old (D.state drive.old) (D.state drive.new) self.new }
     {
         if steps == LAST_STEP {
-            self.stop(Ending::Late, head_drive, NO_KEY, drive);
+            self.stop(Ending::Late, head_drive, task.key_as_sent(), drive);
             return;
         }
         let turn = self.listen(head_of(head_drive), drive);
-        self.hear_id(head_drive, steps + 1, search, turn);
+        self.hear(turn);
     }
 
-    /// A device step of a READ DATA, behind `steps` others.
-    fn step_reading<D: Drive>(&mut self, head_drive: u8, steps: u16, reading: Reading, drive: &mut D)
-        ensures { IsListenStep head_drive steps (Task.Read reading) self.old (D.state drive.old) (D.state drive.new) self.new }
+    /// READ ID and READ DATA hear a word. It is heard in place, since a stage is large.
+    fn hear(&mut self, turn: Turn)
+        requires { HasStepsLeft self.old.phase }
+        ensures { HearsIn self.old.phase turn.index turn.word self.old self.new }
     {
-        if steps == LAST_STEP {
-            self.stop(Ending::Late, head_drive, reading.wanted.key, drive);
-            return;
+        match &mut self.phase {
+            Phase::Execute { execution } => {
+                let head_drive = execution.head_drive;
+                execution.steps += 1;
+                match &mut execution.task {
+                    Task::ReadId { search } => {
+                        let searched = search.hear(None, turn.word, turn.index);
+                        self.follow_id(head_drive, searched);
+                    }
+                    Task::Read { reading } => {
+                        let key = reading.wanted.key;
+                        let counted = reading.counted;
+                        let heard = reading.stage.hear(key, turn.word, turn.index);
+                        self.follow(head_drive, key, counted, heard);
+                    }
+                    Task::Write { .. } | Task::Format { .. } => {}
+                }
+            }
+            _ => {}
         }
-        let turn = self.listen(head_of(head_drive), drive);
-        self.hear_reading(head_drive, steps + 1, reading, turn);
     }
 
     /// The word that the controller sees in this word time: 0000 where its rate isn't the medium's. The gate is closed.

@@ -9,7 +9,7 @@ use Rattle.track_separator.specs.declared.state.Seen.{Seen}
 use Rattle.track_separator.specs.declared.state.Seen.TheVariants.{Nothing, Mark, Address, Mode, Byte, End, NoData}
 use Rattle.track_separator.specs.declared.state.Separator.{Separator}
 use Rattle.track_separator.specs.Parts.{with_word}
-use Rattle.track_separator.specs.Waits.{SWaits}
+use Rattle.track_separator.specs.Waits.{SWaits, SReads}
 use Rattle.track_separator.specs.Turns.{SWaitFed, SReadFed}
 use Rattle.track_separator.proofs.Laws.{part_with_word, address_stays, bytes_stay, cut_is_no_data, late_is_no_data, reads_within}
 use Rattle.fdc_stages.specs.declared.ending.Ending.TheVariants.{NoField}
@@ -185,3 +185,35 @@ module _ (past : Past) (key : Chrn) (told : List ℕ) (word p q taken : ℕ) (de
 
   pub content_goes_on : ((value : ℕ) → event ≡ Byte value → ⊥) → ((good : Bool) → event ≡ End good → ⊥) → (event ≡ NoData → ⊥) → IsReading (heard index word past) key told (Content now deleted)
   content_goes_on byte ends none = read_on past key told word p q taken deleted before now was index event byte ends none given
+
+-- ---- the same of a reading at its stage
+
+module _ (index : Bool) (past : Past) (word : ℕ) (key : Chrn) (told : List ℕ) (before now : Separator) (event : Seen) where
+  module _ (was : IsReading past key told (Wait before)) (fed : (p : ℕ) → SWaits before past.seen p (content_size key.n) → SWaitFed index (with_word past.seen word) p (content_size key.n) now event) where
+    pub mode_heard : (deleted : Bool) → event ≡ Mode deleted → IsReading (heard index word past) key told (Content now deleted)
+    mode_heard deleted is =
+        let at = was.0 in
+        subst (λ told. IsReading (heard index word past) key told (Content now deleted)) (sym was.1) (wait_mode past key word at.0 before now index deleted event is at.1 (fed at.0 at.1.waits))
+
+    pub none_heard : event ≡ NoData → HasRead (heard index word past) key told NoField
+    none_heard is =
+        let at = was.0 in
+        subst (λ told. HasRead (heard index word past) key told NoField) (sym was.1) (wait_none past key word at.0 before now index event is at.1 (fed at.0 at.1.waits))
+
+    pub wait_heard : ((deleted : Bool) → event ≡ Mode deleted → ⊥) → (event ≡ NoData → ⊥) → IsReading (heard index word past) key told (Wait now)
+    wait_heard mode none =
+        let at = was.0 in
+        subst (λ told. IsReading (heard index word past) key told (Wait now)) (sym was.1) (wait_goes_on past key word at.0 before now index event mode none at.1 (fed at.0 at.1.waits))
+
+  module _ (deleted : Bool) (was : IsReading past key told (Content before deleted)) (fed : (p q taken : ℕ) → SReads before past.seen p q deleted (content_size key.n) taken → SReadFed index (with_word past.seen word) p q deleted (content_size key.n) taken now event) where
+    pub byte_heard : (value : ℕ) → event ≡ Byte value → IsReading (heard index word past) key (told ++ value ∷ []) (Content now deleted)
+    byte_heard value is = content_byte past key told word was.0 was.1 was.2 deleted before now index event was.3 (fed was.0 was.1 was.2 was.3.reads) value is
+
+    pub end_heard : (good : Bool) → event ≡ End good → IsReading (heard index word past) key told (Over deleted good)
+    end_heard good is = content_end past key told word was.0 was.1 was.2 deleted before now index event was.3 (fed was.0 was.1 was.2 was.3.reads) good is
+
+    pub cut_heard : event ≡ NoData → HasRead (heard index word past) key told NoField
+    cut_heard is = content_none past key told word was.0 was.1 was.2 deleted before now index event was.3 (fed was.0 was.1 was.2 was.3.reads) is
+
+    pub content_heard : ((value : ℕ) → event ≡ Byte value → ⊥) → ((good : Bool) → event ≡ End good → ⊥) → (event ≡ NoData → ⊥) → IsReading (heard index word past) key told (Content now deleted)
+    content_heard byte ends none = content_goes_on past key told word was.0 was.1 was.2 deleted before now index event was.3 (fed was.0 was.1 was.2 was.3.reads) byte ends none

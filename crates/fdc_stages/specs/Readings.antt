@@ -100,11 +100,23 @@ pub record HasRead (past : Past) (key : Chrn) (told : List ℕ) (ending : Ending
   pub bytes : IsToldOf past key told
   pub cause : HasCause past key told ending
 
--- what a word gave a reading
-abbrev pub HasHeard : Past → Chrn → List ℕ → ReadHeard → Type 0
-HasHeard past key told (given.On stage) = IsReading past key told stage
-HasHeard past key told (given.Byte stage value) = IsReading past key (told ++ value ∷ []) stage
-HasHeard past key told (given.Ended ending) = HasRead past key told ending
+-- what a word made of a reading: it goes on at a stage, with a byte of the content or without one, or it failed
+pub data ReadOutcome : Type 0 where
+  On : ReadStage → ReadOutcome
+  Byte : ReadStage → ℕ → ReadOutcome
+  Ended : Ending → ReadOutcome
+
+-- the same from the answer, and the stage that it is then at
+abbrev pub read_outcome : ReadStage → ReadHeard → ReadOutcome
+read_outcome after given.On = On after
+read_outcome after (given.Byte value) = Byte after value
+read_outcome after (given.Ended ending) = Ended ending
+
+-- what that says
+abbrev pub HasHeard : Past → Chrn → List ℕ → ReadOutcome → Type 0
+HasHeard past key told (On stage) = IsReading past key told stage
+HasHeard past key told (Byte stage value) = IsReading past key (told ++ value ∷ []) stage
+HasHeard past key told (Ended ending) = HasRead past key told ending
 
 -- a word ends a reading where a search misses or where there is no field, and in no other way
 abbrev pub IsFailure : Ending → Type 0
@@ -113,6 +125,6 @@ IsFailure NoSector = Unit {0}
 IsFailure NoField = Unit {0}
 IsFailure _ = ⊥
 
-abbrev pub FailsWell : ReadHeard → Type 0
-FailsWell (given.Ended ending) = IsFailure ending
+abbrev pub FailsWell : ReadOutcome → Type 0
+FailsWell (Ended ending) = IsFailure ending
 FailsWell _ = Unit {0}

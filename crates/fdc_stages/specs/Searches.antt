@@ -12,7 +12,7 @@ use Rattle.fdc_stages.specs.declared.ending.Ending.{Ending}
 use Rattle.fdc_stages.specs.declared.ending.Ending.TheVariants.{NoMark, NoSector}
 use Rattle.fdc_stages.specs.declared.searching.Search.{Search}
 use Rattle.fdc_stages.specs.declared.searching.Searched.{Searched}
-use Rattle.fdc_stages.specs.declared.searching.Searched.TheVariants.{On, Met, Missed}
+use Rattle.fdc_stages.specs.declared.searching.Searched.TheVariants as searched
 use Rattle.fdc_stages.specs.History.{Past, IsTurnIn, IsJustOver, HasFewTurns}
 
 -- an address field of this key is searched for; without a wanted key each one is
@@ -92,8 +92,20 @@ IsMissed past wanted NoMark = HasMissed past wanted × (HasMarkIn past.turns pas
 IsMissed past wanted NoSector = HasMissed past wanted × HasMarkIn past.turns past.seen
 IsMissed past wanted _ = ⊥
 
--- what a word gave a search, where the index followed it or did not
-abbrev pub HasSearched : Bool → Past → Option Chrn → Searched → Type 0
+-- what a word made of a search: it goes on so, met the address field of a key, or missed
+pub data SearchOutcome : Type 0 where
+  On : Search → SearchOutcome
+  Met : Chrn → Separator → SearchOutcome
+  Missed : Ending → SearchOutcome
+
+-- the same from the answer, and the search as it then is
+abbrev pub search_outcome : Search → Searched → SearchOutcome
+search_outcome after searched.On = On after
+search_outcome after (searched.Met key) = Met key after.separator
+search_outcome after (searched.Missed ending) = Missed ending
+
+-- what that says, where the index followed the word or did not
+abbrev pub HasSearched : Bool → Past → Option Chrn → SearchOutcome → Type 0
 HasSearched index past wanted (On searching) = IsSearching past wanted searching
 HasSearched index past wanted (Met key separator) = Wants wanted key × IsMet index past key separator
 HasSearched index past wanted (Missed ending) = IsMissed past wanted ending
@@ -104,6 +116,6 @@ IsMiss NoMark = Unit {0}
 IsMiss NoSector = Unit {0}
 IsMiss _ = ⊥
 
-abbrev pub MissesWell : Searched → Type 0
+abbrev pub MissesWell : SearchOutcome → Type 0
 MissesWell (Missed ending) = IsMiss ending
 MissesWell _ = Unit {0}

@@ -2,7 +2,7 @@
 ghost use Rattle.std.specs.Prelude.{◌≡◌, ◌⊎◌, ◌↔◌, ℕ, Bool, true, false, IsTrue, MatchBool, MatchOption, Option, List};
 ghost use Rattle.flop_base.specs.declared.key.Chrn.{Chrn};
 ghost use Rattle.fdc_stages.specs.History.{Past, begun, heard};
-ghost use Rattle.fdc_stages.specs.Searches.{Wants, IsSearching, IsPassed, IsMissed, HasMissed, HasMarkIn, HasSearched, IsMiss, MissesWell};
+ghost use Rattle.fdc_stages.specs.Searches.{Wants, IsSearching, IsPassed, IsMissed, HasMissed, HasMarkIn, search_outcome, HasSearched, IsMiss, MissesWell};
 
 use crate::ending::Ending;
 use flop_base::Chrn;
@@ -22,9 +22,9 @@ pub struct Search {
 #[derive(Clone, Copy)]
 pub enum Searched {
     /// The search goes on.
-    On(Search),
-    /// An address field that is wanted ended in this word: its key, and the separator that heard it.
-    Met { key: Chrn, separator: Separator },
+    On,
+    /// An address field that is wanted ended in this word; its data field may be asked for.
+    Met { key: Chrn },
     /// The second index has passed: NoMark where no address mark was heard, else NoSector.
     Missed(Ending),
 }
@@ -93,38 +93,41 @@ impl Search {
     }
 
     /// Hears a word. `index` says that the index follows it. Without a wanted key any intact address field is met.
-    pub fn hear(self, wanted: Option<Chrn>, word: u16, index: bool) -> Searched
-        ensures hears { (past : Past) → IsSearching past wanted self → HasSearched index (heard index word past) wanted result }
-        ensures well { MissesWell result }
+    pub fn hear(&mut self, wanted: Option<Chrn>, word: u16, index: bool) -> Searched
+        ensures hears { (past : Past) → IsSearching past wanted self.old → HasSearched index (heard index word past) wanted (search_outcome self.new result) }
+        ensures well { MissesWell (search_outcome self.new result) }
     {
-        let mut separator = self.separator;
-        let seen = separator.feed(word, index);
+        let seen = self.separator.feed(word, index);
         match met_key(wanted, seen) {
-            Some(key) => Searched::Met { key, separator },
-            None => go_on(separator, self.turned, is_marked(self.marked, seen), index),
+            Some(key) => Searched::Met { key },
+            None => {
+                self.marked = is_marked(self.marked, seen);
+                self.go_on(index)
+            }
         }
     }
-}
 
-/// Goes on searching behind a word in which nothing was met, unless the second index followed it.
-fn go_on(separator: Separator, turned: bool, marked: bool, index: bool) -> Searched
-    ensures hears { (past : Past) (word : ℕ) (wanted : Option Chrn) → IsPassed index past word wanted separator turned marked
-        → HasSearched index (heard index word past) wanted result }
-    ensures well { MissesWell result }
-{
-    if !index {
-        return Searched::On(Search {
-            separator,
-            turned,
-            marked,
-        });
+    /// Goes on searching behind a word in which nothing was met, unless the second index followed it.
+    fn go_on(&mut self, index: bool) -> Searched
+        ensures hears { (past : Past) (word : ℕ) (wanted : Option Chrn)
+            → IsPassed index past word wanted self.old.separator self.old.turned self.old.marked
+            → HasSearched index (heard index word past) wanted (search_outcome self.new result) }
+        ensures well { MissesWell (search_outcome self.new result) }
+    {
+        if !index {
+            return Searched::On;
+        }
+        if self.turned {
+            return Searched::Missed(missed(self.marked));
+        }
+        self.turned = true;
+        Searched::On
     }
-    if turned {
-        return Searched::Missed(missed(marked));
+
+    /// The separator that heard the address field that was met.
+    pub fn separator(&self) -> Separator
+        ensures { result ≡ self.now.separator }
+    {
+        self.separator
     }
-    Searched::On(Search {
-        separator,
-        turned: true,
-        marked,
-    })
 }

@@ -151,8 +151,9 @@ fn search_on(searching: Search, key: Chrn, word: u16, index: bool) -> WriteNext
     ensures well { FailsWell result }
     ensures lead { LeadsOn 39 result }
 {
-    match searching.hear(Some(key), word, index) {
-        Searched::On(after) => WriteNext::On(WriteStage::Search(after)),
+    let mut after = searching;
+    match after.hear(Some(key), word, index) {
+        Searched::On => WriteNext::On(WriteStage::Search(after)),
         Searched::Met { .. } => meet(index),
         Searched::Missed(ending) => WriteNext::Ended(ending),
     }

@@ -8,7 +8,7 @@ use crate::state::{Seen, Separator, Stage};
 const ADDRESS_BYTE: u8 = 0xFE;
 
 /// How many bytes of an address field are read before the last of its check.
-const BYTES_BEFORE_LAST: u32 = 6;
+const BYTES_BEFORE_LAST: u8 = 6;
 
 impl Separator {
     ghost use Rattle.track_separator.specs.Hunts.{IsAtByte, IsByteTaken};
@@ -34,7 +34,7 @@ impl Separator {
     }
 
     /// Takes the byte of an address field that has just come into the register, after `bytes` of them.
-    fn take_byte(&mut self, bytes: u32) -> Seen
+    fn take_byte(&mut self, bytes: u8) -> Seen
         ensures kept { self.new.cells ≡ self.old.cells }
         ensures taken { (fed : List ℕ) (p : ℕ) → IsAtByte fed self.old.cells p bytes self.old.back
             → IsByteTaken fed p bytes self.old.back self.new.cells self.new.back self.new.stage result }

@@ -28,8 +28,8 @@ impl Separator {
     pub(crate) fn read_word(
         &mut self,
         word: u16,
-        size: usize,
-        taken: usize,
+        size: u16,
+        taken: u16,
         check: u16,
         before: bool,
     ) -> Seen

@@ -44,7 +44,7 @@ fn has_no_mark_ones(recent: u64) -> bool
 }
 
 /// How many cells stand behind a run that ends in the last word.
-pub(crate) fn run_end(cells: u128) -> Option<u32>
+pub(crate) fn run_end(cells: u128) -> Option<u16>
     ensures { MatchOption result ((back : ℕ) → back < 16 → HasRunBits cells back → ⊥)
         (λ back. (back < 16) × HasRunBits cells back) }
 {
@@ -52,7 +52,7 @@ pub(crate) fn run_end(cells: u128) -> Option<u32>
     if has_no_mark_ones(recent) {
         return None;
     }
-    for back in 0u32..16 {
+    for back in 0u16..16 {
         if recent >> back & RUN_MASK == RUN {
             return Some(back);
         }
@@ -61,7 +61,7 @@ pub(crate) fn run_end(cells: u128) -> Option<u32>
 }
 
 /// The byte that ends where `back` cells are behind it.
-pub(crate) fn byte_before(cells: u128, back: u32) -> u8
+pub(crate) fn byte_before(cells: u128, back: u16) -> u8
     requires { back ≤ 112 }
     ensures { result ≡ register_byte cells back }
 {
@@ -69,7 +69,7 @@ pub(crate) fn byte_before(cells: u128, back: u32) -> u8
 }
 
 /// The two bytes that end there, as a check.
-pub(crate) fn check_before(cells: u128, back: u32) -> u16
+pub(crate) fn check_before(cells: u128, back: u16) -> u16
     requires { back ≤ 96 }
     ensures { result ≡ register_check cells back }
 {
@@ -77,7 +77,7 @@ pub(crate) fn check_before(cells: u128, back: u32) -> u16
 }
 
 /// Whether that byte is the one of a data field, and whether it says that the field is deleted.
-pub(crate) fn data_mark_before(cells: u128, back: u32) -> Option<bool>
+pub(crate) fn data_mark_before(cells: u128, back: u16) -> Option<bool>
     requires { back ≤ 112 }
     ensures { MatchOption result ((deleted : Bool) → register_byte cells back ≡ data_byte deleted → ⊥)
         (λ deleted. register_byte cells back ≡ data_byte deleted) }
@@ -90,7 +90,7 @@ pub(crate) fn data_mark_before(cells: u128, back: u32) -> Option<bool>
 }
 
 /// The key of an address field that ends there, where its check is right.
-pub(crate) fn key_before(cells: u128, back: u32) -> Option<Chrn>
+pub(crate) fn key_before(cells: u128, back: u16) -> Option<Chrn>
     requires { back < 16 }
     ensures { MatchOption result ((key : Chrn) → IsKeyIn cells back key → ⊥)
         (λ key. IsKeyIn cells back key) }

@@ -61,7 +61,7 @@ impl Separator {
     {
         self.stage = match self.stage {
             Stage::Addressed => Stage::Waiting {
-                size,
+                size: size as u16,
                 since: self.back,
                 marked: false,
             },

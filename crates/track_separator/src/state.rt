@@ -30,7 +30,7 @@ pub(crate) enum Stage {
     Hunting,
     /// The bytes of an address field, after so many of them and the run before them.
     Reading {
-        bytes: u32,
+        bytes: u8,
     },
     /// What is done about the address field that ended in the last word.
     Addressed,
@@ -38,15 +38,15 @@ pub(crate) enum Stage {
     Cut,
     /// A data mark: `since` cells passed since the address field, and the run before the mark ended in the last word or not.
     Waiting {
-        size: usize,
-        since: u32,
+        size: u16,
+        since: u16,
         marked: bool,
     },
     /// The bytes of a data field behind its mark, after `taken` of them. `check` is that of the content so far, and
     /// `touched` says that cells of the field weren't recorded.
     Content {
-        size: usize,
-        taken: usize,
+        size: u16,
+        taken: u16,
         check: u16,
         touched: bool,
     },
@@ -59,7 +59,7 @@ pub struct Separator {
     /// since a run begins with a 0.
     pub(crate) cells: u128,
     /// How many cells stand behind the run or the byte that ended last.
-    pub(crate) back: u32,
+    pub(crate) back: u16,
     pub(crate) stage: Stage,
     ghost few: { back < 16 },
     ghost small: { size_in stage ≤ 8192 },

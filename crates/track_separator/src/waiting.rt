@@ -7,13 +7,13 @@ use crate::state::{Seen, Separator, Stage};
 use track_check::mark_crc;
 
 /// The cells of a run.
-const RUN_CELLS: u32 = 48;
+const RUN_CELLS: u16 = 48;
 
 /// A data mark that begins this far behind the end of its address field, or farther, is none of it.
-const REACH: u32 = 960;
+const REACH: u16 = 960;
 
 /// The cells of a run and the byte behind it.
-const MARK_CELLS: u32 = 64;
+const MARK_CELLS: u16 = 64;
 
 /// The byte of a data mark.
 fn byte_of(deleted: bool) -> u8
@@ -27,7 +27,7 @@ impl Separator {
     ghost use Rattle.track_separator.specs.Waits.{IsMarked, IsWaiting, IsWaitingNext, IsMarkIn, WaitSeenIn};
 
     /// Takes one word while a data mark is awaited, `before` cells behind the end of the address field.
-    pub(crate) fn wait_word(&mut self, word: u16, size: usize, before: u32, marked: bool) -> Seen
+    pub(crate) fn wait_word(&mut self, word: u16, size: u16, before: u16, marked: bool) -> Seen
         requires small { size ≤ 8192 }
         requires early { before < 1023 }
         ensures { (fed : List ℕ) (p : ℕ) → IsWaiting fed self.old.cells self.old.back p before marked
@@ -48,7 +48,7 @@ impl Separator {
     }
 
     /// The data mark that is complete now, where a run before it was seen and it begins near enough to its address field.
-    fn mark_in(&self, since: u32, marked: bool) -> Option<bool>
+    fn mark_in(&self, since: u16, marked: bool) -> Option<bool>
         requires { since < 1039 }
         ensures { MatchOption result ((deleted : Bool) → IsMarkIn self.now.cells self.now.back since marked deleted → ⊥)
             (λ deleted. IsMarkIn self.now.cells self.now.back since marked deleted) }
@@ -60,7 +60,7 @@ impl Separator {
     }
 
     /// Goes on to wait, `since` cells behind the end of the address field, where a data mark can still come.
-    fn wait_on(&mut self, size: usize, since: u32) -> Seen
+    fn wait_on(&mut self, size: u16, since: u16) -> Seen
         requires small { size ≤ 8192 }
         requires early { since < 1039 }
         ensures { (fed : List ℕ) (p : ℕ) → IsWaitingNext fed self.old.cells p since
@@ -80,7 +80,7 @@ impl Separator {
     }
 
     /// Whether a run that begins behind the address field ends in the last word, and where.
-    fn see_run(&mut self, since: u32) -> bool
+    fn see_run(&mut self, since: u16) -> bool
         ensures kept { self.new.cells ≡ self.old.cells }
         ensures marked { (fed : List ℕ) (p : ℕ) → IsWaitingNext fed self.old.cells p since
             → IsMarked fed p self.new.back result }

@@ -1,7 +1,7 @@
 use Rattle.std.proofs.Common.{subst}
 use Rattle.track_separator.specs.Waits.{SWaits}
 use Rattle.fdc_stages.proofs.ReadWord.{met_over, met_within}
-use Rattle.fdc_stages.proofs.reading.meet.Goals as goal
+use Rattle.fdc_stages.proofs.reading.ReadStage.meet.Goals as goal
 
 pub returns-then-index-clause-hears : goal.returns-then-index-clause-hears
 returns-then-index-clause-hears c = λ past met. met_over c.args.index past c.args.key c.args.found c.if-index.true met
