@@ -7,3 +7,4 @@ pub mod Meanings
 pub mod Words
 pub mod MayWrite
 pub mod Writes
+pub mod Waiting

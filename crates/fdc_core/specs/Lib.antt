@@ -16,3 +16,4 @@ pub mod Formatting
 pub mod Tasks
 pub mod Written
 pub mod Writes
+pub mod Waiting

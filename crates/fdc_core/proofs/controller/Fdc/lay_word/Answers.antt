@@ -1,4 +1,4 @@
-use Rattle.std.proofs.Common.{subst, sym, ◌∙◌}
+use Rattle.std.proofs.Common.{subst, sym, ◌∙◌, ◌-◌}
 use Rattle.drive_model.specs.Drive.{Writes, at_index}
 use Rattle.fdc_core.specs.Times.{Opens, Closes}
 use Rattle.fdc_core.specs.Formatting.{StageLaysWord}
@@ -15,6 +15,7 @@ returns g c = λ takes. record {
         word_is = λ past numbers handed due was asks. c.write-given.ensures.writes past numbers handed takes due was asks;
         goes_on = c.after-next.ensures.goes_on;
         well = c.after-next.ensures.well;
+        lead = λ lead has. c.after-next.ensures.lead (lead - 1) (c.write-given.ensures.lead lead has);
       });
       opens_it = subst (λ first. Opens first (g.D.Drive.state c.args.drive.now) (g.D.Drive.state c.open_before.new.drive)) c.opens.ensures c.open_before.ensures;
       puts = subst (λ head. Writes (g.D.Drive.state c.open_before.new.drive) head c.write-given.result.word (g.D.Drive.state c.write_word-index.new.self)) c.head_of.ensures c.write_word-index.ensures.writes;

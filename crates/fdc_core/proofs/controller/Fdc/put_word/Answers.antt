@@ -2,6 +2,7 @@ use Rattle.std.proofs.Common.{subst, sym, ◌∙◌}
 use Rattle.drive_model.specs.Drive.{Writes, at_index}
 use Rattle.fdc_core.specs.Times.{Opens, Closes}
 use Rattle.fdc_core.specs.Writing.{StageWritesWord}
+use Rattle.fdc_writing.specs.Writings.{lead_of}
 use Rattle.fdc_core.proofs.Words.{opens_index}
 use Rattle.fdc_core.proofs.controller.Fdc.put_word.Goals as goal
 
@@ -15,6 +16,7 @@ returns g c = record {
         word_is = c.write-given.ensures.writes;
         goes_on = c.after-next.ensures.goes_on;
         well = c.after-next.ensures.well;
+        lead = λ due. c.after-next.ensures.lead (lead_of c.args.writing.stage) (c.write-given.ensures.lead due);
       });
       opens_it = subst (λ first. Opens first (g.D.Drive.state c.args.drive.now) (g.D.Drive.state c.open_before.new.drive)) c.opens.ensures c.open_before.ensures;
       puts = subst (λ head. Writes (g.D.Drive.state c.open_before.new.drive) head c.write-given.result.word (g.D.Drive.state c.write_word-index.new.self)) c.head_of.ensures c.write_word-index.ensures.writes;
