@@ -1,8 +1,9 @@
 -- What the ending of a writing or of a format says of the words written.
-use Rattle.std.proofs.Common.{◌≡◌, ℕ, ◌+◌, ◌-◌, ◌*◌, ◌≤◌, Bool, List, length, replicate, sym, ap, subst, ◌∙◌, arith, inl, inr}
-use Rattle.std.proofs.lemmas.List.{length-replicate}
+use Rattle.std.proofs.Common.{take, length-append, refl, ◌++◌, ◌≡◌, ℕ, ◌+◌, ◌-◌, ◌*◌, ◌≤◌, Bool, List, length, replicate, sym, ap, subst, ◌∙◌, arith, inl, inr}
+use Rattle.std.proofs.lemmas.List.{length-replicate, take_at}
 use Rattle.flop_base.specs.declared.key.Chrn.{Chrn}
 use Rattle.track_model.specs.Fields.{content_size}
+use Rattle.track_model.specs.Writing.{window}
 use Rattle.track_model.specs.Layouts.{laid_words}
 use Rattle.track_format.proofs.Asked.{length-key_bytes}
 use Rattle.fdc_stages.specs.declared.ending.Ending.{Ending}
@@ -13,7 +14,7 @@ use Rattle.fdc_writing.specs.declared.writing.WriteStage.TheVariants as stage
 use Rattle.fdc_writing.specs.declared.formatting.FormatPart.{FormatPart}
 use Rattle.fdc_writing.specs.declared.formatting.FormatPart.TheVariants.{Await, Due, Lay, Barred}
 use Rattle.fdc_writing.specs.declared.formatting.FormatStage.{FormatStage}
-use Rattle.fdc_writing.specs.Writings.{IsStopped, IsWriting, HasBegun, HasWritten, WritesFirst}
+use Rattle.fdc_writing.specs.Writings.{IsStopped, IsWriting, IsFirstOf, HasBegun, HasWritten, WritesFirst}
 use Rattle.fdc_writing.specs.Formats.{Numbers, keys_from, IsAtPart, IsFormatting, IsBehindIndex, HasLaid, HasFormatted, LaysFirst, LaysWhole}
 use Rattle.fdc_writing.proofs.Keyed.{length-keys_from, some_keys}
 use Rattle.fdc_writing.proofs.Windowed.{begun_in}
@@ -59,13 +60,19 @@ stopped_formatted NoCount now past numbers handed was stopped = absurd stopped
 
 -- ---- the words written
 
+taken_first : (words whole : List ℕ) → IsFirstOf words whole → (length words ≤ length whole) × (words ≡ take (length words) whole)
+taken_first words whole (others, is) =
+    (omega (arith, ap length is, length-append words others), sym (ap (take (length words)) is ∙ take_at words others (length words) refl))
+
 pub first_written : (past : Past) (key : Chrn) (deleted : Bool) (handed : List ℕ) → HasBegun past key deleted handed → WritesFirst past key deleted handed
 first_written past key deleted handed (inl none) = inl none.0
 first_written past key deleted handed (inr (p, begun)) =
     let zeros = content_size key.n - length handed in
-    let size : length handed + zeros ≡ content_size key.n = omega (arith, begun.few) in
-    let many : length (replicate {A = ℕ} zeros 0) ≡ zeros = length-replicate zeros 0 in
-    inr (p, zeros, record { address = begun.address; place = begun.place; size = size; first = begun.first (replicate zeros 0) (ap (λ k. length handed + k) many ∙ size) })
+    let rest : List ℕ = replicate zeros 0 in
+    let many : length rest ≡ zeros = length-replicate zeros 0 in
+    let size : length handed + length rest ≡ content_size key.n = omega (arith, begun.few) in
+    let taken = taken_first past.words (window deleted (handed ++ rest)) (begun.first rest size) in
+    inr (p, zeros, record { address = begun.address; place = begun.place; size = length-append handed rest ∙ size; most = taken.0; first = taken.1 })
 
 pub first_laid : (past : Past) (numbers : Numbers) (handed : List ℕ) → HasLaid past numbers handed → LaysFirst past numbers handed
 first_laid past numbers handed laid =

@@ -95,7 +95,7 @@ whole_turn true word past numbers handed stream key is whole ((behind, place), l
         many = fits.1.many;
         bytes = fits.1.bytes ∙ append-nil handed;
         fits = fits.2;
-        laid = laid_words_are (with_word past.words word) handed numbers stream laid fits.0 [] fits.1;
+        laid = (laid_words_are (with_word past.words word) handed numbers stream laid fits.0 [] fits.1).laid;
       },
     )
 

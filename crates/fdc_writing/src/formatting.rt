@@ -173,7 +173,8 @@ impl FormatStage {
 
 impl FormatWord {
     /// What the word gives the format once it was written. `index` says that the index follows it, and `counted` that the
-    /// terminal count came.
+    /// terminal count came. The format is over at the index: as a write ends normally only after the terminal count, so does a
+    /// format whose whole layout was written; a layout that is longer than the turn has no data field for each key.
     pub fn after(self, index: bool, counted: bool) -> FormatNext
         ensures goes_on { (past : Past) (numbers : Numbers) (handed : List ℕ) → past.counted ≡ counted
             → IsNextLaid past numbers handed self.word self.stream self.key
