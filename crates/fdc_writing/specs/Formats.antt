@@ -57,8 +57,13 @@ is_due now = is_next now.part
 abbrev pub StreamTakes : FormatStream → Bool → Type 0
 StreamTakes stream takes = (last : Bool) (left : List Symbol) → Gives stream last left → IsTrue takes ↔ AsksKey left
 
+-- the next word of the layout is a byte of a key, or isn't: the first isn't
+abbrev pub TakesAt : FormatPart → FormatStream → Bool → Type 0
+TakesAt Due stream takes = takes ≡ false
+TakesAt _ stream takes = StreamTakes stream takes
+
 abbrev pub Takes : FormatStage → Bool → Type 0
-Takes now takes = StreamTakes now.stream takes
+Takes now takes = TakesAt now.part now.stream takes
 
 -- ---- keys
 

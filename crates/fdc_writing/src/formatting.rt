@@ -92,13 +92,13 @@ impl FormatStage {
     /// Whether the next word is a byte of a key, which `write` is to be handed.
     pub fn needs_byte(&self) -> bool
         ensures takes { is_due self.now ≡ true → Takes self.now result }
-        ensures due { is_due self.now ≡ false → result ≡ false }
+        ensures open { is_open self.now ≡ false → result ≡ false }
         ensures lead { (lead : ℕ) → HasLead self.now lead → result ≡ true → lead ≡ 0 }
     {
-        if !self.is_due() {
-            return false;
+        match self.part {
+            FormatPart::Lay => self.stream.needs_byte(),
+            _ => false,
         }
-        self.stream.needs_byte()
     }
 
     /// Hears a word of the track. `index` says that the index follows it. A word that is heard where the first of the layout
