@@ -4,6 +4,7 @@ use Rattle.std.specs.List.{flat_map}
 use Rattle.flop_base.specs.declared.key.Chrn.{Chrn}
 use Rattle.track_model.specs.declared.symbol.Symbol.{Symbol}
 use Rattle.track_model.specs.Layouts.{recorded, track_symbols, lay, Fits}
+use Rattle.track_model.specs.Windows.{with_words}
 use Rattle.track_separator.specs.Parts.{with_word}
 use Rattle.track_format.specs.Keys.{key_bytes, asked_in}
 use Rattle.track_format.specs.Streams.{Gives, AsksKey, filled}
@@ -234,9 +235,11 @@ EndsWell _ = Unit {0}
 abbrev pub LaysFirst : Past → Numbers → List ℕ → Type 0
 LaysFirst past numbers handed = IsFirstOfLayout past.words numbers (keys_from numbers.sectors handed)
 
--- they are the whole turn, the layout fits in it, and all keys were handed in
+-- they are the whole turn, the layout fits in it, and all keys were handed in: a track of so many words becomes the layout
 pub record LaysWhole (past : Past) (numbers : Numbers) (handed : List ℕ) : Type 0 where
   pub index : past.place ≡ 0
   pub words : LaysFirst past numbers handed
   pub fits : Fits (keys_from numbers.sectors handed) numbers.n numbers.gap3 (length past.words)
   pub all : length handed ≡ 4 * numbers.sectors
+  pub written : (track : List ℕ) → length track ≡ length past.words
+      → with_words track 0 past.words ≡ lay (keys_from numbers.sectors handed) numbers.n numbers.gap3 numbers.fill (length track)

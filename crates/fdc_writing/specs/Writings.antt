@@ -1,10 +1,11 @@
 -- What a writing has heard and written.
-use Rattle.std.specs.Prelude.{◌≡◌, ◌⊎◌, ℕ, zero, suc, ◌+◌, ◌<◌, ◌≤◌, Bool, true, false, Option, Some, List, [], ◌++◌, length, replicate, take}
+use Rattle.std.specs.Prelude.{◌≡◌, ◌⊎◌, ℕ, zero, suc, ◌+◌, ◌<◌, ◌≤◌, Bool, true, false, Option, Some, List, [], ◌++◌, length, replicate}
 use Rattle.flop_base.specs.declared.key.Chrn.{Chrn}
 use Rattle.track_model.specs.Fields.{IsAddressAt, content_size}
-use Rattle.track_model.specs.Windows.{window_word, window_words}
+use Rattle.track_model.specs.Windows.{window_word, window_words, with_words, IsFieldFor, IsCut}
+use Rattle.track_model.specs.Laid.{with_window}
 use Rattle.track_model.specs.Writing.{window}
-use Rattle.track_separator.specs.Parts.{with_word}
+use Rattle.track_separator.specs.Parts.{with_word, IsPart}
 use Rattle.fdc_windows.specs.declared.window.Window.{Window}
 use Rattle.fdc_windows.specs.Windows as windowed
 use Rattle.fdc_windows.specs.Windows.{words_behind, bytes_behind, count_behind, lead_left}
@@ -203,15 +204,24 @@ IsStopped past Late = past.steps ≡ 65536
 IsStopped past Protected = past.words ≡ []
 IsStopped past _ = ⊥
 
--- the words are the first of the window with this content of the address field of the key at p, at its place
-pub record IsFirstAt (past : Past) (key : Chrn) (deleted : Bool) (content : List ℕ) (p : ℕ) : Type 0 where
-  pub address : IsAddressAt past.seen p key
-  pub place : length past.seen ≡ window_word p
-  pub size : length content ≡ content_size key.n
-  pub most : length past.words ≤ length (window deleted content)
-  pub first : past.words ≡ take (length past.words) (window deleted content)
+-- each track that begins with the words heard has the address field of the key at p, and the words written behind them are
+-- a cut of its window with this content
+pub record WritesCut (past : Past) (key : Chrn) (deleted : Bool) (content : List ℕ) (p : ℕ) : Type 0 where
+  pub field : (track : List ℕ) → IsPart past.seen track → IsFieldFor track p key content
+  pub cut : (track : List ℕ) → length past.seen + length past.words ≤ length track
+      → IsCut track (with_words track (length past.seen) past.words) p (length past.words) (window deleted content)
 
 -- nothing was written, or such words; the content is what was handed in, and then 00
 abbrev pub WritesFirst : Past → Chrn → Bool → List ℕ → Type 0
 WritesFirst past key deleted handed =
-    (past.words ≡ []) ⊎ ((p : ℕ) × (zeros : ℕ) × IsFirstAt past key deleted (handed ++ replicate zeros 0) p)
+    (past.words ≡ []) ⊎ ((p : ℕ) × (zeros : ℕ) × WritesCut past key deleted (handed ++ replicate zeros 0) p)
+
+-- the terminal count came, and the words are the whole window with what was handed in, at the place of the address field at p
+pub record WritesWindow (past : Past) (key : Chrn) (deleted : Bool) (handed : List ℕ) (p : ℕ) : Type 0 where
+  pub counted : past.counted ≡ true
+  pub words : past.words ≡ window deleted handed
+  pub field : (track : List ℕ) → IsPart past.seen track → IsFieldFor track p key handed
+  pub written : (track : List ℕ) → with_words track (length past.seen) past.words ≡ with_window track p deleted handed
+
+abbrev pub WritesWhole : Past → Chrn → Bool → List ℕ → Type 0
+WritesWhole past key deleted handed = (p : ℕ) × WritesWindow past key deleted handed p
