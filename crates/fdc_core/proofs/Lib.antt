@@ -8,3 +8,5 @@ pub mod Words
 pub mod MayWrite
 pub mod Writes
 pub mod Waiting
+pub mod Tellings
+pub mod Feeding

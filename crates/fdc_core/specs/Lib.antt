@@ -17,3 +17,4 @@ pub mod Tasks
 pub mod Written
 pub mod Writes
 pub mod Waiting
+pub mod Tellings

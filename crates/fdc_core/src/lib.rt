@@ -19,5 +19,7 @@ mod writing;
 
 pub use controller::{Fdc, Lines};
 pub use laws::{
-    listening_is_paced, read_data_gives_the_field, read_data_tells, read_id_tells,
+    format_lays_the_track, format_tells, listening_is_paced, quiet_request_waits,
+    read_data_gives_the_field, read_data_tells, read_id_tells, write_tells,
+    write_writes_the_window,
 };

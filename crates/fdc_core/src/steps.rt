@@ -5,7 +5,7 @@ ghost use Rattle.fdc_seek.specs.Seeking.{pulse_due};
 ghost use Rattle.fdc_core.specs.Listening.{Listens, ListensToNone, SeesUnder};
 ghost use Rattle.fdc_core.specs.Steps.{polled, seek_stepped, let_pass, Rests, Moves, MovesDrive, Ends, Stays, Flows};
 ghost use Rattle.fdc_core.specs.Tasks.{IsListenStep, TaskSteps, TaskStepsNowhere};
-ghost use Rattle.fdc_core.specs.Waiting.{LastsOn};
+ghost use Rattle.fdc_core.specs.Waiting.{LastsOn, Feeds};
 ghost use Rattle.fdc_core.specs.Writes.{WritesOn};
 
 use crate::controller::Fdc;
@@ -31,6 +31,7 @@ impl Fdc {
         ensures stays { Stays self.old self.new }
         ensures flows { Flows self.old self.new }
         ensures lasts { LastsOn self.old self.new }
+        ensures feeds { Feeds self.old → Feeds self.new }
     {
         self.poll();
         self.advance(drive);
@@ -46,6 +47,7 @@ impl Fdc {
         ensures stays { Stays self.old self.new }
         ensures flows { Flows self.old self.new }
         ensures lasts { LastsOn self.old self.new }
+        ensures feeds { Feeds self.old → Feeds self.new }
     {
         match self.phase {
             Phase::Execute { execution } => self.execute(execution, drive),

@@ -3,6 +3,7 @@ use Rattle.fdc_core.proofs.Hearing.{polled_hears}
 use Rattle.fdc_core.proofs.Staying.{polled_stays}
 use Rattle.fdc_core.proofs.Waiting.{polled_lasts}
 use Rattle.fdc_core.proofs.Writes.{polled_writes}
+use Rattle.fdc_core.proofs.Feeding.{polled_feeds}
 use Rattle.fdc_core.proofs.controller.Fdc.step.Goals as goal
 
 pub returns-clause-reads : goal.returns-clause-reads
@@ -19,3 +20,6 @@ returns-clause-writes g c =
 
 pub returns-clause-lasts : goal.returns-clause-lasts
 returns-clause-lasts g c = polled_lasts c.args.self.now c.poll.new.self c.advance.new.self c.poll.ensures.state c.advance.ensures.lasts
+
+pub returns-clause-feeds : goal.returns-clause-feeds
+returns-clause-feeds g c = polled_feeds c.args.self.now c.poll.new.self c.advance.new.self c.poll.ensures.state c.advance.ensures.feeds
