@@ -194,3 +194,11 @@ if_feeds false old feeds = feeds
 
 pub polled_feeds : (old polls new : Fdc) → polls ≡ polled old → (Feeds polls → Feeds new) → Feeds old → Feeds new
 polled_feeds old polls new is was feeds = was (subst (λ p. Feeds p) (sym is) (if_feeds (old.poll_due && not (is_held old)) old feeds))
+
+-- ---- a command that begins
+
+pub empty_room : (fifo : Fifo) → fifo.bytes ≡ [] → fifo.on ≡ true → 9 + length fifo.bytes ≤ room_of fifo.on
+empty_room fifo none on = let room = room_on fifo on in let empty = ap length none in omega arith
+
+pub empty_lead : (lead least : ℕ) (fifo : Fifo) → lead ≡ least → 9 ≤ least → 9 ≤ lead + length fifo.bytes
+empty_lead lead least fifo is enough = omega arith

@@ -10,3 +10,4 @@ pub mod Writes
 pub mod Waiting
 pub mod Tellings
 pub mod Feeding
+pub mod Given

@@ -6,6 +6,8 @@ ghost use Rattle.fdc_stages.specs.History.{Past};
 ghost use Rattle.fdc_core.specs.Heard.{Sent, MayRead, MayReadId};
 ghost use Rattle.fdc_core.specs.Meaning.{ReadTells, ReadGives, IdTells, Paced};
 ghost use Rattle.fdc_writing.specs.Formats.{Numbers};
+ghost use Rattle.fdc_core.specs.Ports.{Gives, value_read, after_read};
+ghost use Rattle.fdc_core.specs.declared.controller.Lines.{Lines};
 ghost use Rattle.fdc_core.specs.State.{asks};
 ghost use Rattle.fdc_core.specs.Tellings.{WritesWindow, WriteTells, LaysTrack, FormatTells};
 ghost use Rattle.fdc_core.specs.Waiting.{Feeds, CanWait};
@@ -56,4 +58,9 @@ pub fn format_tells()
 /// While DRQ is low the controller can wait nine device steps.
 pub fn quiet_request_waits()
     ensures { (slack : ℕ) (fdc : Fdc) → Feeds fdc → CanWait slack fdc → asks fdc ≡ false → CanWait 9 fdc }
+{}
+
+/// A read of the data port in the result phase gives the results byte by byte.
+pub fn results_are_given_in_order()
+    ensures { (port : ℕ) (lines : Lines) (fdc : Fdc) → Gives port (value_read port lines fdc) fdc (after_read port fdc) }
 {}
