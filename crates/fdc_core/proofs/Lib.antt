@@ -8,3 +8,7 @@ mod Following
 pub mod Words
 pub mod MayWrite
 pub mod Writes
+pub mod Waiting
+pub mod Tellings
+pub mod Feeding
+pub mod Given

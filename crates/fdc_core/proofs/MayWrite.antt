@@ -67,7 +67,7 @@ hand_byte true true taken handed [] byte is (inr (over, none, (zeros, padded))) 
 hand_byte true false taken handed [] byte is was = absurd (cc is)
 
 -- what a command that is over was handed
-content_of : (counted : Bool) (taken handed fifo : List ℕ) → IsHanded counted taken handed fifo → IsContent counted taken handed
+pub content_of : (counted : Bool) (taken handed fifo : List ℕ) → IsHanded counted taken handed fifo → IsContent counted taken handed
 content_of counted taken handed fifo (inl all) = inl (fifo, sym all)
 content_of counted taken handed fifo (inr (over, none, padded)) = inr (over, padded)
 

@@ -30,6 +30,8 @@ use Rattle.fdc_writing.specs.declared.formatting.FormatNext.{FormatNext}
 use Rattle.fdc_writing.specs.declared.formatting.FormatNext.TheVariants as format_next
 use Rattle.fdc_writing.specs.declared.writing.WriteNext.{WriteNext}
 use Rattle.fdc_writing.specs.declared.writing.WriteNext.TheVariants as write_next
+use Rattle.fdc_core.specs.Waiting.{Feeds}
+use Rattle.fdc_core.proofs.Feeding.{step_feeds}
 use Rattle.std.proofs.lemmas.Bool.{false≢true}
 use Rattle.fdc_core.specs.declared.controller.Fdc.{Fdc}
 use Rattle.fdc_core.specs.declared.phases.Reading.{Reading}
@@ -158,6 +160,11 @@ module _ (old new : Fdc) (before after : DriveState) (execution : Execution) (is
 
   pub executes_flows : Flows old new
   executes_flows = flows_in old.phase execution old new is (task_keeps execution.task execution.head_drive execution.steps old before after new steps)
+
+  pub executes_feeds : Feeds old → Feeds new
+  executes_feeds feeds =
+      let keeps = task_keeps execution.task execution.head_drive execution.steps old before after new steps in
+      step_feeds old new keeps.stays keeps.flows feeds
 
   pub executes_moves : MovesDrive old before after
   executes_moves = subst (λ phase. MovesIn phase old before after) (sym is) (task_moves execution.task execution.head_drive execution.steps old before after new steps)

@@ -6,6 +6,7 @@ use Rattle.flop_base.specs.Counts.{Rose, last_count}
 use Rattle.fdc_writing.specs.Formats as formats_of
 use Rattle.fdc_writing.specs.declared.formatting.FormatPart.{FormatPart}
 use Rattle.fdc_writing.specs.declared.formatting.FormatPart.TheVariants.{Await, Due, Lay, Barred}
+use Rattle.fdc_writing.specs.Leads.{HasLead}
 use Rattle.fdc_writing.specs.Writings.{opens, is_due, needs_byte}
 use Rattle.fdc_writing.specs.declared.writing.WriteStage.{WriteStage}
 use Rattle.fdc_writing.specs.declared.writing.WriteStage.TheVariants as stages
@@ -126,8 +127,8 @@ kept_turn head_drive steps formatting old before after new firsts unfit is =
     record { time = KeptOut is.index is.word; is = (unfit, is.is); does = (firsts, is.does) }
 
 pub laid_time : (head_drive steps byte : ℕ) (needs : Bool) (formatting : Formatting) (old mid_fdc : Fdc) (before after : DriveState) (new : Fdc) → steps < 65535 → (formats_of.opens formatting.stage ≡ true → rate_fits old.rate (rate_of before.medium) ≡ true) → formats_of.is_due formatting.stage ≡ true
-    → formats_of.Takes formatting.stage needs → byte_taken needs formatting.counted old.fifo ≡ Some byte → mid_fdc ≡ without_byte needs old → LaysByte head_drive steps formatting needs byte mid_fdc before after new → IsFormatTime head_drive steps formatting old before after new
-laid_time head_drive steps byte needs formatting old mid_fdc before after new few fits due asks takes leaves is = record {
+    → formats_of.Takes formatting.stage needs → ((lead : ℕ) → HasLead formatting.stage lead → needs ≡ true → lead ≡ 0) → byte_taken needs formatting.counted old.fifo ≡ Some byte → mid_fdc ≡ without_byte needs old → LaysByte head_drive steps formatting needs byte mid_fdc before after new → IsFormatTime head_drive steps formatting old before after new
+laid_time head_drive steps byte needs formatting old mid_fdc before after new few fits due asks needed takes leaves is = record {
   time = Wrote (formats_of.opens formatting.stage) (formats.is_ended is.next) (at_index before) is.given.word;
   is = record {
     from = is.from;
@@ -146,6 +147,7 @@ laid_time head_drive steps byte needs formatting old mid_fdc before after new fe
     opened_is = refl;
     needs = needs;
     takes = asks;
+    needed = needed;
     byte = byte;
     byte_is = takes;
     given = is.given;

@@ -19,6 +19,7 @@ use Rattle.fdc_core.specs.declared.controller.Lines.{Lines}
 use Rattle.fdc_core.specs.declared.phases.Phase.TheVariants.{Execute, Result}
 use Rattle.fdc_core.specs.declared.phases.Task.{Task}
 use Rattle.fdc_core.specs.Dma.{asked, task_asks}
+use Rattle.fdc_core.specs.Waiting.{TaskWaits}
 use Rattle.fdc_core.specs.Written.{MayWriteTask, MayFormatTask}
 use Rattle.fdc_writing.specs.Formats.{Numbers}
 
@@ -84,13 +85,18 @@ IsReadingId head_drive task = MayReadIdTask new_past head_drive head_drive 0 tas
 abbrev pub IsReadingData : Sent → Task → Type 0
 IsReadingData sent task = MayReadTask new_past sent sent.head_drive 0 task false []
 
+-- it can wait nine device steps for DMA, where the FIFO is on
+abbrev pub WaitsAtFirst : Task → Type 0
+WaitsAtFirst task = (fifo : Fifo) → fifo.bytes ≡ [] → fifo.on ≡ true → TaskWaits 9 task fifo
+
 -- the execution of such a task begins
 abbrev pub BeginsTask : ℕ → (Task → Type 0) → Fdc → Fdc → Type 0
-BeginsTask head_drive Is old new = (task : Task) × Is task × (new ≡ begun head_drive task old)
+BeginsTask head_drive Is old new = (task : Task) × Is task × WaitsAtFirst task × (new ≡ begun head_drive task old)
 
 -- the execution of such a task begins, and it asks for bytes
 abbrev pub BeginsAsking : ℕ → (Task → Type 0) → Fdc → Fdc → Type 0
-BeginsAsking head_drive Is old new = (task : Task) × Is task × (new ≡ asked (begun head_drive task old))
+BeginsAsking head_drive Is old new =
+    (task : Task) × Is task × WaitsAtFirst task × (new ≡ asked (begun head_drive task old))
 
 -- WRITE DATA or WRITE DELETED of what was sent, which has heard, taken and written nothing
 abbrev pub IsWritingData : Sent → Bool → Task → Type 0

@@ -1,9 +1,10 @@
 -- FORMAT TRACK, word by word.
-use Rattle.std.specs.Prelude.{◌≡◌, ◌<◌, ℕ, ◌+◌, Bool, true, false, List, Option, Some}
+use Rattle.std.specs.Prelude.{◌≡◌, ◌<◌, ℕ, ◌+◌, ◌-◌, Bool, true, false, List, Option, Some}
 use Rattle.drive_model.specs.Drive.{DriveState, is_protected, at_index, Writes, InRange}
 use Rattle.fdc_stages.specs.History.{Past, wrote}
 use Rattle.fdc_stages.specs.declared.ending.Ending.{Ending}
 use Rattle.fdc_writing.specs.Formats.{Numbers, is_open, opens, is_due, Takes, IsFormatting, IsNextLaid, HasNext, FailsWell, EndsWell}
+use Rattle.fdc_writing.specs.Leads.{HasLead, LeadsOn}
 use Rattle.fdc_writing.specs.Writings.{handed_with, heard_where}
 use Rattle.fdc_writing.specs.declared.formatting.FormatNext.{FormatNext}
 use Rattle.fdc_writing.specs.declared.formatting.FormatNext.TheVariants.{On, Ended}
@@ -33,7 +34,7 @@ abbrev pub StageHearsTurn : Formatting → Bool → FormatNext → Type 0
 StageHearsTurn formatting index next =
     ((past : Past) (numbers : Numbers) (handed : List ℕ) (word : ℕ) → is_open formatting.stage ≡ false → IsFormatting past numbers handed formatting.stage
     → HasNext (heard_where (opens formatting.stage) index word past) numbers handed next)
-    × FailsWell next
+    × FailsWell next × ((lead : ℕ) → HasLead formatting.stage lead → LeadsOn lead next)
 
 pub record StageLaysWord (formatting : Formatting) (takes : Bool) (byte : ℕ) (index : Bool) (given : FormatWord) (next : FormatNext) : Type 0 where
   pub word_is : (past : Past) (numbers : Numbers) (handed : List ℕ) → is_due formatting.stage ≡ true → IsFormatting past numbers handed formatting.stage → Takes formatting.stage takes
@@ -41,6 +42,7 @@ pub record StageLaysWord (formatting : Formatting) (takes : Bool) (byte : ℕ) (
   pub goes_on : (past : Past) (numbers : Numbers) (handed : List ℕ) → past.counted ≡ formatting.counted
       → IsNextLaid past numbers handed given.word given.stream given.key → HasNext (wrote index given.word past) numbers handed next
   pub well : EndsWell next
+  pub lead : (lead : ℕ) → HasLead formatting.stage lead → LeadsOn (lead - 1) next
 
 -- ---- a device step, behind so many others, by what its word time is
 
@@ -58,6 +60,7 @@ pub record LaysWord (head_drive steps : ℕ) (formatting : Formatting) (opened c
   pub opened_is : opened ≡ opens formatting.stage
   pub needs : Bool
   pub takes : Takes formatting.stage needs
+  pub needed : (lead : ℕ) → HasLead formatting.stage lead → needs ≡ true → lead ≡ 0
   pub byte : ℕ
   pub byte_is : byte_taken needs formatting.counted old.fifo ≡ Some byte
   pub given : FormatWord
@@ -71,6 +74,7 @@ pub record LaysWord (head_drive steps : ℕ) (formatting : Formatting) (opened c
 pub record StopsFormat (head_drive steps : ℕ) (formatting : Formatting) (old : Fdc) (before : DriveState) (new : Fdc) : Type 0 where
   pub ending : Ending
   pub needs : Bool
+  pub needed : (lead : ℕ) → HasLead formatting.stage lead → needs ≡ true → lead ≡ 0
   pub stops : Stops steps (is_protected before.medium) (byte_taken needs formatting.counted old.fifo) ending
   pub after_is : new ≡ finished ending head_drive no_key old
 

@@ -16,3 +16,5 @@ pub mod Formatting
 pub mod Tasks
 pub mod Written
 pub mod Writes
+pub mod Waiting
+pub mod Tellings

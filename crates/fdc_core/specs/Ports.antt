@@ -1,5 +1,5 @@
 -- The controller's ports.
-use Rattle.std.specs.Prelude.{◌≡◌, ℕ, Bool, true, false, not, ◌==◌, if◌then◌else◌, bit_and}
+use Rattle.std.specs.Prelude.{◌≡◌, ◌<◌, ◌≤◌, ◌+◌, get_or, ℕ, Bool, true, false, not, ◌==◌, if◌then◌else◌, bit_and}
 use Rattle.std.specs.Int.RustNames.{bit_or}
 use Rattle.fdc_registers.specs.Dir.{changed}
 use Rattle.fdc_registers.specs.Msr.{rqm, dio, busy}
@@ -9,6 +9,10 @@ use Rattle.fdc_core.specs.Answers.{next_byte, after_byte, is_fresh}
 use Rattle.fdc_core.specs.Commands.{Takes}
 use Rattle.fdc_core.specs.Rates.{rate_chosen}
 use Rattle.fdc_core.specs.State.{is_held, reset}
+use Rattle.fdc_commands.specs.Results.{result_bytes}
+use Rattle.fdc_commands.specs.declared.results.Results.{Results}
+use Rattle.fdc_stages.specs.declared.ending.Ending.{Ending}
+use Rattle.fdc_core.specs.declared.answers.Answer.TheVariants.{Long}
 use Rattle.fdc_core.specs.declared.controller.Fdc.{Fdc}
 use Rattle.fdc_core.specs.declared.controller.Lines.{Lines}
 use Rattle.fdc_core.specs.declared.phases.Phase.{Phase}
@@ -95,3 +99,17 @@ pub record Writes (port value : ℕ) (lines : Lines) (old new : Fdc) : Type 0 wh
   pub bytes : port ≡ 0x3F5 → WritesData value lines old new
   pub control : port ≡ 0x3F7 → new ≡ ccr_written value old
   pub others : (port == 0x3F2) ≡ false → (port == 0x3F4) ≡ false → (port == 0x3F5) ≡ false → (port == 0x3F7) ≡ false → new ≡ old
+
+-- the controller gives the results of this ending, and so many bytes of them were read
+abbrev pub IsGiving : Ending → Results → ℕ → Fdc → Type 0
+IsGiving ending results read fdc = fdc.phase ≡ Result (Long ending results read)
+
+-- a read of the data port then gives the next byte; behind the seventh the controller takes commands
+pub record GivesNext (ending : Ending) (results : Results) (read byte : ℕ) (new : Fdc) : Type 0 where
+  pub byte_is : byte ≡ get_or (result_bytes results) read 0xFF
+  pub goes_on : read < 6 → IsGiving ending results (read + 1) new
+  pub over : 6 ≤ read → new.phase ≡ Command
+
+abbrev pub Gives : ℕ → ℕ → Fdc → Fdc → Type 0
+Gives port byte old new =
+    port ≡ 0x3F5 → (ending : Ending) (results : Results) (read : ℕ) → IsGiving ending results read old → GivesNext ending results read byte new

@@ -6,7 +6,7 @@ use Rattle.fdc_fifo.specs.Fifo.{Fifo}
 use Rattle.fdc_stages.specs.History.{Past, wrote}
 use Rattle.fdc_stages.specs.declared.ending.Ending.{Ending}
 use Rattle.fdc_stages.specs.declared.ending.Ending.TheVariants.{Protected, Overrun, Late}
-use Rattle.fdc_writing.specs.Writings.{is_open, opens, is_due, needs_byte, handed_with, heard_where, IsWriting, IsNextWord, HasNext, FailsWell, EndsWell}
+use Rattle.fdc_writing.specs.Writings.{is_open, opens, is_due, needs_byte, handed_with, heard_where, IsWriting, IsNextWord, HasNext, FailsWell, EndsWell, LeadsOn, lead_of}
 use Rattle.fdc_writing.specs.declared.writing.WriteNext.{WriteNext}
 use Rattle.fdc_writing.specs.declared.writing.WriteNext.TheVariants.{On, Ended}
 use Rattle.fdc_writing.specs.declared.writing.WriteStage.{WriteStage}
@@ -51,7 +51,7 @@ abbrev pub StageHearsWord : Writing → Bool → ℕ → WriteNext → Type 0
 StageHearsWord writing index word next =
     ((past : Past) (deleted : Bool) (handed : List ℕ) → is_open writing.stage ≡ false → IsWriting past writing.wanted.key deleted handed writing.stage
     → HasNext (heard_where (opens writing.stage) index word past) writing.wanted.key deleted handed next)
-    × FailsWell next
+    × FailsWell next × LeadsOn (lead_of writing.stage) next
 
 pub record StageWritesWord (writing : Writing) (byte : ℕ) (index : Bool) (given : WriteWord) (next : WriteNext) : Type 0 where
   pub word_is : (past : Past) (handed : List ℕ) → is_due writing.stage ≡ true → IsWriting past writing.wanted.key writing.deleted handed writing.stage
@@ -59,6 +59,7 @@ pub record StageWritesWord (writing : Writing) (byte : ℕ) (index : Bool) (give
   pub goes_on : (past : Past) (key : Chrn) (deleted : Bool) (handed : List ℕ) → past.counted ≡ writing.counted
       → IsNextWord past key deleted handed given.word given.rest → HasNext (wrote index given.word past) key deleted handed next
   pub well : EndsWell next
+  pub lead : is_due writing.stage ≡ true → LeadsOn (lead_of writing.stage) next
 
 -- ---- a device step, behind so many others, by what its word time is
 

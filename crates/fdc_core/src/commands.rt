@@ -3,7 +3,7 @@ ghost use Rattle.std.specs.Prelude.{◌≡◌, ℕ};
 ghost use Rattle.track_model.specs.Fields.{IsSizeCode};
 ghost use Rattle.fdc_seek.specs.Seeking.{seek_bits};
 ghost use Rattle.fdc_commands.specs.Table.{SizeInRange};
-ghost use Rattle.fdc_core.specs.Commands.{answered, IsReadingId, IsReadingData, status_of_lines, sensing, configured, begun, BeginsTask, BeginsAsking, IsWritingData, IsFormattingTrack, Begins, ObeysAtRest, Obeys, Takes};
+ghost use Rattle.fdc_core.specs.Commands.{answered, IsReadingId, IsReadingData, status_of_lines, sensing, configured, begun, BeginsTask, BeginsAsking, WaitsAtFirst, IsWritingData, IsFormattingTrack, Begins, ObeysAtRest, Obeys, Takes};
 
 use crate::answers::Answer;
 use crate::controller::{Fdc, Lines};
@@ -231,7 +231,8 @@ impl Fdc {
 
 /// READ ID as it begins.
 fn reading_id() -> Task
-    ensures { (head_drive : ℕ) → IsReadingId head_drive result }
+    ensures is { (head_drive : ℕ) → IsReadingId head_drive result }
+    ensures waits { WaitsAtFirst result }
 {
     Task::ReadId {
         search: Search::new(),
@@ -241,8 +242,9 @@ fn reading_id() -> Task
 /// READ DATA as it begins.
 fn reading_data(key: Chrn, last_sector: u8) -> Task
     requires { IsSizeCode key.n }
-    ensures { (head_drive : ℕ)
+    ensures is { (head_drive : ℕ)
         → IsReadingData (record { head_drive = head_drive; key = key; last_sector = last_sector }) result }
+    ensures waits { WaitsAtFirst result }
 {
     Task::Read {
         reading: Reading {
@@ -257,8 +259,9 @@ fn reading_data(key: Chrn, last_sector: u8) -> Task
 /// WRITE DATA or WRITE DELETED as it begins.
 fn writing_data(key: Chrn, last_sector: u8, deleted: bool) -> Task
     requires { IsSizeCode key.n }
-    ensures { (head_drive : ℕ)
+    ensures is { (head_drive : ℕ)
         → IsWritingData (record { head_drive = head_drive; key = key; last_sector = last_sector }) deleted result }
+    ensures waits { WaitsAtFirst result }
 {
     Task::Write {
         writing: Writing {
@@ -274,8 +277,9 @@ fn writing_data(key: Chrn, last_sector: u8, deleted: bool) -> Task
 /// FORMAT TRACK as it begins.
 fn formatting_track(n: u8, sectors: u8, gap3: u8, fill: u8) -> Task
     requires { IsSizeCode n }
-    ensures { (head_drive : ℕ)
+    ensures is { (head_drive : ℕ)
         → IsFormattingTrack head_drive (record { n = n; sectors = sectors; gap3 = gap3; fill = fill }) result }
+    ensures waits { WaitsAtFirst result }
 {
     Task::Format {
         formatting: Formatting {

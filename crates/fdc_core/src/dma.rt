@@ -4,6 +4,7 @@ ghost use Rattle.fdc_stages.specs.History.{Past};
 ghost use Rattle.fdc_core.specs.Heard.{Sent, MayRead, gave, told_in};
 ghost use Rattle.fdc_core.specs.Listening.{is_executing};
 ghost use Rattle.fdc_core.specs.State.{asks};
+ghost use Rattle.fdc_core.specs.Waiting.{CanWait, Feeds};
 ghost use Rattle.fdc_core.specs.Written.{MayWrite, MayFormat, took};
 ghost use Rattle.fdc_writing.specs.Formats.{Numbers};
 ghost use Rattle.fdc_core.specs.Dma.{asked, byte_out, taken_out, taken_in, with_byte, told_count, told_to, task_asks, to_memory_of};
@@ -29,6 +30,8 @@ impl Fdc {
         ensures byte { result ≡ byte_out self.old }
         ensures after { self.new ≡ taken_out self.old }
         ensures reads { (past : Past) (sent : Sent) → MayRead past sent self.old → MayRead (gave result past) sent self.new }
+        ensures waits { (slack : ℕ) → CanWait slack self.old → CanWait slack self.new }
+        ensures feeds { Feeds self.old → Feeds self.new }
     {
         self.take_out()
     }
@@ -52,6 +55,8 @@ impl Fdc {
             → MayWrite (took byte past) sent deleted self.new }
         ensures formats { (past : Past) (sent : ℕ) (numbers : Numbers) → MayFormat past sent numbers self.old
             → MayFormat (took byte past) sent numbers self.new }
+        ensures waits { (slack : ℕ) → CanWait slack self.old → CanWait slack self.new }
+        ensures feeds { Feeds self.old → Feeds self.new }
     {
         self.take_in(byte);
     }
@@ -82,6 +87,8 @@ impl Fdc {
             → MayWrite (told_in (is_executing self.old.phase) past) sent deleted self.new }
         ensures formats { (past : Past) (sent : ℕ) (numbers : Numbers) → MayFormat past sent numbers self.old
             → MayFormat (told_in (is_executing self.old.phase) past) sent numbers self.new }
+        ensures waits { (slack : ℕ) → CanWait slack self.new }
+        ensures feeds { Feeds self.old → Feeds self.new }
     {
         self.end_transfer();
     }

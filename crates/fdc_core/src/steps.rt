@@ -5,6 +5,7 @@ ghost use Rattle.fdc_seek.specs.Seeking.{pulse_due};
 ghost use Rattle.fdc_core.specs.Listening.{Listens, ListensToNone, SeesUnder, HearsIn, HasStepsLeft};
 ghost use Rattle.fdc_core.specs.Steps.{polled, seek_stepped, let_pass, Rests, Moves, MovesDrive, Ends, Stays, Flows};
 ghost use Rattle.fdc_core.specs.Tasks.{IsListenStep, TaskSteps, TaskStepsNowhere};
+ghost use Rattle.fdc_core.specs.Waiting.{LastsOn, Feeds};
 ghost use Rattle.fdc_core.specs.Writes.{WritesOn};
 
 use crate::controller::Fdc;
@@ -29,6 +30,8 @@ impl Fdc {
         ensures ends { Ends self.old self.new }
         ensures stays { Stays self.old self.new }
         ensures flows { Flows self.old self.new }
+        ensures lasts { LastsOn self.old self.new }
+        ensures feeds { Feeds self.old → Feeds self.new }
     {
         self.poll();
         self.advance(drive);
@@ -43,6 +46,8 @@ impl Fdc {
         ensures ends { Ends self.old self.new }
         ensures stays { Stays self.old self.new }
         ensures flows { Flows self.old self.new }
+        ensures lasts { LastsOn self.old self.new }
+        ensures feeds { Feeds self.old → Feeds self.new }
     {
         match self.phase {
             Phase::Execute { execution } => self.execute(execution, drive),

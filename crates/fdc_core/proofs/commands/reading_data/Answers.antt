@@ -1,9 +1,10 @@
+use Rattle.fdc_core.proofs.Feeding.{empty_room}
 use Rattle.std.proofs.Common.{refl, []}
 use Rattle.std.proofs.lemmas.Bool.{false≢true}
 use Rattle.fdc_core.proofs.commands.reading_data.Goals as goal
 
-pub returns : goal.returns
-returns c = λ head_drive. (
+pub returns-clause-is : goal.returns-clause-is
+returns-clause-is c = λ head_drive. (
   λ up. absurd (false≢true up),
   (
     [],
@@ -17,3 +18,6 @@ returns c = λ head_drive. (
     },
   ),
 )
+
+pub returns-clause-waits : goal.returns-clause-waits
+returns-clause-waits c = λ fifo none on counted. empty_room fifo none on

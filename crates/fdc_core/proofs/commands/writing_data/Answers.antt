@@ -1,9 +1,12 @@
+use Rattle.std.proofs.Common.{arith}
+use Rattle.fdc_writing.specs.Writings.{lead_of}
+use Rattle.fdc_core.proofs.Feeding.{empty_lead}
 use Rattle.std.proofs.Common.{refl, inl, [], false}
 use Rattle.fdc_core.proofs.MayWrite.{rule_room}
 use Rattle.fdc_core.proofs.commands.writing_data.Goals as goal
 
-pub returns : goal.returns
-returns c = λ head_drive fifo asking none. (
+pub returns-clause-is : goal.returns-clause-is
+returns-clause-is c = λ head_drive fifo asking none. (
   rule_room false asking fifo,
   (
     [],
@@ -18,3 +21,6 @@ returns c = λ head_drive fifo asking none. (
     },
   ),
 )
+
+pub returns-clause-waits : goal.returns-clause-waits
+returns-clause-waits c = λ fifo none on counted. empty_lead (lead_of c.new.result) 39 fifo c.new.ensures.lead (omega arith)

@@ -1,4 +1,4 @@
 use Rattle.fdc_core.proofs.controller.Fdc.begin_id.Goals as goal
 
 pub returns : goal.returns
-returns c = (c.reading_id-task.result, c.reading_id-task.ensures c.args.head_drive, c.begin.ensures)
+returns c = (c.reading_id-task.result, c.reading_id-task.ensures.is c.args.head_drive, c.reading_id-task.ensures.waits, c.begin.ensures)

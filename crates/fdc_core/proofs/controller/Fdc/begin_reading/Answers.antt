@@ -1,4 +1,4 @@
 use Rattle.fdc_core.proofs.controller.Fdc.begin_reading.Goals as goal
 
 pub returns : goal.returns
-returns c = (c.reading_data-task.result, c.reading_data-task.ensures c.args.head_drive, c.begin.ensures)
+returns c = (c.reading_data-task.result, c.reading_data-task.ensures.is c.args.head_drive, c.reading_data-task.ensures.waits, c.begin.ensures)

@@ -4,6 +4,10 @@ use Rattle.fdc_core.specs.Listening.{is_executing}
 use Rattle.fdc_core.proofs.MayRead.{told_reads}
 use Rattle.fdc_core.specs.Written.{MayWrite, MayFormat}
 use Rattle.fdc_core.proofs.MayWrite.{told_writes, told_formats}
+use Rattle.fdc_core.specs.Dma.{fifo_told}
+use Rattle.fdc_core.specs.Phases.{is_reading}
+use Rattle.fdc_core.specs.Waiting.{CanWait, Feeds}
+use Rattle.fdc_core.proofs.Feeding.{told_waits, told_feeds}
 use Rattle.fdc_core.proofs.controller.Fdc.tc.Goals as goal
 
 pub returns-clause-reads : goal.returns-clause-reads
@@ -20,3 +24,11 @@ pub returns-clause-formats : goal.returns-clause-formats
 returns-clause-formats c = λ past sent numbers was.
     let old = c.args.self.now in
     subst (λ fdc. MayFormat (told_in (is_executing old.phase) past) sent numbers fdc) (sym c.end_transfer.ensures) (told_formats past sent numbers old.phase old.asking old.fifo was)
+
+pub returns-clause-waits : goal.returns-clause-waits
+returns-clause-waits c = λ slack.
+    let old = c.args.self.now in
+    subst (λ fdc. CanWait slack fdc) (sym c.end_transfer.ensures) (told_waits slack old.phase (fifo_told (is_reading old.phase) old.fifo))
+
+pub returns-clause-feeds : goal.returns-clause-feeds
+returns-clause-feeds c = λ feeds. subst (λ fdc. Feeds fdc) (sym c.end_transfer.ensures) (told_feeds c.args.self.now feeds)

@@ -1,0 +1,25 @@
+-- Results, byte by byte.
+use Rattle.std.proofs.Common.{◌≡◌, ◌<◌, ◌≤◌, ℕ, ◌+◌, Bool, true, false, if◌then◌else◌, nat_le, refl, sym, ap, subst, ◌∙◌, arith}
+use Rattle.std.proofs.lemmas.Bool.Decides.{nat_tests}
+use Rattle.fdc_commands.specs.declared.results.Results.{Results}
+use Rattle.fdc_stages.specs.declared.ending.Ending.{Ending}
+use Rattle.fdc_core.specs.Ports.{IsGiving, GivesNext, Gives, given, value_read, after_read, result_byte, phase_after}
+use Rattle.fdc_core.specs.declared.answers.Answer.TheVariants.{Long}
+use Rattle.fdc_core.specs.declared.controller.Fdc.{Fdc}
+use Rattle.fdc_core.specs.declared.controller.Lines.{Lines}
+use Rattle.fdc_core.specs.declared.phases.Phase.{Phase}
+use Rattle.fdc_core.specs.declared.phases.Phase.TheVariants.{Command, Result}
+
+is_less : (m : ℕ) → m < 6 → nat_le 6 m ≡ false
+is_less m less = grind (arith, nat_tests)
+
+is_most : (m : ℕ) → 6 ≤ m → nat_le 6 m ≡ true
+is_most m most = grind (arith, nat_tests)
+
+pub gives_next : (port : ℕ) (lines : Lines) (fdc : Fdc) → Gives port (value_read port lines fdc) fdc (after_read port fdc)
+gives_next port lines fdc at ending results read is =
+    subst (λ p. GivesNext ending results read (value_read p lines fdc) (after_read p fdc)) (sym at) (record {
+      byte_is = ap result_byte is;
+      goes_on = λ less. ap phase_after is ∙ ap (λ over. if over then Command else Result (Long ending results (read + 1))) (is_less read less);
+      over = λ most. ap phase_after is ∙ ap (λ over. if over then Command else Result (Long ending results (read + 1))) (is_most read most);
+    })

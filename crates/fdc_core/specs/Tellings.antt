@@ -1,0 +1,71 @@
+-- What is known of the words that a write or a FORMAT wrote, and what its results say.
+use Rattle.std.specs.Prelude.{◌≡◌, ℕ, Bool, true, List}
+use Rattle.fdc_commands.specs.declared.results.Results.{Results}
+use Rattle.flop_base.specs.declared.key.Chrn.{Chrn}
+use Rattle.fdc_stages.specs.History.{Past}
+use Rattle.fdc_stages.specs.declared.ending.Ending.{Ending}
+use Rattle.fdc_stages.specs.declared.ending.Ending.TheVariants.{Done}
+use Rattle.fdc_writing.specs.Formats as formats
+use Rattle.fdc_writing.specs.Formats.{Numbers, LaysFirst, LaysWhole, IsResultKey}
+use Rattle.fdc_writing.specs.Writings.{WritesFirst, WritesWhole, HasCause}
+use Rattle.fdc_core.specs.Answers.{results_of}
+use Rattle.fdc_core.specs.Heard.{Sent, results_sent}
+use Rattle.fdc_core.specs.Written.{IsContent}
+use Rattle.fdc_core.specs.declared.answers.Answer.TheVariants.{Short, Long}
+use Rattle.fdc_core.specs.declared.controller.Fdc.{Fdc}
+use Rattle.fdc_core.specs.declared.phases.Phase.{Phase}
+use Rattle.fdc_core.specs.declared.phases.Phase.TheVariants.{Command, Execute, Result}
+
+-- ---- WRITE DATA and WRITE DELETED
+
+-- the words are none, or the first of the window of an address field of the key, at its place, with this mark; its content is
+-- the first of the bytes that were taken, and 00 behind an early terminal count
+abbrev pub WritesWindow : Past → Sent → Bool → Type 0
+WritesWindow past sent deleted =
+    (handed : List ℕ) × IsContent past.counted past.taken handed × WritesFirst past sent.key deleted handed
+
+-- the ending's cause; of IC 00 that the window is whole
+abbrev pub WholeIfDone : Past → Chrn → Bool → List ℕ → Ending → Type 0
+WholeIfDone past key deleted handed (Done _) = WritesWhole past key deleted handed
+WholeIfDone past key deleted handed _ = Unit {0}
+
+pub record WriteMeans (past : Past) (sent : Sent) (deleted : Bool) (ending : Ending) (results : Results) : Type 0 where
+  pub results_are : results ≡ results_sent ending sent
+  pub handed : List ℕ
+  pub content : IsContent past.counted past.taken handed
+  pub first : WritesFirst past sent.key deleted handed
+  pub cause : HasCause past sent.key deleted handed ending
+  pub whole : WholeIfDone past sent.key deleted handed ending
+
+abbrev pub WriteMeansIn : Past → Sent → Bool → Phase → Type 0
+WriteMeansIn past sent deleted (Result (Long ending results _)) = WriteMeans past sent deleted ending results
+WriteMeansIn past sent deleted _ = Unit {0}
+
+abbrev pub WriteTells : Past → Sent → Bool → Fdc → Type 0
+WriteTells past sent deleted fdc = WriteMeansIn past sent deleted fdc.phase
+
+-- ---- FORMAT TRACK
+
+-- the words are the first of the layout of the keys that were taken, with 00 for what is missing
+abbrev pub LaysTrack : Past → Numbers → Type 0
+LaysTrack past numbers = (handed : List ℕ) × IsContent past.counted past.taken handed × LaysFirst past numbers handed
+
+abbrev pub LaidIfDone : Past → Numbers → List ℕ → Ending → Type 0
+LaidIfDone past numbers handed (Done _) = LaysWhole past numbers handed
+LaidIfDone past numbers handed _ = Unit {0}
+
+pub record FormatMeans (past : Past) (sent : ℕ) (numbers : Numbers) (ending : Ending) (results : Results) : Type 0 where
+  pub results_are : results ≡ results_of ending sent results.key
+  pub handed : List ℕ
+  pub key : IsResultKey numbers handed ending results.key
+  pub content : IsContent past.counted past.taken handed
+  pub first : LaysFirst past numbers handed
+  pub cause : formats.HasCause past numbers handed ending
+  pub whole : LaidIfDone past numbers handed ending
+
+abbrev pub FormatMeansIn : Past → ℕ → Numbers → Phase → Type 0
+FormatMeansIn past sent numbers (Result (Long ending results _)) = FormatMeans past sent numbers ending results
+FormatMeansIn past sent numbers _ = Unit {0}
+
+abbrev pub FormatTells : Past → ℕ → Numbers → Fdc → Type 0
+FormatTells past sent numbers fdc = FormatMeansIn past sent numbers fdc.phase
