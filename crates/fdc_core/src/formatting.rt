@@ -16,7 +16,13 @@ use fdc_writing::FormatNext;
 
 impl Fdc {
     /// A device step of a FORMAT, behind `steps` others. A protected medium is met in the first.
-    pub(crate) fn step_formatting<D: Drive>(&mut self, head_drive: u8, steps: u16, formatting: Formatting, drive: &mut D)
+    pub(crate) fn step_formatting<D: Drive>(
+        &mut self,
+        head_drive: u8,
+        steps: u16,
+        formatting: Formatting,
+        drive: &mut D,
+    )
         ensures { IsFormatStep head_drive steps formatting self.old (D.state drive.old) (D.state drive.new) self.new }
     {
         if steps == LAST_STEP {
@@ -29,7 +35,13 @@ impl Fdc {
     }
 
     /// The word is heard or written.
-    fn format_on<D: Drive>(&mut self, head_drive: u8, steps: u16, formatting: Formatting, drive: &mut D)
+    fn format_on<D: Drive>(
+        &mut self,
+        head_drive: u8,
+        steps: u16,
+        formatting: Formatting,
+        drive: &mut D,
+    )
         requires { steps < 65535 }
         ensures { IsFormatTime head_drive steps formatting self.old (D.state drive.old) (D.state drive.new) self.new }
     {
@@ -43,7 +55,13 @@ impl Fdc {
     }
 
     /// The word is heard.
-    fn hear_formatting<D: Drive>(&mut self, head_drive: u8, steps: u16, formatting: Formatting, drive: &mut D)
+    fn hear_formatting<D: Drive>(
+        &mut self,
+        head_drive: u8,
+        steps: u16,
+        formatting: Formatting,
+        drive: &mut D,
+    )
         requires { steps < 65535 }
         ensures { HearsATurn head_drive steps formatting self.old (D.state drive.old) (D.state drive.new) self.new }
     {
@@ -61,7 +79,13 @@ impl Fdc {
     }
 
     /// The first word of the layout is written, where the rate is the medium's.
-    fn open_track<D: Drive>(&mut self, head_drive: u8, steps: u16, formatting: Formatting, drive: &mut D)
+    fn open_track<D: Drive>(
+        &mut self,
+        head_drive: u8,
+        steps: u16,
+        formatting: Formatting,
+        drive: &mut D,
+    )
         requires few { steps < 65535 }
         requires opens { opens formatting.stage ≡ true }
         ensures { IsFormatTime head_drive steps formatting self.old (D.state drive.old) (D.state drive.new) self.new }
@@ -74,7 +98,13 @@ impl Fdc {
     }
 
     /// The next word of the layout is written, unless its byte is missing.
-    fn go_on_track<D: Drive>(&mut self, head_drive: u8, steps: u16, formatting: Formatting, drive: &mut D)
+    fn go_on_track<D: Drive>(
+        &mut self,
+        head_drive: u8,
+        steps: u16,
+        formatting: Formatting,
+        drive: &mut D,
+    )
         requires few { steps < 65535 }
         requires fits { opens formatting.stage ≡ true → rate_fits self.old.rate (rate_of (D.state drive.old).medium) ≡ true }
         requires due { is_due formatting.stage ≡ true }
@@ -88,7 +118,14 @@ impl Fdc {
     }
 
     /// Writes the next word. The gate opens before the first, and closes behind the last.
-    fn lay_word<D: Drive>(&mut self, head_drive: u8, steps: u16, formatting: Formatting, byte: u8, drive: &mut D)
+    fn lay_word<D: Drive>(
+        &mut self,
+        head_drive: u8,
+        steps: u16,
+        formatting: Formatting,
+        byte: u8,
+        drive: &mut D,
+    )
         requires { steps < 65535 }
         ensures { (takes : Bool) → LaysByte head_drive steps formatting takes byte self.old (D.state drive.old) (D.state drive.new) self.new }
     {
@@ -101,7 +138,13 @@ impl Fdc {
     }
 
     /// The FORMAT does what the word that passed asks for.
-    fn follow_formatting(&mut self, head_drive: u8, steps: u16, formatting: Formatting, next: FormatNext)
+    fn follow_formatting(
+        &mut self,
+        head_drive: u8,
+        steps: u16,
+        formatting: Formatting,
+        next: FormatNext,
+    )
         ensures { self.new ≡ after_laid head_drive steps formatting next self.old }
     {
         match next {

@@ -176,7 +176,13 @@ impl Fdc {
     }
 
     /// A device step of a READ DATA, behind `steps` others.
-    fn step_reading<D: Drive>(&mut self, head_drive: u8, steps: u16, reading: Reading, drive: &mut D)
+    fn step_reading<D: Drive>(
+        &mut self,
+        head_drive: u8,
+        steps: u16,
+        reading: Reading,
+        drive: &mut D,
+    )
         ensures { IsListenStep head_drive steps (Task.Read reading) self.old (D.state drive.old) (D.state drive.new) self.new }
     {
         if steps == LAST_STEP {

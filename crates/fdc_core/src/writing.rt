@@ -22,7 +22,13 @@ const NO_BYTE: u8 = 0x00;
 
 impl Fdc {
     /// A device step of a write, behind `steps` others. A protected medium is met in the first.
-    pub(crate) fn step_writing<D: Drive>(&mut self, head_drive: u8, steps: u16, writing: Writing, drive: &mut D)
+    pub(crate) fn step_writing<D: Drive>(
+        &mut self,
+        head_drive: u8,
+        steps: u16,
+        writing: Writing,
+        drive: &mut D,
+    )
         ensures { IsWriteStep head_drive steps writing self.old (D.state drive.old) (D.state drive.new) self.new }
     {
         if steps == LAST_STEP {
@@ -49,7 +55,13 @@ impl Fdc {
     }
 
     /// The word is heard.
-    fn hear_writing<D: Drive>(&mut self, head_drive: u8, steps: u16, writing: Writing, drive: &mut D)
+    fn hear_writing<D: Drive>(
+        &mut self,
+        head_drive: u8,
+        steps: u16,
+        writing: Writing,
+        drive: &mut D,
+    )
         requires { steps < 65535 }
         ensures { HearsAWord head_drive steps writing self.old (D.state drive.old) (D.state drive.new) self.new }
     {
@@ -82,7 +94,13 @@ impl Fdc {
     }
 
     /// The next word of the window is written, unless its byte is missing.
-    fn go_on_window<D: Drive>(&mut self, head_drive: u8, steps: u16, writing: Writing, drive: &mut D)
+    fn go_on_window<D: Drive>(
+        &mut self,
+        head_drive: u8,
+        steps: u16,
+        writing: Writing,
+        drive: &mut D,
+    )
         requires few { steps < 65535 }
         requires fits { opens writing.stage ≡ true → rate_fits self.old.rate (rate_of (D.state drive.old).medium) ≡ true }
         requires due { is_due writing.stage ≡ true }
@@ -95,7 +113,14 @@ impl Fdc {
     }
 
     /// Writes the next word. The gate opens before the first, and closes behind the last.
-    fn put_word<D: Drive>(&mut self, head_drive: u8, steps: u16, writing: Writing, byte: u8, drive: &mut D)
+    fn put_word<D: Drive>(
+        &mut self,
+        head_drive: u8,
+        steps: u16,
+        writing: Writing,
+        byte: u8,
+        drive: &mut D,
+    )
         requires { steps < 65535 }
         ensures { PutsByte head_drive steps writing byte self.old (D.state drive.old) (D.state drive.new) self.new }
     {
@@ -142,7 +167,13 @@ impl Fdc {
     }
 
     /// The command ends in this step: the gate is closed, and no word is read or written.
-    pub(crate) fn stop<D: Drive>(&mut self, ending: Ending, head_drive: u8, key: Chrn, drive: &mut D)
+    pub(crate) fn stop<D: Drive>(
+        &mut self,
+        ending: Ending,
+        head_drive: u8,
+        key: Chrn,
+        drive: &mut D,
+    )
         ensures state { self.new ≡ finished ending head_drive key self.old }
         ensures drive { Becomes (D.state drive.old) (let_pass (D.state drive.old)) (D.state drive.new) }
     {
