@@ -3,7 +3,6 @@ use Rattle.std.proofs.Common.{◌≡◌, ◌⊎◌, ◌<◌, ◌≤◌, ℕ, ◌
 use Rattle.std.proofs.lemmas.Bool.{false≢true, eqb-true}
 use Rattle.std.proofs.lemmas.Bool.Decides.{nat_tests}
 use Rattle.fdc_fifo.specs.Fifo.{Fifo, room_of, worth_fetching, low_level, wants}
-use Rattle.fdc_stages.specs.declared.reading.ReadStage.{ReadStage}
 use Rattle.fdc_core.specs.Dma.{task_asks, phase_asks, with_byte, taken_out, taken_in, task_told, phase_told, fifo_told, asking_told, told_count}
 use Rattle.fdc_core.specs.Phases.{is_over, is_read, is_reading, moves_bytes, is_moving}
 use Rattle.fdc_core.specs.State.{asks, is_gated, is_held}
@@ -19,7 +18,6 @@ use Rattle.fdc_core.specs.declared.phases.Task.TheVariants.{ReadId, Read, Write,
 
 below : (m n : ℕ) → nat_le m n ≡ false → n < m
 below m n is = grind (arith, nat_tests)
-
 
 -- few bytes to fetch
 fetch_low : (none before ended many : Bool) → (not none && (before || ended || many)) ≡ false → (none ≡ true) ⊎ (many ≡ false)

@@ -1,10 +1,10 @@
 -- A device step of a command that listens, put together.
-use Rattle.std.proofs.Common.{◌≡◌, ◌<◌, ◌≤◌, ℕ, ◌+◌, Bool, true, false, not, ◌&&◌, if◌then◌else◌, ◌==◌, length, Option, Some, None, refl, sym, ap, subst, ◌∙◌, arith, inl, inr}
+use Rattle.std.proofs.Common.{◌≡◌, ℕ, ◌+◌, Bool, true, false, not, ◌&&◌, if◌then◌else◌, ◌==◌, length, Some, refl, sym, subst, ◌∙◌, inl, inr}
 use Rattle.std.proofs.lemmas.Bool.{false≢true}
 use Rattle.drive_model.specs.Drive.{DriveState, at_index}
 use Rattle.fdc_seek.specs.Seeking.{with_polls}
 use Rattle.fdc_stages.specs.Searches.{IsMiss, MissesWell}
-use Rattle.fdc_stages.specs.Readings.{IsFailure, FailsWell}
+use Rattle.fdc_stages.specs.Readings.{IsFailure}
 use Rattle.fdc_stages.specs.declared.ending.Ending.{Ending}
 use Rattle.fdc_stages.specs.declared.ending.Ending.TheVariants.{Done, NoMark, NoSector, NoField, BadCheck, Overrun, NoCount, Protected, Late}
 use Rattle.fdc_stages.specs.Readings.{ReadOutcome}
@@ -14,9 +14,9 @@ use Rattle.fdc_stages.specs.declared.reading.ReadStage.TheVariants as stages
 use Rattle.fdc_stages.specs.Searches.{SearchOutcome}
 use Rattle.fdc_stages.specs.Searches as searched
 use Rattle.flop_base.specs.declared.key.Chrn.{Chrn}
-use Rattle.fdc_core.specs.Answers.{key_after, no_key}
-use Rattle.fdc_core.specs.Listening.{SeesWord, Listens, ListensToNone, StepHears, Follows, StepsOn, ExecutesTask, ExecutesIn, OverrunsIn, OverrunsTask, FindsFull, Hears, SearchHears, StageHears, is_executing, after_step}
-use Rattle.fdc_core.specs.Phases.{is_listening, ending_at, ending_over, ending_of, is_overrun}
+use Rattle.fdc_core.specs.Answers.{no_key}
+use Rattle.fdc_core.specs.Listening.{SeesWord, Listens, ListensToNone, StepHears, Follows, StepsOn, ExecutesTask, ExecutesIn, OverrunsIn, OverrunsTask, FindsFull, Hears, StageHears}
+use Rattle.fdc_core.specs.Phases.{is_listening, ending_at, ending_over, is_overrun}
 use Rattle.fdc_core.specs.Reading.{after_searched, after_heard, over_or_on, gone_on_reading, at_stage, pushed, is_full}
 use Rattle.fdc_core.specs.State.{is_held, finished}
 use Rattle.fdc_core.specs.Steps.{polled, seek_stepped}

@@ -1,10 +1,10 @@
 -- What a device step, a transfer and the terminal count leave of a READ DATA.
-use Rattle.std.proofs.Common.{rules, ◌≡◌, ◌⊎◌, ℕ, ◌+◌, Bool, true, false, not, ◌&&◌, if◌then◌else◌, ◌==◌, List, [], ◌∷◌, ◌++◌, length, min, drop, get_or, nat_le, Option, Some, None, IfSome, refl, sym, ap, subst, ◌∙◌, arith, inl, inr, append_assoc, length-append}
+use Rattle.std.proofs.Common.{rules, ◌≡◌, ◌⊎◌, ℕ, ◌+◌, Bool, true, false, not, ◌&&◌, if◌then◌else◌, ◌==◌, List, [], ◌∷◌, ◌++◌, length, min, drop, get_or, nat_le, Option, Some, None, IfSome, refl, sym, ap, subst, ◌∙◌, arith, inl, inr, append_assoc}
 use Rattle.std.proofs.lemmas.Bool.{false≢true}
 use Rattle.flop_base.specs.declared.key.Chrn.{Chrn}
 use Rattle.track_model.specs.Fields.{content_size}
 use Rattle.track_separator.proofs.Laws.{reads_mark, reads_within}
-use Rattle.fdc_stages.specs.History.{Past, heard, words_in, words_heard}
+use Rattle.fdc_stages.specs.History.{Past, heard, words_heard}
 use Rattle.fdc_stages.specs.Readings.{IsStart, IsReading, HasRead, HasHeard, FailsWell, IsFailure, IsOver, IsToldOf}
 use Rattle.fdc_stages.specs.declared.ending.Ending.{Ending}
 use Rattle.fdc_stages.specs.declared.ending.Ending.TheVariants.{Done, NoMark, NoSector, NoField, BadCheck, Overrun, NoCount, Protected, Late}

@@ -3,15 +3,15 @@ use Rattle.std.proofs.Common.{◌≡◌, ℕ, ◌+◌, Bool, true, false, None, 
 use Rattle.flop_base.specs.declared.key.Chrn.{Chrn}
 use Rattle.track_separator.specs.declared.state.Separator.{Separator}
 use Rattle.fdc_stages.specs.History.{Past, heard, IsAmong, words_heard}
-use Rattle.fdc_stages.specs.Searches.{IsSearching, IsMet, IsMissed, HasSearched, IsMiss, MissesWell}
-use Rattle.fdc_stages.specs.Findings.{HasAddress, HasIdentified}
+use Rattle.fdc_stages.specs.Searches.{IsSearching, IsMet, IsMissed, HasSearched}
+use Rattle.fdc_stages.specs.Findings.{HasAddress}
 use Rattle.fdc_stages.specs.declared.ending.Ending.{Ending}
 use Rattle.fdc_stages.specs.declared.ending.Ending.TheVariants.{Done, NoMark, NoSector, NoField, BadCheck, Overrun, NoCount, Protected, Late}
 use Rattle.fdc_stages.specs.declared.searching.Search.{Search}
 use Rattle.fdc_stages.specs.Searches.{SearchOutcome}
 use Rattle.fdc_stages.specs.Searches as searched
 use Rattle.fdc_core.specs.Answers.{no_key, results_of}
-use Rattle.fdc_core.specs.Heard.{MayReadId, MayReadIdIn, MayReadIdTask, IsIdentifying, IdentifiedAs, stepped}
+use Rattle.fdc_core.specs.Heard.{MayReadId, MayReadIdIn, MayReadIdTask, IdentifiedAs, stepped}
 use Rattle.fdc_core.specs.Listening.{Hears, is_executing, after_step}
 use Rattle.fdc_core.specs.Reading.{after_searched}
 use Rattle.fdc_core.specs.Phases.{key_as_sent}

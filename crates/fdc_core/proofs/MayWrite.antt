@@ -1,5 +1,5 @@
 -- What a device step, a transfer and the terminal count leave of a write and of a FORMAT.
-use Rattle.std.proofs.Common.{◌≡◌, ◌⊎◌, ◌<◌, ℕ, zero, suc, ◌+◌, Bool, true, false, not, ◌&&◌, ◌||◌, if◌then◌else◌, ◌==◌, List, [], ◌∷◌, ◌++◌, length, replicate, drop, nat_le, Option, Some, None, refl, sym, ap, subst, ◌∙◌, arith, inl, inr, append_assoc, append-nil}
+use Rattle.std.proofs.Common.{◌≡◌, ℕ, zero, suc, ◌+◌, Bool, true, false, not, ◌&&◌, ◌||◌, if◌then◌else◌, ◌==◌, List, [], ◌∷◌, ◌++◌, length, replicate, drop, nat_le, Option, Some, None, refl, sym, ap, subst, ◌∙◌, arith, inl, inr, append_assoc, append-nil}
 use Rattle.std.proofs.lemmas.Bool.{false≢true}
 use Rattle.std.proofs.lemmas.List.{replicate_more}
 use Rattle.flop_base.specs.declared.key.Chrn.{Chrn}
@@ -10,7 +10,7 @@ use Rattle.fdc_stages.specs.declared.ending.Ending.{Ending}
 use Rattle.fdc_stages.specs.declared.ending.Ending.TheVariants.{Done, NoMark, NoSector, NoField, BadCheck, Overrun, NoCount, Protected, Late}
 use Rattle.fdc_writing.specs.Formats as formats
 use Rattle.fdc_writing.specs.Formats.{Numbers, IsFormatting}
-use Rattle.fdc_writing.specs.Writings.{is_open, opens, is_due, needs_byte, handed_with, heard_where, IsWriting, HasNext, HasWritten, IsStopped}
+use Rattle.fdc_writing.specs.Writings.{is_open, opens, is_due, needs_byte, handed_with, heard_where, IsWriting, HasNext, IsStopped}
 use Rattle.fdc_writing.specs.declared.formatting.FormatNext.{FormatNext}
 use Rattle.fdc_writing.specs.declared.formatting.FormatNext.TheVariants as format_next
 use Rattle.fdc_writing.specs.declared.formatting.FormatPart.{FormatPart}
@@ -22,15 +22,13 @@ use Rattle.fdc_writing.specs.declared.writing.WriteStage.TheVariants as stages
 use Rattle.fdc_writing.proofs.Ended.{stopped_written, stopped_formatted}
 use Rattle.fdc_core.specs.Answers.{key_after, results_of, no_key}
 use Rattle.fdc_core.specs.Dma.{task_asks, task_told, asking_told, fifo_told, with_byte, phase_asks, phase_told}
-use Rattle.fdc_core.specs.Formatting as formatting_of
 use Rattle.fdc_core.specs.Formatting.{FormatDoes, after_laid}
-use Rattle.fdc_core.specs.Heard.{Sent, results_sent, stepped, told_in}
+use Rattle.fdc_core.specs.Heard.{Sent, stepped, told_in}
 use Rattle.fdc_core.specs.Listening.{is_executing}
-use Rattle.fdc_core.specs.Phases.{is_read, is_reading, moves_bytes, is_moving, write_at, format_at}
-use Rattle.fdc_core.specs.State.{finished}
+use Rattle.fdc_core.specs.Phases.{is_read, is_reading, moves_bytes, is_moving}
 use Rattle.fdc_core.specs.Times.{WordTime, Saw, KeptOut, Wrote, Stopped, after_time}
 use Rattle.fdc_core.specs.Writing.{WriteDoes, Stops, after_next, oldest_of, byte_taken, without_byte}
-use Rattle.fdc_core.specs.Written.{took, IsHanded, IsContent, AsksWithRoom, write_sent, IsWritingOn, MayWrite, MayWriteIn, MayWriteTask, HasWrittenAs, IsFormattingOn, MayFormat, MayFormatIn, MayFormatTask, HasFormattedAs}
+use Rattle.fdc_core.specs.Written.{took, IsHanded, IsContent, AsksWithRoom, write_sent, MayWrite, MayWriteIn, MayWriteTask, MayFormat, MayFormatIn, MayFormatTask}
 use Rattle.fdc_core.specs.declared.answers.Answer.TheVariants.{Short, Long}
 use Rattle.fdc_core.specs.declared.controller.Fdc.{Fdc}
 use Rattle.fdc_core.specs.declared.phases.Phase.{Phase}

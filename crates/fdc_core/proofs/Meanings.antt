@@ -1,21 +1,20 @@
 -- What follows from what is known of a command.
-use Rattle.std.proofs.Common.{◌≡◌, ℕ, Bool, true, false, not, List, [], ◌∷◌, ◌++◌, length, refl, sym, subst, inl, inr, ◌∙◌, None, Some}
+use Rattle.std.proofs.Common.{◌≡◌, ℕ, Bool, true, false, not, List, ◌++◌, refl, subst, None, Some}
 use Rattle.std.proofs.lemmas.Bool.{false≢true}
 use Rattle.flop_base.specs.declared.key.Chrn.{Chrn}
 use Rattle.track_model.specs.Fields.{IsSizeCode}
 use Rattle.fdc_stages.specs.History.{Past, HasFewTurns}
-use Rattle.fdc_stages.specs.Findings.{HasIdentified, FindsSector}
-use Rattle.fdc_stages.specs.Readings.{IsStart, IsReading, HasRead, IsOver, IsToldOf}
+use Rattle.fdc_stages.specs.Findings.{HasIdentified}
+use Rattle.fdc_stages.specs.Readings.{IsStart, IsReading, IsToldOf}
 use Rattle.fdc_stages.specs.declared.ending.Ending.{Ending}
 use Rattle.fdc_stages.specs.declared.ending.Ending.TheVariants.{Done, NoMark, NoSector, NoField, BadCheck, Overrun, NoCount, Protected, Late}
 use Rattle.fdc_stages.specs.declared.reading.ReadStage.{ReadStage}
 use Rattle.fdc_stages.specs.declared.reading.ReadStage.TheVariants as stages
 use Rattle.fdc_stages.proofs.Causes.{found_of, bad_check_of, no_field_of, no_mark_of, no_sector_of}
 use Rattle.fdc_stages.proofs.Laws.{over_told, reading_told, searching_few}
-use Rattle.fdc_core.specs.Heard.{Sent, MayRead, MayReadIn, MayReadTask, MayReadAnswer, MayReadId, MayReadIdIn, MayReadIdTask, MayReadIdAnswer, HasEndedAs, IsUnderway, IdentifiedAs}
+use Rattle.fdc_core.specs.Heard.{Sent, MayRead, MayReadIn, MayReadTask, MayReadId, MayReadIdIn, MayReadIdTask, HasEndedAs}
 use Rattle.fdc_core.specs.Meaning.{ReadMeans, ReadMeansIn, FindsUncounted, ReadGives, AreOfField, bytes_held, IdMeans, IdMeansIn, PacedIn, IsPaced, is_hearing}
 use Rattle.fdc_core.specs.Phases.{is_over}
-use Rattle.fdc_core.specs.declared.answers.Answer.{Answer}
 use Rattle.fdc_core.specs.declared.answers.Answer.TheVariants.{Short, Long}
 use Rattle.fdc_core.specs.declared.controller.Fdc.{Fdc}
 use Rattle.fdc_core.specs.declared.phases.Phase.{Phase}

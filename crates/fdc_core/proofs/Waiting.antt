@@ -1,8 +1,8 @@
 -- No byte finds the FIFO full or is missing while the controller can wait.
-use Rattle.std.proofs.Common.{◌≡◌, ◌<◌, ◌≤◌, ℕ, ◌+◌, ◌-◌, Bool, true, false, not, ◌&&◌, ◌||◌, if◌then◌else◌, ◌==◌, List, [], ◌∷◌, ◌++◌, length, drop, nat_le, max, Option, Some, None, refl, sym, ap, subst, ◌∙◌, arith, inl, inr, length-append, length-drop}
+use Rattle.std.proofs.Common.{◌≡◌, ◌≤◌, ℕ, ◌+◌, ◌-◌, Bool, true, false, not, ◌&&◌, if◌then◌else◌, ◌==◌, List, [], ◌∷◌, length, Option, Some, None, refl, sym, ap, subst, ◌∙◌, arith, inl, inr, length-append, length-drop}
 use Rattle.std.proofs.lemmas.Bool.{false≢true, eqb-true}
 use Rattle.drive_model.specs.Drive.{DriveState, at_index, is_protected}
-use Rattle.fdc_fifo.specs.Fifo.{Fifo, room_of}
+use Rattle.fdc_fifo.specs.Fifo.{room_of}
 use Rattle.fdc_seek.specs.Seeking.{with_polls}
 use Rattle.fdc_stages.specs.declared.ending.Ending.{Ending}
 use Rattle.fdc_stages.specs.declared.ending.Ending.TheVariants.{Done, NoMark, NoSector, NoField, BadCheck, Overrun, NoCount, Protected, Late}
@@ -27,15 +27,15 @@ use Rattle.fdc_writing.specs.declared.writing.WriteStage.TheVariants as stages
 use Rattle.flop_base.specs.declared.key.Chrn.{Chrn}
 use Rattle.fdc_core.specs.Answers.{key_after, no_key}
 use Rattle.fdc_core.specs.Formatting.{FormatDoes, after_laid}
-use Rattle.fdc_core.specs.Listening.{Hears, StepsOn, FindsFull}
-use Rattle.fdc_core.specs.Phases.{is_listening, ending_of, is_overrun, overran, key_as_sent}
+use Rattle.fdc_core.specs.Listening.{StepsOn, FindsFull}
+use Rattle.fdc_core.specs.Phases.{ending_of, is_overrun, overran}
 use Rattle.fdc_core.specs.Reading.{after_searched, after_heard, over_or_on, gone_on_reading, at_stage, pushed, is_full}
 use Rattle.fdc_core.specs.State.{finished, is_held}
 use Rattle.fdc_core.specs.Steps.{polled}
 use Rattle.fdc_core.specs.Tasks.{TaskSteps}
 use Rattle.fdc_core.specs.Times.{WordTime, Saw, KeptOut, Wrote, Stopped}
-use Rattle.fdc_core.specs.Waiting.{task_counted, phase_counted, TaskWaits, PhaseWaits, CanWait, Lasts, LastsIn, LastsOn}
-use Rattle.fdc_core.specs.Writing.{WriteDoes, Stops, after_next, oldest_of, byte_taken, without_byte}
+use Rattle.fdc_core.specs.Waiting.{task_counted, phase_counted, TaskWaits, CanWait, Lasts, LastsIn, LastsOn}
+use Rattle.fdc_core.specs.Writing.{WriteDoes, Stops, after_next, oldest_of, without_byte}
 use Rattle.fdc_core.specs.declared.controller.Fdc.{Fdc}
 use Rattle.fdc_core.specs.declared.phases.Execution.{Execution}
 use Rattle.fdc_core.specs.declared.phases.Phase.{Phase}
@@ -84,7 +84,6 @@ searched_waits slack head_drive steps old (searched.Missed ending) = over slack 
 either : {A : Type 0} (b : Bool) → (b ≡ true → A) → (b ≡ false → A) → A
 either true yes_it no_it = yes_it refl
 either false yes_it no_it = no_it refl
-
 
 not_full : (slack : ℕ) (reading : Reading) (index : Bool) (word : ℕ) (old : Fdc) → (reading.counted ≡ false → slack + 1 + length old.fifo.bytes ≤ room_of old.fifo.on) → FindsFull reading index word old → ⊥
 not_full slack reading index word old waits finds =

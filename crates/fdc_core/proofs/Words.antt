@@ -1,8 +1,8 @@
 -- Word times, put together from the calls on the drive.
-use Rattle.std.proofs.Common.{◌≡◌, ◌⊎◌, ◌<◌, ◌≤◌, ℕ, zero, suc, ◌+◌, Bool, true, false, Some, None, refl, sym, ap, subst, ◌∙◌, arith, inl, inr, min}
+use Rattle.std.proofs.Common.{◌≡◌, ◌<◌, ◌≤◌, ℕ, zero, suc, ◌+◌, Bool, true, false, Some, refl, sym, ap, subst, ◌∙◌, arith, inl, inr}
 use Rattle.std.proofs.lemmas.Bool.{false≢true}
-use Rattle.drive_model.specs.Drive.{DriveState, Becomes, Reads, Writes, InRange, at_index, word_under, rate_of, with_gate, is_protected}
-use Rattle.flop_base.specs.Counts.{Rose, last_count}
+use Rattle.drive_model.specs.Drive.{DriveState, Becomes, Reads, at_index, word_under, rate_of, with_gate}
+use Rattle.flop_base.specs.Counts.{Rose}
 use Rattle.fdc_writing.specs.Formats as formats_of
 use Rattle.fdc_writing.specs.declared.formatting.FormatPart.{FormatPart}
 use Rattle.fdc_writing.specs.declared.formatting.FormatPart.TheVariants.{Await, Due, Lay, Barred}
@@ -17,8 +17,8 @@ use Rattle.fdc_core.specs.Phases.{head_of}
 use Rattle.fdc_core.specs.Rates.{rate_fits, seen_of}
 use Rattle.fdc_core.specs.Steps.{let_pass}
 use Rattle.fdc_core.specs.Tasks.{IsListenStep}
-use Rattle.fdc_core.specs.Times.{WordTime, Saw, KeptOut, Wrote, Stopped, IsHeardTime, Opens}
-use Rattle.fdc_core.specs.Writing.{StageWritesWord, after_next, IsWriteTime, HearsAWord, PutsByte, byte_taken, without_byte, is_ended}
+use Rattle.fdc_core.specs.Times.{Saw, KeptOut, Wrote, Opens}
+use Rattle.fdc_core.specs.Writing.{after_next, IsWriteTime, HearsAWord, PutsByte, byte_taken, without_byte, is_ended}
 use Rattle.fdc_core.specs.declared.controller.Fdc.{Fdc}
 use Rattle.fdc_core.specs.declared.phases.Task.{Task}
 use Rattle.fdc_core.specs.declared.rates.DataRate.{DataRate}

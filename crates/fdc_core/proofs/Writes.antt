@@ -6,7 +6,7 @@ use Rattle.fdc_seek.specs.Seeking.{with_polls}
 use Rattle.fdc_core.specs.State.{is_held}
 use Rattle.fdc_core.specs.Steps.{polled, seek_stepped}
 use Rattle.fdc_core.specs.Tasks.{TaskSteps}
-use Rattle.fdc_core.specs.Writes.{StepWrites, StepFormats, WritesTask, WritesIn, WritesOn, RestsWritten}
+use Rattle.fdc_core.specs.Writes.{WritesTask, WritesIn, WritesOn, RestsWritten}
 use Rattle.fdc_core.specs.declared.controller.Fdc.{Fdc}
 use Rattle.fdc_core.specs.declared.phases.Execution.{Execution}
 use Rattle.fdc_core.specs.declared.phases.Phase.{Phase}

@@ -1,5 +1,5 @@
 -- Device steps: the word that passes, and what is then known of a command that listens.
-use Rattle.std.specs.Prelude.{◌≡◌, ◌⊎◌, ◌<◌, ℕ, ◌+◌, Bool, true, false, Some, None, List}
+use Rattle.std.specs.Prelude.{◌≡◌, ◌⊎◌, ◌<◌, ℕ, ◌+◌, Bool, true, false, None, List}
 use Rattle.drive_model.specs.Drive.{DriveState, Reads, rate_of}
 use Rattle.flop_base.specs.declared.key.Chrn.{Chrn}
 use Rattle.fdc_stages.specs.History.{Past, heard}

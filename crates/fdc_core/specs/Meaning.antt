@@ -6,15 +6,13 @@ use Rattle.fdc_stages.specs.Readings.{IsToldOf}
 use Rattle.fdc_stages.specs.declared.ending.Ending.{Ending}
 use Rattle.fdc_stages.specs.declared.ending.Ending.TheVariants.{Done, NoMark, NoSector, NoField, BadCheck, Overrun, NoCount, Protected, Late}
 use Rattle.flop_base.specs.declared.key.Chrn.{Chrn}
-use Rattle.fdc_commands.specs.declared.results.Results.{Results}
 use Rattle.fdc_core.specs.Answers.{results_of}
 use Rattle.fdc_core.specs.Heard.{Sent, results_sent, key_met}
 use Rattle.fdc_core.specs.Phases.{is_over}
-use Rattle.fdc_core.specs.declared.answers.Answer.{Answer}
-use Rattle.fdc_core.specs.declared.answers.Answer.TheVariants.{Short, Long}
+use Rattle.fdc_core.specs.declared.answers.Answer.TheVariants.{Long}
 use Rattle.fdc_core.specs.declared.controller.Fdc.{Fdc}
 use Rattle.fdc_core.specs.declared.phases.Phase.{Phase}
-use Rattle.fdc_core.specs.declared.phases.Phase.TheVariants.{Command, Execute, Result}
+use Rattle.fdc_core.specs.declared.phases.Phase.TheVariants.{Execute, Result}
 use Rattle.fdc_core.specs.declared.phases.Task.{Task}
 use Rattle.fdc_core.specs.declared.phases.Task.TheVariants.{ReadId, Read}
 

@@ -11,7 +11,6 @@ use Rattle.fdc_core.specs.declared.answers.Answer.{Answer}
 use Rattle.fdc_core.specs.declared.answers.Answer.TheVariants.{Long}
 use Rattle.fdc_core.specs.declared.phases.Phase.{Phase}
 use Rattle.fdc_core.specs.declared.phases.Phase.TheVariants.{Execute, Result}
-use Rattle.fdc_core.specs.declared.phases.Execution.{Execution}
 use Rattle.fdc_core.specs.declared.phases.Task.{Task}
 use Rattle.fdc_core.specs.declared.phases.Task.TheVariants.{ReadId, Read, Write, Format}
 use Rattle.fdc_core.specs.declared.phases.Reading.{Reading}

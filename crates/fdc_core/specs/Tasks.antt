@@ -1,5 +1,5 @@
 -- A device step of a data command, by its task.
-use Rattle.std.specs.Prelude.{◌≡◌, ◌⊎◌, ◌<◌, ℕ, ◌+◌, Bool, false, None}
+use Rattle.std.specs.Prelude.{◌≡◌, ◌⊎◌, ◌<◌, ℕ, ◌+◌, false, None}
 use Rattle.drive_model.specs.Drive.{DriveState, at_index}
 use Rattle.fdc_writing.specs.declared.formatting.FormatNext.{FormatNext}
 use Rattle.fdc_writing.specs.declared.writing.WriteNext.{WriteNext}

@@ -1,5 +1,5 @@
 -- What is known of the words that a write or a FORMAT wrote, and what its results say.
-use Rattle.std.specs.Prelude.{◌≡◌, ℕ, Bool, true, List}
+use Rattle.std.specs.Prelude.{◌≡◌, ℕ, Bool, List}
 use Rattle.fdc_commands.specs.declared.results.Results.{Results}
 use Rattle.flop_base.specs.declared.key.Chrn.{Chrn}
 use Rattle.fdc_stages.specs.History.{Past}
@@ -11,10 +11,10 @@ use Rattle.fdc_writing.specs.Writings.{WritesFirst, WritesWhole, HasCause}
 use Rattle.fdc_core.specs.Answers.{results_of}
 use Rattle.fdc_core.specs.Heard.{Sent, results_sent}
 use Rattle.fdc_core.specs.Written.{IsContent}
-use Rattle.fdc_core.specs.declared.answers.Answer.TheVariants.{Short, Long}
+use Rattle.fdc_core.specs.declared.answers.Answer.TheVariants.{Long}
 use Rattle.fdc_core.specs.declared.controller.Fdc.{Fdc}
 use Rattle.fdc_core.specs.declared.phases.Phase.{Phase}
-use Rattle.fdc_core.specs.declared.phases.Phase.TheVariants.{Command, Execute, Result}
+use Rattle.fdc_core.specs.declared.phases.Phase.TheVariants.{Result}
 
 -- ---- WRITE DATA and WRITE DELETED
 

@@ -1,5 +1,5 @@
 -- What a word time of a command that writes is.
-use Rattle.std.specs.Prelude.{◌≡◌, ℕ, ◌+◌, Bool, true, false}
+use Rattle.std.specs.Prelude.{◌≡◌, ℕ, Bool, true, false}
 use Rattle.drive_model.specs.Drive.{DriveState, Becomes, Writes, InRange, at_index, rate_of, with_gate}
 use Rattle.fdc_stages.specs.History.{Past, heard, kept_out, wrote}
 use Rattle.fdc_core.specs.Heard.{stepped}

@@ -9,7 +9,6 @@ use Rattle.fdc_stages.specs.declared.ending.Ending.TheVariants.{Protected, Overr
 use Rattle.fdc_writing.specs.Writings.{is_open, opens, is_due, needs_byte, handed_with, heard_where, IsWriting, IsNextWord, HasNext, FailsWell, EndsWell, LeadsOn, lead_of}
 use Rattle.fdc_writing.specs.declared.writing.WriteNext.{WriteNext}
 use Rattle.fdc_writing.specs.declared.writing.WriteNext.TheVariants.{On, Ended}
-use Rattle.fdc_writing.specs.declared.writing.WriteStage.{WriteStage}
 use Rattle.fdc_writing.specs.declared.writing.WriteWord.{WriteWord}
 use Rattle.fdc_core.specs.Answers.{key_after}
 use Rattle.fdc_core.specs.Dma.{gone_on}

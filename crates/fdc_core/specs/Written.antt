@@ -1,8 +1,7 @@
 -- WRITE DATA, WRITE DELETED and FORMAT TRACK: what they heard, took and wrote since they began; and what port accesses leave
 -- of what is known of a command.
-use Rattle.std.specs.Prelude.{◌≡◌, ◌⊎◌, ℕ, ◌+◌, Bool, true, false, not, ◌||◌, ◌==◌, List, [], ◌∷◌, ◌++◌, length, replicate}
+use Rattle.std.specs.Prelude.{◌≡◌, ◌⊎◌, ℕ, Bool, true, false, ◌==◌, List, [], ◌∷◌, ◌++◌, length, replicate}
 use Rattle.flop_base.specs.declared.key.Chrn.{Chrn}
-use Rattle.fdc_commands.specs.declared.results.Results.{Results}
 use Rattle.fdc_fifo.specs.Fifo.{Fifo, room_of}
 use Rattle.fdc_stages.specs.History.{Past}
 use Rattle.fdc_stages.specs.declared.ending.Ending.{Ending}
@@ -16,7 +15,7 @@ use Rattle.fdc_core.specs.declared.controller.Fdc.{Fdc}
 use Rattle.fdc_core.specs.declared.phases.Phase.{Phase}
 use Rattle.fdc_core.specs.declared.phases.Phase.TheVariants.{Command, Execute, Result}
 use Rattle.fdc_core.specs.declared.phases.Task.{Task}
-use Rattle.fdc_core.specs.declared.phases.Task.TheVariants.{ReadId, Read, Write, Format}
+use Rattle.fdc_core.specs.declared.phases.Task.TheVariants.{Write, Format}
 use Rattle.fdc_core.specs.declared.transfers.Formatting.{Formatting}
 use Rattle.fdc_core.specs.declared.transfers.Writing.{Writing}
 

@@ -20,6 +20,6 @@ mod writing;
 pub use controller::{Fdc, Lines};
 pub use laws::{
     format_lays_the_track, format_tells, listening_is_paced, quiet_request_waits,
-    read_data_gives_the_field, read_data_tells, read_id_tells, results_are_given_in_order, write_tells,
-    write_writes_the_window,
+    read_data_gives_the_field, read_data_tells, read_id_tells, results_are_given_in_order,
+    write_tells, write_writes_the_window,
 };

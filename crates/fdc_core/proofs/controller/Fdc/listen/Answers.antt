@@ -1,4 +1,4 @@
-use Rattle.std.proofs.Common.{sym, ap, ◌∙◌, subst, ◌≡◌, false}
+use Rattle.std.proofs.Common.{sym, ap, ◌∙◌, ◌≡◌, false}
 use Rattle.drive_model.specs.Drive.{rate_of}
 use Rattle.fdc_core.specs.Rates.{rate_fits}
 use Rattle.fdc_core.proofs.Words.{kept_from}
