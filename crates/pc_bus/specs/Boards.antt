@@ -1,5 +1,6 @@
 -- The machine as contracts see it: a board of chips, with a drive in each bay.
-use Rattle.std.specs.Prelude.{◌≡◌, ℕ, ◌-◌, ◌%◌, Bool, true, false, ◌==◌, if◌then◌else◌, List, replicate, None}
+use Rattle.std.specs.Prelude.{◌≡◌, ℕ, ◌-◌, ◌%◌, Bool, true, false, ◌==◌, if◌then◌else◌, List, None}
+use Rattle.bay_model.specs.Memory.{zeroes}
 use Rattle.drive_model.specs.Drive.{DriveState, Becomes, is_protected, passed, with_motor}
 use Rattle.dma_8237.specs.Channel.{Channel, power_up}
 use Rattle.irq_events.specs.Latch.{Latch}
@@ -59,7 +60,7 @@ new_bus pace = record {
   chips = record {
     controller = at_power_up;
     channel = power_up;
-    memory = replicate 1048576 0;
+    memory = zeroes 1048576;
     holding = record { entries = pace.holds.items; request = Low; stalls = 0 };
   };
   latch = record { is_set = false; level = false };
@@ -72,10 +73,10 @@ new_bus pace = record {
 }
 
 -- a new machine with these drives: the controller turns their motors off
-pub record IsNew (pace : Pace) (first second : DriveState) (new : Board) : Type 0 where
+pub record IsNew (pace : Pace) (bay0 bay1 : DriveState) (new : Board) : Type 0 where
   pub bus : new.bus ≡ new_bus pace
-  pub first : Becomes first (with_motor false first) new.first
-  pub second : Becomes second (with_motor false second) new.second
+  pub first : Becomes bay0 (with_motor false bay0) new.first
+  pub second : Becomes bay1 (with_motor false bay1) new.second
 
 -- ---- the lines of the selected drive
 

@@ -1,5 +1,5 @@
 // The machine without its drives.
-ghost use Rattle.std.specs.Prelude.{◌≡◌, ◌<◌, IfOk, List};
+ghost use Rattle.std.specs.Prelude.{◌≡◌, ◌<◌, IfOk, List, false};
 ghost use Rattle.fdc_core.specs.State.{interrupts};
 ghost use Rattle.machine_pace.specs.Entries.{next_entry, rest_of};
 ghost use Rattle.pc_bus.specs.Boards.{new_bus};

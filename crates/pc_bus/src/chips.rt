@@ -1,5 +1,6 @@
 // The controller, DMA channel 2 and memory, and a request between them.
-ghost use Rattle.std.specs.Prelude.{◌≡◌, IsTrue, IsFalse, IfOk, replicate, List};
+ghost use Rattle.std.specs.Prelude.{◌≡◌, IsTrue, IsFalse, IfOk, List};
+ghost use Rattle.bay_model.specs.Memory.{zeroes};
 ghost use Rattle.dma_8237.specs.Channel.{grants, power_up};
 ghost use Rattle.fdc_core.specs.Dma.{to_memory_of};
 ghost use Rattle.fdc_core.specs.State.{at_power_up};
@@ -31,7 +32,7 @@ impl Chips {
         ensures { IfOk result (λ chips. chips ≡ record {
           controller = at_power_up;
           channel = power_up;
-          memory = replicate 1048576 0;
+          memory = zeroes 1048576;
           holding = record { entries = holds.items; request = Low; stalls = 0 };
         }) }
     {

@@ -1,5 +1,6 @@
 // The memory of the machine.
-ghost use Rattle.std.specs.Prelude.{◌≡◌, ◌<◌, IfOk, IsTrue, replicate, slice_index, slice_set};
+ghost use Rattle.std.specs.Prelude.{◌≡◌, ◌==◌, ◌<◌, IfOk, IsTrue, length, slice_index, slice_set};
+ghost use Rattle.bay_model.specs.Memory.{zeroes};
 ghost use Rattle.dma_8237.specs.Channel.{grants, after_transfer};
 ghost use Rattle.pc_bus.specs.Transfers.{byte_read, memory_after};
 
@@ -27,10 +28,10 @@ impl Model for Memory {
 impl Memory {
     /// All bytes are 00.
     pub fn new(alloc: Global) -> Result<Memory, NoMemory>
-        ensures { IfOk result (λ memory. memory ≡ replicate 1048576 0) }
+        ensures { IfOk result (λ memory. memory ≡ zeroes 1048576) }
     {
         Ok(Memory {
-            bytes: vec![in alloc; 0u8; MEMORY_SIZE]?,
+            bytes: blank(alloc, MEMORY_SIZE)?,
         })
     }
 
@@ -67,4 +68,13 @@ impl Memory {
     {
         channel.move_out(&self.bytes)
     }
+}
+
+/// So many bytes 00.
+#[tactic(auto, unfolding(bay_model::specs::Memory::zeroes))]
+fn blank(alloc: Global, count: usize) -> Result<Vec<u8>, NoMemory>
+    ensures bytes { IfOk result (λ bytes. bytes.items ≡ zeroes count) }
+    ensures len { IfOk result (λ bytes. length bytes.items ≡ count) }
+{
+    Ok(vec![in alloc; 0u8; count]?)
 }

@@ -46,8 +46,10 @@ impl<D: Drive> MachineOf<D> {
 
     /// Device steps, so many.
     pub(crate) fn run(&mut self, steps: u32)
-        ensures { Runs steps (board D.state self.old) (board D.state self.new) }
+        ensures runs { Runs steps (board D.state self.old) (board D.state self.new) }
+        ensures steps { self.new.bus.steps ≡ min (self.old.bus.steps + steps) last_count }
     {
+        let _from = self.bus.steps;
         for _i in 0..steps {
             self.step();
         }
@@ -55,7 +57,8 @@ impl<D: Drive> MachineOf<D> {
 
     /// Runs exactly so many device steps.
     pub fn wait(&mut self, steps: u32)
-        ensures { Runs steps (stirred (board D.state self.old)) (board D.state self.new) }
+        ensures runs { Runs steps (stirred (board D.state self.old)) (board D.state self.new) }
+        ensures steps { (board D.state self.new).bus.steps ≡ min ((board D.state self.old).bus.steps + steps) last_count }
     {
         self.bus.fresh = false;
         self.run(steps);
