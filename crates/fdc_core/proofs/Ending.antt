@@ -9,7 +9,8 @@ use Rattle.fdc_stages.specs.declared.searching.Searched.TheVariants as searched
 use Rattle.fdc_core.specs.Phases.{ending_of}
 use Rattle.fdc_core.specs.Reading.{after_searched, after_heard, over_or_on, gone_on_reading, at_stage, pushed, is_full}
 use Rattle.fdc_core.specs.State.{finished}
-use Rattle.fdc_core.specs.Steps.{Hears, late, steps_left}
+use Rattle.fdc_core.specs.Listening.{Hears}
+use Rattle.fdc_core.specs.Steps.{late, steps_left}
 use Rattle.fdc_core.specs.declared.controller.Fdc.{Fdc}
 use Rattle.fdc_core.specs.declared.phases.Execution.{Execution}
 use Rattle.fdc_core.specs.declared.phases.Reading.{Reading}
@@ -41,14 +42,14 @@ heard_left head_drive steps reading old (heard.Byte stage value) = byte_left rea
 heard_left head_drive steps reading old (heard.Ended ending) = omega arith
 
 -- a word that is heard
-pub hears_left : (head_drive steps : ℕ) (task : Task) (old new : Fdc) → Hears head_drive steps task old new → steps_left new.phase ≤ 65536 - steps
-hears_left head_drive steps (ReadId search) old new (after, is) =
+pub hears_left : (index : Bool) (word head_drive steps : ℕ) (task : Task) (old new : Fdc) → Hears head_drive steps task index word old new → steps_left new.phase ≤ 65536 - steps
+hears_left index word head_drive steps (ReadId search) old new (after, hears, is) =
     subst (λ fdc. steps_left fdc.phase ≤ 65536 - steps) (sym is) (searched_left head_drive steps old after)
-hears_left head_drive steps (Read reading) old new (after, is) =
+hears_left index word head_drive steps (Read reading) old new (after, hears, is) =
     subst (λ fdc. steps_left fdc.phase ≤ 65536 - steps) (sym is) (heard_left head_drive steps reading old after)
 
-pub next_left : (head_drive steps : ℕ) (task : Task) (old new : Fdc) → steps ≤ 65535 → Hears head_drive (steps + 1) task old new → steps_left new.phase < 65536 - steps
-next_left head_drive steps task old new few is = let left = hears_left head_drive (steps + 1) task old new is in omega arith
+pub next_left : (index : Bool) (word head_drive steps : ℕ) (task : Task) (old new : Fdc) → steps ≤ 65535 → Hears head_drive (steps + 1) task index word old new → steps_left new.phase < 65536 - steps
+next_left index word head_drive steps task old new few is = let left = hears_left index word head_drive (steps + 1) task old new is in omega arith
 
 -- the last step
 pub late_left : (execution : Execution) (old new : Fdc) → execution.steps ≡ 65535 → new ≡ late execution old → steps_left new.phase < 65536 - execution.steps

@@ -1,24 +1,25 @@
 -- What a device step, a transfer and the terminal count leave of a READ DATA.
-use Rattle.std.proofs.Common.{rules, ◌≡◌, ◌⊎◌, ℕ, ◌+◌, Bool, true, false, not, ◌&&◌, if◌then◌else◌, ◌==◌, List, [], ◌∷◌, ◌++◌, length, min, drop, get_or, nat_le, Option, Some, None, IfSome, refl, sym, ap, subst, ◌∙◌, arith, inl, inr, append_assoc}
+use Rattle.std.proofs.Common.{rules, ◌≡◌, ◌⊎◌, ℕ, ◌+◌, Bool, true, false, not, ◌&&◌, if◌then◌else◌, ◌==◌, List, [], ◌∷◌, ◌++◌, length, min, drop, get_or, nat_le, Option, Some, None, IfSome, refl, sym, ap, subst, ◌∙◌, arith, inl, inr, append_assoc, length-append}
 use Rattle.std.proofs.lemmas.Bool.{false≢true}
 use Rattle.flop_base.specs.declared.key.Chrn.{Chrn}
 use Rattle.track_model.specs.Fields.{content_size}
 use Rattle.track_separator.proofs.Laws.{reads_mark, reads_within}
-use Rattle.fdc_stages.specs.History.{Past, heard}
-use Rattle.fdc_stages.specs.Readings.{IsStart, IsReading, HasRead, HasHeard, IsOver, IsToldOf}
+use Rattle.fdc_stages.specs.History.{Past, heard, words_in, words_heard}
+use Rattle.fdc_stages.specs.Readings.{IsStart, IsReading, HasRead, HasHeard, FailsWell, IsFailure, IsOver, IsToldOf}
 use Rattle.fdc_stages.specs.declared.ending.Ending.{Ending}
-use Rattle.fdc_stages.specs.declared.ending.Ending.TheVariants.{Overrun, Late}
+use Rattle.fdc_stages.specs.declared.ending.Ending.TheVariants.{Done, NoMark, NoSector, NoField, BadCheck, Overrun, NoCount, Protected, Late}
 use Rattle.fdc_stages.specs.declared.reading.ReadHeard.{ReadHeard}
 use Rattle.fdc_stages.specs.declared.reading.ReadHeard.TheVariants as given
 use Rattle.fdc_stages.specs.declared.reading.ReadStage.{ReadStage}
 use Rattle.fdc_stages.specs.declared.reading.ReadStage.TheVariants.{Search, Wait, Content, Over}
-use Rattle.fdc_stages.proofs.Laws.{over_told, told_stays}
+use Rattle.fdc_stages.proofs.Laws.{over_told, told_stays, heard_count}
 use Rattle.drive_model.specs.Drive.{DriveState}
-use Rattle.fdc_core.specs.Heard.{IsUnderway, HasEndedAs, MayRead, MayReadIn, MayReadTask, told_in, SeesWord, is_executing, after_step, stepped, gave}
+use Rattle.fdc_core.specs.Heard.{Sent, sent_of, IsUnderway, HasEndedAs, MayRead, MayReadIn, MayReadTask, MayReadIdIn, told_in, stepped, gave}
+use Rattle.fdc_core.specs.Listening.{SeesWord, is_executing, after_step, Hears, StageHears}
 use Rattle.fdc_core.specs.State.{finished}
 use Rattle.fdc_core.specs.Steps.{late}
 use Rattle.fdc_fifo.specs.Fifo.{Fifo}
-use Rattle.fdc_core.specs.Answers.{key_after}
+use Rattle.fdc_core.specs.Answers.{key_after, results_of}
 use Rattle.fdc_core.specs.Dma.{phase_asks, task_asks, phase_told, task_told, fifo_told, asking_told}
 use Rattle.fdc_core.specs.Phases.{ending_at, ending_over, ending_of, is_read, is_reading, key_as_sent}
 use Rattle.fdc_core.specs.Ports.{phase_after}
@@ -106,95 +107,117 @@ asks_bytes : (empty rest : Bool) → (not empty && rest) ≡ true → empty ≡ 
 asks_bytes true rest is = absurd (false≢true is)
 asks_bytes false rest is = refl
 
-module _ (past : Past) (key : Chrn) (head_drive steps : ℕ) (old : Fdc) where
-  over_on : (ending : Option Ending) (empty : Bool) (reading : Reading) (told : List ℕ) → IfSome ending (λ e. HasRead past key told e) → IsUnderway past key reading steps (past.given ++ old.fifo.bytes) told → MayRead past key (over_or_on ending empty head_drive steps reading old)
+-- a failure gives the key as it was sent
+failure_key : (ending : Ending) (key : Chrn) (last_sector : ℕ) → IsFailure ending → key ≡ key_after ending key last_sector
+failure_key NoMark key last_sector is = refl
+failure_key NoSector key last_sector is = refl
+failure_key NoField key last_sector is = refl
+failure_key (Done deleted) key last_sector is = absurd is
+failure_key BadCheck key last_sector is = absurd is
+failure_key Overrun key last_sector is = absurd is
+failure_key NoCount key last_sector is = absurd is
+failure_key Protected key last_sector is = absurd is
+failure_key Late key last_sector is = absurd is
+
+module _ (past : Past) (head_drive steps : ℕ) (old : Fdc) where
+  over_on : (ending : Option Ending) (empty : Bool) (reading : Reading) (told : List ℕ) → IfSome ending (λ e. HasRead past reading.wanted.key told e) → IsUnderway past (sent_of head_drive reading) head_drive reading steps (past.given ++ old.fifo.bytes) told → MayRead past (sent_of head_drive reading) (over_or_on ending empty head_drive steps reading old)
   over_on None empty reading told ends is = (asks_bytes (length old.fifo.bytes == 0) _, (told, is))
   over_on (Some ending) true reading told ends is =
       let (rest, all) = starts_given past.given old.fifo.bytes told (starts reading.counted (past.given ++ old.fifo.bytes) told is.bytes_are) in
-      ((head_drive, key_after ending reading.wanted.key reading.last_sector, refl), (told, record { read = ends; rest = rest; bytes_are = all }))
+      (refl, (told, record { read = ends; rest = rest; bytes_are = all }))
   over_on (Some ending) false reading told ends is = (asks_bytes (length old.fifo.bytes == 0) _, (told, is))
 
-  on_reads : (reading : Reading) (told : List ℕ) → IsUnderway past key reading steps (past.given ++ old.fifo.bytes) told → MayRead past key (gone_on_reading head_drive steps reading old)
+  on_reads : (reading : Reading) (told : List ℕ) → IsUnderway past (sent_of head_drive reading) head_drive reading steps (past.given ++ old.fifo.bytes) told → MayRead past (sent_of head_drive reading) (gone_on_reading head_drive steps reading old)
   on_reads reading told is =
-      over_on (ending_of reading) (length old.fifo.bytes == 0) reading told (ended_at past key told reading.stage reading.counted is.reads is.counted_is) is
+      over_on (ending_of reading) (length old.fifo.bytes == 0) reading told (ended_at past reading.wanted.key told reading.stage reading.counted is.reads is.counted_is) is
 
   -- the bytes begin with what was given
-  ended_reads : (ending : Ending) (counted : Bool) (told : List ℕ) → HasRead past key told ending → IsStart counted (past.given ++ old.fifo.bytes) told → HasEndedAs past key ending told
-  ended_reads ending counted told read start =
+  ended_reads : (key : Chrn) (ending : Ending) (counted : Bool) (told : List ℕ) → HasRead past key told ending → IsStart counted (past.given ++ old.fifo.bytes) told → HasEndedAs past key ending told
+  ended_reads key ending counted told read start =
       let (rest, all) = starts_given past.given old.fifo.bytes told (starts counted (past.given ++ old.fifo.bytes) told start) in
       record { read = read; rest = rest; bytes_are = all }
 
-module _ (past : Past) (key : Chrn) (head_drive steps : ℕ) (old : Fdc) (reading : Reading) (key_is : reading.wanted.key ≡ key) (counted_is : past.counted ≡ reading.counted) (steps_are : past.steps ≡ steps) where
+module _ (past : Past) (head_drive steps : ℕ) (old : Fdc) (reading : Reading) (counted_is : past.counted ≡ reading.counted) (steps_are : past.steps ≡ steps) (heard_are : words_heard past ≡ steps) where
   -- a byte came
-  byte_reads : (counted full : Bool) (value : ℕ) (told : List ℕ) → reading.counted ≡ counted → IsReading past key (told ++ value ∷ []) reading.stage → IsStart counted (past.given ++ old.fifo.bytes) told
-      → MayRead past key (if counted then gone_on_reading head_drive steps reading old else (if full then finished Overrun head_drive reading.wanted.key old else gone_on_reading head_drive steps reading (pushed value old)))
-  byte_reads true full value told is reads start = on_reads past key head_drive steps old reading (told ++ value ∷ []) (record {
-    key_is = key_is;
+  byte_reads : (counted full : Bool) (value : ℕ) (told : List ℕ) → reading.counted ≡ counted → IsReading past reading.wanted.key (told ++ value ∷ []) reading.stage → IsStart counted (past.given ++ old.fifo.bytes) told
+      → MayRead past (sent_of head_drive reading) (if counted then gone_on_reading head_drive steps reading old else (if full then finished Overrun head_drive reading.wanted.key old else gone_on_reading head_drive steps reading (pushed value old)))
+  byte_reads true full value told is reads start = on_reads past head_drive steps old reading (told ++ value ∷ []) (record {
+    sent_is = refl;
     counted_is = counted_is;
     steps_are = steps_are;
+    heard_are = heard_are;
     reads = reads;
     bytes_are = subst (λ c. IsStart c (past.given ++ old.fifo.bytes) (told ++ value ∷ [])) (sym is) (told_more (past.given ++ old.fifo.bytes) told value start);
   })
   byte_reads false true value told is reads start =
       let (rest, all) = starts_given past.given old.fifo.bytes (told ++ value ∷ []) (value ∷ [], ap (λ bytes. bytes ++ value ∷ []) (sym start)) in (
-        (head_drive, reading.wanted.key, refl),
+        refl,
         (
           told ++ value ∷ [],
           record {
-            read = record { bytes = told_of past key (told ++ value ∷ []) reading.stage reads; cause = counted_is ∙ is };
+            read = record { bytes = told_of past reading.wanted.key (told ++ value ∷ []) reading.stage reads; cause = counted_is ∙ is };
             rest = rest;
             bytes_are = all;
           },
         ),
       )
-  byte_reads false false value told is reads start = on_reads past key head_drive steps (pushed value old) reading (told ++ value ∷ []) (record {
-    key_is = key_is;
+  byte_reads false false value told is reads start = on_reads past head_drive steps (pushed value old) reading (told ++ value ∷ []) (record {
+    sent_is = refl;
     counted_is = counted_is;
     steps_are = steps_are;
+    heard_are = heard_are;
     reads = reads;
     bytes_are = subst (λ c. IsStart c (past.given ++ (old.fifo.bytes ++ value ∷ [])) (told ++ value ∷ [])) (sym is) (sym (append_assoc past.given old.fifo.bytes (value ∷ [])) ∙ ap (λ bytes. bytes ++ value ∷ []) start);
   })
 
-module _ (past : Past) (key : Chrn) (head_drive steps : ℕ) (old : Fdc) (reading : Reading) (told : List ℕ) (key_is : reading.wanted.key ≡ key) (counted_is : past.counted ≡ reading.counted) (steps_are : past.steps ≡ steps) (start : IsStart reading.counted (past.given ++ old.fifo.bytes) told) where
-  follow_reads : (heard : ReadHeard) → HasHeard past key told heard → MayRead past key (after_heard head_drive steps reading heard old)
-  follow_reads (given.On stage) reads =
-      on_reads past key head_drive steps old (at_stage reading stage) told (record { key_is = key_is; counted_is = counted_is; steps_are = steps_are; reads = reads; bytes_are = start })
-  follow_reads (given.Byte stage value) reads =
-      byte_reads past key head_drive steps old (at_stage reading stage) key_is counted_is steps_are reading.counted (is_full old) value told refl reads start
-  follow_reads (given.Ended ending) read = ((head_drive, reading.wanted.key, refl), (told, ended_reads past key head_drive steps old ending reading.counted told read start))
+module _ (past : Past) (head_drive steps : ℕ) (old : Fdc) (reading : Reading) (told : List ℕ) (counted_is : past.counted ≡ reading.counted) (steps_are : past.steps ≡ steps) (heard_are : words_heard past ≡ steps) (start : IsStart reading.counted (past.given ++ old.fifo.bytes) told) where
+  follow_reads : (heard : ReadHeard) → HasHeard past reading.wanted.key told heard → FailsWell heard → MayRead past (sent_of head_drive reading) (after_heard head_drive steps reading heard old)
+  follow_reads (given.On stage) reads well =
+      on_reads past head_drive steps old (at_stage reading stage) told (record { sent_is = refl; counted_is = counted_is; steps_are = steps_are; heard_are = heard_are; reads = reads; bytes_are = start })
+  follow_reads (given.Byte stage value) reads well =
+      byte_reads past head_drive steps old (at_stage reading stage) counted_is steps_are heard_are reading.counted (is_full old) value told refl reads start
+  follow_reads (given.Ended ending) read well = (
+    ap (λ key. results_of ending head_drive key) (failure_key ending reading.wanted.key reading.last_sector well),
+    (told, ended_reads past head_drive steps old reading.wanted.key ending reading.counted told read start),
+  )
 
 -- a READ DATA follows the word that it heard
-pub hear_reads : (index : Bool) (word head_drive steps : ℕ) (reading : Reading) (after : ReadHeard) (old new : Fdc) → ((past : Past) (told : List ℕ) → IsReading past reading.wanted.key told reading.stage → HasHeard (heard index word past) reading.wanted.key told after) → new ≡ after_heard head_drive steps reading after old
-    → (past : Past) (key : Chrn) (told : List ℕ) → IsUnderway past key reading steps (past.given ++ old.fifo.bytes) told → MayRead (heard index word past) key new
-hear_reads index word head_drive steps reading after old new hears is past key told was =
-    subst (λ fdc. MayRead (heard index word past) key fdc) (sym is) (subst (λ k. MayRead (heard index word past) k (after_heard head_drive steps reading after old)) was.key_is
-    (follow_reads (heard index word past) reading.wanted.key head_drive steps old reading told refl was.counted_is was.steps_are was.bytes_are after (hears past told (subst (λ k. IsReading past k told reading.stage) (sym was.key_is) was.reads))))
+hear_reads : (index : Bool) (word head_drive steps : ℕ) (reading : Reading) (after : ReadHeard) (old new : Fdc) → StageHears reading.wanted.key index word reading.stage after → new ≡ after_heard head_drive (steps + 1) reading after old
+    → (past : Past) (sent : Sent) (told : List ℕ) → IsUnderway past sent head_drive reading steps (past.given ++ old.fifo.bytes) told → MayRead (heard index word (stepped past)) sent new
+hear_reads index word head_drive steps reading after old new hears is past sent told was =
+    let later = heard index word (stepped past) in
+    subst (λ fdc. MayRead later sent fdc) (sym is) (subst (λ s. MayRead later s (after_heard head_drive (steps + 1) reading after old)) was.sent_is
+    (follow_reads later head_drive (steps + 1) old reading told was.counted_is (ap (λ n. n + 1) was.steps_are) (heard_count index word (stepped past) ∙ ap (λ n. n + 1) was.heard_are) was.bytes_are after
+    (hears.0 (stepped past) told (same_stage past.given (past.steps + 1) past.counted past reading.wanted.key told reading.stage was.reads)) hears.1))
 
--- a device step counts
-pub step_underway : (past : Past) (key : Chrn) (reading : Reading) (steps : ℕ) (bytes told : List ℕ) → IsUnderway past key reading steps bytes told → IsUnderway (stepped past) key reading (steps + 1) bytes told
-step_underway past key reading steps bytes told was = record {
-  key_is = was.key_is;
-  counted_is = was.counted_is;
-  steps_are = ap (λ n. n + 1) was.steps_are;
-  reads = same_stage past.given (past.steps + 1) past.counted past key told reading.stage was.reads;
-  bytes_are = was.bytes_are;
-}
+pub hears_reads : (index : Bool) (word head_drive steps : ℕ) (task : Task) (old new : Fdc) → Hears head_drive (steps + 1) task index word old new
+    → (past : Past) (sent : Sent) → MayReadTask past sent head_drive steps task old.asking old.fifo.bytes → MayRead (heard index word (stepped past)) sent new
+hears_reads index word head_drive steps (ReadId search) old new hears past sent was = absurd was
+hears_reads index word head_drive steps (Read reading) old new (after, hears, is) past sent (asks, (told, was)) =
+    hear_reads index word head_drive steps reading after old new hears is past sent told was
 
 -- the last step ends it
-late_underway : (index : Bool) (word : ℕ) (past : Past) (key : Chrn) (reading : Reading) (fifo told : List ℕ) → IsUnderway past key reading 65535 (past.given ++ fifo) told → HasEndedAs (heard index word (stepped past)) key Late told
-late_underway index word past key reading fifo told was =
+late_underway : (index : Bool) (word : ℕ) (past : Past) (sent : Sent) (head_drive : ℕ) (reading : Reading) (fifo told : List ℕ) → IsUnderway past sent head_drive reading 65535 (past.given ++ fifo) told → HasEndedAs (heard index word (stepped past)) reading.wanted.key Late told
+late_underway index word past sent head_drive reading fifo told was =
     let (rest, all) = starts_given past.given fifo told (starts reading.counted (past.given ++ fifo) told was.bytes_are) in
     let steps = was.steps_are in
     record {
-      read = record { bytes = told_stays index word (stepped past) key told (told_of past key told reading.stage was.reads); cause = omega arith };
+      read = record { bytes = told_stays index word (stepped past) reading.wanted.key told (told_of past reading.wanted.key told reading.stage was.reads); cause = omega arith };
       rest = rest;
       bytes_are = all;
     }
 
-pub late_task : (index : Bool) (word : ℕ) (past : Past) (key : Chrn) (steps : ℕ) (task : Task) (asking : Bool) (fifo : List ℕ) → steps ≡ 65535 → MayReadTask past key steps task asking fifo → (told : List ℕ) × HasEndedAs (heard index word (stepped past)) key Late told
-late_task index word past key steps (ReadId search) asking fifo is was = absurd was
-late_task index word past key steps (Read reading) asking fifo is (asks, (told, was)) =
-    (told, late_underway index word past key reading fifo told (subst (λ n. IsUnderway past key reading n (past.given ++ fifo) told) is was))
+late_task : (index : Bool) (word : ℕ) (past : Past) (sent : Sent) (head_drive steps : ℕ) (task : Task) (old : Fdc) → steps ≡ 65535 → MayReadTask past sent head_drive steps task old.asking old.fifo.bytes → MayRead (heard index word (stepped past)) sent (finished Late head_drive (key_as_sent task) old)
+late_task index word past sent head_drive steps (ReadId search) old is was = absurd was
+late_task index word past sent head_drive steps (Read reading) old is (asks, (told, was)) =
+    subst (λ s. MayRead (heard index word (stepped past)) s (finished Late head_drive reading.wanted.key old)) was.sent_is
+    (refl, (told, late_underway index word past sent head_drive reading old.fifo.bytes told (subst (λ n. IsUnderway past sent head_drive reading n (past.given ++ old.fifo.bytes) told) is was)))
+
+-- the last step ends the command
+pub late_reads : (index : Bool) (word : ℕ) (execution : Execution) (old new : Fdc) → execution.steps ≡ 65535 → new ≡ late execution old
+    → (past : Past) (sent : Sent) → MayReadTask past sent execution.head_drive execution.steps execution.task old.asking old.fifo.bytes → MayRead (heard index word (stepped past)) sent new
+late_reads index word execution old new last is past sent was =
+    subst (λ fdc. MayRead (heard index word (stepped past)) sent fdc) (sym is) (late_task index word past sent execution.head_drive execution.steps execution.task old last was)
 
 -- outside execution nothing passes
 pub rests_sees : (phase : Phase) → ((execution : Execution) → phase ≡ Execute execution → ⊥) → (rate : DataRate) (before after : DriveState) → SeesWord phase rate before 0 after
@@ -202,86 +225,84 @@ rests_sees Command other rate before after = tt
 rests_sees (Result answer) other rate before after = tt
 rests_sees (Execute execution) other rate before after = absurd (other execution refl)
 
-pub rests_reads : (phase : Phase) → ((execution : Execution) → phase ≡ Execute execution → ⊥) → (index asking : Bool) (fifo : List ℕ) (past : Past) (key : Chrn) → MayReadIn past key phase asking fifo → MayReadIn (after_step (is_executing phase) index 0 past) key phase asking fifo
-rests_reads Command other index asking fifo past key was = was
-rests_reads (Result answer) other index asking fifo past key was = was
-rests_reads (Execute execution) other index asking fifo past key was = absurd (other execution refl)
-
--- a device step of the task
-pub step_task : (index : Bool) (word steps : ℕ) (reading : Reading) (task : Task) (asking : Bool) (fifo : List ℕ) (new : Fdc) → task ≡ Read reading
-    → ((past : Past) (key : Chrn) (told : List ℕ) → IsUnderway past key reading (steps + 1) (past.given ++ fifo) told → MayRead (heard index word past) key new)
-    → (past : Past) (key : Chrn) → MayReadTask past key steps task asking fifo → MayRead (heard index word (stepped past)) key new
-step_task index word steps reading task asking fifo new is reads past key was =
-    let may : MayReadTask past key steps (Read reading) asking fifo = subst (λ t. MayReadTask past key steps t asking fifo) is was in
-    reads (stepped past) key may.1.0 (step_underway past key reading steps (past.given ++ fifo) may.1.0 may.1.1)
-
--- the last step ends the command
-pub late_reads : (index : Bool) (word : ℕ) (execution : Execution) (old new : Fdc) → execution.steps ≡ 65535 → new ≡ late execution old
-    → (past : Past) (key : Chrn) → MayReadTask past key execution.steps execution.task old.asking old.fifo.bytes → MayRead (heard index word (stepped past)) key new
-late_reads index word execution old new last is past key was =
-    subst (λ fdc. MayRead (heard index word (stepped past)) key fdc) (sym is) ((execution.head_drive, key_as_sent execution.task, refl), late_task index word past key execution.steps execution.task old.asking old.fifo.bytes last was)
+pub rests_reads : (phase : Phase) → ((execution : Execution) → phase ≡ Execute execution → ⊥) → (index asking : Bool) (fifo : List ℕ) (past : Past) (sent : Sent) → MayReadIn past sent phase asking fifo → MayReadIn (after_step (is_executing phase) index 0 past) sent phase asking fifo
+rests_reads Command other index asking fifo past sent was = was
+rests_reads (Result answer) other index asking fifo past sent was = was
+rests_reads (Execute execution) other index asking fifo past sent was = absurd (other execution refl)
 
 -- ---- a byte goes to memory
 
-out_task : (past : Past) (key : Chrn) (steps : ℕ) (task : Task) (asking on : Bool) (bytes : List ℕ) (threshold : ℕ) → asking ≡ true → is_read task ≡ true → MayReadTask past key steps task asking bytes
-    → MayReadTask (gave (get_or bytes 0 0xFF) past) key steps task (task_asks task asking (record { bytes = drop 1 bytes; on = on; threshold = threshold })) (drop 1 bytes)
-out_task past key steps (ReadId search) asking on bytes threshold up is was = absurd was
-out_task past key steps (Read reading) asking on [] threshold up is (asks, was) = absurd (false≢true (sym (asks up)))
-out_task past key steps (Read reading) asking on (byte ∷ rest) threshold up is (asks, (told, was)) = (
+out_task : (past : Past) (sent : Sent) (head_drive steps : ℕ) (task : Task) (asking on : Bool) (bytes : List ℕ) (threshold : ℕ) → asking ≡ true → MayReadTask past sent head_drive steps task asking bytes
+    → MayReadTask (gave (get_or bytes 0 0xFF) past) sent head_drive steps task (task_asks task asking (record { bytes = drop 1 bytes; on = on; threshold = threshold })) (drop 1 bytes)
+out_task past sent head_drive steps (ReadId search) asking on bytes threshold up was = absurd was
+out_task past sent head_drive steps (Read reading) asking on [] threshold up (asks, was) = absurd (false≢true (sym (asks up)))
+out_task past sent head_drive steps (Read reading) asking on (byte ∷ rest) threshold up (asks, (told, was)) = (
   asks_bytes (length rest == 0) _,
   (
     told,
     record {
-      key_is = was.key_is;
+      sent_is = was.sent_is;
       counted_is = was.counted_is;
       steps_are = was.steps_are;
-      reads = same_stage (past.given ++ byte ∷ []) past.steps past.counted past key told reading.stage was.reads;
+      heard_are = was.heard_are;
+      reads = same_stage (past.given ++ byte ∷ []) past.steps past.counted past reading.wanted.key told reading.stage was.reads;
       bytes_are = subst (λ bytes. IsStart reading.counted bytes told) (sym (append_assoc past.given (byte ∷ []) rest)) was.bytes_are;
     },
   ),
 )
 
-pub out_reads : (past : Past) (key : Chrn) (phase : Phase) (asking : Bool) (fifo : Fifo) → asking ≡ true → is_reading phase ≡ true → MayReadIn past key phase asking fifo.bytes
-    → MayReadIn (gave (get_or fifo.bytes 0 0xFF) past) key phase (phase_asks phase asking (record fifo { bytes = drop 1 fifo.bytes })) (drop 1 fifo.bytes)
-out_reads past key Command asking fifo up is was = absurd was
-out_reads past key (Result answer) asking fifo up is was = absurd (false≢true is)
-out_reads past key (Execute execution) asking fifo up is was = out_task past key execution.steps execution.task asking fifo.on fifo.bytes fifo.threshold up is was
+pub out_reads : (past : Past) (sent : Sent) (phase : Phase) (asking : Bool) (fifo : Fifo) → asking ≡ true → is_reading phase ≡ true → MayReadIn past sent phase asking fifo.bytes
+    → MayReadIn (gave (get_or fifo.bytes 0 0xFF) past) sent phase (phase_asks phase asking (record fifo { bytes = drop 1 fifo.bytes })) (drop 1 fifo.bytes)
+out_reads past sent Command asking fifo up is was = absurd was
+out_reads past sent (Result answer) asking fifo up is was = absurd (false≢true is)
+out_reads past sent (Execute execution) asking fifo up is was = out_task past sent execution.head_drive execution.steps execution.task asking fifo.on fifo.bytes fifo.threshold up was
 
 -- ---- the terminal count
 
-told_task : (past : Past) (key : Chrn) (steps : ℕ) (task : Task) (asking : Bool) (fifo : Fifo) → MayReadTask past key steps task asking fifo.bytes
-    → MayReadTask (told_in true past) key steps (task_told task) (asking_told (is_read task) asking) (fifo_told (is_read task) fifo).bytes
-told_task past key steps (ReadId search) asking fifo was = absurd was
-told_task past key steps (Read reading) asking fifo (asks, (told, was)) =
+told_task : (past : Past) (sent : Sent) (head_drive steps : ℕ) (task : Task) (asking : Bool) (fifo : Fifo) → MayReadTask past sent head_drive steps task asking fifo.bytes
+    → MayReadTask (told_in true past) sent head_drive steps (task_told task) (asking_told (is_read task) asking) (fifo_told (is_read task) fifo).bytes
+told_task past sent head_drive steps (ReadId search) asking fifo was = absurd was
+told_task past sent head_drive steps (Read reading) asking fifo (asks, (told, was)) =
     let (rest, all) = starts_given past.given fifo.bytes told (starts reading.counted (past.given ++ fifo.bytes) told was.bytes_are) in (
       λ up. absurd (false≢true up),
       (
         told,
         record {
-          key_is = was.key_is;
+          sent_is = was.sent_is;
           counted_is = refl;
           steps_are = was.steps_are;
-          reads = same_stage past.given past.steps true past key told reading.stage was.reads;
+          heard_are = was.heard_are;
+          reads = same_stage past.given past.steps true past reading.wanted.key told reading.stage was.reads;
           bytes_are = (rest, all ∙ sym (append_assoc past.given [] rest));
         },
       ),
     )
 
-pub told_reads : (past : Past) (key : Chrn) (phase : Phase) (asking : Bool) (fifo : Fifo) → MayReadIn past key phase asking fifo.bytes
-    → MayReadIn (told_in (is_executing phase) past) key (phase_told phase) (asking_told (is_reading phase) asking) (fifo_told (is_reading phase) fifo).bytes
-told_reads past key Command asking fifo was = absurd was
-told_reads past key (Result answer) asking fifo was = was
-told_reads past key (Execute execution) asking fifo was = told_task past key execution.steps execution.task asking fifo was
+pub told_reads : (past : Past) (sent : Sent) (phase : Phase) (asking : Bool) (fifo : Fifo) → MayReadIn past sent phase asking fifo.bytes
+    → MayReadIn (told_in (is_executing phase) past) sent (phase_told phase) (asking_told (is_reading phase) asking) (fifo_told (is_reading phase) fifo).bytes
+told_reads past sent Command asking fifo was = absurd was
+told_reads past sent (Result answer) asking fifo was = was
+told_reads past sent (Execute execution) asking fifo was = told_task past sent execution.head_drive execution.steps execution.task asking fifo was
 
 -- ---- a result byte is read
 
-pub given_reads : (past : Past) (key : Chrn) (phase : Phase) (asking : Bool) (fifo : List ℕ) → MayReadIn past key phase asking fifo → MayReadIn past key (phase_after phase) asking fifo ⊎ (phase_after phase ≡ Command)
-given_reads past key Command asking fifo was = absurd was
-given_reads past key (Execute execution) asking fifo was = inl was
-given_reads past key (Result (Short next last)) asking fifo was = absurd was
-given_reads past key (Result (Long ending results taken)) asking fifo was = behind (nat_le 6 taken)
+pub given_reads : (past : Past) (sent : Sent) (phase : Phase) (asking : Bool) (fifo : List ℕ) → MayReadIn past sent phase asking fifo → MayReadIn past sent (phase_after phase) asking fifo ⊎ (phase_after phase ≡ Command)
+given_reads past sent Command asking fifo was = absurd was
+given_reads past sent (Execute execution) asking fifo was = inl was
+given_reads past sent (Result (Short next last)) asking fifo was = absurd was
+given_reads past sent (Result (Long ending results taken)) asking fifo was = behind (nat_le 6 taken)
   where
-    behind : (b : Bool) → MayReadIn past key (if b then Command else Result (Long ending results (taken + 1))) asking fifo ⊎ ((if b then Command else Result (Long ending results (taken + 1))) ≡ Command)
+    behind : (b : Bool) → MayReadIn past sent (if b then Command else Result (Long ending results (taken + 1))) asking fifo ⊎ ((if b then Command else Result (Long ending results (taken + 1))) ≡ Command)
+    behind true = inr refl
+    behind false = inl was
+
+pub given_identifies : (past : Past) (sent : ℕ) (phase : Phase) → MayReadIdIn past sent phase → MayReadIdIn past sent (phase_after phase) ⊎ (phase_after phase ≡ Command)
+given_identifies past sent Command was = absurd was
+given_identifies past sent (Execute execution) was = inl was
+given_identifies past sent (Result (Short next last)) was = absurd was
+given_identifies past sent (Result (Long ending results taken)) was = behind (nat_le 6 taken)
+  where
+    behind : (b : Bool) → MayReadIdIn past sent (if b then Command else Result (Long ending results (taken + 1))) ⊎ ((if b then Command else Result (Long ending results (taken + 1))) ≡ Command)
     behind true = inr refl
     behind false = inl was
 

@@ -1,24 +1,23 @@
--- What a device step leaves of a READ ID, and of what the controller hears.
-use Rattle.std.proofs.Common.{◌≡◌, ℕ, ◌+◌, Bool, true, false, not, ◌&&◌, if◌then◌else◌, None, refl, sym, ap, subst, arith, inl, inr}
+-- What a device step leaves of a READ ID.
+use Rattle.std.proofs.Common.{◌≡◌, ℕ, ◌+◌, Bool, true, false, None, refl, sym, ap, subst, arith, inl, inr, ◌∙◌}
 use Rattle.flop_base.specs.declared.key.Chrn.{Chrn}
 use Rattle.track_separator.specs.declared.state.Separator.{Separator}
-use Rattle.fdc_stages.specs.History.{Past, heard, IsAmong}
-use Rattle.fdc_stages.specs.Searches.{IsSearching, IsMet, IsMissed, HasSearched}
+use Rattle.fdc_stages.specs.History.{Past, heard, IsAmong, words_heard}
+use Rattle.fdc_stages.specs.Searches.{IsSearching, IsMet, IsMissed, HasSearched, IsMiss, MissesWell}
 use Rattle.fdc_stages.specs.Findings.{HasAddress, HasIdentified}
 use Rattle.fdc_stages.specs.declared.ending.Ending.{Ending}
 use Rattle.fdc_stages.specs.declared.ending.Ending.TheVariants.{Done, NoMark, NoSector, NoField, BadCheck, Overrun, NoCount, Protected, Late}
 use Rattle.fdc_stages.specs.declared.searching.Search.{Search}
 use Rattle.fdc_stages.specs.declared.searching.Searched.{Searched}
 use Rattle.fdc_stages.specs.declared.searching.Searched.TheVariants as searched
-use Rattle.fdc_core.specs.Answers.{no_key}
-use Rattle.fdc_core.specs.Heard.{MayReadId, MayReadIdIn, MayReadIdTask, Listens, StepHears, ListensToNone, StepHearsNone, is_executing, after_step, stepped}
+use Rattle.fdc_core.specs.Answers.{no_key, results_of}
+use Rattle.fdc_core.specs.Heard.{MayReadId, MayReadIdIn, MayReadIdTask, IsIdentifying, IdentifiedAs, stepped}
+use Rattle.fdc_core.specs.Listening.{Hears, is_executing, after_step}
 use Rattle.fdc_core.specs.Reading.{after_searched}
-use Rattle.drive_model.specs.Drive.{DriveState}
-use Rattle.fdc_seek.specs.Seeking.{with_polls}
 use Rattle.fdc_core.specs.Phases.{key_as_sent}
-use Rattle.fdc_core.specs.State.{is_held}
-use Rattle.fdc_core.specs.Steps.{late, polled, seek_stepped}
-use Rattle.fdc_core.proofs.MayRead.{rests_sees, rests_reads}
+use Rattle.fdc_core.specs.State.{finished}
+use Rattle.fdc_core.specs.Steps.{late}
+use Rattle.fdc_stages.proofs.Laws.{heard_count}
 use Rattle.fdc_core.specs.declared.controller.Fdc.{Fdc}
 use Rattle.fdc_core.specs.declared.phases.Execution.{Execution}
 use Rattle.fdc_core.specs.declared.phases.Phase.{Phase}
@@ -31,83 +30,47 @@ met_address false past key separator (p, met) = (past.seen, p, record { among = 
 met_address true past key separator (turn, p, met) =
     (turn, p, record { among = inr (subst (λ turns. IsAmong turns turn) (sym met.over.last) (inl refl)); address = met.address })
 
-missed_id : (past : Past) (key : Chrn) (ending : Ending) → IsMissed past None ending → HasIdentified past key ending
-missed_id past key NoMark is = is
-missed_id past key NoSector is = is
-missed_id past key (Done deleted) is = absurd is
-missed_id past key NoField is = absurd is
-missed_id past key BadCheck is = absurd is
-missed_id past key Overrun is = absurd is
-missed_id past key NoCount is = absurd is
-missed_id past key Protected is = absurd is
-missed_id past key Late is = absurd is
+missed_id : (past : Past) (sent : ℕ) (ending : Ending) → IsMissed past None ending → IdentifiedAs past sent ending (results_of ending sent no_key)
+missed_id past sent NoMark is = (refl, is)
+missed_id past sent NoSector is = (refl, is)
+missed_id past sent (Done deleted) is = absurd is
+missed_id past sent NoField is = absurd is
+missed_id past sent BadCheck is = absurd is
+missed_id past sent Overrun is = absurd is
+missed_id past sent NoCount is = absurd is
+missed_id past sent Protected is = absurd is
+missed_id past sent Late is = absurd is
 
-follow_id : (index : Bool) (past : Past) (head_drive steps : ℕ) (old : Fdc) (after : Searched) → past.steps ≡ steps → HasSearched index past None after → MayReadId past (after_searched head_drive steps after old)
-follow_id index past head_drive steps old (searched.On search) counts is = (counts, is)
-follow_id index past head_drive steps old (searched.Met key separator) counts is = ((head_drive, key, refl), met_address index past key separator is.1)
-follow_id index past head_drive steps old (searched.Missed ending) counts is = ((head_drive, no_key, refl), missed_id past no_key ending is)
+follow_id : (index : Bool) (past : Past) (head_drive steps : ℕ) (old : Fdc) (after : Searched) → past.steps ≡ steps → words_heard past ≡ steps → HasSearched index past None after → MayReadId past head_drive (after_searched head_drive steps after old)
+follow_id index past head_drive steps old (searched.On search) counts hears is = record { sent_is = refl; steps_are = counts; heard_are = hears; searches = is }
+follow_id index past head_drive steps old (searched.Met key separator) counts hears is = (refl, met_address index past key separator is.1)
+follow_id index past head_drive steps old (searched.Missed ending) counts hears is = missed_id past head_drive ending is
+
+same_search : (past : Past) (search : Search) → IsSearching past None search → IsSearching (stepped past) None search
+same_search past search is = is
 
 -- a READ ID follows the word that it heard
-pub hear_id_reads : (index : Bool) (word head_drive steps : ℕ) (search : Search) (after : Searched) (old new : Fdc) → ((past : Past) → IsSearching past None search → HasSearched index (heard index word past) None after) → new ≡ after_searched head_drive steps after old
-    → (past : Past) → past.steps ≡ steps → IsSearching past None search → MayReadId (heard index word past) new
-hear_id_reads index word head_drive steps search after old new hears is past counts was =
-    subst (λ fdc. MayReadId (heard index word past) fdc) (sym is) (follow_id index (heard index word past) head_drive steps old after counts (hears past was))
+pub hears_identifies : (index : Bool) (word head_drive steps : ℕ) (task : Task) (old new : Fdc) → Hears head_drive (steps + 1) task index word old new
+    → (past : Past) (sent : ℕ) → MayReadIdTask past sent head_drive steps task → MayReadId (heard index word (stepped past)) sent new
+hears_identifies index word head_drive steps (Read reading) old new hears past sent was = absurd was
+hears_identifies index word head_drive steps (ReadId search) old new (after, hears, is) past sent was =
+    let later = heard index word (stepped past) in
+    subst (λ fdc. MayReadId later sent fdc) (sym is) (subst (λ s. MayReadId later s (after_searched head_drive (steps + 1) after old)) was.sent_is
+    (follow_id index later head_drive (steps + 1) old after (ap (λ n. n + 1) was.steps_are) (heard_count index word (stepped past) ∙ ap (λ n. n + 1) was.heard_are) (hears.0 (stepped past) (same_search past search was.searches))))
 
--- a device step of the task
-pub step_id_task : (index : Bool) (word steps : ℕ) (search : Search) (task : Task) (new : Fdc) → task ≡ ReadId search
-    → ((past : Past) → past.steps ≡ steps + 1 → IsSearching past None search → MayReadId (heard index word past) new)
-    → (past : Past) → MayReadIdTask past steps task → MayReadId (heard index word (stepped past)) new
-step_id_task index word steps search task new is reads past was =
-    let may : MayReadIdTask past steps (ReadId search) = subst (λ t. MayReadIdTask past steps t) is was in
-    reads (stepped past) (ap (λ n. n + 1) may.0) may.1
-
-late_id_task : (index : Bool) (word : ℕ) (past : Past) (key : Chrn) (steps : ℕ) (task : Task) → steps ≡ 65535 → MayReadIdTask past steps task → HasIdentified (heard index word (stepped past)) key Late
-late_id_task index word past key steps (ReadId search) last (counts, is) = omega arith
-late_id_task index word past key steps (Read reading) last was = absurd was
+late_id_task : (index : Bool) (word : ℕ) (past : Past) (sent head_drive steps : ℕ) (task : Task) (old : Fdc) → steps ≡ 65535 → MayReadIdTask past sent head_drive steps task → MayReadId (heard index word (stepped past)) sent (finished Late head_drive (key_as_sent task) old)
+late_id_task index word past sent head_drive steps (Read reading) old last was = absurd was
+late_id_task index word past sent head_drive steps (ReadId search) old last was =
+    let counts = was.steps_are in
+    subst (λ s. MayReadId (heard index word (stepped past)) s (finished Late head_drive no_key old)) was.sent_is (refl, omega arith)
 
 -- the last step ends the command
-pub late_id_reads : (index : Bool) (word : ℕ) (execution : Execution) (old new : Fdc) → execution.steps ≡ 65535 → new ≡ late execution old
-    → (past : Past) → MayReadIdTask past execution.steps execution.task → MayReadId (heard index word (stepped past)) new
-late_id_reads index word execution old new last is past was =
-    subst (λ fdc. MayReadId (heard index word (stepped past)) fdc) (sym is) ((execution.head_drive, key_as_sent execution.task, refl), late_id_task index word past (key_as_sent execution.task) execution.steps execution.task last was)
+pub late_identifies : (index : Bool) (word : ℕ) (execution : Execution) (old new : Fdc) → execution.steps ≡ 65535 → new ≡ late execution old
+    → (past : Past) (sent : ℕ) → MayReadIdTask past sent execution.head_drive execution.steps execution.task → MayReadId (heard index word (stepped past)) sent new
+late_identifies index word execution old new last is past sent was =
+    subst (λ fdc. MayReadId (heard index word (stepped past)) sent fdc) (sym is) (late_id_task index word past sent execution.head_drive execution.steps execution.task old last was)
 
-rests_id : (phase : Phase) → ((execution : Execution) → phase ≡ Execute execution → ⊥) → (index : Bool) (past : Past) → MayReadIdIn past phase → MayReadIdIn (after_step (is_executing phase) index 0 past) phase
-rests_id Command other index past was = was
-rests_id (Result answer) other index past was = was
-rests_id (Execute execution) other index past was = absurd (other execution refl)
-
--- ---- device steps
-
--- outside execution
-pub rests_hears : (track0 index : Bool) (old new : Fdc) (before after : DriveState) → new ≡ seek_stepped track0 old → ((execution : Execution) → old.phase ≡ Execute execution → ⊥) → Listens old index before after new
-rests_hears track0 index old new before after is other =
-    subst (λ fdc. Listens old index before after fdc) (sym is) (0, rests_sees old.phase other old.rate before after, rests_reads old.phase other index old.asking old.fifo.bytes, rests_id old.phase other index)
-
-pub rests_hears_none : (track0 : Bool) (old new : Fdc) → new ≡ seek_stepped track0 old → ((execution : Execution) → old.phase ≡ Execute execution → ⊥) → ListensToNone old new
-rests_hears_none track0 old new is other =
-    subst (λ fdc. ListensToNone old fdc) (sym is) (rests_reads old.phase other false old.asking old.fifo.bytes, rests_id old.phase other false)
-
--- in execution
-pub executes_hears : (index : Bool) (old new : Fdc) (before after : DriveState) (execution : Execution) → old.phase ≡ Execute execution → StepHears (Execute execution) old.rate old.asking old.fifo.bytes index before after new → Listens old index before after new
-executes_hears index old new before after execution is hears =
-    subst (λ phase. StepHears phase old.rate old.asking old.fifo.bytes index before after new) (sym is) hears
-
-pub executes_hears_none : (old new : Fdc) (execution : Execution) → old.phase ≡ Execute execution → StepHearsNone (Execute execution) old.asking old.fifo.bytes new → ListensToNone old new
-executes_hears_none old new execution is hears = subst (λ phase. StepHearsNone phase old.asking old.fifo.bytes new) (sym is) hears
-
--- the poll moves nothing of this
-if_hears : (b index : Bool) (old new : Fdc) (before after : DriveState) → Listens (if b then record old { poll_due = false; interrupt = true; seeks = with_polls old.seeks } else old) index before after new → Listens old index before after new
-if_hears true index old new before after hears = hears
-if_hears false index old new before after hears = hears
-
-pub polled_hears : (index : Bool) (old polls new : Fdc) (before after : DriveState) → polls ≡ polled old → Listens polls index before after new → Listens old index before after new
-polled_hears index old polls new before after is hears =
-    if_hears (old.poll_due && not (is_held old)) index old new before after (subst (λ fdc. Listens fdc index before after new) is hears)
-
-if_hears_none : (b : Bool) (old new : Fdc) → ListensToNone (if b then record old { poll_due = false; interrupt = true; seeks = with_polls old.seeks } else old) new → ListensToNone old new
-if_hears_none true old new hears = hears
-if_hears_none false old new hears = hears
-
-pub polled_hears_none : (old polls new : Fdc) → polls ≡ polled old → ListensToNone polls new → ListensToNone old new
-polled_hears_none old polls new is hears =
-    if_hears_none (old.poll_due && not (is_held old)) old new (subst (λ fdc. ListensToNone fdc new) is hears)
+pub rests_identifies : (phase : Phase) → ((execution : Execution) → phase ≡ Execute execution → ⊥) → (index : Bool) (past : Past) (sent : ℕ) → MayReadIdIn past sent phase → MayReadIdIn (after_step (is_executing phase) index 0 past) sent phase
+rests_identifies Command other index past sent was = was
+rests_identifies (Result answer) other index past sent was = was
+rests_identifies (Execute execution) other index past sent was = absurd (other execution refl)

@@ -13,7 +13,8 @@ use Rattle.fdc_core.specs.Dma.{gone_on, phase_asks}
 use Rattle.fdc_core.specs.Phases.{ending_of}
 use Rattle.fdc_core.specs.Reading.{after_searched, after_heard, over_or_on, gone_on_reading, at_stage, pushed, is_full}
 use Rattle.fdc_core.specs.State.{finished, is_held}
-use Rattle.fdc_core.specs.Steps.{Hears, Stays, polled}
+use Rattle.fdc_core.specs.Listening.{Hears}
+use Rattle.fdc_core.specs.Steps.{Stays, polled}
 use Rattle.fdc_core.specs.declared.controller.Fdc.{Fdc}
 use Rattle.fdc_core.specs.declared.phases.Reading.{Reading}
 use Rattle.fdc_core.specs.declared.phases.Task.{Task}
@@ -67,9 +68,9 @@ heard_keeps head_drive steps reading old (heard.Byte stage value) = byte_keeps r
 heard_keeps head_drive steps reading old (heard.Ended ending) = finishes ending head_drive reading.wanted.key old old (same_stays old)
 
 -- a word that is heard
-pub hears_keeps : (head_drive steps : ℕ) (task : Task) (old new : Fdc) → Hears head_drive steps task old new → Keeps old new
-hears_keeps head_drive steps (ReadId search) old new (after, is) = subst (λ fdc. Keeps old fdc) (sym is) (searched_keeps head_drive steps old after)
-hears_keeps head_drive steps (Read reading) old new (after, is) = subst (λ fdc. Keeps old fdc) (sym is) (heard_keeps head_drive steps reading old after)
+pub hears_keeps : (index : Bool) (word head_drive steps : ℕ) (task : Task) (old new : Fdc) → Hears head_drive steps task index word old new → Keeps old new
+hears_keeps index word head_drive steps (ReadId search) old new (after, hears, is) = subst (λ fdc. Keeps old fdc) (sym is) (searched_keeps head_drive steps old after)
+hears_keeps index word head_drive steps (Read reading) old new (after, hears, is) = subst (λ fdc. Keeps old fdc) (sym is) (heard_keeps head_drive steps reading old after)
 
 -- the poll moves nothing of this
 if_stays : (b : Bool) (old new : Fdc) → Stays (if b then record old { poll_due = false; interrupt = true; seeks = with_polls old.seeks } else old) new → Stays old new

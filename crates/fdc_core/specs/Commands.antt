@@ -2,7 +2,6 @@
 use Rattle.std.specs.Prelude.{◌≡◌, ℕ, ◌+◌, ◌%◌, min, Bool, true, false, not, ◌==◌, [], ◌∷◌, ◌++◌, Option, Some, None, if◌then◌else◌, bit_and, slice_index}
 use Rattle.std.specs.Int.RustNames.{bit_or}
 use Rattle.flop_base.specs.Counts.{last_count}
-use Rattle.flop_base.specs.declared.key.Chrn.{Chrn}
 use Rattle.fdc_registers.specs.St3.{always_one, track_0, protected}
 use Rattle.fdc_commands.specs.Table.{answer, kept}
 use Rattle.fdc_commands.specs.declared.bytes.Accepted.{Accepted}
@@ -13,12 +12,11 @@ use Rattle.fdc_fifo.specs.Fifo.{emptied}
 use Rattle.fdc_seek.specs.Seeking.{with_motion, seek_bits, sensed, after_sense}
 use Rattle.fdc_seek.specs.declared.motion.Motion.TheVariants.{Outward, Toward}
 use Rattle.fdc_stages.specs.History.{begun as new_past}
-use Rattle.fdc_core.specs.Heard.{MayReadTask, MayReadIdTask}
+use Rattle.fdc_core.specs.Heard.{Sent, MayReadTask, MayReadIdTask}
 use Rattle.fdc_core.specs.declared.answers.Answer.TheVariants.{Short}
 use Rattle.fdc_core.specs.declared.controller.Fdc.{Fdc}
 use Rattle.fdc_core.specs.declared.controller.Lines.{Lines}
 use Rattle.fdc_core.specs.declared.phases.Phase.TheVariants.{Execute, Result}
-use Rattle.fdc_core.specs.declared.phases.Task.TheVariants.{ReadId, Read}
 use Rattle.fdc_core.specs.declared.phases.Task.{Task}
 
 -- the result phase of a command without execution
@@ -76,14 +74,12 @@ begun head_drive task old = record old {
 }
 
 -- READ ID, which has heard nothing
-abbrev pub IsReadingId : Task → Type 0
-IsReadingId task = MayReadIdTask new_past 0 task
+abbrev pub IsReadingId : ℕ → Task → Type 0
+IsReadingId head_drive task = MayReadIdTask new_past head_drive head_drive 0 task
 
--- READ DATA of this key, which has heard and given nothing
-abbrev pub IsReadingData : Chrn → ℕ → Task → Type 0
-IsReadingData key last_sector (Read reading) =
-    (reading.last_sector ≡ last_sector) × MayReadTask new_past key 0 (Read reading) false []
-IsReadingData key last_sector (ReadId _) = ⊥
+-- READ DATA of what was sent, which has heard and given nothing
+abbrev pub IsReadingData : Sent → Task → Type 0
+IsReadingData sent task = MayReadTask new_past sent sent.head_drive 0 task false []
 
 -- the execution of such a task begins
 abbrev pub BeginsTask : ℕ → (Task → Type 0) → Fdc → Fdc → Type 0
@@ -91,9 +87,9 @@ BeginsTask head_drive Is old new = (task : Task) × Is task × (new ≡ begun he
 
 -- a data command begins
 abbrev pub BeginsData : Command → Fdc → Fdc → Type 0
-BeginsData (command.ReadId head_drive) old new = BeginsTask head_drive IsReadingId old new
+BeginsData (command.ReadId head_drive) old new = BeginsTask head_drive (IsReadingId head_drive) old new
 BeginsData (command.ReadData head_drive key last_sector _ _) old new =
-    BeginsTask head_drive (IsReadingData key last_sector) old new
+    BeginsTask head_drive (IsReadingData (record { head_drive = head_drive; key = key; last_sector = last_sector })) old new
 BeginsData _ old new = new ≡ answered 0x80 None old
 
 -- a data command begins, or is invalid where SPECIFY set ND

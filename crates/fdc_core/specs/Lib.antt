@@ -8,3 +8,5 @@ pub mod Phases
 pub mod Dma
 pub mod Reading
 pub mod Steps
+pub mod Listening
+pub mod Meaning

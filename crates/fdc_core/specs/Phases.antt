@@ -2,12 +2,14 @@
 use Rattle.std.specs.Prelude.{ℕ, ◌/◌, ◌%◌, Bool, true, false, Option, Some, None, if◌then◌else◌}
 use Rattle.flop_base.specs.declared.key.Chrn.{Chrn}
 use Rattle.fdc_stages.specs.declared.ending.Ending.{Ending}
-use Rattle.fdc_stages.specs.declared.ending.Ending.TheVariants.{Done, BadCheck, NoCount}
+use Rattle.fdc_stages.specs.declared.ending.Ending.TheVariants.{Done, BadCheck, Overrun, NoCount}
 use Rattle.fdc_stages.specs.declared.reading.ReadStage.{ReadStage}
 use Rattle.fdc_stages.specs.declared.reading.ReadStage.TheVariants.{Over}
 use Rattle.fdc_core.specs.Answers.{no_key}
+use Rattle.fdc_core.specs.declared.answers.Answer.{Answer}
+use Rattle.fdc_core.specs.declared.answers.Answer.TheVariants.{Long}
 use Rattle.fdc_core.specs.declared.phases.Phase.{Phase}
-use Rattle.fdc_core.specs.declared.phases.Phase.TheVariants.{Execute}
+use Rattle.fdc_core.specs.declared.phases.Phase.TheVariants.{Execute, Result}
 use Rattle.fdc_core.specs.declared.phases.Execution.{Execution}
 use Rattle.fdc_core.specs.declared.phases.Task.{Task}
 use Rattle.fdc_core.specs.declared.phases.Task.TheVariants.{ReadId, Read}
@@ -52,3 +54,16 @@ ending_at _ counted = None
 
 abbrev pub ending_of : Reading → Option Ending
 ending_of reading = ending_at reading.stage reading.counted
+
+-- the results tell OR
+abbrev pub overran : Ending → Bool
+overran Overrun = true
+overran _ = false
+
+abbrev pub answers_overrun : Answer → Bool
+answers_overrun (Long ending _ _) = overran ending
+answers_overrun _ = false
+
+abbrev pub is_overrun : Phase → Bool
+is_overrun (Result answer) = answers_overrun answer
+is_overrun _ = false

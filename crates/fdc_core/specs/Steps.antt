@@ -5,16 +5,11 @@ use Rattle.fdc_seek.specs.Seeking.{with_polls, stepped, pulse_due, is_seeking}
 use Rattle.fdc_stages.specs.declared.ending.Ending.TheVariants.{Late}
 use Rattle.fdc_core.specs.Dma.{phase_asks}
 use Rattle.fdc_core.specs.Phases.{key_as_sent}
-use Rattle.fdc_core.specs.Reading.{after_searched, after_heard}
 use Rattle.fdc_core.specs.State.{is_held, finished}
 use Rattle.fdc_core.specs.declared.controller.Fdc.{Fdc}
 use Rattle.fdc_core.specs.declared.phases.Phase.{Phase}
 use Rattle.fdc_core.specs.declared.phases.Phase.TheVariants.{Execute}
 use Rattle.fdc_core.specs.declared.phases.Execution.{Execution}
-use Rattle.fdc_core.specs.declared.phases.Task.{Task}
-use Rattle.fdc_core.specs.declared.phases.Task.TheVariants.{ReadId, Read}
-use Rattle.fdc_stages.specs.declared.reading.ReadHeard.{ReadHeard}
-use Rattle.fdc_stages.specs.declared.searching.Searched.{Searched}
 
 -- the poll after a reset: INT rises, and each drive has a result; it waits while DOR holds the controller in reset
 abbrev pub polled : Fdc → Fdc
@@ -40,27 +35,6 @@ Rests old track0 new = RestsIn old.phase old track0 new
 -- the command took too many steps: it ends with MA
 abbrev pub late : Execution → Fdc → Fdc
 late execution old = finished Late execution.head_drive (key_as_sent execution.task) old
-
--- a device step of a data command that listens, by its task
-abbrev pub Hears : ℕ → ℕ → Task → Fdc → Fdc → Type 0
-Hears head_drive steps (ReadId _) old new =
-    (searched : Searched) × (new ≡ after_searched head_drive steps searched old)
-Hears head_drive steps (Read reading) old new =
-    (heard : ReadHeard) × (new ≡ after_heard head_drive steps reading heard old)
-
--- the last step ends a command, whatever it does; each other step counts
-abbrev pub StepsOn : Execution → Fdc → Fdc → Type 0
-StepsOn execution old new =
-    (execution.steps ≡ 65535 → new ≡ late execution old)
-    × (execution.steps < 65535 → Hears execution.head_drive (execution.steps + 1) execution.task old new)
-
-abbrev pub ExecutesIn : Phase → Fdc → Fdc → Type 0
-ExecutesIn (Execute execution) old new = StepsOn execution old new
-ExecutesIn _ old new = Unit {0}
-
--- a device step in execution
-abbrev pub Executes : Fdc → Fdc → Type 0
-Executes old new = ExecutesIn old.phase old new
 
 -- one word time passes at the drive, behind the pulse of a seek
 abbrev pub Moves : Option Bool → DriveState → DriveState → Type 0

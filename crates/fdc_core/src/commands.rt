@@ -1,5 +1,5 @@
 // The commands, once their last byte came.
-ghost use Rattle.std.specs.Prelude.{◌≡◌};
+ghost use Rattle.std.specs.Prelude.{◌≡◌, ℕ};
 ghost use Rattle.track_model.specs.Fields.{IsSizeCode};
 ghost use Rattle.fdc_seek.specs.Seeking.{seek_bits};
 ghost use Rattle.fdc_commands.specs.Table.{SizeInRange};
@@ -156,7 +156,7 @@ impl Fdc {
 
     /// READ ID begins.
     fn begin_id(&mut self, head_drive: u8)
-        ensures { BeginsTask head_drive IsReadingId self.old self.new }
+        ensures { BeginsTask head_drive (IsReadingId head_drive) self.old self.new }
     {
         let task = reading_id();
         self.begin(head_drive, task);
@@ -165,7 +165,7 @@ impl Fdc {
     /// READ DATA begins.
     fn begin_reading(&mut self, head_drive: u8, key: Chrn, last_sector: u8)
         requires { IsSizeCode key.n }
-        ensures { BeginsTask head_drive (IsReadingData key last_sector) self.old self.new }
+        ensures { BeginsTask head_drive (IsReadingData (record { head_drive = head_drive; key = key; last_sector = last_sector })) self.old self.new }
     {
         let task = reading_data(key, last_sector);
         self.begin(head_drive, task);
@@ -190,7 +190,7 @@ impl Fdc {
 
 /// READ ID as it begins.
 fn reading_id() -> Task
-    ensures { IsReadingId result }
+    ensures { (head_drive : ℕ) → IsReadingId head_drive result }
 {
     Task::ReadId {
         search: Search::new(),
@@ -200,7 +200,8 @@ fn reading_id() -> Task
 /// READ DATA as it begins.
 fn reading_data(key: Chrn, last_sector: u8) -> Task
     requires { IsSizeCode key.n }
-    ensures { IsReadingData key last_sector result }
+    ensures { (head_drive : ℕ)
+        → IsReadingData (record { head_drive = head_drive; key = key; last_sector = last_sector }) result }
 {
     Task::Read {
         reading: Reading {

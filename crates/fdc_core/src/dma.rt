@@ -1,8 +1,8 @@
 // The controller's side of the DMA channel.
 ghost use Rattle.std.specs.Prelude.{◌≡◌, IsTrue, IsFalse};
-ghost use Rattle.flop_base.specs.declared.key.Chrn.{Chrn};
 ghost use Rattle.fdc_stages.specs.History.{Past};
-ghost use Rattle.fdc_core.specs.Heard.{MayRead, gave, told_in, is_executing};
+ghost use Rattle.fdc_core.specs.Heard.{Sent, MayRead, gave, told_in};
+ghost use Rattle.fdc_core.specs.Listening.{is_executing};
 ghost use Rattle.fdc_core.specs.State.{asks};
 ghost use Rattle.fdc_core.specs.Dma.{asked, byte_out, taken_out, taken_in, with_byte, told_count, to_memory_of};
 
@@ -26,7 +26,7 @@ impl Fdc {
         requires to_memory { IsTrue (to_memory_of self.old) }
         ensures byte { result ≡ byte_out self.old }
         ensures after { self.new ≡ taken_out self.old }
-        ensures reads { (past : Past) (key : Chrn) → MayRead past key self.old → MayRead (gave result past) key self.new }
+        ensures reads { (past : Past) (sent : Sent) → MayRead past sent self.old → MayRead (gave result past) sent self.new }
     {
         self.take_out()
     }
@@ -64,7 +64,7 @@ impl Fdc {
     /// The channel tells the terminal count. A READ DATA then gives no further byte.
     pub fn tc(&mut self)
         ensures after { self.new ≡ told_count self.old }
-        ensures reads { (past : Past) (key : Chrn) → MayRead past key self.old → MayRead (told_in (is_executing self.old.phase) past) key self.new }
+        ensures reads { (past : Past) (sent : Sent) → MayRead past sent self.old → MayRead (told_in (is_executing self.old.phase) past) sent self.new }
     {
         self.end_transfer();
     }

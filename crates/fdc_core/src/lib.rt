@@ -6,6 +6,7 @@ mod answers;
 mod commands;
 mod controller;
 mod dma;
+mod laws;
 mod phases;
 mod ports;
 mod rates;
@@ -14,3 +15,6 @@ mod sized_key;
 mod steps;
 
 pub use controller::{Fdc, Lines};
+pub use laws::{
+    listening_is_paced, read_data_gives_the_field, read_data_tells, read_id_tells,
+};

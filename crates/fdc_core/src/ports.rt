@@ -1,6 +1,6 @@
 // The controller's ports (PC/AT): 3F2 DOR, 3F4 MSR and DSR, 3F5 the data port, 3F7 DIR and CCR.
 ghost use Rattle.std.specs.Prelude.{◌≡◌};
-ghost use Rattle.fdc_core.specs.Heard.{KeepsRead};
+ghost use Rattle.fdc_core.specs.Heard.{KeepsKnown};
 ghost use Rattle.fdc_core.specs.Ports.{is_taking, main_status, line_bits, result_byte, given, dor_written, dsr_written, Writes, value_read, after_read};
 
 use crate::controller::{Fdc, Lines};
@@ -29,7 +29,7 @@ impl Fdc {
     pub fn read(&mut self, port: u16, lines: Lines) -> u8
         ensures value { result ≡ value_read port lines self.old }
         ensures after { self.new ≡ after_read port self.old }
-        ensures reads { KeepsRead self.old self.new }
+        ensures keeps { KeepsKnown self.old self.new }
     {
         match port {
             DOR => self.dor.bits(),
@@ -43,7 +43,7 @@ impl Fdc {
     /// Writes a port.
     pub fn write(&mut self, port: u16, value: u8, lines: Lines)
         ensures writes { Writes port value lines self.old self.new }
-        ensures reads { KeepsRead self.old self.new }
+        ensures keeps { KeepsKnown self.old self.new }
     {
         match port {
             DOR => self.write_dor(value),
@@ -93,7 +93,6 @@ impl Fdc {
     fn give_byte(&mut self) -> u8
         ensures value { result ≡ result_byte self.old.phase }
         ensures after { self.new ≡ given self.old }
-        ensures reads { KeepsRead self.old self.new }
     {
         match self.phase {
             Phase::Result { answer } => {
@@ -109,8 +108,7 @@ impl Fdc {
 
     /// DOR is written. A zero in bit 2 resets the controller.
     fn write_dor(&mut self, value: u8)
-        ensures after { self.new ≡ dor_written value self.old }
-        ensures reads { KeepsRead self.old self.new }
+        ensures { self.new ≡ dor_written value self.old }
     {
         self.dor = Dor(value);
         if self.is_held() {
@@ -120,8 +118,7 @@ impl Fdc {
 
     /// DSR is written.
     fn write_dsr(&mut self, value: u8)
-        ensures after { self.new ≡ dsr_written value self.old }
-        ensures reads { KeepsRead self.old self.new }
+        ensures { self.new ≡ dsr_written value self.old }
     {
         self.rate = DataRate::chosen_by(value);
         if value & SOFT_RESET != 0 {

@@ -1,12 +1,9 @@
 // READ ID and READ DATA, word by word.
-ghost use Rattle.std.specs.Prelude.{◌≡◌, ◌++◌, List, None, ℕ};
-ghost use Rattle.flop_base.specs.declared.key.Chrn.{Chrn};
-ghost use Rattle.fdc_stages.specs.History.{Past, heard};
-ghost use Rattle.fdc_stages.specs.Searches.{IsSearching};
-ghost use Rattle.fdc_core.specs.Heard.{IsUnderway, MayRead, MayReadId};
+ghost use Rattle.std.specs.Prelude.{◌≡◌};
 ghost use Rattle.fdc_stages.specs.declared.reading.ReadHeard.{ReadHeard};
 ghost use Rattle.fdc_stages.specs.declared.searching.Searched.{Searched};
 ghost use Rattle.fdc_core.specs.Dma.{gone_on};
+ghost use Rattle.fdc_core.specs.Listening.{SearchHears, StageHears};
 ghost use Rattle.fdc_core.specs.Reading.{after_searched, after_heard, gone_on_reading, byte_taken};
 
 use crate::controller::Fdc;
@@ -17,9 +14,8 @@ use fdc_stages::{Ending, ReadHeard, Search, Searched};
 impl Fdc {
     /// READ ID hears a word.
     pub(crate) fn hear_id(&mut self, head_drive: u8, steps: u16, search: Search, turn: Turn)
-        ensures follows { (searched : Searched) × (self.new ≡ after_searched head_drive steps searched self.old) }
-        ensures identifies { (past : Past) → past.steps ≡ steps → IsSearching past None search
-            → MayReadId (heard turn.index turn.word past) self.new }
+        ensures { (searched : Searched) × SearchHears turn.index turn.word search searched
+            × (self.new ≡ after_searched head_drive steps searched self.old) }
     {
         let searched = search.hear(None, turn.word, turn.index);
         self.follow_id(head_drive, steps, searched);
@@ -40,9 +36,8 @@ impl Fdc {
 
     /// READ DATA hears a word.
     pub(crate) fn hear_reading(&mut self, head_drive: u8, steps: u16, reading: Reading, turn: Turn)
-        ensures follows { (heard : ReadHeard) × (self.new ≡ after_heard head_drive steps reading heard self.old) }
-        ensures reads { (past : Past) (key : Chrn) (told : List ℕ) → IsUnderway past key reading steps (past.given ++ self.old.fifo.bytes) told
-            → MayRead (heard turn.index turn.word past) key self.new }
+        ensures { (heard : ReadHeard) × StageHears reading.wanted.key turn.index turn.word reading.stage heard
+            × (self.new ≡ after_heard head_drive steps reading heard self.old) }
     {
         let heard = reading
             .stage

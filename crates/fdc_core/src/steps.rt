@@ -1,12 +1,10 @@
 // Device steps: one word time each, with the selected drive or with none.
-ghost use Rattle.std.specs.Prelude.{◌≡◌, ◌<◌, ◌+◌, ◌==◌, ℕ, None, true, false};
+ghost use Rattle.std.specs.Prelude.{◌≡◌, ◌<◌, ◌+◌, ◌==◌, ℕ, None, false};
 ghost use Rattle.drive_model.specs.Drive.{Becomes, Reads, passed, at_index, rate_of};
 ghost use Rattle.fdc_seek.specs.Seeking.{pulse_due};
-ghost use Rattle.flop_base.specs.declared.key.Chrn.{Chrn};
-ghost use Rattle.fdc_stages.specs.History.{Past, heard};
-ghost use Rattle.fdc_core.specs.Heard.{MayRead, MayReadTask, MayReadId, MayReadIdTask, Listens, StepHears, ListensToNone, StepHearsNone, stepped};
+ghost use Rattle.fdc_core.specs.Listening.{Listens, ListensToNone, StepHears, Follows, Hears};
 ghost use Rattle.fdc_core.specs.Rates.{rate_fits, seen_of};
-ghost use Rattle.fdc_core.specs.Steps.{polled, seek_stepped, late, Executes, StepsOn, Hears, Rests, Moves, MovesDrive, Ends, EndsIn, Stays, Flows, FlowsIn};
+ghost use Rattle.fdc_core.specs.Steps.{polled, seek_stepped, late, Rests, Moves, MovesDrive, Ends, EndsIn, Stays, Flows, FlowsIn};
 
 use crate::controller::Fdc;
 use crate::phases::{Execution, Phase, Task};
@@ -26,8 +24,7 @@ impl Fdc {
     /// One device step with the selected drive.
     pub fn step<D: Drive>(&mut self, drive: &mut D)
         ensures rests { Rests (polled self.old) ((D.state drive.old).cylinder == 0) self.new }
-        ensures executes { Executes (polled self.old) self.new }
-        ensures reads { Listens self.old (at_index (D.state drive.old)) (D.state drive.old) (D.state drive.new) self.new }
+        ensures reads { Listens self.old (polled self.old) (at_index (D.state drive.old)) (D.state drive.old) (D.state drive.new) self.new }
         ensures drive { MovesDrive (polled self.old) (D.state drive.old) (D.state drive.new) }
         ensures ends { Ends self.old self.new }
         ensures stays { Stays self.old self.new }
@@ -40,8 +37,7 @@ impl Fdc {
     /// A device step once the poll is done.
     fn advance<D: Drive>(&mut self, drive: &mut D)
         ensures rests { Rests self.old ((D.state drive.old).cylinder == 0) self.new }
-        ensures executes { Executes self.old self.new }
-        ensures reads { Listens self.old (at_index (D.state drive.old)) (D.state drive.old) (D.state drive.new) self.new }
+        ensures reads { Listens self.old self.old (at_index (D.state drive.old)) (D.state drive.old) (D.state drive.new) self.new }
         ensures drive { MovesDrive self.old (D.state drive.old) (D.state drive.new) }
         ensures ends { Ends self.old self.new }
         ensures stays { Stays self.old self.new }
@@ -56,8 +52,7 @@ impl Fdc {
     /// One device step where no drive is selected.
     pub fn step_empty(&mut self)
         ensures rests { Rests (polled self.old) false self.new }
-        ensures executes { Executes (polled self.old) self.new }
-        ensures reads { ListensToNone self.old self.new }
+        ensures reads { ListensToNone self.old (polled self.old) self.new }
         ensures ends { Ends self.old self.new }
         ensures stays { Stays self.old self.new }
         ensures flows { Flows self.old self.new }
@@ -69,8 +64,7 @@ impl Fdc {
     /// A device step where no drive is selected, once the poll is done.
     fn advance_empty(&mut self)
         ensures rests { Rests self.old false self.new }
-        ensures executes { Executes self.old self.new }
-        ensures reads { ListensToNone self.old self.new }
+        ensures reads { ListensToNone self.old self.old self.new }
         ensures ends { Ends self.old self.new }
         ensures stays { Stays self.old self.new }
         ensures flows { Flows self.old self.new }
@@ -127,8 +121,7 @@ impl Fdc {
 
     /// A device step of a data command.
     fn execute<D: Drive>(&mut self, execution: Execution, drive: &mut D)
-        ensures steps { StepsOn execution self.old self.new }
-        ensures reads { StepHears (Phase.Execute execution) self.old.rate self.old.asking self.old.fifo.bytes (at_index (D.state drive.old))
+        ensures reads { StepHears (Phase.Execute execution) self.old self.old (at_index (D.state drive.old))
             (D.state drive.old) (D.state drive.new) self.new }
         ensures drive { Moves None (D.state drive.old) (D.state drive.new) }
         ensures ends { EndsIn (Phase.Execute execution) self.new.phase }
@@ -146,8 +139,7 @@ impl Fdc {
 
     /// A device step of a data command where no drive is selected.
     fn execute_empty(&mut self, execution: Execution)
-        ensures steps { StepsOn execution self.old self.new }
-        ensures reads { StepHearsNone (Phase.Execute execution) self.old.asking self.old.fifo.bytes self.new }
+        ensures reads { Follows (Phase.Execute execution) self.old self.old false 0 self.new }
         ensures ends { EndsIn (Phase.Execute execution) self.new.phase }
         ensures stays { Stays self.old self.new }
         ensures flows { FlowsIn (Phase.Execute execution) self.old.asking self.new }
@@ -193,13 +185,9 @@ impl Fdc {
     fn hear(&mut self, execution: Execution, turn: Turn)
         requires { execution.steps < 65535 }
         ensures few { execution.steps < 65535 }
-        ensures hears { Hears execution.head_drive (execution.steps + 1) execution.task self.old self.new }
+        ensures hears { Hears execution.head_drive (execution.steps + 1) execution.task turn.index turn.word self.old self.new }
         ensures stays { Stays self.old self.new }
         ensures flows { FlowsIn (Phase.Execute execution) self.old.asking self.new }
-        ensures reads { (past : Past) (key : Chrn) → MayReadTask past key execution.steps execution.task self.old.asking self.old.fifo.bytes
-            → MayRead (heard turn.index turn.word (stepped past)) key self.new }
-        ensures identifies { (past : Past) → MayReadIdTask past execution.steps execution.task
-            → MayReadId (heard turn.index turn.word (stepped past)) self.new }
     {
         let Execution {
             head_drive,

@@ -19,10 +19,12 @@ pub record Past : Type 0 where
   pub steps : ℕ
   -- whether the terminal count came
   pub counted : Bool
+  -- whether the gate could not be opened, since the rate was another
+  pub barred : Bool
 
 -- a command that begins
 abbrev pub begun : Past
-begun = record { turns = []; seen = []; place = 0; given = []; taken = []; words = []; steps = 0; counted = false }
+begun = record { turns = []; seen = []; place = 0; given = []; taken = []; words = []; steps = 0; counted = false; barred = false }
 
 -- the turns, where the index followed these words or did not
 abbrev pub turns_after : Bool → List (List ℕ) → List ℕ → List (List ℕ)
@@ -40,6 +42,17 @@ heard index word past = record past {
   turns = turns_after index past.turns (with_word past.seen word);
   seen = turn_after index past.seen word;
   place = place_after index past.place;
+}
+
+-- a word was heard where one was to be written, since the gate could not be opened
+abbrev pub kept_out : Bool → ℕ → Past → Past
+kept_out index word past = record (heard index word past) { barred = true }
+
+-- a word was written, and the index followed it or did not; what was heard in this turn stays
+abbrev pub wrote : Bool → ℕ → Past → Past
+wrote index word past = record past {
+  place = place_after index past.place;
+  words = with_word past.words word;
 }
 
 -- the words are one of these turns

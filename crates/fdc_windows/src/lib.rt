@@ -4,4 +4,4 @@
 
 mod window;
 
-pub use window::{Part, Window};
+pub use window::{Given, Part, Window};

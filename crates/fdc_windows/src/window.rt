@@ -1,8 +1,8 @@
 // The words of a window, one by one.
-ghost use Rattle.std.specs.Prelude.{◌≡◌, ◌+◌, ◌≤◌, ℕ, List, false, length};
+ghost use Rattle.std.specs.Prelude.{◌≡◌, ◌+◌, ◌≤◌, ℕ, List, false};
 ghost use Rattle.track_model.specs.Marks.{data_byte};
 ghost use Rattle.track_model.specs.Writing.{window};
-ghost use Rattle.fdc_windows.specs.Windows.{Gives, words_left, bytes_left, is_over, needs_byte};
+ghost use Rattle.fdc_windows.specs.Windows.{Gives, words_left, bytes_left, count_left, lead_left, needs_byte};
 
 use mfm_cells::encode_byte;
 use track_check::{crc_step, mark_crc};
@@ -30,8 +30,6 @@ pub enum Part {
     High,
     /// The low byte of the check.
     Low,
-    /// There is none.
-    Over,
 }
 
 /// The words that are written over a data field, with those to come. The bytes of the content are handed in one by one.
@@ -47,12 +45,23 @@ pub struct Window {
     pub(crate) last: bool,
 }
 
+/// A word of a window.
+#[derive(Clone, Copy)]
+pub struct Given {
+    pub word: u16,
+    /// The words behind it; none behind the last.
+    pub rest: Option<Window>,
+}
+
 impl Window {
     /// The window of a content of so many bytes.
     pub fn new(deleted: bool, size: u16) -> Window
         requires { 1 ≤ size }
         ensures words { (content : List ℕ) → words_left result content ≡ window deleted content }
         ensures bytes { bytes_left result ≡ size }
+        ensures count { count_left result ≡ size + 18 }
+        ensures lead { lead_left result ≡ 16 }
+        ensures begins { needs_byte result ≡ false }
     {
         Window {
             deleted,
@@ -70,17 +79,9 @@ impl Window {
         matches!(self.part, Part::Content { .. })
     }
 
-    /// Whether all words were given.
-    pub fn is_over(&self) -> bool
-        ensures { result ≡ is_over self.now }
-    {
-        matches!(self.part, Part::Over)
-    }
-
     /// The next word. Where `needs_byte` says so, `byte` is the byte that it records; elsewhere it isn't used.
-    pub fn next(&mut self, byte: u8) -> u16
-        requires { is_over self.old ≡ false }
-        ensures { Gives self.old.part self.old byte result self.new }
+    pub fn next(self, byte: u8) -> Given
+        ensures { Gives self.part self byte result.word result.rest }
     {
         match self.part {
             Part::Sync { more } => self.give_sync(more),
@@ -89,72 +90,104 @@ impl Window {
             Part::Content { more } => self.give_byte(more, byte),
             Part::High => self.give_high(),
             Part::Low => self.give_low(),
-            Part::Over => 0,
         }
     }
 
-    fn give_sync(&mut self, more: u8) -> u16
-        ensures { (byte : ℕ) → Gives (Part.Sync more) self.old byte result self.new }
+    fn give_sync(self, more: u8) -> Given
+        ensures { (byte : ℕ) → Gives (Part.Sync more) self byte result.word result.rest }
+    {
+        let word = encode_byte(false, 0);
+        if more == 0 {
+            let rest = Some(Window {
+                part: Part::Marks { more: MORE_MARKS },
+                ..self
+            });
+            return Given { word, rest };
+        }
+        let rest = Some(Window {
+            part: Part::Sync { more: more - 1 },
+            ..self
+        });
+        Given { word, rest }
+    }
+
+    fn give_mark_word(self, more: u8) -> Given
+        ensures { (byte : ℕ) → Gives (Part.Marks more) self byte result.word result.rest }
     {
         if more == 0 {
-            self.part = Part::Marks { more: MORE_MARKS };
-            return encode_byte(false, 0);
+            let rest = Some(Window {
+                part: Part::Mark,
+                ..self
+            });
+            return Given { word: MARK, rest };
         }
-        self.part = Part::Sync { more: more - 1 };
-        encode_byte(false, 0)
+        let rest = Some(Window {
+            part: Part::Marks { more: more - 1 },
+            ..self
+        });
+        Given { word: MARK, rest }
     }
 
-    fn give_mark_word(&mut self, more: u8) -> u16
-        ensures { (byte : ℕ) → Gives (Part.Marks more) self.old byte result self.new }
-    {
-        if more == 0 {
-            self.part = Part::Mark;
-            return MARK;
-        }
-        self.part = Part::Marks { more: more - 1 };
-        MARK
-    }
-
-    fn give_mark(&mut self) -> u16
-        ensures { (byte : ℕ) → Gives Part.Mark self.old byte result self.new }
+    fn give_mark(self) -> Given
+        ensures { (byte : ℕ) → Gives Part.Mark self byte result.word result.rest }
     {
         let mark = mark_byte(self.deleted);
-        self.part = Part::Content { more: self.more };
-        self.check = mark_crc(mark);
-        self.last = mark % 2 == 1;
-        encode_byte(true, mark)
+        Given {
+            word: encode_byte(true, mark),
+            rest: Some(Window {
+                part: Part::Content { more: self.more },
+                check: mark_crc(mark),
+                last: mark % 2 == 1,
+                ..self
+            }),
+        }
     }
 
-    fn give_byte(&mut self, more: u16, byte: u8) -> u16
-        ensures { Gives (Part.Content more) self.old byte result self.new }
+    fn give_byte(self, more: u16, byte: u8) -> Given
+        ensures { Gives (Part.Content more) self byte result.word result.rest }
     {
         let word = encode_byte(self.last, byte);
-        self.check = crc_step(self.check, byte);
-        self.last = byte % 2 == 1;
+        let checked = Window {
+            check: crc_step(self.check, byte),
+            last: byte % 2 == 1,
+            ..self
+        };
         if more == 0 {
-            self.part = Part::High;
-            return word;
+            let rest = Some(Window {
+                part: Part::High,
+                ..checked
+            });
+            return Given { word, rest };
         }
-        self.part = Part::Content { more: more - 1 };
-        word
+        let rest = Some(Window {
+            part: Part::Content { more: more - 1 },
+            ..checked
+        });
+        Given { word, rest }
     }
 
-    fn give_high(&mut self) -> u16
-        ensures { (byte : ℕ) → Gives Part.High self.old byte result self.new }
+    fn give_high(self) -> Given
+        ensures { (byte : ℕ) → Gives Part.High self byte result.word result.rest }
     {
         let high = (self.check / 256) as u8;
-        let word = encode_byte(self.last, high);
-        self.last = high % 2 == 1;
-        self.part = Part::Low;
-        word
+        Given {
+            word: encode_byte(self.last, high),
+            rest: Some(Window {
+                part: Part::Low,
+                last: high % 2 == 1,
+                ..self
+            }),
+        }
     }
 
-    fn give_low(&mut self) -> u16
-        ensures { (byte : ℕ) → Gives Part.Low self.old byte result self.new }
+    fn give_low(self) -> Given
+        ensures { (byte : ℕ) → Gives Part.Low self byte result.word result.rest }
     {
         let low = (self.check % 256) as u8;
-        self.part = Part::Over;
-        encode_byte(self.last, low)
+        Given {
+            word: encode_byte(self.last, low),
+            rest: None,
+        }
     }
 }
 

@@ -1,6 +1,6 @@
 use Rattle.drive_model.specs.Drive.{at_index}
 use Rattle.std.proofs.Common.{◌==◌}
-use Rattle.fdc_core.proofs.MayReadId.{executes_hears, rests_hears}
+use Rattle.fdc_core.proofs.Hearing.{executes_hears, rests_hears}
 use Rattle.fdc_core.proofs.controller.Fdc.advance.Goals as goal
 
 pub returns-in-Execute-clause-reads : goal.returns-in-Execute-clause-reads

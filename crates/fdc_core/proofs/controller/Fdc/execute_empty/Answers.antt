@@ -1,17 +1,15 @@
-use Rattle.std.proofs.Common.{arith, false}
+use Rattle.std.proofs.Common.{arith, false, refl}
 use Rattle.fdc_core.proofs.Ending.{late_left, next_left}
-use Rattle.fdc_core.proofs.MayRead.{late_reads}
-use Rattle.fdc_core.proofs.MayReadId.{late_id_reads}
+use Rattle.fdc_core.proofs.Hearing.{last_follows, next_follows}
 use Rattle.fdc_core.proofs.controller.Fdc.execute_empty.Goals as goal
 
 pub returns-then-execution-eq-LAST_STEP-clause-reads : goal.returns-then-execution-eq-LAST_STEP-clause-reads
-returns-then-execution-eq-LAST_STEP-clause-reads c = (
-  late_reads false 0 c.args.execution c.args.self.now c.finish_late.new.self c.if-execution-eq-LAST_STEP.true c.finish_late.ensures,
-  late_id_reads false 0 c.args.execution c.args.self.now c.finish_late.new.self c.if-execution-eq-LAST_STEP.true c.finish_late.ensures,
-)
+returns-then-execution-eq-LAST_STEP-clause-reads c =
+    last_follows false 0 c.args.execution c.args.self.now c.finish_late.new.self c.if-execution-eq-LAST_STEP.true c.finish_late.ensures
 
 pub returns-clause-reads : goal.returns-clause-reads
-returns-clause-reads c = (c.hear.ensures.reads, c.hear.ensures.identifies)
+returns-clause-reads c =
+    next_follows false 0 c.args.execution c.args.self.now c.hear.new.self c.hear.ensures.few c.hear.ensures.hears
 
 pub returns-then-execution-eq-LAST_STEP-clause-ends : goal.returns-then-execution-eq-LAST_STEP-clause-ends
 returns-then-execution-eq-LAST_STEP-clause-ends c =
@@ -20,4 +18,4 @@ returns-then-execution-eq-LAST_STEP-clause-ends c =
 pub returns-clause-ends : goal.returns-clause-ends
 returns-clause-ends c =
     let few = c.hear.ensures.few in
-    next_left c.args.execution.head_drive c.args.execution.steps c.args.execution.task c.args.self.now c.hear.new.self (omega arith) c.hear.ensures.hears
+    next_left false 0 c.args.execution.head_drive c.args.execution.steps c.args.execution.task c.args.self.now c.hear.new.self (omega arith) c.hear.ensures.hears

@@ -1,5 +1,5 @@
 use Rattle.drive_model.specs.Drive.{at_index}
-use Rattle.fdc_core.proofs.MayReadId.{polled_hears}
+use Rattle.fdc_core.proofs.Hearing.{polled_hears}
 use Rattle.fdc_core.proofs.Staying.{polled_stays}
 use Rattle.fdc_core.proofs.controller.Fdc.step.Goals as goal
 

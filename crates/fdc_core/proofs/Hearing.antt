@@ -1,0 +1,175 @@
+-- A device step of a command that listens, put together.
+use Rattle.std.proofs.Common.{◌≡◌, ◌<◌, ◌≤◌, ℕ, ◌+◌, Bool, true, false, not, ◌&&◌, if◌then◌else◌, ◌==◌, length, Option, Some, None, refl, sym, ap, subst, ◌∙◌, arith}
+use Rattle.std.proofs.lemmas.Bool.{false≢true}
+use Rattle.drive_model.specs.Drive.{DriveState}
+use Rattle.fdc_seek.specs.Seeking.{with_polls}
+use Rattle.fdc_stages.specs.Searches.{IsMiss, MissesWell}
+use Rattle.fdc_stages.specs.Readings.{IsFailure, FailsWell}
+use Rattle.fdc_stages.specs.declared.ending.Ending.{Ending}
+use Rattle.fdc_stages.specs.declared.ending.Ending.TheVariants.{Done, NoMark, NoSector, NoField, BadCheck, Overrun, NoCount, Protected, Late}
+use Rattle.fdc_stages.specs.declared.reading.ReadHeard.{ReadHeard}
+use Rattle.fdc_stages.specs.declared.reading.ReadHeard.TheVariants as given
+use Rattle.fdc_stages.specs.declared.reading.ReadStage.{ReadStage}
+use Rattle.fdc_stages.specs.declared.reading.ReadStage.TheVariants as stages
+use Rattle.fdc_stages.specs.declared.searching.Searched.{Searched}
+use Rattle.fdc_stages.specs.declared.searching.Searched.TheVariants as searched
+use Rattle.flop_base.specs.declared.key.Chrn.{Chrn}
+use Rattle.fdc_core.specs.Answers.{key_after, no_key}
+use Rattle.fdc_core.specs.Listening.{SeesWord, Listens, StepHears, Follows, ExecutesIn, OverrunsIn, OverrunsTask, FindsFull, Hears, SearchHears, StageHears, is_executing, after_step}
+use Rattle.fdc_core.specs.Phases.{ending_at, ending_over, ending_of, is_overrun}
+use Rattle.fdc_core.specs.Reading.{after_searched, after_heard, over_or_on, gone_on_reading, at_stage, pushed, is_full}
+use Rattle.fdc_core.specs.State.{is_held, finished}
+use Rattle.fdc_core.specs.Steps.{late, polled, seek_stepped}
+use Rattle.fdc_core.specs.declared.controller.Fdc.{Fdc}
+use Rattle.fdc_core.specs.declared.phases.Execution.{Execution}
+use Rattle.fdc_core.specs.declared.phases.Phase.{Phase}
+use Rattle.fdc_core.specs.declared.phases.Phase.TheVariants.{Command, Execute, Result}
+use Rattle.fdc_core.specs.declared.phases.Reading.{Reading}
+use Rattle.fdc_core.specs.declared.phases.Task.{Task}
+use Rattle.fdc_core.specs.declared.phases.Task.TheVariants.{ReadId, Read}
+use Rattle.fdc_core.proofs.MayRead.{hears_reads, late_reads, rests_sees, rests_reads}
+use Rattle.fdc_core.proofs.MayReadId.{hears_identifies, late_identifies, rests_identifies}
+
+-- ---- OR comes only where a byte found the FIFO full
+
+miss_overruns : (ending : Ending) (head_drive : ℕ) (key : Chrn) (old : Fdc) → IsMiss ending → is_overrun (finished ending head_drive key old).phase ≡ false
+miss_overruns NoMark head_drive key old is = refl
+miss_overruns NoSector head_drive key old is = refl
+miss_overruns NoField head_drive key old is = absurd is
+miss_overruns (Done deleted) head_drive key old is = absurd is
+miss_overruns BadCheck head_drive key old is = absurd is
+miss_overruns Overrun head_drive key old is = absurd is
+miss_overruns NoCount head_drive key old is = absurd is
+miss_overruns Protected head_drive key old is = absurd is
+miss_overruns Late head_drive key old is = absurd is
+
+searched_overruns : (head_drive steps : ℕ) (old : Fdc) (after : Searched) → MissesWell after → is_overrun (after_searched head_drive steps after old).phase ≡ false
+searched_overruns head_drive steps old (searched.On search) well = refl
+searched_overruns head_drive steps old (searched.Met key separator) well = refl
+searched_overruns head_drive steps old (searched.Missed ending) well = miss_overruns ending head_drive no_key old well
+
+failure_overruns : (ending : Ending) (head_drive : ℕ) (key : Chrn) (old : Fdc) → IsFailure ending → is_overrun (finished ending head_drive key old).phase ≡ false
+failure_overruns NoMark head_drive key old is = refl
+failure_overruns NoSector head_drive key old is = refl
+failure_overruns NoField head_drive key old is = refl
+failure_overruns (Done deleted) head_drive key old is = absurd is
+failure_overruns BadCheck head_drive key old is = absurd is
+failure_overruns Overrun head_drive key old is = absurd is
+failure_overruns NoCount head_drive key old is = absurd is
+failure_overruns Protected head_drive key old is = absurd is
+failure_overruns Late head_drive key old is = absurd is
+
+over_overruns : (good counted deleted empty : Bool) (head_drive steps : ℕ) (reading : Reading) (old : Fdc) → is_overrun (over_or_on (Some (ending_over good counted deleted)) empty head_drive steps reading old).phase ≡ false
+over_overruns true true deleted true head_drive steps reading old = refl
+over_overruns true false deleted true head_drive steps reading old = refl
+over_overruns false counted deleted true head_drive steps reading old = refl
+over_overruns good counted deleted false head_drive steps reading old = refl
+
+at_overruns : (stage : ReadStage) (counted empty : Bool) (head_drive steps : ℕ) (reading : Reading) (old : Fdc) → is_overrun (over_or_on (ending_at stage counted) empty head_drive steps reading old).phase ≡ false
+at_overruns (stages.Search search) counted empty head_drive steps reading old = refl
+at_overruns (stages.Wait separator) counted empty head_drive steps reading old = refl
+at_overruns (stages.Content separator deleted) counted empty head_drive steps reading old = refl
+at_overruns (stages.Over deleted good) counted empty head_drive steps reading old = over_overruns good counted deleted empty head_drive steps reading old
+
+on_overruns : (head_drive steps : ℕ) (reading : Reading) (old : Fdc) → is_overrun (gone_on_reading head_drive steps reading old).phase ≡ false
+on_overruns head_drive steps reading old = at_overruns reading.stage reading.counted (length old.fifo.bytes == 0) head_drive steps reading old
+
+clash : {A : Type 0} (b : Bool) → b ≡ false → b ≡ true → A
+clash b is other = absurd (false≢true (sym is ∙ other))
+
+byte_overruns : (counted full : Bool) (head_drive steps value : ℕ) (reading : Reading) (old : Fdc)
+    → is_overrun (if counted then gone_on_reading head_drive steps reading old else (if full then finished Overrun head_drive reading.wanted.key old else gone_on_reading head_drive steps reading (pushed value old))).phase ≡ true → (counted ≡ false) × (full ≡ true)
+byte_overruns true full head_drive steps value reading old up = clash _ (on_overruns head_drive steps reading old) up
+byte_overruns false true head_drive steps value reading old up = (refl, refl)
+byte_overruns false false head_drive steps value reading old up = clash _ (on_overruns head_drive steps reading (pushed value old)) up
+
+heard_overruns : (index : Bool) (word head_drive steps : ℕ) (reading : Reading) (old : Fdc) (after : ReadHeard) → StageHears reading.wanted.key index word reading.stage after
+    → is_overrun (after_heard head_drive steps reading after old).phase ≡ true → FindsFull reading index word old
+heard_overruns index word head_drive steps reading old (given.On stage) hears up = clash _ (on_overruns head_drive steps (at_stage reading stage) old) up
+heard_overruns index word head_drive steps reading old (given.Byte stage value) hears up =
+    let (uncounted, full) = byte_overruns reading.counted (is_full old) head_drive steps value (at_stage reading stage) old up in
+    record { stage = stage; value = value; comes = hears; uncounted = uncounted; full = full }
+heard_overruns index word head_drive steps reading old (given.Ended ending) hears up = clash _ (failure_overruns ending head_drive reading.wanted.key old hears.1) up
+
+hears_overruns : (index : Bool) (word head_drive steps : ℕ) (task : Task) (old new : Fdc) → Hears head_drive steps task index word old new → OverrunsTask task index word old new
+hears_overruns index word head_drive steps (ReadId search) old new (after, hears, is) =
+    subst (λ fdc. is_overrun fdc.phase ≡ false) (sym is) (searched_overruns head_drive steps old after hears.1)
+hears_overruns index word head_drive steps (Read reading) old new (after, hears, is) =
+    subst (λ fdc. is_overrun fdc.phase ≡ true → FindsFull reading index word old) (sym is) (heard_overruns index word head_drive steps reading old after hears)
+
+late_overruns : (index : Bool) (word : ℕ) (task : Task) (old new : Fdc) → is_overrun new.phase ≡ false → OverrunsTask task index word old new
+late_overruns index word (ReadId search) old new is = is
+late_overruns index word (Read reading) old new is = λ up. clash _ is up
+
+-- ---- in execution
+
+module _ (index : Bool) (word : ℕ) (execution : Execution) (old new : Fdc) where
+  pub last_follows : execution.steps ≡ 65535 → new ≡ late execution old → Follows (Execute execution) old old index word new
+  last_follows last is = record {
+    executes = record { last = λ _. is; others = λ few. absurd (omega arith) };
+    overruns = late_overruns index word execution.task old new (subst (λ fdc. is_overrun fdc.phase ≡ false) (sym is) refl);
+    reads = late_reads index word execution old new last is;
+    identifies = late_identifies index word execution old new last is;
+  }
+
+  pub next_follows : execution.steps < 65535 → Hears execution.head_drive (execution.steps + 1) execution.task index word old new → Follows (Execute execution) old old index word new
+  next_follows few hears = record {
+    executes = record { last = λ last. absurd (omega arith); others = λ _. hears };
+    overruns = hears_overruns index word execution.head_drive (execution.steps + 1) execution.task old new hears;
+    reads = hears_reads index word execution.head_drive execution.steps execution.task old new hears;
+    identifies = hears_identifies index word execution.head_drive execution.steps execution.task old new hears;
+  }
+
+-- the execution is that of the phase
+pub in_execution : (index : Bool) (word : ℕ) (old new : Fdc) (execution : Execution) → old.phase ≡ Execute execution → Follows (Execute execution) old old index word new → Follows old.phase old old index word new
+in_execution index word old new execution is follows = subst (λ phase. Follows phase old old index word new) (sym is) follows
+
+pub executes_hears : (index : Bool) (old new : Fdc) (before after : DriveState) (execution : Execution) → old.phase ≡ Execute execution → StepHears (Execute execution) old old index before after new → Listens old old index before after new
+executes_hears index old new before after execution is hears =
+    subst (λ phase. StepHears phase old old index before after new) (sym is) hears
+
+-- ---- outside execution
+
+rests_executes : (phase : Phase) → ((execution : Execution) → phase ≡ Execute execution → ⊥) → (index : Bool) (polls new : Fdc) → ExecutesIn phase index 0 polls new
+rests_executes Command other index polls new = tt
+rests_executes (Result answer) other index polls new = tt
+rests_executes (Execute execution) other index polls new = absurd (other execution refl)
+
+rests_overruns : (phase : Phase) → ((execution : Execution) → phase ≡ Execute execution → ⊥) → (index : Bool) (polls new : Fdc) → OverrunsIn phase index 0 polls new
+rests_overruns Command other index polls new = tt
+rests_overruns (Result answer) other index polls new = tt
+rests_overruns (Execute execution) other index polls new = absurd (other execution refl)
+
+pub rests_follows : (track0 index : Bool) (old new : Fdc) → new ≡ seek_stepped track0 old → ((execution : Execution) → old.phase ≡ Execute execution → ⊥) → Follows old.phase old old index 0 new
+rests_follows track0 index old new is other = subst (λ fdc. Follows old.phase old old index 0 fdc) (sym is) (record {
+  executes = rests_executes old.phase other index old (seek_stepped track0 old);
+  overruns = rests_overruns old.phase other index old (seek_stepped track0 old);
+  reads = rests_reads old.phase other index old.asking old.fifo.bytes;
+  identifies = rests_identifies old.phase other index;
+})
+
+pub rests_hears : (track0 index : Bool) (old new : Fdc) (before after : DriveState) → new ≡ seek_stepped track0 old → ((execution : Execution) → old.phase ≡ Execute execution → ⊥) → Listens old old index before after new
+rests_hears track0 index old new before after is other =
+    record { word = 0; sees = rests_sees old.phase other old.rate before after; follows = rests_follows track0 index old new is other }
+
+-- ---- the poll moves nothing of this
+
+if_follows : (b index : Bool) (word : ℕ) (old new : Fdc) → (let polls : Fdc = (if b then record old { poll_due = false; interrupt = true; seeks = with_polls old.seeks } else old) in Follows polls.phase polls polls index word new → Follows old.phase old polls index word new)
+if_follows true index word old new was =
+    record { executes = was.executes; overruns = was.overruns; reads = was.reads; identifies = was.identifies }
+if_follows false index word old new was = was
+
+pub polled_follows : (index : Bool) (word : ℕ) (old polls new : Fdc) → polls ≡ polled old → Follows polls.phase polls polls index word new → Follows old.phase old polls index word new
+polled_follows index word old polls new is was =
+    subst (λ p. Follows old.phase old p index word new) (sym is) (if_follows (old.poll_due && not (is_held old)) index word old new (subst (λ p. Follows p.phase p p index word new) is was))
+
+if_sees : (b : Bool) (word : ℕ) (old : Fdc) (before after : DriveState) → (let polls : Fdc = (if b then record old { poll_due = false; interrupt = true; seeks = with_polls old.seeks } else old) in SeesWord polls.phase polls.rate before word after → SeesWord old.phase old.rate before word after)
+if_sees true word old before after was = was
+if_sees false word old before after was = was
+
+pub polled_hears : (index : Bool) (old polls new : Fdc) (before after : DriveState) → polls ≡ polled old → Listens polls polls index before after new → Listens old (polled old) index before after new
+polled_hears index old polls new before after is was = record {
+  word = was.word;
+  sees = if_sees (old.poll_due && not (is_held old)) was.word old before after (subst (λ p. SeesWord p.phase p.rate before was.word after) is was.sees);
+  follows = subst (λ p. Follows old.phase old p index was.word new) is (polled_follows index was.word old polls new is was.follows);
+}

@@ -1,0 +1,116 @@
+-- Device steps: the word that passes, and what is then known of a command that listens.
+use Rattle.std.specs.Prelude.{◌≡◌, ◌<◌, ℕ, ◌+◌, Bool, true, false, Some, None, List}
+use Rattle.drive_model.specs.Drive.{DriveState, Reads, rate_of}
+use Rattle.flop_base.specs.declared.key.Chrn.{Chrn}
+use Rattle.fdc_stages.specs.History.{Past, heard}
+use Rattle.fdc_stages.specs.Searches.{IsSearching, HasSearched, MissesWell}
+use Rattle.fdc_stages.specs.Readings.{IsReading, HasHeard, FailsWell}
+use Rattle.fdc_stages.specs.declared.ending.Ending.TheVariants.{Overrun}
+use Rattle.fdc_stages.specs.declared.reading.ReadHeard.{ReadHeard}
+use Rattle.fdc_stages.specs.declared.reading.ReadHeard.TheVariants as given
+use Rattle.fdc_stages.specs.declared.reading.ReadStage.{ReadStage}
+use Rattle.fdc_stages.specs.declared.searching.Search.{Search}
+use Rattle.fdc_stages.specs.declared.searching.Searched.{Searched}
+use Rattle.fdc_core.specs.Heard.{Sent, MayReadIn, MayRead, MayReadIdIn, MayReadId, stepped}
+use Rattle.fdc_core.specs.Phases.{head_of, is_overrun}
+use Rattle.fdc_core.specs.Rates.{rate_fits, seen_of}
+use Rattle.fdc_core.specs.Reading.{after_searched, after_heard, is_full}
+use Rattle.fdc_core.specs.Steps.{late}
+use Rattle.fdc_core.specs.declared.controller.Fdc.{Fdc}
+use Rattle.fdc_core.specs.declared.phases.Execution.{Execution}
+use Rattle.fdc_core.specs.declared.phases.Phase.{Phase}
+use Rattle.fdc_core.specs.declared.phases.Phase.TheVariants.{Execute}
+use Rattle.fdc_core.specs.declared.phases.Reading.{Reading}
+use Rattle.fdc_core.specs.declared.phases.Task.{Task}
+use Rattle.fdc_core.specs.declared.phases.Task.TheVariants.{ReadId, Read}
+use Rattle.fdc_core.specs.declared.rates.DataRate.{DataRate}
+
+-- ---- the word
+
+-- the word is what the controller sees of the drive's under this head, as its rate is
+abbrev pub SeesUnder : DataRate → ℕ → DriveState → ℕ → DriveState → Type 0
+SeesUnder rate head drive word after =
+    (raw : ℕ) × Reads drive head raw after × (word ≡ seen_of (rate_fits rate (rate_of drive.medium)) raw)
+
+abbrev pub SeesWord : Phase → DataRate → DriveState → ℕ → DriveState → Type 0
+SeesWord (Execute execution) rate drive word after = SeesUnder rate (head_of execution) drive word after
+SeesWord _ rate drive word after = Unit {0}
+
+-- a device step in which the controller executed a command, or did not: only then a word counts
+abbrev pub after_step : Bool → Bool → ℕ → Past → Past
+after_step true index word past = heard index word (stepped past)
+after_step false index word past = past
+
+-- a data command is in execution
+abbrev pub is_executing : Phase → Bool
+is_executing (Execute _) = true
+is_executing _ = false
+
+-- ---- what a stage makes of it, whatever was heard before
+
+abbrev pub SearchHears : Bool → ℕ → Search → Searched → Type 0
+SearchHears index word search searched =
+    ((past : Past) → IsSearching past None search → HasSearched index (heard index word past) None searched)
+    × MissesWell searched
+
+abbrev pub StageHears : Chrn → Bool → ℕ → ReadStage → ReadHeard → Type 0
+StageHears key index word stage after =
+    ((past : Past) (told : List ℕ) → IsReading past key told stage → HasHeard (heard index word past) key told after)
+    × FailsWell after
+
+-- a device step of a data command that listens, by its task
+abbrev pub Hears : ℕ → ℕ → Task → Bool → ℕ → Fdc → Fdc → Type 0
+Hears head_drive steps (ReadId search) index word old new =
+    (searched : Searched) × SearchHears index word search searched × (new ≡ after_searched head_drive steps searched old)
+Hears head_drive steps (Read reading) index word old new =
+    (after : ReadHeard) × StageHears reading.wanted.key index word reading.stage after
+    × (new ≡ after_heard head_drive steps reading after old)
+
+-- the last step ends a command, whatever it does; each other step counts
+pub record StepsOn (execution : Execution) (index : Bool) (word : ℕ) (old new : Fdc) : Type 0 where
+  pub last : execution.steps ≡ 65535 → new ≡ late execution old
+  pub others : execution.steps < 65535 → Hears execution.head_drive (execution.steps + 1) execution.task index word old new
+
+abbrev pub ExecutesIn : Phase → Bool → ℕ → Fdc → Fdc → Type 0
+ExecutesIn (Execute execution) index word old new = StepsOn execution index word old new
+ExecutesIn _ index word old new = Unit {0}
+
+-- a byte of the field came before the terminal count, and found the FIFO full
+pub record FindsFull (reading : Reading) (index : Bool) (word : ℕ) (old : Fdc) : Type 0 where
+  pub stage : ReadStage
+  pub value : ℕ
+  pub comes : StageHears reading.wanted.key index word reading.stage (given.Byte stage value)
+  pub uncounted : reading.counted ≡ false
+  pub full : is_full old ≡ true
+
+-- OR comes only so
+abbrev pub OverrunsTask : Task → Bool → ℕ → Fdc → Fdc → Type 0
+OverrunsTask (Read reading) index word old new = is_overrun new.phase ≡ true → FindsFull reading index word old
+OverrunsTask (ReadId _) index word old new = is_overrun new.phase ≡ false
+
+abbrev pub OverrunsIn : Phase → Bool → ℕ → Fdc → Fdc → Type 0
+OverrunsIn (Execute execution) index word old new = OverrunsTask execution.task index word old new
+OverrunsIn _ index word old new = Unit {0}
+
+-- ---- device steps
+
+-- a word time in this phase, once the poll is done: what the controller does, and what is then known of a READ DATA and of a
+-- READ ID
+pub record Follows (phase : Phase) (old polls : Fdc) (index : Bool) (word : ℕ) (new : Fdc) : Type 0 where
+  pub executes : ExecutesIn phase index word polls new
+  pub overruns : OverrunsIn phase index word polls new
+  pub reads : (past : Past) (sent : Sent) → MayReadIn past sent phase old.asking old.fifo.bytes → MayRead (after_step (is_executing phase) index word past) sent new
+  pub identifies : (past : Past) (sent : ℕ) → MayReadIdIn past sent phase → MayReadId (after_step (is_executing phase) index word past) sent new
+
+-- a device step: one word is seen of the drive and followed
+pub record StepHears (phase : Phase) (old polls : Fdc) (index : Bool) (before after : DriveState) (new : Fdc) : Type 0 where
+  pub word : ℕ
+  pub sees : SeesWord phase old.rate before word after
+  pub follows : Follows phase old polls index word new
+
+abbrev pub Listens : Fdc → Fdc → Bool → DriveState → DriveState → Fdc → Type 0
+Listens old polls index before after new = StepHears old.phase old polls index before after new
+
+-- a device step where no drive is selected: words 0000, and no index
+abbrev pub ListensToNone : Fdc → Fdc → Fdc → Type 0
+ListensToNone old polls new = Follows old.phase old polls false 0 new

@@ -1,0 +1,98 @@
+-- What the results of READ DATA and READ ID say of the words heard.
+use Rattle.std.specs.Prelude.{◌≡◌, ℕ, Bool, true, false, not, List, ◌++◌, None, Some}
+use Rattle.fdc_stages.specs.History.{Past, words_heard, HasFewTurns}
+use Rattle.fdc_stages.specs.Findings.{IsFoundAt, FindsSector, FindsBadCheck, FindsNoField, FindsNoMark, FindsNoSector, HasAddress}
+use Rattle.fdc_stages.specs.Readings.{IsToldOf}
+use Rattle.fdc_stages.specs.declared.ending.Ending.{Ending}
+use Rattle.fdc_stages.specs.declared.ending.Ending.TheVariants.{Done, NoMark, NoSector, NoField, BadCheck, Overrun, NoCount, Protected, Late}
+use Rattle.flop_base.specs.declared.key.Chrn.{Chrn}
+use Rattle.fdc_commands.specs.declared.results.Results.{Results}
+use Rattle.fdc_core.specs.Answers.{results_of}
+use Rattle.fdc_core.specs.Heard.{Sent, results_sent, key_met}
+use Rattle.fdc_core.specs.Phases.{is_over}
+use Rattle.fdc_core.specs.declared.answers.Answer.{Answer}
+use Rattle.fdc_core.specs.declared.answers.Answer.TheVariants.{Short, Long}
+use Rattle.fdc_core.specs.declared.controller.Fdc.{Fdc}
+use Rattle.fdc_core.specs.declared.phases.Phase.{Phase}
+use Rattle.fdc_core.specs.declared.phases.Phase.TheVariants.{Command, Execute, Result}
+use Rattle.fdc_core.specs.declared.phases.Task.{Task}
+use Rattle.fdc_core.specs.declared.phases.Task.TheVariants.{ReadId, Read}
+
+-- ---- READ DATA
+
+-- the sector was found whole, and the terminal count didn't come
+abbrev pub FindsUncounted : Past → Chrn → List ℕ → Type 0
+FindsUncounted past key given =
+    (past.counted ≡ false)
+    × ((deleted : Bool) × (turn : List ℕ) × (p : ℕ) × (q : ℕ) × IsFoundAt past key given deleted turn p q)
+
+-- what an ending says: IC 00, the sector with this mark, and its content where as many bytes as the size were given; MA
+-- without MD, ND, MA with MD, DE, OR, EN
+abbrev pub ReadMeans : Past → Sent → Ending → Type 0
+ReadMeans past sent (Done deleted) = FindsSector past sent.key past.given deleted
+ReadMeans past sent NoMark = FindsNoMark past
+ReadMeans past sent NoSector = FindsNoSector past (Some sent.key)
+ReadMeans past sent NoField = FindsNoField past sent.key
+ReadMeans past sent BadCheck = FindsBadCheck past sent.key
+ReadMeans past sent Overrun = past.counted ≡ false
+ReadMeans past sent NoCount = FindsUncounted past sent.key past.given
+ReadMeans past sent Late = past.steps ≡ 65536
+ReadMeans past sent Protected = ⊥
+
+abbrev pub ReadMeansIn : Past → Sent → Phase → Type 0
+ReadMeansIn past sent (Result (Long ending results _)) = (results ≡ results_sent ending sent) × ReadMeans past sent ending
+ReadMeansIn past sent _ = Unit {0}
+
+-- the results of a READ DATA are those of an ending, and that is what it says
+abbrev pub ReadTells : Past → Sent → Fdc → Type 0
+ReadTells past sent fdc = ReadMeansIn past sent fdc.phase
+
+-- the bytes are the first of those behind a data mark of an address field of the key, in the words of one turn
+abbrev pub AreOfField : Past → Chrn → List ℕ → Type 0
+AreOfField past key bytes = (told : List ℕ) × IsToldOf past key told × ((rest : List ℕ) × (told ≡ bytes ++ rest))
+
+-- the bytes that were given, and in execution those in the FIFO behind them
+abbrev pub bytes_held : Phase → Past → List ℕ → List ℕ
+bytes_held (Execute _) past fifo = past.given ++ fifo
+bytes_held _ past fifo = past.given
+
+abbrev pub ReadGives : Past → Sent → Fdc → Type 0
+ReadGives past sent fdc = AreOfField past sent.key (bytes_held fdc.phase past fdc.fifo.bytes)
+
+-- ---- READ ID
+
+-- what an ending says: IC 00, that the key is that of an address field; MA, ND
+abbrev pub IdMeans : Past → Chrn → Ending → Type 0
+IdMeans past key (Done deleted) = HasAddress past key
+IdMeans past key NoMark = FindsNoMark past
+IdMeans past key NoSector = FindsNoSector past None
+IdMeans past key Late = past.steps ≡ 65536
+IdMeans past key _ = ⊥
+
+abbrev pub IdMeansIn : Past → ℕ → Phase → Type 0
+IdMeansIn past sent (Result (Long ending results _)) =
+    (results ≡ results_of ending sent (key_met ending results.key)) × IdMeans past results.key ending
+IdMeansIn past sent _ = Unit {0}
+
+abbrev pub IdTells : Past → ℕ → Fdc → Type 0
+IdTells past sent fdc = IdMeansIn past sent fdc.phase
+
+-- ---- how long they listen
+
+-- the address field or the data field is still to come or to end
+abbrev pub is_hearing : Task → Bool
+is_hearing (ReadId _) = true
+is_hearing (Read reading) = not (is_over reading.stage)
+
+-- each device step heard a word, and until the field is over one index has passed at most
+pub record IsPaced (past : Past) (steps : ℕ) (hearing : Bool) : Type 0 where
+  pub steps_are : past.steps ≡ steps
+  pub heard_are : words_heard past ≡ steps
+  pub few : hearing ≡ true → HasFewTurns past
+
+abbrev pub PacedIn : Past → Phase → Type 0
+PacedIn past (Execute execution) = IsPaced past execution.steps (is_hearing execution.task)
+PacedIn past _ = Unit {0}
+
+abbrev pub Paced : Past → Fdc → Type 0
+Paced past fdc = PacedIn past fdc.phase

@@ -1,0 +1,146 @@
+// The stages of a writing.
+
+use fdc_stages::{Ending, Search, Searched};
+use fdc_windows::Window;
+use flop_base::{Chrn, sector_size};
+
+/// The words between an address field and its window.
+const GAP_WORDS: u8 = 22;
+
+/// A stage of WRITE DATA and WRITE DELETED DATA as words pass (82077AA).
+#[derive(Clone, Copy)]
+pub enum WriteStage {
+    /// The address field is searched for.
+    Search(Search),
+    /// The address field has passed. So many words are heard before the first of the window.
+    Gap { left: u8 },
+    /// The gate is open, and words of the window are written.
+    Window(Window),
+}
+
+/// What a word, heard or written, gives a writing.
+#[derive(Clone, Copy)]
+pub enum WriteNext {
+    /// The writing goes on.
+    On(WriteStage),
+    /// It is over, and an open gate closes: NoMark, NoSector, NoField, Done or NoCount.
+    Ended(Ending),
+}
+
+/// A word to be written.
+#[derive(Clone, Copy)]
+pub struct WriteWord {
+    pub word: u16,
+    /// The words of the window behind it; none behind the last.
+    pub rest: Option<Window>,
+}
+
+impl WriteStage {
+    /// The first stage.
+    pub fn new() -> WriteStage {
+        WriteStage::Search(Search::new())
+    }
+
+    /// Whether the next word is one of the window.
+    pub fn is_due(&self) -> bool {
+        matches!(self, WriteStage::Gap { left: 0 } | WriteStage::Window(_))
+    }
+
+    /// Whether the gate is to be opened before the next word: it is the first of the window.
+    pub fn opens(&self) -> bool {
+        matches!(self, WriteStage::Gap { left: 0 })
+    }
+
+    /// Whether the next word is a byte of the content, which `write` is to be handed.
+    pub fn needs_byte(&self) -> bool {
+        match self {
+            WriteStage::Window(window) => window.needs_byte(),
+            _ => false,
+        }
+    }
+
+    /// Hears a word of the track. `index` says that the index follows it. A word that is heard where the first of the window
+    /// is due says that the gate could not be opened. While the gate is open no word is heard.
+    pub fn hear(self, key: Chrn, word: u16, index: bool) -> WriteNext {
+        match self {
+            WriteStage::Search(searching) => search_on(searching, key, word, index),
+            WriteStage::Gap { left } => wait_on(left, index),
+            WriteStage::Window(_) => WriteNext::On(self),
+        }
+    }
+
+    /// The word that is written next, where one is due. Where `needs_byte` says so, `byte` is the byte that it records.
+    pub fn write(self, key: Chrn, deleted: bool, byte: u8) -> WriteWord
+        requires at_least { 1 ≤ key.n }
+        requires at_most { key.n ≤ 6 }
+    {
+        let given = self.window(key, deleted).next(byte);
+        WriteWord {
+            word: given.word,
+            rest: given.rest,
+        }
+    }
+
+    /// The words of the window that are still to come.
+    fn window(self, key: Chrn, deleted: bool) -> Window
+        requires at_least { 1 ≤ key.n }
+        requires at_most { key.n ≤ 6 }
+    {
+        match self {
+            WriteStage::Window(window) => window,
+            _ => Window::new(deleted, sector_size(key.n) as u16),
+        }
+    }
+}
+
+impl WriteWord {
+    /// What the word gives the writing once it was written. `index` says that the index follows it, and `counted` that the
+    /// terminal count came.
+    pub fn after(self, index: bool, counted: bool) -> WriteNext {
+        match self.rest {
+            None => WriteNext::Ended(whole_ending(counted)),
+            Some(window) => {
+                if index {
+                    WriteNext::Ended(Ending::NoField)
+                } else {
+                    WriteNext::On(WriteStage::Window(window))
+                }
+            }
+        }
+    }
+}
+
+/// Hears a word while the address field is searched for. Where the index follows the field there is no window.
+fn search_on(searching: Search, key: Chrn, word: u16, index: bool) -> WriteNext {
+    match searching.hear(Some(key), word, index) {
+        Searched::On(after) => WriteNext::On(WriteStage::Search(after)),
+        Searched::Met { .. } => meet(index),
+        Searched::Missed(ending) => WriteNext::Ended(ending),
+    }
+}
+
+/// Begins to count the words behind the address field.
+fn meet(index: bool) -> WriteNext {
+    if index {
+        return WriteNext::Ended(Ending::NoField);
+    }
+    WriteNext::On(WriteStage::Gap { left: GAP_WORDS })
+}
+
+/// Hears a word behind the address field. Where the index follows it, or where it stands in place of the first of the
+/// window, there is no window.
+fn wait_on(left: u8, index: bool) -> WriteNext {
+    if index || left == 0 {
+        return WriteNext::Ended(Ending::NoField);
+    }
+    WriteNext::On(WriteStage::Gap { left: left - 1 })
+}
+
+/// How a writing ends whose whole window was written. The result of a write never says that data were deleted.
+fn whole_ending(counted: bool) -> Ending {
+    if counted {
+        Ending::Done { deleted: false }
+    } else {
+        Ending::NoCount
+    }
+}
