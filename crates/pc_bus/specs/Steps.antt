@@ -5,8 +5,8 @@ use Rattle.irq_events.specs.Latch.{Latch}
 use Rattle.machine_pace.specs.Entries.{is_stray_due, strays_after}
 use Rattle.machine_pace.specs.Holds.{counted}
 use Rattle.fdc_core.specs.State.{interrupts, dor_of}
-use Rattle.fdc_core.specs.Heard.{Listens, ListensToNone}
-use Rattle.fdc_core.specs.Steps.{polled, Rests, Executes, MovesDrive, Ends, Stays, Flows}
+use Rattle.fdc_core.specs.Listening.{Listens, ListensToNone}
+use Rattle.fdc_core.specs.Steps.{polled, Rests, MovesDrive, Ends, Stays, Flows}
 use Rattle.fdc_core.specs.declared.controller.Fdc.{Fdc}
 use Rattle.pc_bus.specs.Boards.{Board, controller_of, selected_of, latch_of}
 use Rattle.pc_bus.specs.Transfers.{dma_stepped}
@@ -17,8 +17,7 @@ use Rattle.pc_bus.specs.declared.bus.Bus.{Bus}
 -- the controller and the selected drive make a device step
 pub record Works (old : Fdc) (before : DriveState) (new : Fdc) (after : DriveState) : Type 0 where
   pub rests : Rests (polled old) (before.cylinder == 0) new
-  pub executes : Executes (polled old) new
-  pub reads : Listens old (at_index before) before after new
+  pub reads : Listens old (polled old) (at_index before) before after new
   pub drive : MovesDrive (polled old) before after
   pub ends : Ends old new
   pub stays : Stays old new
@@ -27,8 +26,7 @@ pub record Works (old : Fdc) (before : DriveState) (new : Fdc) (after : DriveSta
 -- the controller makes a device step where no drive is selected
 pub record WorksAlone (old new : Fdc) : Type 0 where
   pub rests : Rests (polled old) false new
-  pub executes : Executes (polled old) new
-  pub reads : ListensToNone old new
+  pub reads : ListensToNone old (polled old) new
   pub ends : Ends old new
   pub stays : Stays old new
   pub flows : Flows old new
