@@ -1,0 +1,4 @@
+mod Bytes
+mod Transfers
+mod Words
+mod Steps
