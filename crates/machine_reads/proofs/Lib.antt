@@ -2,3 +2,4 @@ mod Bytes
 mod Transfers
 mod Words
 mod Steps
+mod Results

@@ -1,8 +1,13 @@
 // What follows of the machine's steps. The bodies are empty.
-ghost use Rattle.std.specs.Prelude.{ℕ, Bool};
-ghost use Rattle.pc_bus.specs.Boards.{Board};
+ghost use Rattle.std.specs.Prelude.{◌≡◌, ℕ, Bool};
+ghost use Rattle.track_model.specs.Fields.{IsSizeCode, content_size};
+ghost use Rattle.pc_bus.specs.Boards.{Board, memory_of};
 ghost use Rattle.pc_bus.specs.Steps.{Step, Runs, RunsUnset};
-ghost use Rattle.machine_reads.specs.Underway.{KeepsRead};
+ghost use Rattle.machine_reads.specs.Results.{ReadEnded, StaysOutside};
+ghost use Rattle.machine_reads.specs.Scenes.{Scene};
+ghost use Rattle.machine_reads.specs.Underway.{KeepsRead, ReadUnderway};
+
+use fdc_core::read_data_tells;
 
 /// Each device step keeps what is known of a READ DATA, whatever holds, strays and gaps there are.
 pub fn device_steps_keep_a_read()
@@ -10,3 +15,13 @@ pub fn device_steps_keep_a_read()
     ensures runs { (n : ℕ) (old new : Board) → Runs n old new → KeepsRead old new }
     ensures unset { (n : ℕ) (old new : Board) → RunsUnset n old new → KeepsRead old new }
 {}
+
+/// What the results of a READ DATA say of the track under the head, where the channel was set to as many bytes as the
+/// sector has; and what else there is in memory stays as it was, however it ends.
+pub fn a_read_tells_of_the_track()
+    ensures ended { (scene : Scene) (board : Board) → IsSizeCode scene.sent.key.n → scene.size ≡ content_size scene.sent.key.n
+        → ReadUnderway scene board → ReadEnded scene board }
+    ensures outside { (scene : Scene) (board : Board) → ReadUnderway scene board → StaysOutside scene (memory_of board) }
+{
+    read_data_tells();
+}
