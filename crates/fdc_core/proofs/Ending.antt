@@ -1,21 +1,36 @@
 -- A data command comes to its end.
-use Rattle.std.proofs.Common.{◌≡◌, ℕ, ◌+◌, ◌-◌, ◌<◌, ◌≤◌, Bool, true, false, if◌then◌else◌, ◌==◌, length, Option, None, Some, sym, subst, arith}
+use Rattle.std.proofs.Common.{◌≡◌, ℕ, ◌+◌, ◌-◌, ◌<◌, ◌≤◌, Bool, true, false, if◌then◌else◌, ◌==◌, length, Option, None, Some, refl, sym, subst, arith, inl, inr}
 use Rattle.fdc_stages.specs.declared.ending.Ending.{Ending}
-use Rattle.fdc_stages.specs.declared.ending.Ending.TheVariants.{Overrun}
+use Rattle.fdc_stages.specs.declared.ending.Ending.TheVariants.{Done, NoMark, NoSector, NoField, BadCheck, Overrun, NoCount, Protected, Late}
 use Rattle.fdc_stages.specs.declared.reading.ReadHeard.{ReadHeard}
 use Rattle.fdc_stages.specs.declared.reading.ReadHeard.TheVariants as heard
 use Rattle.fdc_stages.specs.declared.searching.Searched.{Searched}
 use Rattle.fdc_stages.specs.declared.searching.Searched.TheVariants as searched
-use Rattle.fdc_core.specs.Phases.{ending_of}
+use Rattle.fdc_core.specs.Phases.{ending_of, is_listening}
 use Rattle.fdc_core.specs.Reading.{after_searched, after_heard, over_or_on, gone_on_reading, at_stage, pushed, is_full}
 use Rattle.fdc_core.specs.State.{finished}
-use Rattle.fdc_core.specs.Listening.{Hears}
-use Rattle.fdc_core.specs.Steps.{late, steps_left}
+use Rattle.drive_model.specs.Drive.{DriveState, at_index}
+use Rattle.fdc_core.specs.Answers.{no_key}
+use Rattle.fdc_core.specs.Formatting.{FormatDoes, after_laid}
+use Rattle.fdc_core.specs.Listening.{Hears, StepsOn}
+use Rattle.fdc_core.specs.Steps.{steps_left, Ends, EndsIn}
+use Rattle.fdc_core.specs.Tasks.{TaskSteps, TaskStepsNowhere}
+use Rattle.fdc_core.specs.Times.{WordTime, Saw, KeptOut, Wrote, Stopped}
+use Rattle.fdc_core.specs.Writing.{WriteDoes, Stops, after_next}
+use Rattle.fdc_core.specs.declared.phases.Phase.TheVariants.{Execute}
+use Rattle.fdc_core.specs.declared.transfers.Formatting.{Formatting}
+use Rattle.fdc_core.specs.declared.transfers.Writing.{Writing}
+use Rattle.fdc_writing.specs.declared.formatting.FormatNext.{FormatNext}
+use Rattle.fdc_writing.specs.declared.formatting.FormatNext.TheVariants as format_next
+use Rattle.fdc_writing.specs.declared.writing.WriteNext.{WriteNext}
+use Rattle.fdc_writing.specs.declared.writing.WriteNext.TheVariants as write_next
+use Rattle.flop_base.specs.declared.key.Chrn.{Chrn}
+use Rattle.std.proofs.lemmas.Bool.{false≢true}
 use Rattle.fdc_core.specs.declared.controller.Fdc.{Fdc}
 use Rattle.fdc_core.specs.declared.phases.Execution.{Execution}
 use Rattle.fdc_core.specs.declared.phases.Reading.{Reading}
 use Rattle.fdc_core.specs.declared.phases.Task.{Task}
-use Rattle.fdc_core.specs.declared.phases.Task.TheVariants.{ReadId, Read}
+use Rattle.fdc_core.specs.declared.phases.Task.TheVariants.{ReadId, Read, Write, Format}
 
 searched_left : (head_drive steps : ℕ) (old : Fdc) (after : Searched) → steps_left (after_searched head_drive steps after old).phase ≤ 65536 - steps
 searched_left head_drive steps old (searched.On search) = omega arith
@@ -42,15 +57,73 @@ heard_left head_drive steps reading old (heard.Byte stage value) = byte_left rea
 heard_left head_drive steps reading old (heard.Ended ending) = omega arith
 
 -- a word that is heard
-pub hears_left : (index : Bool) (word head_drive steps : ℕ) (task : Task) (old new : Fdc) → Hears head_drive steps task index word old new → steps_left new.phase ≤ 65536 - steps
-hears_left index word head_drive steps (ReadId search) old new (after, hears, is) =
+hears_left : (index : Bool) (word head_drive steps : ℕ) (task : Task) (old new : Fdc) → is_listening task ≡ true → Hears head_drive steps task index word old new → steps_left new.phase ≤ 65536 - steps
+hears_left index word head_drive steps (Write writing) old new listens hears = absurd (false≢true listens)
+hears_left index word head_drive steps (Format formatting) old new listens hears = absurd (false≢true listens)
+hears_left index word head_drive steps (ReadId search) old new listens (after, hears, is) =
     subst (λ fdc. steps_left fdc.phase ≤ 65536 - steps) (sym is) (searched_left head_drive steps old after)
-hears_left index word head_drive steps (Read reading) old new (after, hears, is) =
+hears_left index word head_drive steps (Read reading) old new listens (after, hears, is) =
     subst (λ fdc. steps_left fdc.phase ≤ 65536 - steps) (sym is) (heard_left head_drive steps reading old after)
 
-pub next_left : (index : Bool) (word head_drive steps : ℕ) (task : Task) (old new : Fdc) → steps ≤ 65535 → Hears head_drive (steps + 1) task index word old new → steps_left new.phase < 65536 - steps
-next_left index word head_drive steps task old new few is = let left = hears_left index word head_drive (steps + 1) task old new is in omega arith
+-- a command that listens
+listen_left : (index : Bool) (word head_drive steps : ℕ) (task : Task) (old new : Fdc) → is_listening task ≡ true → StepsOn head_drive steps task index word old new → steps_left new.phase < 65536 - steps
+listen_left index word head_drive steps task old new listens (inl (last, is)) = subst (λ fdc. steps_left fdc.phase < 65536 - steps) (sym is) (omega arith)
+listen_left index word head_drive steps task old new listens (inr (few, hears)) =
+    let left = hears_left index word head_drive (steps + 1) task old new listens hears in omega arith
 
--- the last step
-pub late_left : (execution : Execution) (old new : Fdc) → execution.steps ≡ 65535 → new ≡ late execution old → steps_left new.phase < 65536 - execution.steps
-late_left execution old new last is = subst (λ fdc. steps_left fdc.phase < 65536 - execution.steps) (sym is) (omega arith)
+-- commands that write
+next_left : (head_drive steps : ℕ) (writing : Writing) (next : WriteNext) (old new : Fdc) → steps < 65535 → new ≡ after_next head_drive (steps + 1) writing next old → steps_left new.phase < 65536 - steps
+next_left head_drive steps writing (write_next.On stage) old new few is = subst (λ fdc. steps_left fdc.phase < 65536 - steps) (sym is) (omega arith)
+next_left head_drive steps writing (write_next.Ended ending) old new few is = subst (λ fdc. steps_left fdc.phase < 65536 - steps) (sym is) (omega arith)
+
+laid_left : (head_drive steps : ℕ) (formatting : Formatting) (next : FormatNext) (old new : Fdc) → steps < 65535 → new ≡ after_laid head_drive (steps + 1) formatting next old → steps_left new.phase < 65536 - steps
+laid_left head_drive steps formatting (format_next.On stage) old new few is = subst (λ fdc. steps_left fdc.phase < 65536 - steps) (sym is) (omega arith)
+laid_left head_drive steps formatting (format_next.Ended ending key) old new few is = subst (λ fdc. steps_left fdc.phase < 65536 - steps) (sym is) (omega arith)
+
+stops_few : (steps : ℕ) (protects : Bool) (byte : Option ℕ) (ending : Ending) → Stops steps protects byte ending → steps ≤ 65535
+stops_few steps protects byte Late is = omega arith
+stops_few steps protects byte Protected is = let first = is.0 in omega arith
+stops_few steps protects byte Overrun is = let few = is.0 in omega arith
+stops_few steps protects byte (Done deleted) is = absurd is
+stops_few steps protects byte NoMark is = absurd is
+stops_few steps protects byte NoSector is = absurd is
+stops_few steps protects byte NoField is = absurd is
+stops_few steps protects byte BadCheck is = absurd is
+stops_few steps protects byte NoCount is = absurd is
+
+stop_left : (ending : Ending) (head_drive steps : ℕ) (key : Chrn) (old new : Fdc) → steps ≤ 65535 → new ≡ finished ending head_drive key old → steps_left new.phase < 65536 - steps
+stop_left ending head_drive steps key old new few is = subst (λ fdc. steps_left fdc.phase < 65536 - steps) (sym is) (omega arith)
+
+write_left : (time : WordTime) (head_drive steps : ℕ) (writing : Writing) (old : Fdc) (before : DriveState) (new : Fdc) → WriteDoes time head_drive steps writing old before new → steps_left new.phase < 65536 - steps
+write_left (Saw index word) head_drive steps writing old before new (due, is) = next_left head_drive steps writing is.next old new is.few is.after_is
+write_left (KeptOut index word) head_drive steps writing old before new (opens, is) = next_left head_drive steps writing is.next old new is.few is.after_is
+write_left (Wrote opened closed index word) head_drive steps writing old before new is = next_left head_drive steps writing is.next _ new is.few is.after_is
+write_left Stopped head_drive steps writing old before new is = stop_left is.ending head_drive steps writing.wanted.key old new (stops_few steps _ _ is.ending is.stops) is.after_is
+
+format_left : (time : WordTime) (head_drive steps : ℕ) (formatting : Formatting) (old : Fdc) (before : DriveState) (new : Fdc) → FormatDoes time head_drive steps formatting old before new → steps_left new.phase < 65536 - steps
+format_left (Saw index word) head_drive steps formatting old before new is = laid_left head_drive steps formatting is.next old new is.few is.after_is
+format_left (KeptOut index word) head_drive steps formatting old before new is = laid_left head_drive steps formatting is.next old new is.few is.after_is
+format_left (Wrote opened closed index word) head_drive steps formatting old before new is = laid_left head_drive steps formatting is.next _ new is.few is.after_is
+format_left Stopped head_drive steps formatting old before new is = stop_left is.ending head_drive steps no_key old new (stops_few steps _ _ is.ending is.stops) is.after_is
+
+task_left : (task : Task) (head_drive steps : ℕ) (old : Fdc) (before after : DriveState) (new : Fdc) → TaskSteps task head_drive steps old before after new → steps_left new.phase < 65536 - steps
+task_left (ReadId search) head_drive steps old before after new is = listen_left (at_index before) is.word head_drive steps (ReadId search) old new refl is.does
+task_left (Read reading) head_drive steps old before after new is = listen_left (at_index before) is.word head_drive steps (Read reading) old new refl is.does
+task_left (Write writing) head_drive steps old before after new is = write_left is.does.time head_drive steps writing old before new is.does.does
+task_left (Format formatting) head_drive steps old before after new is = format_left is.does.time head_drive steps formatting old before new is.does.does
+
+nowhere_left : (task : Task) (head_drive steps : ℕ) (old new : Fdc) → TaskStepsNowhere task head_drive steps old new → steps_left new.phase < 65536 - steps
+nowhere_left (ReadId search) head_drive steps old new is = listen_left false 0 head_drive steps (ReadId search) old new refl is
+nowhere_left (Read reading) head_drive steps old new is = listen_left false 0 head_drive steps (Read reading) old new refl is
+nowhere_left (Write writing) head_drive steps old new (inl (last, is)) = stop_left Late head_drive steps writing.wanted.key old new (omega arith) is
+nowhere_left (Write writing) head_drive steps old new (inr (few, (next, hears, is))) = next_left head_drive steps writing next old new few is
+nowhere_left (Format formatting) head_drive steps old new (inl (last, is)) = stop_left Late head_drive steps no_key old new (omega arith) is
+nowhere_left (Format formatting) head_drive steps old new (inr (few, (next, is))) = laid_left head_drive steps formatting next old new few is
+
+pub executes_left : (old new : Fdc) (before after : DriveState) (execution : Execution) → old.phase ≡ Execute execution → TaskSteps execution.task execution.head_drive execution.steps old before after new → Ends old new
+executes_left old new before after execution is steps =
+    subst (λ phase. EndsIn phase new.phase) (sym is) (task_left execution.task execution.head_drive execution.steps old before after new steps)
+
+pub executes_left_none : (old new : Fdc) (execution : Execution) → old.phase ≡ Execute execution → TaskStepsNowhere execution.task execution.head_drive execution.steps old new → Ends old new
+executes_left_none old new execution is steps =
+    subst (λ phase. EndsIn phase new.phase) (sym is) (nowhere_left execution.task execution.head_drive execution.steps old new steps)

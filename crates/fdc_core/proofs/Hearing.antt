@@ -1,7 +1,7 @@
 -- A device step of a command that listens, put together.
-use Rattle.std.proofs.Common.{◌≡◌, ◌<◌, ◌≤◌, ℕ, ◌+◌, Bool, true, false, not, ◌&&◌, if◌then◌else◌, ◌==◌, length, Option, Some, None, refl, sym, ap, subst, ◌∙◌, arith}
+use Rattle.std.proofs.Common.{◌≡◌, ◌<◌, ◌≤◌, ℕ, ◌+◌, Bool, true, false, not, ◌&&◌, if◌then◌else◌, ◌==◌, length, Option, Some, None, refl, sym, ap, subst, ◌∙◌, arith, inl, inr}
 use Rattle.std.proofs.lemmas.Bool.{false≢true}
-use Rattle.drive_model.specs.Drive.{DriveState}
+use Rattle.drive_model.specs.Drive.{DriveState, at_index}
 use Rattle.fdc_seek.specs.Seeking.{with_polls}
 use Rattle.fdc_stages.specs.Searches.{IsMiss, MissesWell}
 use Rattle.fdc_stages.specs.Readings.{IsFailure, FailsWell}
@@ -15,18 +15,21 @@ use Rattle.fdc_stages.specs.declared.searching.Searched.{Searched}
 use Rattle.fdc_stages.specs.declared.searching.Searched.TheVariants as searched
 use Rattle.flop_base.specs.declared.key.Chrn.{Chrn}
 use Rattle.fdc_core.specs.Answers.{key_after, no_key}
-use Rattle.fdc_core.specs.Listening.{SeesWord, Listens, StepHears, Follows, ExecutesIn, OverrunsIn, OverrunsTask, FindsFull, Hears, SearchHears, StageHears, is_executing, after_step}
-use Rattle.fdc_core.specs.Phases.{ending_at, ending_over, ending_of, is_overrun}
+use Rattle.fdc_core.specs.Listening.{SeesWord, Listens, ListensToNone, StepHears, Follows, StepsOn, ExecutesTask, ExecutesIn, OverrunsIn, OverrunsTask, FindsFull, Hears, SearchHears, StageHears, is_executing, after_step}
+use Rattle.fdc_core.specs.Phases.{is_listening, ending_at, ending_over, ending_of, is_overrun}
 use Rattle.fdc_core.specs.Reading.{after_searched, after_heard, over_or_on, gone_on_reading, at_stage, pushed, is_full}
 use Rattle.fdc_core.specs.State.{is_held, finished}
-use Rattle.fdc_core.specs.Steps.{late, polled, seek_stepped}
+use Rattle.fdc_core.specs.Steps.{polled, seek_stepped}
+use Rattle.fdc_core.specs.Tasks.{TaskSteps, TaskStepsNowhere}
+use Rattle.fdc_core.specs.declared.transfers.Formatting.{Formatting}
+use Rattle.fdc_core.specs.declared.transfers.Writing.{Writing}
 use Rattle.fdc_core.specs.declared.controller.Fdc.{Fdc}
 use Rattle.fdc_core.specs.declared.phases.Execution.{Execution}
 use Rattle.fdc_core.specs.declared.phases.Phase.{Phase}
 use Rattle.fdc_core.specs.declared.phases.Phase.TheVariants.{Command, Execute, Result}
 use Rattle.fdc_core.specs.declared.phases.Reading.{Reading}
 use Rattle.fdc_core.specs.declared.phases.Task.{Task}
-use Rattle.fdc_core.specs.declared.phases.Task.TheVariants.{ReadId, Read}
+use Rattle.fdc_core.specs.declared.phases.Task.TheVariants.{ReadId, Read, Write, Format}
 use Rattle.fdc_core.proofs.MayRead.{hears_reads, late_reads, rests_sees, rests_reads}
 use Rattle.fdc_core.proofs.MayReadId.{hears_identifies, late_identifies, rests_identifies}
 
@@ -92,6 +95,8 @@ heard_overruns index word head_drive steps reading old (given.Byte stage value) 
 heard_overruns index word head_drive steps reading old (given.Ended ending) hears up = clash _ (failure_overruns ending head_drive reading.wanted.key old hears.1) up
 
 hears_overruns : (index : Bool) (word head_drive steps : ℕ) (task : Task) (old new : Fdc) → Hears head_drive steps task index word old new → OverrunsTask task index word old new
+hears_overruns index word head_drive steps (Write writing) old new hears = tt
+hears_overruns index word head_drive steps (Format formatting) old new hears = tt
 hears_overruns index word head_drive steps (ReadId search) old new (after, hears, is) =
     subst (λ fdc. is_overrun fdc.phase ≡ false) (sym is) (searched_overruns head_drive steps old after hears.1)
 hears_overruns index word head_drive steps (Read reading) old new (after, hears, is) =
@@ -100,33 +105,61 @@ hears_overruns index word head_drive steps (Read reading) old new (after, hears,
 late_overruns : (index : Bool) (word : ℕ) (task : Task) (old new : Fdc) → is_overrun new.phase ≡ false → OverrunsTask task index word old new
 late_overruns index word (ReadId search) old new is = is
 late_overruns index word (Read reading) old new is = λ up. clash _ is up
+late_overruns index word (Write writing) old new is = tt
+late_overruns index word (Format formatting) old new is = tt
 
 -- ---- in execution
 
-module _ (index : Bool) (word : ℕ) (execution : Execution) (old new : Fdc) where
-  pub last_follows : execution.steps ≡ 65535 → new ≡ late execution old → Follows (Execute execution) old old index word new
-  last_follows last is = record {
-    executes = record { last = λ _. is; others = λ few. absurd (omega arith) };
-    overruns = late_overruns index word execution.task old new (subst (λ fdc. is_overrun fdc.phase ≡ false) (sym is) refl);
-    reads = late_reads index word execution old new last is;
-    identifies = late_identifies index word execution old new last is;
-  }
+-- READ ID and READ DATA
+listen_follows : (index : Bool) (word head_drive steps : ℕ) (task : Task) (old new : Fdc) → is_listening task ≡ true → StepsOn head_drive steps task index word old new
+    → Follows (Execute (record { head_drive = head_drive; steps = steps; task = task })) old old index word new
+listen_follows index word head_drive steps task old new listens (inl (last, is)) = record {
+  executes = subst (λ b. ExecutesTask b head_drive steps task index word old new) (sym listens) (inl (last, is));
+  overruns = late_overruns index word task old new (subst (λ fdc. is_overrun fdc.phase ≡ false) (sym is) refl);
+  reads = late_reads index word head_drive steps task old new last is;
+  identifies = late_identifies index word head_drive steps task old new last is;
+}
+listen_follows index word head_drive steps task old new listens (inr (few, hears)) = record {
+  executes = subst (λ b. ExecutesTask b head_drive steps task index word old new) (sym listens) (inr (few, hears));
+  overruns = hears_overruns index word head_drive (steps + 1) task old new hears;
+  reads = hears_reads index word head_drive steps task old new hears;
+  identifies = hears_identifies index word head_drive steps task old new hears;
+}
 
-  pub next_follows : execution.steps < 65535 → Hears execution.head_drive (execution.steps + 1) execution.task index word old new → Follows (Execute execution) old old index word new
-  next_follows few hears = record {
-    executes = record { last = λ last. absurd (omega arith); others = λ _. hears };
-    overruns = hears_overruns index word execution.head_drive (execution.steps + 1) execution.task old new hears;
-    reads = hears_reads index word execution.head_drive execution.steps execution.task old new hears;
-    identifies = hears_identifies index word execution.head_drive execution.steps execution.task old new hears;
-  }
+-- of the commands that write nothing is said here
+write_follows : (index : Bool) (word head_drive steps : ℕ) (writing : Writing) (old new : Fdc) → Follows (Execute (record { head_drive = head_drive; steps = steps; task = Write writing })) old old index word new
+write_follows index word head_drive steps writing old new =
+    record { executes = tt; overruns = tt; reads = λ past sent was. absurd was; identifies = λ past sent was. absurd was }
 
--- the execution is that of the phase
-pub in_execution : (index : Bool) (word : ℕ) (old new : Fdc) (execution : Execution) → old.phase ≡ Execute execution → Follows (Execute execution) old old index word new → Follows old.phase old old index word new
-in_execution index word old new execution is follows = subst (λ phase. Follows phase old old index word new) (sym is) follows
+format_follows : (index : Bool) (word head_drive steps : ℕ) (formatting : Formatting) (old new : Fdc) → Follows (Execute (record { head_drive = head_drive; steps = steps; task = Format formatting })) old old index word new
+format_follows index word head_drive steps formatting old new =
+    record { executes = tt; overruns = tt; reads = λ past sent was. absurd was; identifies = λ past sent was. absurd was }
 
-pub executes_hears : (index : Bool) (old new : Fdc) (before after : DriveState) (execution : Execution) → old.phase ≡ Execute execution → StepHears (Execute execution) old old index before after new → Listens old old index before after new
-executes_hears index old new before after execution is hears =
-    subst (λ phase. StepHears phase old old index before after new) (sym is) hears
+task_hears : (task : Task) (head_drive steps : ℕ) (old new : Fdc) (before after : DriveState) → TaskSteps task head_drive steps old before after new
+    → StepHears (Execute (record { head_drive = head_drive; steps = steps; task = task })) old old (at_index before) before after new
+task_hears (ReadId search) head_drive steps old new before after is =
+    record { word = is.word; sees = is.sees; follows = listen_follows (at_index before) is.word head_drive steps (ReadId search) old new refl is.does }
+task_hears (Read reading) head_drive steps old new before after is =
+    record { word = is.word; sees = is.sees; follows = listen_follows (at_index before) is.word head_drive steps (Read reading) old new refl is.does }
+task_hears (Write writing) head_drive steps old new before after is =
+    record { word = 0; sees = tt; follows = write_follows (at_index before) 0 head_drive steps writing old new }
+task_hears (Format formatting) head_drive steps old new before after is =
+    record { word = 0; sees = tt; follows = format_follows (at_index before) 0 head_drive steps formatting old new }
+
+pub executes_hears : (old new : Fdc) (before after : DriveState) (execution : Execution) → old.phase ≡ Execute execution → TaskSteps execution.task execution.head_drive execution.steps old before after new → Listens old old (at_index before) before after new
+executes_hears old new before after execution is steps =
+    subst (λ phase. StepHears phase old old (at_index before) before after new) (sym is) (task_hears execution.task execution.head_drive execution.steps old new before after steps)
+
+task_hears_none : (task : Task) (head_drive steps : ℕ) (old new : Fdc) → TaskStepsNowhere task head_drive steps old new
+    → Follows (Execute (record { head_drive = head_drive; steps = steps; task = task })) old old false 0 new
+task_hears_none (ReadId search) head_drive steps old new is = listen_follows false 0 head_drive steps (ReadId search) old new refl is
+task_hears_none (Read reading) head_drive steps old new is = listen_follows false 0 head_drive steps (Read reading) old new refl is
+task_hears_none (Write writing) head_drive steps old new is = write_follows false 0 head_drive steps writing old new
+task_hears_none (Format formatting) head_drive steps old new is = format_follows false 0 head_drive steps formatting old new
+
+pub executes_hears_none : (old new : Fdc) (execution : Execution) → old.phase ≡ Execute execution → TaskStepsNowhere execution.task execution.head_drive execution.steps old new → ListensToNone old old new
+executes_hears_none old new execution is steps =
+    subst (λ phase. Follows phase old old false 0 new) (sym is) (task_hears_none execution.task execution.head_drive execution.steps old new steps)
 
 -- ---- outside execution
 

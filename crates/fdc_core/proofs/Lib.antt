@@ -4,3 +4,4 @@ pub mod Ending
 pub mod Staying
 pub mod Hearing
 pub mod Meanings
+pub mod Words

@@ -17,11 +17,10 @@ use Rattle.drive_model.specs.Drive.{DriveState}
 use Rattle.fdc_core.specs.Heard.{Sent, sent_of, IsUnderway, HasEndedAs, MayRead, MayReadIn, MayReadTask, MayReadIdIn, told_in, stepped, gave}
 use Rattle.fdc_core.specs.Listening.{SeesWord, is_executing, after_step, Hears, StageHears}
 use Rattle.fdc_core.specs.State.{finished}
-use Rattle.fdc_core.specs.Steps.{late}
 use Rattle.fdc_fifo.specs.Fifo.{Fifo}
 use Rattle.fdc_core.specs.Answers.{key_after, results_of}
 use Rattle.fdc_core.specs.Dma.{phase_asks, task_asks, phase_told, task_told, fifo_told, asking_told}
-use Rattle.fdc_core.specs.Phases.{ending_at, ending_over, ending_of, is_read, is_reading, key_as_sent}
+use Rattle.fdc_core.specs.Phases.{ending_at, ending_over, ending_of, is_read, is_reading, moves_bytes, is_moving, key_as_sent}
 use Rattle.fdc_core.specs.Ports.{phase_after}
 use Rattle.fdc_core.specs.Reading.{over_or_on, gone_on_reading, after_heard, at_stage, pushed, is_full}
 use Rattle.fdc_core.specs.declared.controller.Fdc.{Fdc}
@@ -31,7 +30,7 @@ use Rattle.fdc_core.specs.declared.phases.Phase.{Phase}
 use Rattle.fdc_core.specs.declared.phases.Phase.TheVariants.{Command, Execute, Result}
 use Rattle.fdc_core.specs.declared.answers.Answer.TheVariants.{Short, Long}
 use Rattle.fdc_core.specs.declared.phases.Task.{Task}
-use Rattle.fdc_core.specs.declared.phases.Task.TheVariants.{ReadId, Read}
+use Rattle.fdc_core.specs.declared.phases.Task.TheVariants.{ReadId, Read, Write, Format}
 use Rattle.fdc_core.specs.declared.rates.DataRate.{DataRate}
 
 -- ---- the stage, apart from what else passed
@@ -193,6 +192,8 @@ hear_reads index word head_drive steps reading after old new hears is past sent 
 pub hears_reads : (index : Bool) (word head_drive steps : ℕ) (task : Task) (old new : Fdc) → Hears head_drive (steps + 1) task index word old new
     → (past : Past) (sent : Sent) → MayReadTask past sent head_drive steps task old.asking old.fifo.bytes → MayRead (heard index word (stepped past)) sent new
 hears_reads index word head_drive steps (ReadId search) old new hears past sent was = absurd was
+hears_reads index word head_drive steps (Write writing) old new hears past sent was = absurd was
+hears_reads index word head_drive steps (Format formatting) old new hears past sent was = absurd was
 hears_reads index word head_drive steps (Read reading) old new (after, hears, is) past sent (asks, (told, was)) =
     hear_reads index word head_drive steps reading after old new hears is past sent told was
 
@@ -209,15 +210,17 @@ late_underway index word past sent head_drive reading fifo told was =
 
 late_task : (index : Bool) (word : ℕ) (past : Past) (sent : Sent) (head_drive steps : ℕ) (task : Task) (old : Fdc) → steps ≡ 65535 → MayReadTask past sent head_drive steps task old.asking old.fifo.bytes → MayRead (heard index word (stepped past)) sent (finished Late head_drive (key_as_sent task) old)
 late_task index word past sent head_drive steps (ReadId search) old is was = absurd was
+late_task index word past sent head_drive steps (Write writing) old is was = absurd was
+late_task index word past sent head_drive steps (Format formatting) old is was = absurd was
 late_task index word past sent head_drive steps (Read reading) old is (asks, (told, was)) =
     subst (λ s. MayRead (heard index word (stepped past)) s (finished Late head_drive reading.wanted.key old)) was.sent_is
     (refl, (told, late_underway index word past sent head_drive reading old.fifo.bytes told (subst (λ n. IsUnderway past sent head_drive reading n (past.given ++ old.fifo.bytes) told) is was)))
 
 -- the last step ends the command
-pub late_reads : (index : Bool) (word : ℕ) (execution : Execution) (old new : Fdc) → execution.steps ≡ 65535 → new ≡ late execution old
-    → (past : Past) (sent : Sent) → MayReadTask past sent execution.head_drive execution.steps execution.task old.asking old.fifo.bytes → MayRead (heard index word (stepped past)) sent new
-late_reads index word execution old new last is past sent was =
-    subst (λ fdc. MayRead (heard index word (stepped past)) sent fdc) (sym is) (late_task index word past sent execution.head_drive execution.steps execution.task old last was)
+pub late_reads : (index : Bool) (word head_drive steps : ℕ) (task : Task) (old new : Fdc) → steps ≡ 65535 → new ≡ finished Late head_drive (key_as_sent task) old
+    → (past : Past) (sent : Sent) → MayReadTask past sent head_drive steps task old.asking old.fifo.bytes → MayRead (heard index word (stepped past)) sent new
+late_reads index word head_drive steps task old new last is past sent was =
+    subst (λ fdc. MayRead (heard index word (stepped past)) sent fdc) (sym is) (late_task index word past sent head_drive steps task old last was)
 
 -- outside execution nothing passes
 pub rests_sees : (phase : Phase) → ((execution : Execution) → phase ≡ Execute execution → ⊥) → (rate : DataRate) (before after : DriveState) → SeesWord phase rate before 0 after
@@ -235,6 +238,8 @@ rests_reads (Execute execution) other index asking fifo past sent was = absurd (
 out_task : (past : Past) (sent : Sent) (head_drive steps : ℕ) (task : Task) (asking on : Bool) (bytes : List ℕ) (threshold : ℕ) → asking ≡ true → MayReadTask past sent head_drive steps task asking bytes
     → MayReadTask (gave (get_or bytes 0 0xFF) past) sent head_drive steps task (task_asks task asking (record { bytes = drop 1 bytes; on = on; threshold = threshold })) (drop 1 bytes)
 out_task past sent head_drive steps (ReadId search) asking on bytes threshold up was = absurd was
+out_task past sent head_drive steps (Write writing) asking on bytes threshold up was = absurd was
+out_task past sent head_drive steps (Format formatting) asking on bytes threshold up was = absurd was
 out_task past sent head_drive steps (Read reading) asking on [] threshold up (asks, was) = absurd (false≢true (sym (asks up)))
 out_task past sent head_drive steps (Read reading) asking on (byte ∷ rest) threshold up (asks, (told, was)) = (
   asks_bytes (length rest == 0) _,
@@ -260,8 +265,10 @@ out_reads past sent (Execute execution) asking fifo up is was = out_task past se
 -- ---- the terminal count
 
 told_task : (past : Past) (sent : Sent) (head_drive steps : ℕ) (task : Task) (asking : Bool) (fifo : Fifo) → MayReadTask past sent head_drive steps task asking fifo.bytes
-    → MayReadTask (told_in true past) sent head_drive steps (task_told task) (asking_told (is_read task) asking) (fifo_told (is_read task) fifo).bytes
+    → MayReadTask (told_in true past) sent head_drive steps (task_told task) (asking_told (moves_bytes task) asking) (fifo_told (is_read task) fifo).bytes
 told_task past sent head_drive steps (ReadId search) asking fifo was = absurd was
+told_task past sent head_drive steps (Write writing) asking fifo was = absurd was
+told_task past sent head_drive steps (Format formatting) asking fifo was = absurd was
 told_task past sent head_drive steps (Read reading) asking fifo (asks, (told, was)) =
     let (rest, all) = starts_given past.given fifo.bytes told (starts reading.counted (past.given ++ fifo.bytes) told was.bytes_are) in (
       λ up. absurd (false≢true up),
@@ -279,7 +286,7 @@ told_task past sent head_drive steps (Read reading) asking fifo (asks, (told, wa
     )
 
 pub told_reads : (past : Past) (sent : Sent) (phase : Phase) (asking : Bool) (fifo : Fifo) → MayReadIn past sent phase asking fifo.bytes
-    → MayReadIn (told_in (is_executing phase) past) sent (phase_told phase) (asking_told (is_reading phase) asking) (fifo_told (is_reading phase) fifo).bytes
+    → MayReadIn (told_in (is_executing phase) past) sent (phase_told phase) (asking_told (is_moving phase) asking) (fifo_told (is_reading phase) fifo).bytes
 told_reads past sent Command asking fifo was = absurd was
 told_reads past sent (Result answer) asking fifo was = was
 told_reads past sent (Execute execution) asking fifo was = told_task past sent execution.head_drive execution.steps execution.task asking fifo was

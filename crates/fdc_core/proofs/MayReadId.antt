@@ -16,14 +16,13 @@ use Rattle.fdc_core.specs.Listening.{Hears, is_executing, after_step}
 use Rattle.fdc_core.specs.Reading.{after_searched}
 use Rattle.fdc_core.specs.Phases.{key_as_sent}
 use Rattle.fdc_core.specs.State.{finished}
-use Rattle.fdc_core.specs.Steps.{late}
 use Rattle.fdc_stages.proofs.Laws.{heard_count}
 use Rattle.fdc_core.specs.declared.controller.Fdc.{Fdc}
 use Rattle.fdc_core.specs.declared.phases.Execution.{Execution}
 use Rattle.fdc_core.specs.declared.phases.Phase.{Phase}
 use Rattle.fdc_core.specs.declared.phases.Phase.TheVariants.{Command, Execute, Result}
 use Rattle.fdc_core.specs.declared.phases.Task.{Task}
-use Rattle.fdc_core.specs.declared.phases.Task.TheVariants.{ReadId, Read}
+use Rattle.fdc_core.specs.declared.phases.Task.TheVariants.{ReadId, Read, Write, Format}
 
 met_address : (index : Bool) (past : Past) (key : Chrn) (separator : Separator) → IsMet index past key separator → HasAddress past key
 met_address false past key separator (p, met) = (past.seen, p, record { among = inl refl; address = met.address })
@@ -53,6 +52,8 @@ same_search past search is = is
 pub hears_identifies : (index : Bool) (word head_drive steps : ℕ) (task : Task) (old new : Fdc) → Hears head_drive (steps + 1) task index word old new
     → (past : Past) (sent : ℕ) → MayReadIdTask past sent head_drive steps task → MayReadId (heard index word (stepped past)) sent new
 hears_identifies index word head_drive steps (Read reading) old new hears past sent was = absurd was
+hears_identifies index word head_drive steps (Write writing) old new hears past sent was = absurd was
+hears_identifies index word head_drive steps (Format formatting) old new hears past sent was = absurd was
 hears_identifies index word head_drive steps (ReadId search) old new (after, hears, is) past sent was =
     let later = heard index word (stepped past) in
     subst (λ fdc. MayReadId later sent fdc) (sym is) (subst (λ s. MayReadId later s (after_searched head_drive (steps + 1) after old)) was.sent_is
@@ -60,15 +61,17 @@ hears_identifies index word head_drive steps (ReadId search) old new (after, hea
 
 late_id_task : (index : Bool) (word : ℕ) (past : Past) (sent head_drive steps : ℕ) (task : Task) (old : Fdc) → steps ≡ 65535 → MayReadIdTask past sent head_drive steps task → MayReadId (heard index word (stepped past)) sent (finished Late head_drive (key_as_sent task) old)
 late_id_task index word past sent head_drive steps (Read reading) old last was = absurd was
+late_id_task index word past sent head_drive steps (Write writing) old last was = absurd was
+late_id_task index word past sent head_drive steps (Format formatting) old last was = absurd was
 late_id_task index word past sent head_drive steps (ReadId search) old last was =
     let counts = was.steps_are in
     subst (λ s. MayReadId (heard index word (stepped past)) s (finished Late head_drive no_key old)) was.sent_is (refl, omega arith)
 
 -- the last step ends the command
-pub late_identifies : (index : Bool) (word : ℕ) (execution : Execution) (old new : Fdc) → execution.steps ≡ 65535 → new ≡ late execution old
-    → (past : Past) (sent : ℕ) → MayReadIdTask past sent execution.head_drive execution.steps execution.task → MayReadId (heard index word (stepped past)) sent new
-late_identifies index word execution old new last is past sent was =
-    subst (λ fdc. MayReadId (heard index word (stepped past)) sent fdc) (sym is) (late_id_task index word past sent execution.head_drive execution.steps execution.task old last was)
+pub late_identifies : (index : Bool) (word head_drive steps : ℕ) (task : Task) (old new : Fdc) → steps ≡ 65535 → new ≡ finished Late head_drive (key_as_sent task) old
+    → (past : Past) (sent : ℕ) → MayReadIdTask past sent head_drive steps task → MayReadId (heard index word (stepped past)) sent new
+late_identifies index word head_drive steps task old new last is past sent was =
+    subst (λ fdc. MayReadId (heard index word (stepped past)) sent fdc) (sym is) (late_id_task index word past sent head_drive steps task old last was)
 
 pub rests_identifies : (phase : Phase) → ((execution : Execution) → phase ≡ Execute execution → ⊥) → (index : Bool) (past : Past) (sent : ℕ) → MayReadIdIn past sent phase → MayReadIdIn (after_step (is_executing phase) index 0 past) sent phase
 rests_identifies Command other index past sent was = was

@@ -21,7 +21,7 @@ use Rattle.fdc_core.specs.declared.controller.Fdc.{Fdc}
 use Rattle.fdc_core.specs.declared.phases.Phase.{Phase}
 use Rattle.fdc_core.specs.declared.phases.Phase.TheVariants.{Command, Execute, Result}
 use Rattle.fdc_core.specs.declared.phases.Task.{Task}
-use Rattle.fdc_core.specs.declared.phases.Task.TheVariants.{ReadId, Read}
+use Rattle.fdc_core.specs.declared.phases.Task.TheVariants.{ReadId, Read, Write, Format}
 use Rattle.fdc_core.proofs.MayRead.{starts}
 
 -- ---- READ DATA
@@ -62,6 +62,8 @@ read_tells past sent fdc sized was = read_means_in past sent fdc.phase fdc.askin
 
 gives_task : (past : Past) (sent : Sent) (head_drive steps : ℕ) (task : Task) (asking : Bool) (fifo : List ℕ) → MayReadTask past sent head_drive steps task asking fifo → AreOfField past sent.key (past.given ++ fifo)
 gives_task past sent head_drive steps (ReadId search) asking fifo was = absurd was
+gives_task past sent head_drive steps (Write writing) asking fifo was = absurd was
+gives_task past sent head_drive steps (Format formatting) asking fifo was = absurd was
 gives_task past sent head_drive steps (Read reading) asking fifo (asks, (told, was)) =
     let told_of : IsToldOf past reading.wanted.key told = reading_told past reading.wanted.key told reading.stage was.reads in
     (told, subst (λ s. IsToldOf past s.key told) was.sent_is told_of, starts reading.counted (past.given ++ fifo) told was.bytes_are)
@@ -108,6 +110,8 @@ few_at past key told (stages.Over deleted good) was hears = absurd (false≢true
 
 paced_task : (past : Past) (sent : Sent) (head_drive steps : ℕ) (task : Task) (asking : Bool) (fifo : List ℕ) → MayReadTask past sent head_drive steps task asking fifo → IsPaced past steps (is_hearing task)
 paced_task past sent head_drive steps (ReadId search) asking fifo was = absurd was
+paced_task past sent head_drive steps (Write writing) asking fifo was = absurd was
+paced_task past sent head_drive steps (Format formatting) asking fifo was = absurd was
 paced_task past sent head_drive steps (Read reading) asking fifo (asks, (told, was)) =
     record { steps_are = was.steps_are; heard_are = was.heard_are; few = few_at past reading.wanted.key told reading.stage was.reads }
 
@@ -121,6 +125,8 @@ paced past sent fdc was = paced_in past sent fdc.phase fdc.asking fdc.fifo.bytes
 
 paced_id_task : (past : Past) (sent head_drive steps : ℕ) (task : Task) → MayReadIdTask past sent head_drive steps task → IsPaced past steps (is_hearing task)
 paced_id_task past sent head_drive steps (Read reading) was = absurd was
+paced_id_task past sent head_drive steps (Write writing) was = absurd was
+paced_id_task past sent head_drive steps (Format formatting) was = absurd was
 paced_id_task past sent head_drive steps (ReadId search) was =
     record { steps_are = was.steps_are; heard_are = was.heard_are; few = λ _. searching_few past None search was.searches }
 

@@ -1,8 +1,8 @@
 -- What a device step leaves as it was, and DRQ in execution.
-use Rattle.std.proofs.Common.{◌≡◌, ℕ, Bool, true, false, not, ◌&&◌, if◌then◌else◌, ◌==◌, [], ◌∷◌, length, Option, None, Some, refl, sym, subst, arith, length-append}
+use Rattle.std.proofs.Common.{◌≡◌, ℕ, Bool, true, false, not, ◌&&◌, if◌then◌else◌, ◌==◌, [], ◌∷◌, length, Option, None, Some, refl, sym, subst, arith, length-append, length-drop, inl, inr, ◌+◌}
 use Rattle.fdc_seek.specs.Seeking.{with_polls}
 use Rattle.fdc_stages.specs.declared.ending.Ending.{Ending}
-use Rattle.fdc_stages.specs.declared.ending.Ending.TheVariants.{Done, Overrun}
+use Rattle.fdc_stages.specs.declared.ending.Ending.TheVariants.{Done, Overrun, Late}
 use Rattle.fdc_stages.specs.declared.reading.ReadHeard.{ReadHeard}
 use Rattle.fdc_stages.specs.declared.reading.ReadHeard.TheVariants as heard
 use Rattle.fdc_stages.specs.declared.searching.Searched.{Searched}
@@ -10,15 +10,31 @@ use Rattle.fdc_stages.specs.declared.searching.Searched.TheVariants as searched
 use Rattle.flop_base.specs.declared.key.Chrn.{Chrn}
 use Rattle.fdc_core.specs.Answers.{key_after, no_key}
 use Rattle.fdc_core.specs.Dma.{gone_on, phase_asks}
-use Rattle.fdc_core.specs.Phases.{ending_of}
+use Rattle.fdc_core.specs.Phases.{ending_of, is_listening, key_as_sent, write_at, format_at}
 use Rattle.fdc_core.specs.Reading.{after_searched, after_heard, over_or_on, gone_on_reading, at_stage, pushed, is_full}
 use Rattle.fdc_core.specs.State.{finished, is_held}
-use Rattle.fdc_core.specs.Listening.{Hears}
-use Rattle.fdc_core.specs.Steps.{Stays, polled}
+use Rattle.drive_model.specs.Drive.{DriveState, at_index}
+use Rattle.fdc_core.specs.Formatting.{FormatDoes, after_laid}
+use Rattle.fdc_core.specs.Listening.{Hears, StepsOn}
+use Rattle.fdc_core.specs.Steps.{Stays, Flows, FlowsIn, MovesTask, MovesIn, MovesDrive, polled}
+use Rattle.fdc_core.specs.Tasks.{TaskSteps, TaskStepsNowhere}
+use Rattle.fdc_core.specs.Times.{WordTime, Saw, KeptOut, Wrote, Stopped}
+use Rattle.fdc_core.specs.Writing.{WriteDoes, after_next, without_byte}
+use Rattle.fdc_core.specs.declared.phases.Execution.{Execution}
+use Rattle.fdc_core.specs.declared.phases.Phase.{Phase}
+use Rattle.fdc_core.specs.declared.phases.Phase.TheVariants.{Execute}
+use Rattle.fdc_core.specs.declared.transfers.Formatting.{Formatting}
+use Rattle.fdc_core.specs.declared.transfers.Writing.{Writing}
+use Rattle.fdc_writing.specs.Writings.{needs_byte}
+use Rattle.fdc_writing.specs.declared.formatting.FormatNext.{FormatNext}
+use Rattle.fdc_writing.specs.declared.formatting.FormatNext.TheVariants as format_next
+use Rattle.fdc_writing.specs.declared.writing.WriteNext.{WriteNext}
+use Rattle.fdc_writing.specs.declared.writing.WriteNext.TheVariants as write_next
+use Rattle.std.proofs.lemmas.Bool.{false≢true}
 use Rattle.fdc_core.specs.declared.controller.Fdc.{Fdc}
 use Rattle.fdc_core.specs.declared.phases.Reading.{Reading}
 use Rattle.fdc_core.specs.declared.phases.Task.{Task}
-use Rattle.fdc_core.specs.declared.phases.Task.TheVariants.{ReadId, Read}
+use Rattle.fdc_core.specs.declared.phases.Task.TheVariants.{ReadId, Read, Write, Format}
 
 -- both: what stays, and DRQ by the FIFO's rule
 pub record Keeps (old new : Fdc) : Type 0 where
@@ -68,9 +84,90 @@ heard_keeps head_drive steps reading old (heard.Byte stage value) = byte_keeps r
 heard_keeps head_drive steps reading old (heard.Ended ending) = finishes ending head_drive reading.wanted.key old old (same_stays old)
 
 -- a word that is heard
-pub hears_keeps : (index : Bool) (word head_drive steps : ℕ) (task : Task) (old new : Fdc) → Hears head_drive steps task index word old new → Keeps old new
-hears_keeps index word head_drive steps (ReadId search) old new (after, hears, is) = subst (λ fdc. Keeps old fdc) (sym is) (searched_keeps head_drive steps old after)
-hears_keeps index word head_drive steps (Read reading) old new (after, hears, is) = subst (λ fdc. Keeps old fdc) (sym is) (heard_keeps head_drive steps reading old after)
+hears_keeps : (index : Bool) (word head_drive steps : ℕ) (task : Task) (old new : Fdc) → is_listening task ≡ true → Hears head_drive steps task index word old new → Keeps old new
+hears_keeps index word head_drive steps (ReadId search) old new listens (after, hears, is) = subst (λ fdc. Keeps old fdc) (sym is) (searched_keeps head_drive steps old after)
+hears_keeps index word head_drive steps (Read reading) old new listens (after, hears, is) = subst (λ fdc. Keeps old fdc) (sym is) (heard_keeps head_drive steps reading old after)
+hears_keeps index word head_drive steps (Write writing) old new listens hears = absurd (false≢true listens)
+hears_keeps index word head_drive steps (Format formatting) old new listens hears = absurd (false≢true listens)
+
+stop_keeps : (ending : Ending) (head_drive : ℕ) (key : Chrn) (old new : Fdc) → new ≡ finished ending head_drive key old → Keeps old new
+stop_keeps ending head_drive key old new is = subst (λ fdc. Keeps old fdc) (sym is) (finishes ending head_drive key old old (same_stays old))
+
+listen_keeps : (index : Bool) (word head_drive steps : ℕ) (task : Task) (old new : Fdc) → is_listening task ≡ true → StepsOn head_drive steps task index word old new → Keeps old new
+listen_keeps index word head_drive steps task old new listens (inl (last, is)) = stop_keeps Late head_drive (key_as_sent task) old new is
+listen_keeps index word head_drive steps task old new listens (inr (few, hears)) = hears_keeps index word head_drive (steps + 1) task old new listens hears
+
+-- commands that write
+without_stays : (needs : Bool) (old : Fdc) → Stays old (without_byte needs old)
+without_stays true old = record { dor = refl; rate = refl; non_dma = refl; polling = refl; command = refl; data_commands = refl; on = refl; threshold = refl; few = omega (arith, length-drop 1 old.fifo.bytes) }
+without_stays false old = same_stays old
+
+without_asking : (needs : Bool) (old : Fdc) → (without_byte needs old).asking ≡ old.asking
+without_asking true old = refl
+without_asking false old = refl
+
+next_keeps : (head_drive steps : ℕ) (writing : Writing) (next : WriteNext) (old mid new : Fdc) → mid.asking ≡ old.asking → Stays old mid → new ≡ after_next head_drive steps writing next mid → Keeps old new
+next_keeps head_drive steps writing (write_next.On stage) old mid new same was is = subst (λ fdc. Keeps old fdc) (sym is) (goes head_drive steps (Write (write_at writing stage)) old mid same was)
+next_keeps head_drive steps writing (write_next.Ended ending) old mid new same was is = subst (λ fdc. Keeps old fdc) (sym is) (finishes ending head_drive (key_after ending writing.wanted.key writing.last_sector) old mid was)
+
+laid_keeps : (head_drive steps : ℕ) (formatting : Formatting) (next : FormatNext) (old mid new : Fdc) → mid.asking ≡ old.asking → Stays old mid → new ≡ after_laid head_drive steps formatting next mid → Keeps old new
+laid_keeps head_drive steps formatting (format_next.On stage) old mid new same was is = subst (λ fdc. Keeps old fdc) (sym is) (goes head_drive steps (Format (format_at formatting stage)) old mid same was)
+laid_keeps head_drive steps formatting (format_next.Ended ending key) old mid new same was is = subst (λ fdc. Keeps old fdc) (sym is) (finishes ending head_drive key old mid was)
+
+write_keeps : (time : WordTime) (head_drive steps : ℕ) (writing : Writing) (old : Fdc) (before : DriveState) (new : Fdc) → WriteDoes time head_drive steps writing old before new → Keeps old new
+write_keeps (Saw index word) head_drive steps writing old before new (due, is) = next_keeps head_drive (steps + 1) writing is.next old old new refl (same_stays old) is.after_is
+write_keeps (KeptOut index word) head_drive steps writing old before new (opens, is) = next_keeps head_drive (steps + 1) writing is.next old old new refl (same_stays old) is.after_is
+write_keeps (Wrote opened closed index word) head_drive steps writing old before new is =
+    let needs = needs_byte writing.stage in
+    next_keeps head_drive (steps + 1) writing is.next old (without_byte needs old) new (without_asking needs old) (without_stays needs old) is.after_is
+write_keeps Stopped head_drive steps writing old before new is = stop_keeps is.ending head_drive writing.wanted.key old new is.after_is
+
+format_keeps : (time : WordTime) (head_drive steps : ℕ) (formatting : Formatting) (old : Fdc) (before : DriveState) (new : Fdc) → FormatDoes time head_drive steps formatting old before new → Keeps old new
+format_keeps (Saw index word) head_drive steps formatting old before new is = laid_keeps head_drive (steps + 1) formatting is.next old old new refl (same_stays old) is.after_is
+format_keeps (KeptOut index word) head_drive steps formatting old before new is = laid_keeps head_drive (steps + 1) formatting is.next old old new refl (same_stays old) is.after_is
+format_keeps (Wrote opened closed index word) head_drive steps formatting old before new is =
+    laid_keeps head_drive (steps + 1) formatting is.next old (without_byte is.needs old) new (without_asking is.needs old) (without_stays is.needs old) is.after_is
+format_keeps Stopped head_drive steps formatting old before new is = stop_keeps is.ending head_drive no_key old new is.after_is
+
+task_keeps : (task : Task) (head_drive steps : ℕ) (old : Fdc) (before after : DriveState) (new : Fdc) → TaskSteps task head_drive steps old before after new → Keeps old new
+task_keeps (ReadId search) head_drive steps old before after new is = listen_keeps (at_index before) is.word head_drive steps (ReadId search) old new refl is.does
+task_keeps (Read reading) head_drive steps old before after new is = listen_keeps (at_index before) is.word head_drive steps (Read reading) old new refl is.does
+task_keeps (Write writing) head_drive steps old before after new is = write_keeps is.does.time head_drive steps writing old before new is.does.does
+task_keeps (Format formatting) head_drive steps old before after new is = format_keeps is.does.time head_drive steps formatting old before new is.does.does
+
+nowhere_keeps : (task : Task) (head_drive steps : ℕ) (old new : Fdc) → TaskStepsNowhere task head_drive steps old new → Keeps old new
+nowhere_keeps (ReadId search) head_drive steps old new is = listen_keeps false 0 head_drive steps (ReadId search) old new refl is
+nowhere_keeps (Read reading) head_drive steps old new is = listen_keeps false 0 head_drive steps (Read reading) old new refl is
+nowhere_keeps (Write writing) head_drive steps old new (inl (last, is)) = stop_keeps Late head_drive writing.wanted.key old new is
+nowhere_keeps (Write writing) head_drive steps old new (inr (few, (next, hears, is))) = next_keeps head_drive (steps + 1) writing next old old new refl (same_stays old) is
+nowhere_keeps (Format formatting) head_drive steps old new (inl (last, is)) = stop_keeps Late head_drive no_key old new is
+nowhere_keeps (Format formatting) head_drive steps old new (inr (few, (next, is))) = laid_keeps head_drive (steps + 1) formatting next old old new refl (same_stays old) is
+
+task_moves : (task : Task) (head_drive steps : ℕ) (old : Fdc) (before after : DriveState) (new : Fdc) → TaskSteps task head_drive steps old before after new → MovesTask (is_listening task) before after
+task_moves (ReadId search) head_drive steps old before after new is = is.passes
+task_moves (Read reading) head_drive steps old before after new is = is.passes
+task_moves (Write writing) head_drive steps old before after new is = tt
+task_moves (Format formatting) head_drive steps old before after new is = tt
+
+flows_in : (phase : Phase) (execution : Execution) (old new : Fdc) → phase ≡ Execute execution → Keeps old new → FlowsIn phase old.asking new
+flows_in phase execution old new is keeps = subst (λ p. FlowsIn p old.asking new) (sym is) keeps.flows
+
+module _ (old new : Fdc) (before after : DriveState) (execution : Execution) (is : old.phase ≡ Execute execution) (steps : TaskSteps execution.task execution.head_drive execution.steps old before after new) where
+  pub executes_stays : Stays old new
+  executes_stays = (task_keeps execution.task execution.head_drive execution.steps old before after new steps).stays
+
+  pub executes_flows : Flows old new
+  executes_flows = flows_in old.phase execution old new is (task_keeps execution.task execution.head_drive execution.steps old before after new steps)
+
+  pub executes_moves : MovesDrive old before after
+  executes_moves = subst (λ phase. MovesIn phase old before after) (sym is) (task_moves execution.task execution.head_drive execution.steps old before after new steps)
+
+module _ (old new : Fdc) (execution : Execution) (is : old.phase ≡ Execute execution) (steps : TaskStepsNowhere execution.task execution.head_drive execution.steps old new) where
+  pub executes_stays_none : Stays old new
+  executes_stays_none = (nowhere_keeps execution.task execution.head_drive execution.steps old new steps).stays
+
+  pub executes_flows_none : Flows old new
+  executes_flows_none = flows_in old.phase execution old new is (nowhere_keeps execution.task execution.head_drive execution.steps old new steps)
 
 -- the poll moves nothing of this
 if_stays : (b : Bool) (old new : Fdc) → Stays (if b then record old { poll_due = false; interrupt = true; seeks = with_polls old.seeks } else old) new → Stays old new

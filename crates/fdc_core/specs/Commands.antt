@@ -18,6 +18,8 @@ use Rattle.fdc_core.specs.declared.controller.Fdc.{Fdc}
 use Rattle.fdc_core.specs.declared.controller.Lines.{Lines}
 use Rattle.fdc_core.specs.declared.phases.Phase.TheVariants.{Execute, Result}
 use Rattle.fdc_core.specs.declared.phases.Task.{Task}
+use Rattle.fdc_core.specs.declared.phases.Task.TheVariants.{Write, Format}
+use Rattle.fdc_core.specs.Dma.{asked}
 
 -- the result phase of a command without execution
 abbrev pub answered : ℕ → Option ℕ → Fdc → Fdc
@@ -85,11 +87,30 @@ IsReadingData sent task = MayReadTask new_past sent sent.head_drive 0 task false
 abbrev pub BeginsTask : ℕ → (Task → Type 0) → Fdc → Fdc → Type 0
 BeginsTask head_drive Is old new = (task : Task) × Is task × (new ≡ begun head_drive task old)
 
+-- the execution of such a task begins, and it asks for bytes
+abbrev pub BeginsAsking : ℕ → (Task → Type 0) → Fdc → Fdc → Type 0
+BeginsAsking head_drive Is old new = (task : Task) × Is task × (new ≡ asked (begun head_drive task old))
+
+-- WRITE DATA or WRITE DELETED of what was sent, which has heard, taken and written nothing
+abbrev pub IsWritingData : Sent → Bool → Task → Type 0
+IsWritingData sent deleted (Write writing) = Unit {0}
+IsWritingData sent deleted _ = ⊥
+
+-- FORMAT TRACK, which has heard, taken and written nothing
+abbrev pub IsFormattingTrack : Task → Type 0
+IsFormattingTrack (Format formatting) = formatting.counted ≡ false
+IsFormattingTrack _ = ⊥
+
 -- a data command begins
 abbrev pub BeginsData : Command → Fdc → Fdc → Type 0
 BeginsData (command.ReadId head_drive) old new = BeginsTask head_drive (IsReadingId head_drive) old new
 BeginsData (command.ReadData head_drive key last_sector _ _) old new =
     BeginsTask head_drive (IsReadingData (record { head_drive = head_drive; key = key; last_sector = last_sector })) old new
+BeginsData (command.WriteData head_drive key last_sector _ _) old new =
+    BeginsAsking head_drive (IsWritingData (record { head_drive = head_drive; key = key; last_sector = last_sector }) false) old new
+BeginsData (command.WriteDeleted head_drive key last_sector _ _) old new =
+    BeginsAsking head_drive (IsWritingData (record { head_drive = head_drive; key = key; last_sector = last_sector }) true) old new
+BeginsData (command.FormatTrack head_drive n sectors gap3 fill) old new = BeginsAsking head_drive IsFormattingTrack old new
 BeginsData _ old new = new ≡ answered 0x80 None old
 
 -- a data command begins, or is invalid where SPECIFY set ND

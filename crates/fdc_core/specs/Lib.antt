@@ -10,3 +10,7 @@ pub mod Reading
 pub mod Steps
 pub mod Listening
 pub mod Meaning
+pub mod Times
+pub mod Writing
+pub mod Formatting
+pub mod Tasks

@@ -1,23 +1,22 @@
 -- Device steps: the word that passes, and what is then known of a command that listens.
-use Rattle.std.specs.Prelude.{◌≡◌, ◌<◌, ℕ, ◌+◌, Bool, true, false, Some, None, List}
+use Rattle.std.specs.Prelude.{◌≡◌, ◌⊎◌, ◌<◌, ℕ, ◌+◌, Bool, true, false, Some, None, List}
 use Rattle.drive_model.specs.Drive.{DriveState, Reads, rate_of}
 use Rattle.flop_base.specs.declared.key.Chrn.{Chrn}
 use Rattle.fdc_stages.specs.History.{Past, heard}
 use Rattle.fdc_stages.specs.Searches.{IsSearching, HasSearched, MissesWell}
 use Rattle.fdc_stages.specs.Readings.{IsReading, HasHeard, FailsWell}
-use Rattle.fdc_stages.specs.declared.ending.Ending.TheVariants.{Overrun}
+use Rattle.fdc_stages.specs.declared.ending.Ending.TheVariants.{Late}
 use Rattle.fdc_stages.specs.declared.reading.ReadHeard.{ReadHeard}
 use Rattle.fdc_stages.specs.declared.reading.ReadHeard.TheVariants as given
 use Rattle.fdc_stages.specs.declared.reading.ReadStage.{ReadStage}
 use Rattle.fdc_stages.specs.declared.searching.Search.{Search}
 use Rattle.fdc_stages.specs.declared.searching.Searched.{Searched}
 use Rattle.fdc_core.specs.Heard.{Sent, MayReadIn, MayRead, MayReadIdIn, MayReadId, stepped}
-use Rattle.fdc_core.specs.Phases.{head_of, is_overrun}
+use Rattle.fdc_core.specs.Phases.{head_of, is_overrun, is_listening, key_as_sent}
 use Rattle.fdc_core.specs.Rates.{rate_fits, seen_of}
 use Rattle.fdc_core.specs.Reading.{after_searched, after_heard, is_full}
-use Rattle.fdc_core.specs.Steps.{late}
+use Rattle.fdc_core.specs.State.{finished}
 use Rattle.fdc_core.specs.declared.controller.Fdc.{Fdc}
-use Rattle.fdc_core.specs.declared.phases.Execution.{Execution}
 use Rattle.fdc_core.specs.declared.phases.Phase.{Phase}
 use Rattle.fdc_core.specs.declared.phases.Phase.TheVariants.{Execute}
 use Rattle.fdc_core.specs.declared.phases.Reading.{Reading}
@@ -32,8 +31,13 @@ abbrev pub SeesUnder : DataRate → ℕ → DriveState → ℕ → DriveState �
 SeesUnder rate head drive word after =
     (raw : ℕ) × Reads drive head raw after × (word ≡ seen_of (rate_fits rate (rate_of drive.medium)) raw)
 
+abbrev pub SeesTask : Bool → ℕ → DataRate → DriveState → ℕ → DriveState → Type 0
+SeesTask true head rate drive word after = SeesUnder rate head drive word after
+SeesTask false head rate drive word after = Unit {0}
+
 abbrev pub SeesWord : Phase → DataRate → DriveState → ℕ → DriveState → Type 0
-SeesWord (Execute execution) rate drive word after = SeesUnder rate (head_of execution) drive word after
+SeesWord (Execute execution) rate drive word after =
+    SeesTask (is_listening execution.task) (head_of execution.head_drive) rate drive word after
 SeesWord _ rate drive word after = Unit {0}
 
 -- a device step in which the controller executed a command, or did not: only then a word counts
@@ -65,14 +69,21 @@ Hears head_drive steps (ReadId search) index word old new =
 Hears head_drive steps (Read reading) index word old new =
     (after : ReadHeard) × StageHears reading.wanted.key index word reading.stage after
     × (new ≡ after_heard head_drive steps reading after old)
+Hears head_drive steps _ index word old new = Unit {0}
 
 -- the last step ends a command, whatever it does; each other step counts
-pub record StepsOn (execution : Execution) (index : Bool) (word : ℕ) (old new : Fdc) : Type 0 where
-  pub last : execution.steps ≡ 65535 → new ≡ late execution old
-  pub others : execution.steps < 65535 → Hears execution.head_drive (execution.steps + 1) execution.task index word old new
+abbrev pub StepsOn : ℕ → ℕ → Task → Bool → ℕ → Fdc → Fdc → Type 0
+StepsOn head_drive steps task index word old new =
+    ((steps ≡ 65535) × (new ≡ finished Late head_drive (key_as_sent task) old))
+    ⊎ ((steps < 65535) × Hears head_drive (steps + 1) task index word old new)
+
+abbrev pub ExecutesTask : Bool → ℕ → ℕ → Task → Bool → ℕ → Fdc → Fdc → Type 0
+ExecutesTask true head_drive steps task index word old new = StepsOn head_drive steps task index word old new
+ExecutesTask false head_drive steps task index word old new = Unit {0}
 
 abbrev pub ExecutesIn : Phase → Bool → ℕ → Fdc → Fdc → Type 0
-ExecutesIn (Execute execution) index word old new = StepsOn execution index word old new
+ExecutesIn (Execute execution) index word old new =
+    ExecutesTask (is_listening execution.task) execution.head_drive execution.steps execution.task index word old new
 ExecutesIn _ index word old new = Unit {0}
 
 -- a byte of the field came before the terminal count, and found the FIFO full
@@ -87,6 +98,7 @@ pub record FindsFull (reading : Reading) (index : Bool) (word : ℕ) (old : Fdc)
 abbrev pub OverrunsTask : Task → Bool → ℕ → Fdc → Fdc → Type 0
 OverrunsTask (Read reading) index word old new = is_overrun new.phase ≡ true → FindsFull reading index word old
 OverrunsTask (ReadId _) index word old new = is_overrun new.phase ≡ false
+OverrunsTask _ index word old new = Unit {0}
 
 abbrev pub OverrunsIn : Phase → Bool → ℕ → Fdc → Fdc → Type 0
 OverrunsIn (Execute execution) index word old new = OverrunsTask execution.task index word old new

@@ -83,6 +83,7 @@ IdTells past sent fdc = IdMeansIn past sent fdc.phase
 abbrev pub is_hearing : Task → Bool
 is_hearing (ReadId _) = true
 is_hearing (Read reading) = not (is_over reading.stage)
+is_hearing _ = false
 
 -- each device step heard a word, and until the field is over one index has passed at most
 pub record IsPaced (past : Past) (steps : ℕ) (hearing : Bool) : Type 0 where

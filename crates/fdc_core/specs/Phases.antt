@@ -12,8 +12,12 @@ use Rattle.fdc_core.specs.declared.phases.Phase.{Phase}
 use Rattle.fdc_core.specs.declared.phases.Phase.TheVariants.{Execute, Result}
 use Rattle.fdc_core.specs.declared.phases.Execution.{Execution}
 use Rattle.fdc_core.specs.declared.phases.Task.{Task}
-use Rattle.fdc_core.specs.declared.phases.Task.TheVariants.{ReadId, Read}
+use Rattle.fdc_core.specs.declared.phases.Task.TheVariants.{ReadId, Read, Write, Format}
 use Rattle.fdc_core.specs.declared.phases.Reading.{Reading}
+use Rattle.fdc_core.specs.declared.transfers.Writing.{Writing}
+use Rattle.fdc_core.specs.declared.transfers.Formatting.{Formatting}
+use Rattle.fdc_writing.specs.declared.writing.WriteStage.{WriteStage}
+use Rattle.fdc_writing.specs.declared.formatting.FormatStage.{FormatStage}
 
 -- READ DATA is the task
 abbrev pub is_read : Task → Bool
@@ -26,13 +30,29 @@ is_reading (Execute execution) = is_read execution.task
 is_reading _ = false
 
 -- the head, bit 2 of the byte that the command sent
-abbrev pub head_of : Execution → ℕ
-head_of execution = execution.head_drive / 4 % 2
+abbrev pub head_of : ℕ → ℕ
+head_of head_drive = head_drive / 4 % 2
 
 -- the key in the results of a failure: as it was sent, 00 00 00 00 where none was
 abbrev pub key_as_sent : Task → Chrn
 key_as_sent (ReadId _) = no_key
 key_as_sent (Read reading) = reading.wanted.key
+key_as_sent (Write writing) = writing.wanted.key
+key_as_sent (Format _) = no_key
+
+-- a write at a stage, and once the terminal count came
+abbrev pub write_at : Writing → WriteStage → Writing
+write_at writing stage = record writing { stage = stage }
+
+abbrev pub write_told : Writing → Writing
+write_told writing = record writing { counted = true }
+
+-- a FORMAT at a stage, and once the terminal count came
+abbrev pub format_at : Formatting → FormatStage → Formatting
+format_at formatting stage = record formatting { stage = stage }
+
+abbrev pub format_told : Formatting → Formatting
+format_told formatting = record formatting { counted = true }
 
 -- a reading once the terminal count came
 abbrev pub told : Reading → Reading
@@ -54,6 +74,21 @@ ending_at _ counted = None
 
 abbrev pub ending_of : Reading → Option Ending
 ending_of reading = ending_at reading.stage reading.counted
+
+-- READ ID and READ DATA only listen
+abbrev pub is_listening : Task → Bool
+is_listening (ReadId _) = true
+is_listening (Read _) = true
+is_listening _ = false
+
+-- bytes are moved by DMA
+abbrev pub moves_bytes : Task → Bool
+moves_bytes (ReadId _) = false
+moves_bytes _ = true
+
+abbrev pub is_moving : Phase → Bool
+is_moving (Execute execution) = moves_bytes execution.task
+is_moving _ = false
 
 -- the results tell OR
 abbrev pub overran : Ending → Bool

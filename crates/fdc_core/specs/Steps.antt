@@ -1,10 +1,10 @@
 -- Device steps.
 use Rattle.std.specs.Prelude.{◌≡◌, ◌<◌, ◌≤◌, length, ℕ, ◌+◌, ◌-◌, ◌==◌, Option, Some, None, Bool, true, false, not, ◌&&◌, ◌||◌, if◌then◌else◌}
-use Rattle.drive_model.specs.Drive.{DriveState, Becomes, Pulses, passed}
+use Rattle.drive_model.specs.Drive.{DriveState, Becomes, Pulses, passed, with_gate}
 use Rattle.fdc_seek.specs.Seeking.{with_polls, stepped, pulse_due, is_seeking}
 use Rattle.fdc_stages.specs.declared.ending.Ending.TheVariants.{Late}
 use Rattle.fdc_core.specs.Dma.{phase_asks}
-use Rattle.fdc_core.specs.Phases.{key_as_sent}
+use Rattle.fdc_core.specs.Phases.{key_as_sent, is_listening}
 use Rattle.fdc_core.specs.State.{is_held, finished}
 use Rattle.fdc_core.specs.declared.controller.Fdc.{Fdc}
 use Rattle.fdc_core.specs.declared.phases.Phase.{Phase}
@@ -36,17 +36,26 @@ Rests old track0 new = RestsIn old.phase old track0 new
 abbrev pub late : Execution → Fdc → Fdc
 late execution old = finished Late execution.head_drive (key_as_sent execution.task) old
 
+-- one word time in which no word is written: the gate is closed
+abbrev pub let_pass : DriveState → DriveState
+let_pass drive = passed (with_gate false drive)
+
 -- one word time passes at the drive, behind the pulse of a seek
 abbrev pub Moves : Option Bool → DriveState → DriveState → Type 0
-Moves None before after = Becomes before (passed before) after
+Moves None before after = Becomes before (let_pass before) after
 Moves (Some inward) before after =
-    (between : DriveState) × Pulses before inward between × Becomes between (passed between) after
+    (between : DriveState) × Pulses before inward between × Becomes between (let_pass between) after
+
+-- READ ID and READ DATA let it pass
+abbrev pub MovesTask : Bool → DriveState → DriveState → Type 0
+MovesTask true before after = Moves None before after
+MovesTask false before after = Unit {0}
 
 abbrev pub MovesIn : Phase → Fdc → DriveState → DriveState → Type 0
-MovesIn (Execute _) fdc before after = Moves None before after
+MovesIn (Execute execution) fdc before after = MovesTask (is_listening execution.task) before after
 MovesIn _ fdc before after = Moves (pulse_due fdc.seeks (before.cylinder == 0)) before after
 
--- a device step with a drive: outside execution a seek gives its pulse
+-- a device step with a drive, but for the commands that write: outside execution a seek gives its pulse
 abbrev pub MovesDrive : Fdc → DriveState → DriveState → Type 0
 MovesDrive fdc before after = MovesIn fdc.phase fdc before after
 

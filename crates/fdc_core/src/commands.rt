@@ -3,15 +3,17 @@ ghost use Rattle.std.specs.Prelude.{◌≡◌, ℕ};
 ghost use Rattle.track_model.specs.Fields.{IsSizeCode};
 ghost use Rattle.fdc_seek.specs.Seeking.{seek_bits};
 ghost use Rattle.fdc_commands.specs.Table.{SizeInRange};
-ghost use Rattle.fdc_core.specs.Commands.{answered, IsReadingId, IsReadingData, status_of_lines, sensing, configured, begun, BeginsTask, Begins, ObeysAtRest, Obeys, Takes};
+ghost use Rattle.fdc_core.specs.Commands.{answered, IsReadingId, IsReadingData, status_of_lines, sensing, configured, begun, BeginsTask, BeginsAsking, IsWritingData, IsFormattingTrack, Begins, ObeysAtRest, Obeys, Takes};
 
 use crate::answers::Answer;
 use crate::controller::{Fdc, Lines};
 use crate::phases::{Execution, Phase, Reading, Task};
 use crate::sized_key::SizedKey;
+use crate::transfers::{Formatting, Writing};
 use fdc_commands::{Accepted, Command};
 use fdc_registers::{Flags, St3};
 use fdc_stages::{ReadStage, Search};
+use fdc_writing::{FormatStage, WriteStage};
 use flop_base::Chrn;
 
 /// The only result byte of a command that is invalid.
@@ -150,6 +152,25 @@ impl Fdc {
                 eot,
                 ..
             } => self.begin_reading(head_drive, key, eot),
+            Command::WriteData {
+                head_drive,
+                key,
+                eot,
+                ..
+            } => self.begin_writing(head_drive, key, eot, false),
+            Command::WriteDeleted {
+                head_drive,
+                key,
+                eot,
+                ..
+            } => self.begin_writing(head_drive, key, eot, true),
+            Command::FormatTrack {
+                head_drive,
+                n,
+                sc,
+                gpl,
+                fill,
+            } => self.begin_formatting(head_drive, n, sc, gpl, fill),
             _ => self.answer(INVALID, None),
         }
     }
@@ -169,6 +190,26 @@ impl Fdc {
     {
         let task = reading_data(key, last_sector);
         self.begin(head_drive, task);
+    }
+
+    /// WRITE DATA or WRITE DELETED begins, and asks for bytes.
+    fn begin_writing(&mut self, head_drive: u8, key: Chrn, last_sector: u8, deleted: bool)
+        requires { IsSizeCode key.n }
+        ensures { BeginsAsking head_drive (IsWritingData (record { head_drive = head_drive; key = key; last_sector = last_sector }) deleted) self.old self.new }
+    {
+        let task = writing_data(key, last_sector, deleted);
+        self.begin(head_drive, task);
+        self.ask();
+    }
+
+    /// FORMAT TRACK begins, and asks for bytes.
+    fn begin_formatting(&mut self, head_drive: u8, n: u8, sectors: u8, gap3: u8, fill: u8)
+        requires { IsSizeCode n }
+        ensures { BeginsAsking head_drive IsFormattingTrack self.old self.new }
+    {
+        let task = formatting_track(n, sectors, gap3, fill);
+        self.begin(head_drive, task);
+        self.ask();
     }
 
     /// The execution of a data command begins.
@@ -209,6 +250,36 @@ fn reading_data(key: Chrn, last_sector: u8) -> Task
             last_sector,
             counted: false,
             stage: ReadStage::new(),
+        },
+    }
+}
+
+/// WRITE DATA or WRITE DELETED as it begins.
+fn writing_data(key: Chrn, last_sector: u8, deleted: bool) -> Task
+    requires { IsSizeCode key.n }
+    ensures { (head_drive : ℕ)
+        → IsWritingData (record { head_drive = head_drive; key = key; last_sector = last_sector }) deleted result }
+{
+    Task::Write {
+        writing: Writing {
+            wanted: SizedKey { key },
+            deleted,
+            last_sector,
+            counted: false,
+            stage: WriteStage::new(),
+        },
+    }
+}
+
+/// FORMAT TRACK as it begins.
+fn formatting_track(n: u8, sectors: u8, gap3: u8, fill: u8) -> Task
+    requires { IsSizeCode n }
+    ensures { IsFormattingTrack result }
+{
+    Task::Format {
+        formatting: Formatting {
+            counted: false,
+            stage: FormatStage::new(n, sectors, gap3, fill),
         },
     }
 }

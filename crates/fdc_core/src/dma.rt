@@ -4,7 +4,7 @@ ghost use Rattle.fdc_stages.specs.History.{Past};
 ghost use Rattle.fdc_core.specs.Heard.{Sent, MayRead, gave, told_in};
 ghost use Rattle.fdc_core.specs.Listening.{is_executing};
 ghost use Rattle.fdc_core.specs.State.{asks};
-ghost use Rattle.fdc_core.specs.Dma.{asked, byte_out, taken_out, taken_in, with_byte, told_count, to_memory_of};
+ghost use Rattle.fdc_core.specs.Dma.{asked, byte_out, taken_out, taken_in, with_byte, told_count, told_to, task_asks, to_memory_of};
 
 use crate::controller::Fdc;
 use crate::phases::{Execution, Phase, Task};
@@ -61,7 +61,7 @@ impl Fdc {
         }
     }
 
-    /// The channel tells the terminal count. A READ DATA then gives no further byte.
+    /// The channel tells the terminal count. A READ DATA then gives no further byte, a write takes none.
     pub fn tc(&mut self)
         ensures after { self.new ≡ told_count self.old }
         ensures reads { (past : Past) (sent : Sent) → MayRead past sent self.old → MayRead (told_in (is_executing self.old.phase) past) sent self.new }
@@ -79,20 +79,31 @@ impl Fdc {
                 steps,
                 task,
             } = execution;
-            if let Task::Read { reading } = task {
-                self.fifo.clear();
-                self.phase = Phase::Execute {
-                    execution: Execution {
-                        head_drive,
-                        steps,
-                        task: Task::Read {
-                            reading: reading.told(),
-                        },
-                    },
-                };
-                self.ask();
+            match task {
+                Task::ReadId { .. } => {}
+                Task::Read { .. } => {
+                    self.fifo.clear();
+                    self.tell(head_drive, steps, task.told());
+                }
+                Task::Write { .. } | Task::Format { .. } => {
+                    self.tell(head_drive, steps, task.told());
+                }
             }
         }
+    }
+
+    /// The terminal count came for this task.
+    fn tell(&mut self, head_drive: u8, steps: u16, task: Task)
+        ensures { self.new ≡ told_to head_drive steps task self.old }
+    {
+        self.asking = false;
+        self.phase = Phase::Execute {
+            execution: Execution {
+                head_drive,
+                steps,
+                task,
+            },
+        };
     }
 
     /// DRQ goes by the FIFO's rule.
@@ -100,13 +111,22 @@ impl Fdc {
         ensures { self.new ≡ asked self.old }
     {
         self.asking = match self.phase {
-            Phase::Execute {
-                execution: Execution {
-                    task: Task::Read { reading },
-                    ..
-                },
-            } => self.fifo.wants(true, self.asking, reading.is_over()),
+            Phase::Execute { execution } => self.wants(execution.task),
             _ => false,
         };
+    }
+
+    /// Whether DRQ is up now in this task.
+    fn wants(&self, task: Task) -> bool
+        ensures { result ≡ task_asks task self.now.asking self.now.fifo }
+    {
+        match task {
+            Task::ReadId { .. } => false,
+            Task::Read { reading } => self.fifo.wants(true, self.asking, reading.is_over()),
+            Task::Write { writing } => self.fifo.wants(false, self.asking, writing.counted),
+            Task::Format { formatting } => {
+                self.fifo.wants(false, self.asking, formatting.counted)
+            }
+        }
     }
 }

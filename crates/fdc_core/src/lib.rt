@@ -6,6 +6,7 @@ mod answers;
 mod commands;
 mod controller;
 mod dma;
+mod formatting;
 mod laws;
 mod phases;
 mod ports;
@@ -13,6 +14,8 @@ mod rates;
 mod reading;
 mod sized_key;
 mod steps;
+mod transfers;
+mod writing;
 
 pub use controller::{Fdc, Lines};
 pub use laws::{

@@ -1,11 +1,13 @@
 // What the controller is doing.
 ghost use Rattle.std.specs.Prelude.{◌≡◌};
 ghost use Rattle.fdc_core.specs.Answers.{next_key, key_after};
+ghost use Rattle.fdc_core.specs.Dma.{task_told};
 ghost use Rattle.fdc_core.specs.Reading.{at_stage};
 ghost use Rattle.fdc_core.specs.Phases.{is_reading, head_of, key_as_sent, told, is_over, ending_of};
 
 use crate::answers::Answer;
 use crate::sized_key::SizedKey;
+use crate::transfers::{Formatting, Writing};
 use fdc_stages::{Ending, ReadStage, Search};
 use flop_base::Chrn;
 
@@ -16,6 +18,9 @@ pub(crate) const NO_KEY: Chrn = Chrn {
     r: 0,
     n: 0,
 };
+
+/// The step that ends a data command, whatever it does.
+pub(crate) const LAST_STEP: u16 = 65535;
 
 /// The phase of the controller.
 #[derive(Clone, Copy)]
@@ -46,6 +51,10 @@ pub enum Task {
     ReadId { search: Search },
     /// READ DATA.
     Read { reading: Reading },
+    /// WRITE DATA and WRITE DELETED.
+    Write { writing: Writing },
+    /// FORMAT TRACK.
+    Format { formatting: Formatting },
 }
 
 /// A READ DATA.
@@ -73,13 +82,11 @@ impl Phase {
     }
 }
 
-impl Execution {
-    /// The head, as the command sent it.
-    pub(crate) fn head(self) -> u8
-        ensures { result ≡ head_of self }
-    {
-        self.head_drive / 4 % 2
-    }
+/// The head, bit 2 of the byte that the command sent.
+pub(crate) fn head_of(head_drive: u8) -> u8
+    ensures { result ≡ head_of head_drive }
+{
+    head_drive / 4 % 2
 }
 
 impl Task {
@@ -88,8 +95,27 @@ impl Task {
         ensures { result ≡ key_as_sent self }
     {
         match self {
-            Task::ReadId { .. } => NO_KEY,
+            Task::ReadId { .. } | Task::Format { .. } => NO_KEY,
             Task::Read { reading } => reading.wanted.key,
+            Task::Write { writing } => writing.wanted.key,
+        }
+    }
+
+    /// The same task once the terminal count came.
+    pub(crate) fn told(self) -> Task
+        ensures { result ≡ task_told self }
+    {
+        match self {
+            Task::ReadId { .. } => self,
+            Task::Read { reading } => Task::Read {
+                reading: reading.told(),
+            },
+            Task::Write { writing } => Task::Write {
+                writing: writing.told(),
+            },
+            Task::Format { formatting } => Task::Format {
+                formatting: formatting.told(),
+            },
         }
     }
 }
@@ -99,12 +125,7 @@ impl Reading {
     pub(crate) fn at(self, stage: ReadStage) -> Reading
         ensures { result ≡ at_stage self stage }
     {
-        Reading {
-            wanted: self.wanted,
-            last_sector: self.last_sector,
-            counted: self.counted,
-            stage,
-        }
+        Reading { stage, ..self }
     }
 
     /// The same command once the terminal count came.
@@ -112,10 +133,8 @@ impl Reading {
         ensures { result ≡ told self }
     {
         Reading {
-            wanted: self.wanted,
-            last_sector: self.last_sector,
             counted: true,
-            stage: self.stage,
+            ..self
         }
     }
 
@@ -150,7 +169,7 @@ impl Reading {
 }
 
 /// The key of the next sector: the next record, or record 1 of the next cylinder behind the last.
-fn next_key(key: Chrn, last_sector: u8) -> Chrn
+pub(crate) fn next_key(key: Chrn, last_sector: u8) -> Chrn
     ensures { result ≡ next_key key last_sector }
 {
     let Chrn { c, h, r, n } = key;

@@ -89,7 +89,7 @@ impl Fdc {
     }
 
     /// The execution goes on with this task.
-    fn go_on(&mut self, head_drive: u8, steps: u16, task: Task)
+    pub(crate) fn go_on(&mut self, head_drive: u8, steps: u16, task: Task)
         ensures { self.new ≡ gone_on head_drive steps task self.old }
     {
         self.phase = Phase::Execute {

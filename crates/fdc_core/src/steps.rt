@@ -1,18 +1,16 @@
 // Device steps: one word time each, with the selected drive or with none.
-ghost use Rattle.std.specs.Prelude.{◌≡◌, ◌<◌, ◌+◌, ◌==◌, ℕ, None, false};
-ghost use Rattle.drive_model.specs.Drive.{Becomes, Reads, passed, at_index, rate_of};
+ghost use Rattle.std.specs.Prelude.{◌≡◌, ◌==◌, false};
+ghost use Rattle.drive_model.specs.Drive.{Becomes, at_index};
 ghost use Rattle.fdc_seek.specs.Seeking.{pulse_due};
-ghost use Rattle.fdc_core.specs.Listening.{Listens, ListensToNone, StepHears, Follows, Hears};
-ghost use Rattle.fdc_core.specs.Rates.{rate_fits, seen_of};
-ghost use Rattle.fdc_core.specs.Steps.{polled, seek_stepped, late, Rests, Moves, MovesDrive, Ends, EndsIn, Stays, Flows, FlowsIn};
+ghost use Rattle.fdc_core.specs.Listening.{Listens, ListensToNone, SeesUnder};
+ghost use Rattle.fdc_core.specs.Steps.{polled, seek_stepped, let_pass, Rests, Moves, MovesDrive, Ends, Stays, Flows};
+ghost use Rattle.fdc_core.specs.Tasks.{IsListenStep, TaskSteps, TaskStepsNowhere};
 
 use crate::controller::Fdc;
-use crate::phases::{Execution, Phase, Task};
+use crate::phases::{Execution, LAST_STEP, NO_KEY, Phase, Reading, Task, head_of};
+use crate::writing::let_pass;
 use drive_model::{Drive, Turn};
-use fdc_stages::Ending;
-
-/// The step that ends a data command, whatever it does.
-const LAST_STEP: u16 = 65535;
+use fdc_stages::{Ending, Search};
 
 /// What passes where no drive is selected.
 const NO_TURN: Turn = Turn {
@@ -98,11 +96,9 @@ impl Fdc {
         match self.step_seek(track0) {
             Some(inward) => {
                 drive.pulse(inward);
-                drive.pass();
+                let_pass(drive);
             }
-            None => {
-                drive.pass();
-            }
+            None => let_pass(drive),
         }
     }
 
@@ -119,57 +115,77 @@ impl Fdc {
         pulse
     }
 
-    /// A device step of a data command.
+    /// A device step of a data command, by its task.
     fn execute<D: Drive>(&mut self, execution: Execution, drive: &mut D)
-        ensures reads { StepHears (Phase.Execute execution) self.old self.old (at_index (D.state drive.old))
-            (D.state drive.old) (D.state drive.new) self.new }
-        ensures drive { Moves None (D.state drive.old) (D.state drive.new) }
-        ensures ends { EndsIn (Phase.Execute execution) self.new.phase }
-        ensures stays { Stays self.old self.new }
-        ensures flows { FlowsIn (Phase.Execute execution) self.old.asking self.new }
+        ensures { TaskSteps execution.task execution.head_drive execution.steps self.old (D.state drive.old) (D.state drive.new) self.new }
     {
-        if execution.steps == LAST_STEP {
-            drive.pass();
-            self.finish_late(execution);
-            return;
+        let Execution {
+            head_drive,
+            steps,
+            task,
+        } = execution;
+        match task {
+            Task::ReadId { search } => self.step_id(head_drive, steps, search, drive),
+            Task::Read { reading } => self.step_reading(head_drive, steps, reading, drive),
+            Task::Write { writing } => self.step_writing(head_drive, steps, writing, drive),
+            Task::Format { formatting } => {
+                self.step_formatting(head_drive, steps, formatting, drive);
+            }
         }
-        let turn = self.listen(execution.head(), drive);
-        self.hear(execution, turn);
     }
 
-    /// A device step of a data command where no drive is selected.
+    /// A device step of a data command where no drive is selected, by its task.
     fn execute_empty(&mut self, execution: Execution)
-        ensures reads { Follows (Phase.Execute execution) self.old self.old false 0 self.new }
-        ensures ends { EndsIn (Phase.Execute execution) self.new.phase }
-        ensures stays { Stays self.old self.new }
-        ensures flows { FlowsIn (Phase.Execute execution) self.old.asking self.new }
+        ensures { TaskStepsNowhere execution.task execution.head_drive execution.steps self.old self.new }
     {
-        if execution.steps == LAST_STEP {
-            self.finish_late(execution);
+        let Execution {
+            head_drive,
+            steps,
+            task,
+        } = execution;
+        if steps == LAST_STEP {
+            self.finish(Ending::Late, head_drive, task.key_as_sent());
             return;
         }
-        self.hear(execution, NO_TURN);
+        match task {
+            Task::ReadId { search } => self.hear_id(head_drive, steps + 1, search, NO_TURN),
+            Task::Read { reading } => self.hear_reading(head_drive, steps + 1, reading, NO_TURN),
+            Task::Write { writing } => self.hear_nothing(head_drive, steps + 1, writing),
+            Task::Format { formatting } => self.await_nothing(head_drive, steps + 1, formatting),
+        }
     }
 
-    /// The command took too many steps.
-    fn finish_late(&mut self, execution: Execution)
-        ensures { self.new ≡ late execution self.old }
+    /// A device step of a READ ID, behind `steps` others.
+    fn step_id<D: Drive>(&mut self, head_drive: u8, steps: u16, search: Search, drive: &mut D)
+        ensures { IsListenStep head_drive steps (Task.ReadId search) self.old (D.state drive.old) (D.state drive.new) self.new }
     {
-        self.finish(
-            Ending::Late,
-            execution.head_drive,
-            execution.task.key_as_sent(),
-        );
+        if steps == LAST_STEP {
+            self.stop(Ending::Late, head_drive, NO_KEY, drive);
+            return;
+        }
+        let turn = self.listen(head_of(head_drive), drive);
+        self.hear_id(head_drive, steps + 1, search, turn);
     }
 
-    /// The word that the controller sees in this word time: 0000 where its rate isn't the medium's.
-    fn listen<D: Drive>(&self, head: u8, drive: &mut D) -> Turn
-        ensures word { (raw : ℕ)
-            × Reads (D.state drive.old) head raw (D.state drive.new)
-            × (result.word ≡ seen_of (rate_fits self.now.rate (rate_of (D.state drive.old).medium)) raw) }
+    /// A device step of a READ DATA, behind `steps` others.
+    fn step_reading<D: Drive>(&mut self, head_drive: u8, steps: u16, reading: Reading, drive: &mut D)
+        ensures { IsListenStep head_drive steps (Task.Read reading) self.old (D.state drive.old) (D.state drive.new) self.new }
+    {
+        if steps == LAST_STEP {
+            self.stop(Ending::Late, head_drive, reading.wanted.key, drive);
+            return;
+        }
+        let turn = self.listen(head_of(head_drive), drive);
+        self.hear_reading(head_drive, steps + 1, reading, turn);
+    }
+
+    /// The word that the controller sees in this word time: 0000 where its rate isn't the medium's. The gate is closed.
+    pub(crate) fn listen<D: Drive>(&self, head: u8, drive: &mut D) -> Turn
+        ensures word { SeesUnder self.now.rate head (D.state drive.old) result.word (D.state drive.new) }
         ensures index { result.index ≡ at_index (D.state drive.old) }
-        ensures drive { Becomes (D.state drive.old) (passed (D.state drive.old)) (D.state drive.new) }
+        ensures drive { Becomes (D.state drive.old) (let_pass (D.state drive.old)) (D.state drive.new) }
     {
+        drive.gate(false);
         let fits = self.rate.fits(drive.rate());
         let turn = drive.read_word(head);
         if fits {
@@ -178,25 +194,6 @@ impl Fdc {
         Turn {
             word: 0,
             index: turn.index,
-        }
-    }
-
-    /// A data command that only listens hears a word.
-    fn hear(&mut self, execution: Execution, turn: Turn)
-        requires { execution.steps < 65535 }
-        ensures few { execution.steps < 65535 }
-        ensures hears { Hears execution.head_drive (execution.steps + 1) execution.task turn.index turn.word self.old self.new }
-        ensures stays { Stays self.old self.new }
-        ensures flows { FlowsIn (Phase.Execute execution) self.old.asking self.new }
-    {
-        let Execution {
-            head_drive,
-            steps,
-            task,
-        } = execution;
-        match task {
-            Task::ReadId { search } => self.hear_id(head_drive, steps + 1, search, turn),
-            Task::Read { reading } => self.hear_reading(head_drive, steps + 1, reading, turn),
         }
     }
 }

@@ -1,0 +1,7 @@
+mod Gaps
+mod Windowed
+mod Keyed
+mod Laying
+mod Turned
+mod Ended
+mod Leading

@@ -1,0 +1,3 @@
+pub mod Writings
+pub mod Formats
+pub mod Leads

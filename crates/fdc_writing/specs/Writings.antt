@@ -1,12 +1,13 @@
 -- What a writing has heard and written.
-use Rattle.std.specs.Prelude.{◌≡◌, ◌⊎◌, ℕ, zero, suc, ◌+◌, ◌<◌, ◌≤◌, Bool, true, false, Option, Some, None, List, [], ◌∷◌, ◌++◌, length}
+use Rattle.std.specs.Prelude.{◌≡◌, ◌⊎◌, ℕ, zero, suc, ◌+◌, ◌<◌, ◌≤◌, Bool, true, false, Option, Some, List, [], ◌++◌, length, replicate}
 use Rattle.flop_base.specs.declared.key.Chrn.{Chrn}
 use Rattle.track_model.specs.Fields.{IsAddressAt, content_size}
 use Rattle.track_model.specs.Windows.{window_word, window_words}
 use Rattle.track_model.specs.Writing.{window}
 use Rattle.track_separator.specs.Parts.{with_word}
 use Rattle.fdc_windows.specs.declared.window.Window.{Window}
-use Rattle.fdc_windows.specs.Windows as words
+use Rattle.fdc_windows.specs.Windows as windowed
+use Rattle.fdc_windows.specs.Windows.{words_behind, bytes_behind, count_behind, lead_left}
 use Rattle.fdc_stages.specs.declared.ending.Ending.{Ending}
 use Rattle.fdc_stages.specs.declared.ending.Ending.TheVariants.{Done, NoMark, NoSector, NoField, BadCheck, Overrun, NoCount, Protected, Late}
 use Rattle.fdc_stages.specs.History.{Past, heard, kept_out, IsJustOver}
@@ -37,14 +38,18 @@ is_due (stage.Window _) = true
 
 -- it is a byte of the content
 abbrev pub needs_byte : WriteStage → Bool
-needs_byte (stage.Window now) = words.needs_byte now
+needs_byte (stage.Window now) = windowed.needs_byte now
 needs_byte _ = false
+
+-- the same of a window's words
+abbrev pub window_needs : Window → Bool
+window_needs now = windowed.needs_byte now
 
 -- how many words pass before a byte of the content is needed, at the least; 16 where none is needed any more
 abbrev pub lead_of : WriteStage → ℕ
 lead_of (stage.Search _) = 39
 lead_of (stage.Gap left) = left + 16
-lead_of (stage.Window now) = words.lead_left now
+lead_of (stage.Window now) = lead_left now
 
 -- ---- what has passed
 
@@ -68,10 +73,10 @@ pub record IsBefore (seen : List ℕ) (key : Chrn) (left p : ℕ) : Type 0 where
 pub record IsInWindow (seen words : List ℕ) (key : Chrn) (deleted : Bool) (handed : List ℕ) (behind : Option Window) (p : ℕ) : Type 0 where
   pub address : IsAddressAt seen p key
   pub place : length seen ≡ window_word p
-  pub count : length words + words.count_behind behind ≡ window_words key.n
-  pub bytes : length handed + words.bytes_behind behind ≡ content_size key.n
-  pub goes_on : (rest : List ℕ) → length rest ≡ words.bytes_behind behind
-      → words ++ words.words_behind behind rest ≡ window deleted (handed ++ rest)
+  pub count : length words + count_behind behind ≡ window_words key.n
+  pub bytes : length handed + bytes_behind behind ≡ content_size key.n
+  pub goes_on : (rest : List ℕ) → length rest ≡ bytes_behind behind
+      → words ++ words_behind behind rest ≡ window deleted (handed ++ rest)
 
 -- nothing was handed in or written
 abbrev pub IsUnwritten : List ℕ → List ℕ → Type 0
@@ -154,8 +159,8 @@ HasCause past key deleted handed NoMark = (past.words ≡ []) × IsMissed past (
 HasCause past key deleted handed NoSector = (past.words ≡ []) × IsMissed past (Some key) NoSector
 HasCause past key deleted handed Overrun = past.counted ≡ false
 HasCause past key deleted handed Late = past.steps ≡ 65536
+HasCause past key deleted handed Protected = past.words ≡ []
 HasCause past key deleted handed BadCheck = ⊥
-HasCause past key deleted handed Protected = ⊥
 
 -- a writing that ended, and the content that was handed in
 pub record HasWritten (past : Past) (key : Chrn) (deleted : Bool) (handed : List ℕ) (ending : Ending) : Type 0 where
@@ -194,8 +199,21 @@ abbrev pub LeadsOn : ℕ → WriteNext → Type 0
 LeadsOn before (next.On now) = before ≤ lead_of now + 1
 LeadsOn before (next.Ended _) = Unit {0}
 
--- what ends a writing from outside: a missing byte without the terminal count, or the number of steps
+-- what stops a command from outside: a byte that is missing without the terminal count, the number of steps, or a medium that
+-- is protected before anything is written
 abbrev pub IsStopped : Past → Ending → Type 0
 IsStopped past Overrun = past.counted ≡ false
 IsStopped past Late = past.steps ≡ 65536
+IsStopped past Protected = past.words ≡ []
 IsStopped past _ = ⊥
+
+-- the words are the first of the window of the address field of the key at p, at its place; its content is what was handed in
+-- and then so many bytes 00
+pub record IsFirstAt (past : Past) (key : Chrn) (deleted : Bool) (handed : List ℕ) (p zeros : ℕ) : Type 0 where
+  pub address : IsAddressAt past.seen p key
+  pub place : length past.seen ≡ window_word p
+  pub size : length handed + zeros ≡ content_size key.n
+  pub first : IsFirstOf past.words (window deleted (handed ++ replicate zeros 0))
+
+abbrev pub WritesFirst : Past → Chrn → Bool → List ℕ → Type 0
+WritesFirst past key deleted handed = (past.words ≡ []) ⊎ ((p : ℕ) × (zeros : ℕ) × IsFirstAt past key deleted handed p zeros)

@@ -1,4 +1,10 @@
 // The stages of a format.
+ghost use Rattle.std.specs.Prelude.{◌≡◌, ◌-◌, ◌≤◌, ℕ, Bool, true, false, List, []};
+ghost use Rattle.flop_base.specs.declared.key.Chrn.{Chrn};
+ghost use Rattle.fdc_stages.specs.History.{Past, begun, heard, wrote};
+ghost use Rattle.fdc_writing.specs.Writings.{handed_with, heard_where};
+ghost use Rattle.fdc_writing.specs.Formats.{Numbers, is_open, opens, is_due, Takes, IsLaid, IsLastKey, IsFormatting, IsNextLaid, HasWholeTurn, HasLaid, IsUnopened, HasNext, FailsWell, EndsWell};
+ghost use Rattle.fdc_writing.specs.Leads.{StreamLeads, HasLead, LeadsOn};
 
 use fdc_stages::Ending;
 use flop_base::Chrn;
@@ -44,11 +50,14 @@ pub enum FormatNext {
     Ended { ending: Ending, key: Chrn },
 }
 
-/// A word to be written, and the stage behind it.
+/// A word to be written.
 #[derive(Clone, Copy)]
 pub struct FormatWord {
     pub word: u16,
-    pub stage: FormatStage,
+    /// The words behind it.
+    pub stream: FormatStream,
+    /// The last four bytes of keys that were handed in.
+    pub key: Chrn,
 }
 
 impl FormatStage {
@@ -56,6 +65,8 @@ impl FormatStage {
     pub fn new(n: u8, sectors: u8, gap3: u8, fill: u8) -> FormatStage
         requires at_least { 1 ≤ n }
         requires at_most { n ≤ 6 }
+        ensures begins { IsFormatting begun (record { n = n; sectors = sectors; gap3 = gap3; fill = fill }) [] result }
+        ensures lead { HasLead result 162 }
     {
         FormatStage {
             part: FormatPart::Await,
@@ -65,92 +76,132 @@ impl FormatStage {
     }
 
     /// Whether the next word is one of the layout.
-    pub fn is_due(&self) -> bool {
+    pub fn is_due(&self) -> bool
+        ensures { result ≡ is_due self.now }
+    {
         matches!(self.part, FormatPart::Due | FormatPart::Lay)
     }
 
     /// Whether the gate is to be opened before the next word: it is the first of the layout.
-    pub fn opens(&self) -> bool {
+    pub fn opens(&self) -> bool
+        ensures { result ≡ opens self.now }
+    {
         matches!(self.part, FormatPart::Due)
     }
 
     /// Whether the next word is a byte of a key, which `write` is to be handed.
-    pub fn needs_byte(&self) -> bool {
-        match self.part {
-            FormatPart::Lay => self.stream.needs_byte(),
-            _ => false,
+    pub fn needs_byte(&self) -> bool
+        ensures takes { is_due self.now ≡ true → Takes self.now result }
+        ensures due { is_due self.now ≡ false → result ≡ false }
+        ensures lead { (lead : ℕ) → HasLead self.now lead → result ≡ true → lead ≡ 0 }
+    {
+        if !self.is_due() {
+            return false;
         }
+        self.stream.needs_byte()
     }
 
     /// Hears a word of the track. `index` says that the index follows it. A word that is heard where the first of the layout
     /// is due says that the gate could not be opened. While the gate is open no word is heard.
-    pub fn hear(self, index: bool) -> FormatNext {
+    pub fn hear(self, index: bool) -> FormatNext
+        ensures hears { (past : Past) (numbers : Numbers) (handed : List ℕ) (word : ℕ) → is_open self ≡ false
+            → IsFormatting past numbers handed self
+            → HasNext (heard_where (opens self) index word past) numbers handed result }
+        ensures well { FailsWell result }
+        ensures lead { (lead : ℕ) → HasLead self lead → LeadsOn lead result }
+    {
         match self.part {
-            FormatPart::Await => FormatNext::On(self.at(awaited(index))),
-            FormatPart::Due | FormatPart::Barred => self.listen(index),
+            FormatPart::Await => self.wait(index),
+            FormatPart::Due => self.listen(index),
+            FormatPart::Barred => self.listen(index),
             FormatPart::Lay => FormatNext::On(self),
         }
     }
 
     /// The word that is written next, where one is due. Where `needs_byte` says so, `byte` is the byte that it records.
-    pub fn write(self, byte: u8) -> FormatWord {
+    pub fn write(self, byte: u8) -> FormatWord
+        ensures writes { (past : Past) (numbers : Numbers) (handed : List ℕ) (takes : Bool) → is_due self ≡ true
+            → IsFormatting past numbers handed self → Takes self takes
+            → IsNextLaid past numbers (handed_with takes byte handed) result.word result.stream result.key }
+        ensures lead { (lead : ℕ) → HasLead self lead → StreamLeads result.stream (lead - 1) }
+    {
         let mut stream = self.stream;
         let key = key_behind(stream.needs_byte(), self.key, byte);
         let word = stream.next(byte);
-        FormatWord {
-            word,
-            stage: FormatStage {
-                part: FormatPart::Lay,
-                stream,
-                key,
-            },
+        FormatWord { word, stream, key }
+    }
+
+    /// Awaits the index at which the layout begins.
+    fn wait(self, index: bool) -> FormatNext
+        ensures hears { (past : Past) (numbers : Numbers) (handed : List ℕ) (word : ℕ) → self.part ≡ FormatPart.Await
+            → IsFormatting past numbers handed self → HasNext (heard index word past) numbers handed result }
+        ensures well { FailsWell result }
+        ensures lead { (lead : ℕ) → HasLead self lead → LeadsOn lead result }
+    {
+        if index {
+            return FormatNext::On(FormatStage {
+                part: FormatPart::Due,
+                ..self
+            });
         }
+        FormatNext::On(FormatStage {
+            part: FormatPart::Await,
+            ..self
+        })
     }
 
     /// Awaits the second index without an open gate.
-    fn listen(self, index: bool) -> FormatNext {
+    fn listen(self, index: bool) -> FormatNext
+        ensures hears { (past : Past) (numbers : Numbers) (handed : List ℕ) → IsUnopened index past
+            → IsLaid past.words numbers handed self.stream → IsLastKey handed self.key
+            → HasNext past numbers handed result }
+        ensures well { FailsWell result }
+        ensures lead { (lead : ℕ) → HasLead self lead → LeadsOn lead result }
+    {
         if index {
             return FormatNext::Ended {
                 ending: Ending::NoMark,
                 key: NO_KEY,
             };
         }
-        FormatNext::On(self.at(FormatPart::Barred))
-    }
-
-    fn at(self, part: FormatPart) -> FormatStage {
-        FormatStage { part, ..self }
+        FormatNext::On(FormatStage {
+            part: FormatPart::Barred,
+            ..self
+        })
     }
 }
 
 impl FormatWord {
     /// What the word gives the format once it was written. `index` says that the index follows it, and `counted` that the
     /// terminal count came.
-    pub fn after(self, index: bool, counted: bool) -> FormatNext {
+    pub fn after(self, index: bool, counted: bool) -> FormatNext
+        ensures goes_on { (past : Past) (numbers : Numbers) (handed : List ℕ) → past.counted ≡ counted
+            → IsNextLaid past numbers handed self.word self.stream self.key
+            → HasNext (wrote index self.word past) numbers handed result }
+        ensures well { EndsWell result }
+        ensures lead { (lead : ℕ) → StreamLeads self.stream lead → LeadsOn lead result }
+    {
         if !index {
-            return FormatNext::On(self.stage);
+            return FormatNext::On(FormatStage {
+                part: FormatPart::Lay,
+                stream: self.stream,
+                key: self.key,
+            });
         }
-        if !self.stage.stream.is_whole() {
+        if !self.stream.is_whole() {
             return FormatNext::Ended {
                 ending: Ending::NoField,
                 key: NO_KEY,
             };
         }
-        whole(self.stage.key, counted)
-    }
-}
-
-/// What follows a word that is heard while the index is awaited.
-fn awaited(index: bool) -> FormatPart {
-    if index {
-        FormatPart::Due
-    } else {
-        FormatPart::Await
+        whole(self.key, counted)
     }
 }
 
 /// The last four bytes of keys, behind a word that takes a byte or doesn't.
-fn key_behind(takes: bool, key: Chrn, byte: u8) -> Chrn {
+fn key_behind(takes: bool, key: Chrn, byte: u8) -> Chrn
+    ensures { (handed : List ℕ) → IsLastKey handed key → IsLastKey (handed_with takes byte handed) result }
+{
     if !takes {
         return key;
     }
@@ -163,7 +214,13 @@ fn key_behind(takes: bool, key: Chrn, byte: u8) -> Chrn {
 }
 
 /// How a format ends whose whole layout was written.
-fn whole(key: Chrn, counted: bool) -> FormatNext {
+fn whole(key: Chrn, counted: bool) -> FormatNext
+    ensures is { (past : Past) (numbers : Numbers) (handed : List ℕ) → past.counted ≡ counted
+        → HasWholeTurn past numbers handed → HasLaid past numbers handed → IsLastKey handed key
+        → HasNext past numbers handed result }
+    ensures well { EndsWell result }
+    ensures lead { (lead : ℕ) → LeadsOn lead result }
+{
     if counted {
         return FormatNext::Ended {
             ending: Ending::Done { deleted: false },

@@ -1,4 +1,12 @@
 // The stages of a writing.
+ghost use Rattle.std.specs.Prelude.{◌≡◌, ◌+◌, ◌≤◌, ℕ, Bool, true, false, Some, List, [], length};
+ghost use Rattle.track_separator.specs.declared.state.Separator.{Separator};
+ghost use Rattle.flop_base.specs.declared.key.Chrn.{Chrn};
+ghost use Rattle.track_model.specs.Fields.{IsSizeCode};
+ghost use Rattle.fdc_windows.specs.Windows.{lead_left, lead_behind};
+ghost use Rattle.fdc_stages.specs.History.{Past, begun, heard, wrote};
+ghost use Rattle.fdc_stages.specs.Searches.{IsMet};
+ghost use Rattle.fdc_writing.specs.Writings.{is_open, opens, is_due, needs_byte, lead_of, handed_with, heard_where, IsInWindow, IsWriting, IsNextWord, HasBegun, HasWhole, HasWritten, HasNext, FailsWell, EndsWell, IsEnd, LeadsOn, window_needs};
 
 use fdc_stages::{Ending, Search, Searched};
 use fdc_windows::Window;
@@ -37,22 +45,32 @@ pub struct WriteWord {
 
 impl WriteStage {
     /// The first stage.
-    pub fn new() -> WriteStage {
+    pub fn new() -> WriteStage
+        ensures begins { (key : Chrn) (deleted : Bool) → IsWriting begun key deleted [] result }
+        ensures lead { lead_of result ≡ 39 }
+    {
         WriteStage::Search(Search::new())
     }
 
     /// Whether the next word is one of the window.
-    pub fn is_due(&self) -> bool {
+    pub fn is_due(&self) -> bool
+        ensures { result ≡ is_due self.now }
+    {
         matches!(self, WriteStage::Gap { left: 0 } | WriteStage::Window(_))
     }
 
     /// Whether the gate is to be opened before the next word: it is the first of the window.
-    pub fn opens(&self) -> bool {
+    pub fn opens(&self) -> bool
+        ensures { result ≡ opens self.now }
+    {
         matches!(self, WriteStage::Gap { left: 0 })
     }
 
     /// Whether the next word is a byte of the content, which `write` is to be handed.
-    pub fn needs_byte(&self) -> bool {
+    pub fn needs_byte(&self) -> bool
+        ensures is { result ≡ needs_byte self.now }
+        ensures lead { result ≡ true → lead_of self.now ≡ 0 }
+    {
         match self {
             WriteStage::Window(window) => window.needs_byte(),
             _ => false,
@@ -61,7 +79,12 @@ impl WriteStage {
 
     /// Hears a word of the track. `index` says that the index follows it. A word that is heard where the first of the window
     /// is due says that the gate could not be opened. While the gate is open no word is heard.
-    pub fn hear(self, key: Chrn, word: u16, index: bool) -> WriteNext {
+    pub fn hear(self, key: Chrn, word: u16, index: bool) -> WriteNext
+        ensures hears { (past : Past) (deleted : Bool) (handed : List ℕ) → is_open self ≡ false → IsWriting past key deleted handed self
+            → HasNext (heard_where (opens self) index word past) key deleted handed result }
+        ensures well { FailsWell result }
+        ensures lead { LeadsOn (lead_of self) result }
+    {
         match self {
             WriteStage::Search(searching) => search_on(searching, key, word, index),
             WriteStage::Gap { left } => wait_on(left, index),
@@ -71,8 +94,10 @@ impl WriteStage {
 
     /// The word that is written next, where one is due. Where `needs_byte` says so, `byte` is the byte that it records.
     pub fn write(self, key: Chrn, deleted: bool, byte: u8) -> WriteWord
-        requires at_least { 1 ≤ key.n }
-        requires at_most { key.n ≤ 6 }
+        requires { IsSizeCode key.n }
+        ensures writes { (past : Past) (handed : List ℕ) → is_due self ≡ true → IsWriting past key deleted handed self
+            → IsNextWord past key deleted (handed_with (needs_byte self) byte handed) result.word result.rest }
+        ensures lead { is_due self ≡ true → lead_of self ≤ lead_behind result.rest + 1 }
     {
         let given = self.window(key, deleted).next(byte);
         WriteWord {
@@ -83,8 +108,11 @@ impl WriteStage {
 
     /// The words of the window that are still to come.
     fn window(self, key: Chrn, deleted: bool) -> Window
-        requires at_least { 1 ≤ key.n }
-        requires at_most { key.n ≤ 6 }
+        requires { IsSizeCode key.n }
+        ensures is { (past : Past) (handed : List ℕ) → is_due self ≡ true → IsWriting past key deleted handed self
+            → (p : ℕ) × IsInWindow past.seen past.words key deleted handed (Some result) p }
+        ensures needs { is_due self ≡ true → window_needs result ≡ needs_byte self }
+        ensures lead { is_due self ≡ true → lead_left result ≡ lead_of self }
     {
         match self {
             WriteStage::Window(window) => window,
@@ -96,7 +124,13 @@ impl WriteStage {
 impl WriteWord {
     /// What the word gives the writing once it was written. `index` says that the index follows it, and `counted` that the
     /// terminal count came.
-    pub fn after(self, index: bool, counted: bool) -> WriteNext {
+    pub fn after(self, index: bool, counted: bool) -> WriteNext
+        ensures goes_on { (past : Past) (key : Chrn) (deleted : Bool) (handed : List ℕ) → past.counted ≡ counted
+            → IsNextWord past key deleted handed self.word self.rest
+            → HasNext (wrote index self.word past) key deleted handed result }
+        ensures well { EndsWell result }
+        ensures lead { (before : ℕ) → before ≤ lead_behind self.rest + 1 → LeadsOn before result }
+    {
         match self.rest {
             None => WriteNext::Ended(whole_ending(counted)),
             Some(window) => {
@@ -111,7 +145,12 @@ impl WriteWord {
 }
 
 /// Hears a word while the address field is searched for. Where the index follows the field there is no window.
-fn search_on(searching: Search, key: Chrn, word: u16, index: bool) -> WriteNext {
+fn search_on(searching: Search, key: Chrn, word: u16, index: bool) -> WriteNext
+    ensures hears { (past : Past) (deleted : Bool) → IsWriting past key deleted [] (WriteStage.Search searching)
+        → HasNext (heard index word past) key deleted [] result }
+    ensures well { FailsWell result }
+    ensures lead { LeadsOn 39 result }
+{
     match searching.hear(Some(key), word, index) {
         Searched::On(after) => WriteNext::On(WriteStage::Search(after)),
         Searched::Met { .. } => meet(index),
@@ -120,7 +159,12 @@ fn search_on(searching: Search, key: Chrn, word: u16, index: bool) -> WriteNext 
 }
 
 /// Begins to count the words behind the address field.
-fn meet(index: bool) -> WriteNext {
+fn meet(index: bool) -> WriteNext
+    ensures hears { (past : Past) (key : Chrn) (deleted : Bool) (separator : Separator) → past.place ≡ length past.seen → past.words ≡ []
+        → IsMet index past key separator → HasNext past key deleted [] result }
+    ensures well { FailsWell result }
+    ensures lead { LeadsOn 39 result }
+{
     if index {
         return WriteNext::Ended(Ending::NoField);
     }
@@ -129,15 +173,27 @@ fn meet(index: bool) -> WriteNext {
 
 /// Hears a word behind the address field. Where the index follows it, or where it stands in place of the first of the
 /// window, there is no window.
-fn wait_on(left: u8, index: bool) -> WriteNext {
-    if index || left == 0 {
+fn wait_on(left: u8, index: bool) -> WriteNext
+    ensures hears { (past : Past) (word : ℕ) (key : Chrn) (deleted : Bool) (handed : List ℕ) → IsWriting past key deleted handed (WriteStage.Gap left)
+        → HasNext (heard_where (opens (WriteStage.Gap left)) index word past) key deleted handed result }
+    ensures well { FailsWell result }
+    ensures lead { LeadsOn (left + 16) result }
+{
+    if left == 0 {
+        return WriteNext::Ended(Ending::NoField);
+    }
+    if index {
         return WriteNext::Ended(Ending::NoField);
     }
     WriteNext::On(WriteStage::Gap { left: left - 1 })
 }
 
 /// How a writing ends whose whole window was written. The result of a write never says that data were deleted.
-fn whole_ending(counted: bool) -> Ending {
+fn whole_ending(counted: bool) -> Ending
+    ensures is { (past : Past) (key : Chrn) (deleted : Bool) (handed : List ℕ) → past.counted ≡ counted → HasWhole past key deleted handed → HasBegun past key deleted handed
+        → HasWritten past key deleted handed result }
+    ensures well { IsEnd result }
+{
     if counted {
         Ending::Done { deleted: false }
     } else {

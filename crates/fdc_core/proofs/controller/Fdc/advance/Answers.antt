@@ -1,12 +1,29 @@
 use Rattle.drive_model.specs.Drive.{at_index}
 use Rattle.std.proofs.Common.{◌==◌}
+use Rattle.fdc_core.proofs.Ending.{executes_left}
 use Rattle.fdc_core.proofs.Hearing.{executes_hears, rests_hears}
+use Rattle.fdc_core.proofs.Staying.{executes_stays, executes_flows, executes_moves}
 use Rattle.fdc_core.proofs.controller.Fdc.advance.Goals as goal
 
 pub returns-in-Execute-clause-reads : goal.returns-in-Execute-clause-reads
 returns-in-Execute-clause-reads g c =
-    let drive = g.D.Drive.state c.args.drive.now in
-    executes_hears (at_index drive) c.args.self.now c.execute.new.self drive (g.D.Drive.state c.execute.new.drive) c.in-Execute.execution c.in-Execute.is c.execute.ensures.reads
+    executes_hears c.args.self.now c.execute.new.self (g.D.Drive.state c.args.drive.now) (g.D.Drive.state c.execute.new.drive) c.in-Execute.execution c.in-Execute.is c.execute.ensures
+
+pub returns-in-Execute-clause-drive : goal.returns-in-Execute-clause-drive
+returns-in-Execute-clause-drive g c =
+    executes_moves c.args.self.now c.execute.new.self (g.D.Drive.state c.args.drive.now) (g.D.Drive.state c.execute.new.drive) c.in-Execute.execution c.in-Execute.is c.execute.ensures
+
+pub returns-in-Execute-clause-ends : goal.returns-in-Execute-clause-ends
+returns-in-Execute-clause-ends g c =
+    executes_left c.args.self.now c.execute.new.self (g.D.Drive.state c.args.drive.now) (g.D.Drive.state c.execute.new.drive) c.in-Execute.execution c.in-Execute.is c.execute.ensures
+
+pub returns-in-Execute-clause-stays : goal.returns-in-Execute-clause-stays
+returns-in-Execute-clause-stays g c =
+    executes_stays c.args.self.now c.execute.new.self (g.D.Drive.state c.args.drive.now) (g.D.Drive.state c.execute.new.drive) c.in-Execute.execution c.in-Execute.is c.execute.ensures
+
+pub returns-in-Execute-clause-flows : goal.returns-in-Execute-clause-flows
+returns-in-Execute-clause-flows g c =
+    executes_flows c.args.self.now c.execute.new.self (g.D.Drive.state c.args.drive.now) (g.D.Drive.state c.execute.new.drive) c.in-Execute.execution c.in-Execute.is c.execute.ensures
 
 pub returns-in_default-clause-reads : goal.returns-in_default-clause-reads
 returns-in_default-clause-reads g c =

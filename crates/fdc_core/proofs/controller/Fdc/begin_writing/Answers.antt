@@ -1,0 +1,6 @@
+use Rattle.std.proofs.Common.{ap, ◌∙◌}
+use Rattle.fdc_core.specs.Dma.{asked}
+use Rattle.fdc_core.proofs.controller.Fdc.begin_writing.Goals as goal
+
+pub returns : goal.returns
+returns c = (c.writing_data-task.result, c.writing_data-task.ensures c.args.head_drive, c.ask.ensures ∙ ap asked c.begin.ensures)

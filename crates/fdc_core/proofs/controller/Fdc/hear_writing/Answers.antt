@@ -1,0 +1,20 @@
+use Rattle.std.proofs.Common.{subst}
+use Rattle.fdc_core.specs.Listening.{SeesUnder}
+use Rattle.fdc_core.proofs.controller.Fdc.hear_writing.Goals as goal
+
+pub returns : goal.returns
+returns g c = record {
+      index = c.listen-turn.result.index;
+      word = c.listen-turn.result.word;
+      is = record {
+        index_is = c.listen-turn.ensures.index;
+        sees = subst (λ head. SeesUnder c.args.self.now.rate head (g.D.Drive.state c.args.drive.now) c.listen-turn.result.word (g.D.Drive.state c.listen-turn.new.drive)) c.head_of.ensures c.listen-turn.ensures.word;
+        passes = c.listen-turn.ensures.drive;
+      };
+      does = record {
+        few = c.requires;
+        next = c.hear-next.result;
+        hears = (c.hear-next.ensures.hears, c.hear-next.ensures.well);
+        after_is = c.follow_writing.ensures;
+      };
+    }

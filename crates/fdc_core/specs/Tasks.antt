@@ -1,0 +1,52 @@
+-- A device step of a data command, by its task.
+use Rattle.std.specs.Prelude.{◌≡◌, ◌⊎◌, ◌<◌, ℕ, ◌+◌, Bool, false, None}
+use Rattle.drive_model.specs.Drive.{DriveState, at_index}
+use Rattle.fdc_writing.specs.declared.formatting.FormatNext.{FormatNext}
+use Rattle.fdc_writing.specs.declared.writing.WriteNext.{WriteNext}
+use Rattle.fdc_core.specs.Answers.{no_key}
+use Rattle.fdc_core.specs.Formatting.{IsFormatStep, after_laid}
+use Rattle.fdc_core.specs.Listening.{SeesUnder, StepsOn}
+use Rattle.fdc_core.specs.Phases.{head_of}
+use Rattle.fdc_core.specs.State.{finished}
+use Rattle.fdc_core.specs.Steps.{Moves}
+use Rattle.fdc_core.specs.Writing.{IsWriteStep, StageHearsWord, after_next}
+use Rattle.fdc_stages.specs.declared.ending.Ending.TheVariants.{Late}
+use Rattle.fdc_core.specs.declared.controller.Fdc.{Fdc}
+use Rattle.fdc_core.specs.declared.phases.Task.{Task}
+use Rattle.fdc_core.specs.declared.phases.Task.TheVariants.{ReadId, Read, Write, Format}
+use Rattle.fdc_core.specs.declared.transfers.Formatting.{Formatting}
+use Rattle.fdc_core.specs.declared.transfers.Writing.{Writing}
+
+-- READ ID and READ DATA: one word is seen and followed
+pub record IsListenStep (head_drive steps : ℕ) (task : Task) (old : Fdc) (before after : DriveState) (new : Fdc) : Type 0 where
+  pub word : ℕ
+  pub sees : SeesUnder old.rate (head_of head_drive) before word after
+  pub passes : Moves None before after
+  pub does : StepsOn head_drive steps task (at_index before) word old new
+
+-- a device step, behind so many others
+abbrev pub TaskSteps : Task → ℕ → ℕ → Fdc → DriveState → DriveState → Fdc → Type 0
+TaskSteps (ReadId search) head_drive steps old before after new =
+    IsListenStep head_drive steps (ReadId search) old before after new
+TaskSteps (Read reading) head_drive steps old before after new =
+    IsListenStep head_drive steps (Read reading) old before after new
+TaskSteps (Write writing) head_drive steps old before after new = IsWriteStep head_drive steps writing old before after new
+TaskSteps (Format formatting) head_drive steps old before after new =
+    IsFormatStep head_drive steps formatting old before after new
+
+-- the same where no drive is selected: words 0000 are heard, and no index
+abbrev pub WritesNowhere : ℕ → ℕ → Writing → Fdc → Fdc → Type 0
+WritesNowhere head_drive steps writing old new =
+    ((steps ≡ 65535) × (new ≡ finished Late head_drive writing.wanted.key old))
+    ⊎ ((steps < 65535) × ((next : WriteNext) × StageHearsWord writing false 0 next × (new ≡ after_next head_drive (steps + 1) writing next old)))
+
+abbrev pub FormatsNowhere : ℕ → ℕ → Formatting → Fdc → Fdc → Type 0
+FormatsNowhere head_drive steps formatting old new =
+    ((steps ≡ 65535) × (new ≡ finished Late head_drive no_key old))
+    ⊎ ((steps < 65535) × ((next : FormatNext) × (new ≡ after_laid head_drive (steps + 1) formatting next old)))
+
+abbrev pub TaskStepsNowhere : Task → ℕ → ℕ → Fdc → Fdc → Type 0
+TaskStepsNowhere (ReadId search) head_drive steps old new = StepsOn head_drive steps (ReadId search) false 0 old new
+TaskStepsNowhere (Read reading) head_drive steps old new = StepsOn head_drive steps (Read reading) false 0 old new
+TaskStepsNowhere (Write writing) head_drive steps old new = WritesNowhere head_drive steps writing old new
+TaskStepsNowhere (Format formatting) head_drive steps old new = FormatsNowhere head_drive steps formatting old new

@@ -1,0 +1,64 @@
+-- What a word time of a command that writes is.
+use Rattle.std.specs.Prelude.{◌≡◌, ℕ, ◌+◌, Bool, true, false}
+use Rattle.drive_model.specs.Drive.{DriveState, Becomes, Writes, InRange, at_index, rate_of, with_gate}
+use Rattle.fdc_stages.specs.History.{Past, heard, kept_out, wrote}
+use Rattle.fdc_core.specs.Heard.{stepped}
+use Rattle.fdc_core.specs.Listening.{SeesUnder}
+use Rattle.fdc_core.specs.Rates.{rate_fits}
+use Rattle.fdc_core.specs.Steps.{let_pass}
+use Rattle.fdc_core.specs.declared.rates.DataRate.{DataRate}
+
+-- a word time
+pub data WordTime : Type 0 where
+  -- a word was heard
+  Saw : (index : Bool) (word : ℕ) → WordTime
+  -- a word was heard where the first was to be written, since the rate was another
+  KeptOut : (index : Bool) (word : ℕ) → WordTime
+  -- a word was written, the gate opened before it and closed behind it, or not
+  Wrote : (opened closed index : Bool) (word : ℕ) → WordTime
+  -- the command was over: the word passed, and the gate is closed
+  Stopped : WordTime
+
+-- the gate is opened, or stays as it is
+abbrev pub Opens : Bool → DriveState → DriveState → Type 0
+Opens true old new = Becomes old (with_gate true old) new
+Opens false old new = new ≡ old
+
+-- the gate is closed, or stays as it is
+abbrev pub Closes : Bool → DriveState → DriveState → Type 0
+Closes true old new = Becomes old (with_gate false old) new
+Closes false old new = new ≡ old
+
+-- a word is seen under this head, with the gate closed
+pub record IsHeardTime (index : Bool) (word : ℕ) (rate : DataRate) (head : ℕ) (before after : DriveState) : Type 0 where
+  pub index_is : index ≡ at_index before
+  pub sees : SeesUnder rate head before word after
+  pub passes : Becomes before (let_pass before) after
+
+-- a word is given to the drive under this head; the gate opens at the rate of the medium alone
+pub record IsWroteTime (opened closed index : Bool) (word : ℕ) (rate : DataRate) (head : ℕ) (before after : DriveState) : Type 0 where
+  pub from : DriveState
+  pub mid : DriveState
+  pub index_is : index ≡ at_index before
+  pub fits : opened ≡ true → rate_fits rate (rate_of before.medium) ≡ true
+  pub opens : Opens opened before from
+  pub writes : Writes from head word mid
+  pub closes : Closes closed mid after
+  pub range_from : InRange from
+  pub range_mid : InRange mid
+
+-- what the drive did in it, at this rate and under this head
+abbrev pub IsTime : WordTime → DataRate → ℕ → DriveState → DriveState → Type 0
+IsTime (Saw index word) rate head before after = IsHeardTime index word rate head before after
+IsTime (KeptOut index word) rate head before after =
+    (rate_fits rate (rate_of before.medium) ≡ false) × IsHeardTime index word rate head before after
+IsTime (Wrote opened closed index word) rate head before after =
+    IsWroteTime opened closed index word rate head before after
+IsTime Stopped rate head before after = Becomes before (let_pass before) after
+
+-- what has passed then
+abbrev pub after_time : WordTime → Past → Past
+after_time (Saw index word) past = heard index word (stepped past)
+after_time (KeptOut index word) past = kept_out index word (stepped past)
+after_time (Wrote opened closed index word) past = wrote index word (stepped past)
+after_time Stopped past = stepped past

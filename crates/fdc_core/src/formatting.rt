@@ -1,0 +1,118 @@
+// FORMAT TRACK, word by word.
+ghost use Rattle.std.specs.Prelude.{◌≡◌, ◌<◌, ◌+◌};
+ghost use Rattle.fdc_writing.specs.declared.formatting.FormatNext.{FormatNext};
+ghost use Rattle.fdc_core.specs.Formatting.{IsFormatStep, IsFormatTime, HearsATurn, LaysByte, after_laid, is_ended};
+
+use crate::controller::Fdc;
+use crate::phases::{LAST_STEP, NO_KEY, Task, head_of};
+use crate::transfers::Formatting;
+use crate::writing::{NO_BYTE, close_behind};
+use drive_model::Drive;
+use fdc_stages::Ending;
+use fdc_writing::FormatNext;
+
+impl Fdc {
+    /// A device step of a FORMAT, behind `steps` others. A protected medium is met in the first.
+    pub(crate) fn step_formatting<D: Drive>(&mut self, head_drive: u8, steps: u16, formatting: Formatting, drive: &mut D)
+        ensures { IsFormatStep head_drive steps formatting self.old (D.state drive.old) (D.state drive.new) self.new }
+    {
+        if steps == LAST_STEP {
+            self.stop(Ending::Late, head_drive, NO_KEY, drive);
+        } else if steps == 0 && drive.protected() {
+            self.stop(Ending::Protected, head_drive, NO_KEY, drive);
+        } else {
+            self.format_on(head_drive, steps, formatting, drive);
+        }
+    }
+
+    /// The word is heard or written.
+    fn format_on<D: Drive>(&mut self, head_drive: u8, steps: u16, formatting: Formatting, drive: &mut D)
+        requires { steps < 65535 }
+        ensures { IsFormatTime head_drive steps formatting self.old (D.state drive.old) (D.state drive.new) self.new }
+    {
+        if formatting.stage.opens() {
+            self.open_track(head_drive, steps, formatting, drive);
+        } else if formatting.stage.is_due() {
+            self.go_on_track(head_drive, steps, formatting, drive);
+        } else {
+            self.hear_formatting(head_drive, steps, formatting, drive);
+        }
+    }
+
+    /// The word is heard.
+    fn hear_formatting<D: Drive>(&mut self, head_drive: u8, steps: u16, formatting: Formatting, drive: &mut D)
+        requires { steps < 65535 }
+        ensures { HearsATurn head_drive steps formatting self.old (D.state drive.old) (D.state drive.new) self.new }
+    {
+        let turn = self.listen(head_of(head_drive), drive);
+        let next = formatting.stage.hear(turn.index);
+        self.follow_formatting(head_drive, steps + 1, formatting, next);
+    }
+
+    /// Where no drive is selected, no index comes.
+    pub(crate) fn await_nothing(&mut self, head_drive: u8, steps: u16, formatting: Formatting)
+        ensures { (next : FormatNext) × (self.new ≡ after_laid head_drive steps formatting next self.old) }
+    {
+        let next = formatting.stage.hear(false);
+        self.follow_formatting(head_drive, steps, formatting, next);
+    }
+
+    /// The first word of the layout is written, where the rate is the medium's.
+    fn open_track<D: Drive>(&mut self, head_drive: u8, steps: u16, formatting: Formatting, drive: &mut D)
+        requires { steps < 65535 }
+        ensures { IsFormatTime head_drive steps formatting self.old (D.state drive.old) (D.state drive.new) self.new }
+    {
+        if self.rate.fits(drive.rate()) {
+            drive.gate(true);
+            self.lay_word(head_drive, steps, formatting, NO_BYTE, drive);
+        } else {
+            self.hear_formatting(head_drive, steps, formatting, drive);
+        }
+    }
+
+    /// A further word of the layout is written, unless its byte is missing.
+    fn go_on_track<D: Drive>(&mut self, head_drive: u8, steps: u16, formatting: Formatting, drive: &mut D)
+        requires { steps < 65535 }
+        ensures { IsFormatTime head_drive steps formatting self.old (D.state drive.old) (D.state drive.new) self.new }
+    {
+        match self.take_byte_for(formatting.stage.needs_byte(), formatting.counted) {
+            Some(byte) => self.lay_word(head_drive, steps, formatting, byte, drive),
+            None => self.stop(Ending::Overrun, head_drive, NO_KEY, drive),
+        }
+    }
+
+    /// Writes the next word, and closes the gate behind the last.
+    fn lay_word<D: Drive>(&mut self, head_drive: u8, steps: u16, formatting: Formatting, byte: u8, drive: &mut D)
+        requires { steps < 65535 }
+        ensures { LaysByte head_drive steps formatting byte self.old (D.state drive.old) (D.state drive.new) self.new }
+    {
+        let given = formatting.stage.write(byte);
+        let index = drive.write_word(head_of(head_drive), given.word);
+        let next = given.after(index, formatting.counted);
+        close_behind(is_ended(next), drive);
+        self.follow_formatting(head_drive, steps + 1, formatting, next);
+    }
+
+    /// The FORMAT does what the word that passed asks for.
+    fn follow_formatting(&mut self, head_drive: u8, steps: u16, formatting: Formatting, next: FormatNext)
+        ensures { self.new ≡ after_laid head_drive steps formatting next self.old }
+    {
+        match next {
+            FormatNext::On(stage) => self.go_on(
+                head_drive,
+                steps,
+                Task::Format {
+                    formatting: formatting.at(stage),
+                },
+            ),
+            FormatNext::Ended { ending, key } => self.finish(ending, head_drive, key),
+        }
+    }
+}
+
+/// Whether the FORMAT is over.
+fn is_ended(next: FormatNext) -> bool
+    ensures { result ≡ is_ended next }
+{
+    matches!(next, FormatNext::Ended { .. })
+}

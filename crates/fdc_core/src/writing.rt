@@ -1,0 +1,175 @@
+// WRITE DATA and WRITE DELETED, word by word.
+ghost use Rattle.std.specs.Prelude.{◌≡◌, ◌<◌, ◌+◌, true, false, Option};
+ghost use Rattle.drive_model.specs.Drive.{Becomes};
+ghost use Rattle.fdc_writing.specs.Writings.{opens, is_due};
+ghost use Rattle.fdc_core.specs.State.{finished};
+ghost use Rattle.fdc_core.specs.Steps.{let_pass};
+ghost use Rattle.fdc_core.specs.Times.{Closes};
+ghost use Rattle.fdc_core.specs.Writing.{IsWriteStep, IsWriteTime, HearsAWord, PutsByte, StageHearsWord, after_next, byte_taken, without_byte, is_ended};
+ghost use Rattle.fdc_writing.specs.declared.writing.WriteNext.{WriteNext};
+
+use crate::controller::Fdc;
+use crate::phases::{LAST_STEP, Task, head_of};
+use crate::transfers::Writing;
+use drive_model::Drive;
+use fdc_stages::Ending;
+use fdc_writing::WriteNext;
+use flop_base::Chrn;
+
+/// What is recorded where no byte is needed, or where none came before the terminal count.
+pub(crate) const NO_BYTE: u8 = 0x00;
+
+impl Fdc {
+    /// A device step of a write, behind `steps` others. A protected medium is met in the first.
+    pub(crate) fn step_writing<D: Drive>(&mut self, head_drive: u8, steps: u16, writing: Writing, drive: &mut D)
+        ensures { IsWriteStep head_drive steps writing self.old (D.state drive.old) (D.state drive.new) self.new }
+    {
+        if steps == LAST_STEP {
+            self.stop(Ending::Late, head_drive, writing.wanted.key, drive);
+        } else if steps == 0 && drive.protected() {
+            self.stop(Ending::Protected, head_drive, writing.wanted.key, drive);
+        } else {
+            self.write_on(head_drive, steps, writing, drive);
+        }
+    }
+
+    /// The word is heard or written.
+    fn write_on<D: Drive>(&mut self, head_drive: u8, steps: u16, writing: Writing, drive: &mut D)
+        requires { steps < 65535 }
+        ensures { IsWriteTime head_drive steps writing self.old (D.state drive.old) (D.state drive.new) self.new }
+    {
+        if writing.stage.opens() {
+            self.open_window(head_drive, steps, writing, drive);
+        } else if writing.stage.is_due() {
+            self.go_on_window(head_drive, steps, writing, drive);
+        } else {
+            self.hear_writing(head_drive, steps, writing, drive);
+        }
+    }
+
+    /// The word is heard.
+    fn hear_writing<D: Drive>(&mut self, head_drive: u8, steps: u16, writing: Writing, drive: &mut D)
+        requires { steps < 65535 }
+        ensures { HearsAWord head_drive steps writing self.old (D.state drive.old) (D.state drive.new) self.new }
+    {
+        let turn = self.listen(head_of(head_drive), drive);
+        let next = writing
+            .stage
+            .hear(writing.wanted.key, turn.word, turn.index);
+        self.follow_writing(head_drive, steps + 1, writing, next);
+    }
+
+    /// Where no drive is selected, a word 0000 is heard.
+    pub(crate) fn hear_nothing(&mut self, head_drive: u8, steps: u16, writing: Writing)
+        ensures { (next : WriteNext) × StageHearsWord writing false 0 next × (self.new ≡ after_next head_drive steps writing next self.old) }
+    {
+        let next = writing.stage.hear(writing.wanted.key, 0, false);
+        self.follow_writing(head_drive, steps, writing, next);
+    }
+
+    /// The first word of the window is written, where the rate is the medium's.
+    fn open_window<D: Drive>(&mut self, head_drive: u8, steps: u16, writing: Writing, drive: &mut D)
+        requires few { steps < 65535 }
+        requires opens { opens writing.stage ≡ true }
+        ensures { IsWriteTime head_drive steps writing self.old (D.state drive.old) (D.state drive.new) self.new }
+    {
+        if self.rate.fits(drive.rate()) {
+            drive.gate(true);
+            self.put_word(head_drive, steps, writing, NO_BYTE, drive);
+        } else {
+            self.hear_writing(head_drive, steps, writing, drive);
+        }
+    }
+
+    /// A further word of the window is written, unless its byte is missing.
+    fn go_on_window<D: Drive>(&mut self, head_drive: u8, steps: u16, writing: Writing, drive: &mut D)
+        requires few { steps < 65535 }
+        requires open { opens writing.stage ≡ false }
+        requires due { is_due writing.stage ≡ true }
+        ensures { IsWriteTime head_drive steps writing self.old (D.state drive.old) (D.state drive.new) self.new }
+    {
+        match self.take_byte_for(writing.stage.needs_byte(), writing.counted) {
+            Some(byte) => self.put_word(head_drive, steps, writing, byte, drive),
+            None => self.stop(Ending::Overrun, head_drive, writing.wanted.key, drive),
+        }
+    }
+
+    /// Writes the next word, and closes the gate behind the last.
+    fn put_word<D: Drive>(&mut self, head_drive: u8, steps: u16, writing: Writing, byte: u8, drive: &mut D)
+        requires { steps < 65535 }
+        ensures { PutsByte head_drive steps writing byte self.old (D.state drive.old) (D.state drive.new) self.new }
+    {
+        let given = writing
+            .stage
+            .write(writing.wanted.key, writing.deleted, byte);
+        let index = drive.write_word(head_of(head_drive), given.word);
+        let next = given.after(index, writing.counted);
+        close_behind(is_ended(next), drive);
+        self.follow_writing(head_drive, steps + 1, writing, next);
+    }
+
+    /// The write does what the word that passed asks for.
+    fn follow_writing(&mut self, head_drive: u8, steps: u16, writing: Writing, next: WriteNext)
+        ensures { self.new ≡ after_next head_drive steps writing next self.old }
+    {
+        match next {
+            WriteNext::On(stage) => self.go_on(
+                head_drive,
+                steps,
+                Task::Write {
+                    writing: writing.at(stage),
+                },
+            ),
+            WriteNext::Ended(ending) => self.finish(ending, head_drive, writing.key_after(ending)),
+        }
+    }
+
+    /// The byte that the next word records, where it needs one: the oldest, and 00 behind the terminal count where there is
+    /// none. None where it is missing.
+    pub(crate) fn take_byte_for(&mut self, needs: bool, counted: bool) -> Option<u8>
+        ensures byte { result ≡ byte_taken needs counted self.old.fifo }
+        ensures after { self.new ≡ without_byte needs self.old }
+    {
+        if !needs {
+            return Some(NO_BYTE);
+        }
+        match self.fifo.pop() {
+            Some(byte) => Some(byte),
+            None if counted => Some(NO_BYTE),
+            None => None,
+        }
+    }
+
+    /// The command ends in this step: the gate is closed, and no word is read or written.
+    pub(crate) fn stop<D: Drive>(&mut self, ending: Ending, head_drive: u8, key: Chrn, drive: &mut D)
+        ensures state { self.new ≡ finished ending head_drive key self.old }
+        ensures drive { Becomes (D.state drive.old) (let_pass (D.state drive.old)) (D.state drive.new) }
+    {
+        let_pass(drive);
+        self.finish(ending, head_drive, key);
+    }
+}
+
+/// Whether the write is over.
+fn is_ended(next: WriteNext) -> bool
+    ensures { result ≡ is_ended next }
+{
+    matches!(next, WriteNext::Ended(_))
+}
+
+/// Closes the gate, where the word was the last.
+pub(crate) fn close_behind<D: Drive>(last: bool, drive: &mut D)
+    ensures { Closes last (D.state drive.old) (D.state drive.new) }
+{
+    if last {
+        drive.gate(false);
+    }
+}
+
+/// A word time in which no word is read or written, with the gate closed.
+pub(crate) fn let_pass<D: Drive>(drive: &mut D)
+    ensures { Becomes (D.state drive.old) (let_pass (D.state drive.old)) (D.state drive.new) }
+{
+    drive.gate(false);
+    drive.pass();
+}

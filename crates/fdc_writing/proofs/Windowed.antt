@@ -1,0 +1,148 @@
+-- A word of a window that a writing writes.
+use Rattle.std.proofs.Common.{◌≡◌, ℕ, zero, suc, ◌+◌, ◌≤◌, Bool, true, false, Option, Some, None, List, [], ◌∷◌, ◌++◌, length, replicate, refl, sym, ap, subst, ◌∙◌, append_assoc, arith, inl, inr, length-append}
+use Rattle.std.proofs.lemmas.Bool.{false≢true}
+use Rattle.std.proofs.lemmas.List.{append-nil, length-replicate}
+use Rattle.flop_base.specs.declared.key.Chrn.{Chrn}
+use Rattle.track_model.specs.Fields.{content_size}
+use Rattle.track_model.specs.Writing.{window}
+use Rattle.track_separator.specs.Parts.{with_word}
+use Rattle.fdc_windows.specs.declared.window.Part.{Part}
+use Rattle.fdc_windows.specs.declared.window.Part.TheVariants as part
+use Rattle.fdc_windows.specs.declared.window.Window.{Window}
+use Rattle.fdc_windows.specs.Windows.{words_left, bytes_left, count_left, lead_left, count_from, is_content, with_byte, needs_byte, words_behind, bytes_behind, Gives}
+use Rattle.fdc_stages.specs.declared.ending.Ending.TheVariants.{Done, NoField, NoCount}
+use Rattle.fdc_stages.specs.History.{Past, wrote}
+use Rattle.fdc_writing.specs.declared.writing.WriteStage.{WriteStage}
+use Rattle.fdc_writing.specs.declared.writing.WriteStage.TheVariants as stage
+use Rattle.fdc_writing.specs.Writings as writing
+use Rattle.fdc_writing.specs.Writings.{handed_with, IsBefore, IsInWindow, IsBegun, IsWhole, IsWriting, IsNextWord, HasBegun, HasWhole, HasWritten, is_due, lead_of, window_needs}
+
+-- ---- the window that the next word belongs to
+
+-- the first word is due: the window is a new one
+window_begins : (seen words : List ℕ) (key : Chrn) (deleted : Bool) (handed : List ℕ) (now : Window) (p : ℕ) → ((content : List ℕ) → words_left now content ≡ window deleted content) → bytes_left now ≡ content_size key.n → count_left now ≡ content_size key.n + 18 → IsBefore seen key 0 p → words ≡ [] → handed ≡ [] → IsInWindow seen words key deleted handed (Some now) p
+window_begins seen words key deleted handed now p all bytes count before unwritten none = record {
+  address = before.address;
+  place = omega (arith, before.place);
+  count = omega (arith, ap length unwritten, count);
+  bytes = omega (arith, ap length none, bytes);
+  goes_on = λ rest long. ap (λ xs. xs ++ words_left now rest) unwritten ∙ all rest ∙ ap (λ xs. window deleted (xs ++ rest)) (sym none);
+}
+
+pub new_window : (now : WriteStage) (past : Past) (key : Chrn) (deleted : Bool) (handed : List ℕ) (fresh : Window) → ((opened : Window) → now ≡ stage.Window opened → ⊥) → ((content : List ℕ) → words_left fresh content ≡ window deleted content) → bytes_left fresh ≡ content_size key.n → count_left fresh ≡ content_size key.n + 18 → is_due now ≡ true → IsWriting past key deleted handed now → (p : ℕ) × IsInWindow past.seen past.words key deleted handed (Some fresh) p
+new_window (stage.Search searching) past key deleted handed fresh closed all bytes count due was = absurd (false≢true due)
+new_window (stage.Gap zero) past key deleted handed fresh closed all bytes count due (at, ((p, before), none)) =
+    (p, window_begins past.seen past.words key deleted handed fresh p all bytes count before none.0 none.1)
+new_window (stage.Gap (suc left)) past key deleted handed fresh closed all bytes count due was = absurd (false≢true due)
+new_window (stage.Window opened) past key deleted handed fresh closed all bytes count due was = absurd (closed opened refl)
+
+pub new_needs : (now : WriteStage) (fresh : Window) → ((opened : Window) → now ≡ stage.Window opened → ⊥) → window_needs fresh ≡ false → window_needs fresh ≡ writing.needs_byte now
+new_needs (stage.Search searching) fresh closed begins = begins
+new_needs (stage.Gap left) fresh closed begins = begins
+new_needs (stage.Window opened) fresh closed begins = absurd (closed opened refl)
+
+pub new_lead : (now : WriteStage) (fresh : Window) → ((opened : Window) → now ≡ stage.Window opened → ⊥) → lead_left fresh ≡ 16 → is_due now ≡ true → lead_left fresh ≡ lead_of now
+new_lead (stage.Search searching) fresh closed lead due = absurd (false≢true due)
+new_lead (stage.Gap zero) fresh closed lead due = omega arith
+new_lead (stage.Gap (suc left)) fresh closed lead due = absurd (false≢true due)
+new_lead (stage.Window opened) fresh closed lead due = absurd (closed opened refl)
+
+pub open_window : (now : WriteStage) (past : Past) (key : Chrn) (deleted : Bool) (handed : List ℕ) (opened : Window) → now ≡ stage.Window opened → IsWriting past key deleted handed now → (p : ℕ) × IsInWindow past.seen past.words key deleted handed (Some opened) p
+open_window now past key deleted handed opened is was = (subst (IsWriting past key deleted handed) is was).1.0
+
+-- ---- the next word
+
+handed_ahead : (now : Part) (byte : ℕ) (handed rest : List ℕ) → handed ++ with_byte now byte rest ≡ handed_with (is_content now) byte handed ++ rest
+handed_ahead (part.Sync more) byte handed rest = refl
+handed_ahead (part.Marks more) byte handed rest = refl
+handed_ahead part.Mark byte handed rest = refl
+handed_ahead (part.Content more) byte handed rest = sym (append_assoc handed (byte ∷ []) rest)
+handed_ahead part.High byte handed rest = refl
+handed_ahead part.Low byte handed rest = refl
+
+pub next_word : (seen words : List ℕ) (key : Chrn) (deleted : Bool) (handed : List ℕ) (now : Window) (p byte word : ℕ) (behind : Option Window) → IsInWindow seen words key deleted handed (Some now) p → Gives now.part now byte word behind → IsInWindow seen (with_word words word) key deleted (handed_with (needs_byte now) byte handed) behind p
+next_word seen words key deleted handed now p byte word behind was gives =
+    let zeros : List ℕ = replicate (bytes_behind behind) 0 in
+    let many : length zeros ≡ bytes_behind behind = length-replicate (bytes_behind behind) 0 in
+    let ahead : length (handed ++ with_byte now.part byte zeros) ≡ length (handed_with (needs_byte now) byte handed ++ zeros) = ap length (handed_ahead now.part byte handed zeros) in
+    let taken : length (with_byte now.part byte zeros) ≡ bytes_left now = gives.bytes zeros many in
+    record {
+      address = was.address;
+      place = was.place;
+      count = omega (arith, was.count, gives.count, length-append words (word ∷ []));
+      bytes = omega (arith, was.bytes, taken, ahead, many, length-append handed (with_byte now.part byte zeros), length-append (handed_with (needs_byte now) byte handed) zeros);
+      goes_on = λ rest long.
+          append_assoc words (word ∷ []) (words_behind behind rest)
+          ∙ ap (λ xs. words ++ xs) (sym (gives.words rest long))
+          ∙ was.goes_on (with_byte now.part byte rest) (gives.bytes rest long)
+          ∙ ap (window deleted) (handed_ahead now.part byte handed rest);
+    }
+
+pub write_word : (past : Past) (key : Chrn) (deleted : Bool) (handed : List ℕ) (at : WriteStage) (now : Window) (byte word : ℕ) (behind : Option Window) → IsWriting past key deleted handed at → (p : ℕ) × IsInWindow past.seen past.words key deleted handed (Some now) p → window_needs now ≡ writing.needs_byte at → Gives now.part now byte word behind → IsNextWord past key deleted (handed_with (writing.needs_byte at) byte handed) word behind
+write_word past key deleted handed at now byte word behind was (p, inside) needs gives =
+    let next = next_word past.seen past.words key deleted handed now p byte word behind inside gives in
+    (was.0, (p, subst (λ b. IsInWindow past.seen (with_word past.words word) key deleted (handed_with b byte handed) behind p) needs next))
+
+-- ---- behind the word
+
+some_from : (now : Part) (more : ℕ) → 1 ≤ count_from now more
+some_from (part.Sync left) more = omega arith
+some_from (part.Marks left) more = omega arith
+some_from part.Mark more = omega arith
+some_from (part.Content left) more = omega arith
+some_from part.High more = omega arith
+some_from part.Low more = omega arith
+
+-- the words are the first of the window, whatever the rest of the content
+pub begun_in : (seen words : List ℕ) (key : Chrn) (deleted : Bool) (handed : List ℕ) (behind : Option Window) (p : ℕ) → 1 ≤ length words → IsInWindow seen words key deleted handed behind p → IsBegun seen words key deleted handed p
+begun_in seen words key deleted handed behind p some was = record {
+  address = was.address;
+  place = was.place;
+  some = some;
+  few = omega (arith, was.bytes);
+  first = λ rest long. (words_behind behind rest, sym (was.goes_on rest (omega (arith, was.bytes, long))));
+}
+
+whole_in : (seen words : List ℕ) (key : Chrn) (deleted : Bool) (handed : List ℕ) (p : ℕ) → IsInWindow seen words key deleted handed None p → IsWhole seen words key deleted handed p
+whole_in seen words key deleted handed p was = record {
+  address = was.address;
+  place = was.place;
+  size = omega (arith, was.bytes);
+  whole = sym (append-nil words) ∙ was.goes_on [] refl ∙ ap (window deleted) (append-nil handed);
+}
+
+pub whole_next : (index : Bool) (word : ℕ) (past : Past) (key : Chrn) (deleted : Bool) (handed : List ℕ) (behind : Option Window) → behind ≡ None → IsNextWord past key deleted handed word behind → HasWhole (wrote index word past) key deleted handed
+whole_next index word past key deleted handed behind is (at, (p, was)) =
+    (p, whole_in past.seen (with_word past.words word) key deleted handed p (subst (λ b. IsInWindow past.seen (with_word past.words word) key deleted handed b p) is was))
+
+pub begun_next : (index : Bool) (word : ℕ) (past : Past) (key : Chrn) (deleted : Bool) (handed : List ℕ) (behind : Option Window) → IsNextWord past key deleted handed word behind → HasBegun (wrote index word past) key deleted handed
+begun_next index word past key deleted handed behind (at, (p, was)) =
+    let some : 1 ≤ length (with_word past.words word) = omega (arith, length-append past.words (word ∷ [])) in
+    inr (p, begun_in past.seen (with_word past.words word) key deleted handed behind p some was)
+
+pub whole_written : (past : Past) (key : Chrn) (deleted : Bool) (handed : List ℕ) → past.counted ≡ true → HasWhole past key deleted handed → HasBegun past key deleted handed → HasWritten past key deleted handed (Done false)
+whole_written past key deleted handed counted whole begun = record { begun = begun; cause = (refl, counted, whole) }
+
+pub whole_uncounted : (past : Past) (key : Chrn) (deleted : Bool) (handed : List ℕ) → past.counted ≡ false → HasWhole past key deleted handed → HasBegun past key deleted handed → HasWritten past key deleted handed NoCount
+whole_uncounted past key deleted handed counted whole begun = record { begun = begun; cause = (counted, whole) }
+
+-- the index came and the window isn't whole
+pub cut_next : (index : Bool) (word : ℕ) (past : Past) (key : Chrn) (deleted : Bool) (handed : List ℕ) (behind : Option Window) (now : Window) → index ≡ true → behind ≡ Some now → IsNextWord past key deleted handed word behind → HasWritten (wrote index word past) key deleted handed NoField
+cut_next false word past key deleted handed behind now is more was = absurd (false≢true is)
+cut_next true word past key deleted handed behind now is more was =
+    let at : IsInWindow past.seen (with_word past.words word) key deleted handed (Some now) was.1.0 = subst (λ b. IsInWindow past.seen (with_word past.words word) key deleted handed b was.1.0) more was.1.1 in
+    let left = some_from now.part now.more in
+    let some : 1 ≤ length (with_word past.words word) = omega (arith, length-append past.words (word ∷ [])) in
+    record {
+      begun = begun_next true word past key deleted handed behind was;
+      cause = inr (inl (was.1.0, record { index = refl; some = some; address = at.address; few = omega (arith, at.count, left) }));
+    }
+
+-- the window goes on
+pub on_next : (index : Bool) (word : ℕ) (past : Past) (key : Chrn) (deleted : Bool) (handed : List ℕ) (behind : Option Window) (now : Window) → index ≡ false → behind ≡ Some now → IsNextWord past key deleted handed word behind → IsWriting (wrote index word past) key deleted handed (stage.Window now)
+on_next true word past key deleted handed behind now is more was = absurd (false≢true (sym is))
+on_next false word past key deleted handed behind now is more (at, (p, was)) =
+    let long = length-append past.words (word ∷ []) in (
+      omega (arith, at, long),
+      ((p, subst (λ b. IsInWindow past.seen (with_word past.words word) key deleted handed b p) more was), omega (arith, long)),
+    )
