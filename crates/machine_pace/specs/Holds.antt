@@ -1,5 +1,5 @@
 -- A DMA request and how long its grant is held back.
-use Rattle.std.specs.Prelude.{ℕ, ◌+◌, ◌-◌, min, Bool, true, false, ◌==◌, nat_lt, if◌then◌else◌, List}
+use Rattle.std.specs.Prelude.{◌≤◌, ℕ, ◌+◌, ◌-◌, min, Bool, true, false, ◌==◌, nat_lt, if◌then◌else◌, List}
 use Rattle.flop_base.specs.Counts.{last_count}
 use Rattle.machine_pace.specs.Entries.{next_entry, rest_of}
 use Rattle.machine_pace.specs.declared.holding.Request.{Request}
@@ -42,3 +42,16 @@ looked true old = waited old.request old
 abbrev pub shown : Bool → Holds → Holds
 shown false old = record old { request = Low }
 shown true old = old
+
+-- ---- in time
+
+-- a device that can go on for so many device steps with no grant, between two of them: with its line low for nine, and with a
+-- request for all that are left of its hold
+abbrev pub IsReady : Request → ℕ → Type 0
+IsReady Low slack = 9 ≤ slack
+IsReady (High left) slack = (1 ≤ left) × (left ≤ slack)
+
+-- the same once the line was looked at: a request may be due
+abbrev pub IsInTime : Request → ℕ → Type 0
+IsInTime Low slack = 9 ≤ slack
+IsInTime (High left) slack = left ≤ slack

@@ -3,3 +3,5 @@ mod Transfers
 mod Words
 mod Steps
 mod Results
+mod Commands
+mod Accesses

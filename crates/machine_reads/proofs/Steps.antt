@@ -7,16 +7,16 @@ use Rattle.fdc_fifo.specs.Fifo.{Fifo}
 use Rattle.fdc_stages.specs.History.{Past, heard}
 use Rattle.fdc_core.specs.Dma.{phase_asks}
 use Rattle.fdc_core.specs.Heard.{Sent, MayRead, MayReadIn, MayReadTask, stepped}
-use Rattle.fdc_core.specs.Listening.{is_executing, StepHears, SeesUnder}
-use Rattle.fdc_core.specs.Phases.{head_of}
+use Rattle.fdc_core.specs.Listening.{is_executing, StepHears, SeesUnder, SeesTask}
+use Rattle.fdc_core.specs.Phases.{is_listening}
 use Rattle.fdc_core.specs.State.{is_held, dor_of}
-use Rattle.fdc_core.specs.Steps.{polled, RestsIn, Moves, MovesIn, FlowsIn}
+use Rattle.fdc_core.specs.Steps.{polled, RestsIn, Moves, MovesTask, MovesIn, FlowsIn}
 use Rattle.fdc_core.specs.declared.controller.Fdc.{Fdc}
 use Rattle.fdc_core.specs.declared.phases.Execution.{Execution}
 use Rattle.fdc_core.specs.declared.phases.Phase.{Phase}
 use Rattle.fdc_core.specs.declared.phases.Phase.TheVariants.{Command, Execute, Result}
 use Rattle.fdc_core.specs.declared.phases.Task.{Task}
-use Rattle.fdc_core.specs.declared.phases.Task.TheVariants.{ReadId, Read}
+use Rattle.fdc_core.specs.declared.phases.Task.TheVariants.{Read}
 use Rattle.pc_bus.specs.Boards.{Board, controller_of, drive_in, selected_of}
 use Rattle.pc_bus.specs.Steps.{Works, Turns, Step, Runs, RunsUnset, step_begun, with_controller, step_ended}
 use Rattle.pc_bus.specs.Transfers.{dma_stepped}
@@ -29,7 +29,7 @@ use Rattle.machine_reads.proofs.Words.{hearing_on, hearing_over}
 
 -- ---- the poll
 
-polled_phase : (old : Fdc) → (polled old).phase ≡ old.phase
+pub polled_phase : (old : Fdc) → (polled old).phase ≡ old.phase
 polled_phase old = by_poll (old.poll_due && not (is_held old))
   where
     by_poll : (b : Bool) → (if b then record old { poll_due = false; interrupt = true; seeks = with_polls old.seeks } else old).phase ≡ old.phase
@@ -47,8 +47,13 @@ polled_asking old = by_poll (old.poll_due && not (is_held old))
 
 sent_task : (past : Past) (sent : Sent) (head_drive steps : ℕ) (task : Task) (asking : Bool) (fifo : List ℕ) → MayReadTask past sent head_drive steps task asking fifo
     → head_drive ≡ sent.head_drive
-sent_task past sent head_drive steps (ReadId search) asking fifo was = absurd was
 sent_task past sent head_drive steps (Read reading) asking fifo (asks, (told, underway)) = ap (λ s. s.head_drive) underway.sent_is
+sent_task past sent head_drive steps _ asking fifo was = absurd was
+
+listens_task : (past : Past) (sent : Sent) (head_drive steps : ℕ) (task : Task) (asking : Bool) (fifo : List ℕ) → MayReadTask past sent head_drive steps task asking fifo
+    → is_listening task ≡ true
+listens_task past sent head_drive steps (Read reading) asking fifo was = refl
+listens_task past sent head_drive steps _ asking fifo was = absurd was
 
 asks_busy : (phase : Phase) (asking : Bool) (fifo : Fifo) → phase_asks phase asking fifo ≡ true → is_executing phase ≡ true
 asks_busy Command asking fifo up = absurd (false≢true up)
@@ -81,9 +86,11 @@ in_phase : (scene : Scene) (past : Past) (chips : Chips) (drive : DriveState) (b
 in_phase scene past chips drive between after whole known works Command is was hears steps rests moves flows = absurd was
 in_phase scene past chips drive between after whole known works (Execute execution) is was hears steps rests moves flows =
     let head : execution.head_drive ≡ scene.sent.head_drive = sent_task past scene.sent execution.head_drive execution.steps execution.task _ _ was in
+    let listens : is_listening execution.task ≡ true = listens_task past scene.sent execution.head_drive execution.steps execution.task _ _ was in
     let sees : SeesUnder scene.rate (head_sent scene.sent) drive steps.word after =
     subst (λ rate. SeesUnder rate (head_sent scene.sent) drive steps.word after) known.rate
-    (subst (λ byte. SeesUnder chips.controller.rate (byte / 4 % 2) drive steps.word after) head steps.sees) in
+    (subst (λ byte. SeesUnder chips.controller.rate (byte / 4 % 2) drive steps.word after) head
+    (subst (λ b. SeesTask b (execution.head_drive / 4 % 2) chips.controller.rate drive steps.word after) listens steps.sees)) in
     record {
       past = heard (at_index drive) steps.word (stepped past);
       known = record {
@@ -93,7 +100,7 @@ in_phase scene past chips drive between after whole known works (Execute executi
         quiet = λ up. asks_busy between.phase chips.controller.asking between.fifo (sym flows ∙ up);
         moved = known.moved;
       };
-      hears = hearing_on scene past drive after steps.word (is_executing between.phase) whole.disk hears sees moves;
+      hears = hearing_on scene past drive after steps.word (is_executing between.phase) whole.disk hears sees (subst (λ b. MovesTask b drive after) listens moves);
     }
 in_phase scene past chips drive between after whole known works (Result answer) is was hears steps rests moves flows =
     let same : between.phase ≡ Result answer = ap (λ fdc. fdc.phase) rests ∙ is in

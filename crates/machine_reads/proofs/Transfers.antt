@@ -12,7 +12,7 @@ use Rattle.fdc_core.specs.declared.controller.Fdc.{Fdc}
 use Rattle.fdc_core.specs.declared.phases.Execution.{Execution}
 use Rattle.fdc_core.specs.declared.phases.Phase.{Phase}
 use Rattle.fdc_core.specs.declared.phases.Phase.TheVariants.{Command, Execute, Result}
-use Rattle.fdc_core.specs.declared.phases.Task.TheVariants.{ReadId, Read}
+use Rattle.fdc_core.specs.declared.phases.Task.TheVariants.{Read}
 use Rattle.fdc_core.proofs.MayRead.{out_reads, told_reads, second_true}
 use Rattle.pc_bus.specs.Transfers.{can_move, moved, moved_to_memory, moved_from_memory, memory_after, moved_up_to, looked_at, shown_again, granted, dma_stepped, told_if}
 use Rattle.pc_bus.specs.declared.chips.Chips.{Chips}
@@ -52,8 +52,8 @@ reads_there past sent (Execute execution) asking fifo was busy = in_task executi
   where
     in_task : (task : _) (head_drive steps : ℕ) → MayReadIn past sent (Execute (record { head_drive = head_drive; steps = steps; task = task })) asking fifo
         → is_reading (Execute (record { head_drive = head_drive; steps = steps; task = task })) ≡ true
-    in_task (ReadId search) head_drive steps was = absurd was
     in_task (Read reading) head_drive steps was = refl
+    in_task _ head_drive steps was = absurd was
 
 -- the first of two
 first_true : (a b : Bool) → (a && b) ≡ true → a ≡ true

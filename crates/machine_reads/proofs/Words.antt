@@ -13,6 +13,7 @@ use Rattle.fdc_stages.specs.History.{Past, heard, turns_after}
 use Rattle.fdc_core.specs.Heard.{Sent, stepped}
 use Rattle.fdc_core.specs.Listening.{SeesUnder}
 use Rattle.fdc_core.specs.Rates.{rate_fits, seen_of}
+use Rattle.fdc_core.specs.Steps.{let_pass}
 use Rattle.track_separator.specs.Parts.{with_word, turn_after}
 use Rattle.track_heard.specs.Heard.{start_of, place_in, IsHeardFrom, IsWholeFrom}
 use Rattle.track_heard.proofs.Hearing.{heard_on, heard_on_whole}
@@ -40,7 +41,7 @@ in_zeroes n k =
       | inr h ↦ let long : length {A = ℕ} (replicate n 0) ≡ n = length-replicate n 0 in get_or_past (replicate n 0) k 0 (omega arith)
     ]
 
-length-met : (scene : Scene) → IsDisk scene.disk → length (track_met scene) ≡ scene.disk.words_per_track
+pub length-met : (scene : Scene) → IsDisk scene.disk → length (track_met scene) ≡ scene.disk.words_per_track
 length-met scene valid = by_track (nat_lt scene.cylinder scene.disk.cylinders) (nat_lt (head_sent scene.sent) scene.disk.heads) (rate_fits scene.rate scene.disk.rate) refl refl
   where
     by_track : (c h r : Bool) → nat_lt scene.cylinder scene.disk.cylinders ≡ c → nat_lt (head_sent scene.sent) scene.disk.heads ≡ h
@@ -108,7 +109,7 @@ seen_is scene past drive after word under (raw, reads, is) = elim reads [
 ]
 
 -- the drive a word time later
-under_on : (scene : Scene) (past : Past) (drive after : DriveState) (word : ℕ) → IsDisk scene.disk → IsUnder scene past drive → Becomes drive (passed drive) after
+under_on : (scene : Scene) (past : Past) (drive after : DriveState) (word : ℕ) → IsDisk scene.disk → IsUnder scene past drive → Becomes drive (let_pass drive) after
     → (index : Bool) → (drive.place + 1 == scene.disk.words_per_track) ≡ index
     → IsUnder scene (heard index word (stepped past)) after
 under_on scene past drive after word valid under becomes true at =
@@ -137,7 +138,7 @@ under_on scene past drive after word valid under becomes false at =
 
 -- a device step of the command
 pub hearing_on : (scene : Scene) (past : Past) (drive after : DriveState) (word : ℕ) (executes : Bool) → IsDisk scene.disk
-    → IsHearing scene past true drive → SeesUnder scene.rate (head_sent scene.sent) drive word after → Becomes drive (passed drive) after
+    → IsHearing scene past true drive → SeesUnder scene.rate (head_sent scene.sent) drive word after → Becomes drive (let_pass drive) after
     → IsHearing scene (heard (at_index drive) word (stepped past)) executes after
 hearing_on scene past drive after word executes valid was sees becomes =
     let under = was.under refl in
