@@ -1,1 +1,4 @@
 mod Served
+mod Kept
+mod Timely
+mod InTime

@@ -98,7 +98,7 @@ pub record GoesOnFewer (phase : Phase) (asking : Bool) (fifo : Fifo) (before : �
   pub ruled : GoesByRule phase asking fifo
   pub fewer : moves_left phase fifo + 1 ≤ before
 
-left_reading : (phase : Phase) (fifo : Fifo) → is_reading phase ≡ true → moves_left phase fifo ≡ length fifo.bytes
+pub left_reading : (phase : Phase) (fifo : Fifo) → is_reading phase ≡ true → moves_left phase fifo ≡ length fifo.bytes
 left_reading phase fifo is = rw is refl
 
 left_writing : (phase : Phase) (fifo : Fifo) → is_reading phase ≡ false → moves_left phase fifo ≡ room_of fifo.on - length fifo.bytes

@@ -1,6 +1,13 @@
 // What follows of transfers. The bodies are empty.
-ghost use Rattle.std.specs.Prelude.{◌≡◌, ◌≤◌, ℕ, false};
+ghost use Rattle.std.specs.Prelude.{◌≡◌, ◌⊎◌, ◌≤◌, ℕ, true, false};
+ghost use Rattle.fdc_core.specs.State.{is_gated};
+ghost use Rattle.machine_reads.specs.Begins.{CanBegin};
+ghost use Rattle.machine_reads.specs.Scenes.{Scene};
+ghost use Rattle.machine_holds.specs.Timely.{ReadInTime, Stalled};
 ghost use Rattle.machine_holds.specs.Served.{IsRuled, moves_left};
+ghost use Rattle.pc_bus.specs.Boards.{Board, controller_of};
+ghost use Rattle.pc_bus.specs.Ports.{Outputs};
+ghost use Rattle.pc_bus.specs.Steps.{Step, Runs, RunsUnset};
 ghost use Rattle.pc_bus.specs.Transfers.{can_move, moved_up_to};
 ghost use Rattle.pc_bus.specs.declared.chips.Chips.{Chips};
 
@@ -9,4 +16,15 @@ pub fn a_served_request_falls()
     ensures falls { (most : ℕ) (chips : Chips) → IsRuled chips.controller → moves_left chips.controller.phase chips.controller.fifo ≤ most
         → can_move (moved_up_to most chips) ≡ false }
     ensures rule { (most : ℕ) (chips : Chips) → IsRuled chips.controller → IsRuled (moved_up_to most chips).controller }
+{}
+
+/// A READ DATA that begins with the FIFO on, threshold 8 and DRQ let out ends with OR only where a stall was counted since:
+/// each step either keeps it in time or counts one.
+pub fn a_read_overruns_only_by_a_stall()
+    ensures begins { (scene : Scene) (byte : ℕ) (old new : Board) → Outputs 0x3F5 byte old new → CanBegin scene byte old
+        → (controller_of old).fifo.on ≡ true → (controller_of old).fifo.threshold ≡ 8 → is_gated (controller_of old) ≡ true
+        → ReadInTime scene new ⊎ Stalled old new }
+    ensures step { (old new : Board) → Step old new → (scene : Scene) → ReadInTime scene old → ReadInTime scene new ⊎ Stalled old new }
+    ensures runs { (n : ℕ) (old new : Board) → Runs n old new → (scene : Scene) → ReadInTime scene old → ReadInTime scene new ⊎ Stalled old new }
+    ensures unset { (n : ℕ) (old new : Board) → RunsUnset n old new → (scene : Scene) → ReadInTime scene old → ReadInTime scene new ⊎ Stalled old new }
 {}

@@ -4,4 +4,4 @@
 
 mod laws;
 
-pub use laws::a_served_request_falls;
+pub use laws::{a_read_overruns_only_by_a_stall, a_served_request_falls};

@@ -199,16 +199,18 @@ same_drive : (first second first_now second_now : DriveState) → first_now ≡ 
 same_drive first second first_now second_now one two true = one
 same_drive first second first_now second_now one two false = two
 
-pub outputs_begin : (scene : Scene) (byte : ℕ) (old new : Board) → Outputs 0x3F5 byte old new → CanBegin scene byte old → ReadUnderway scene new
-outputs_begin scene byte old new access can =
+-- the gap is taken
+abbrev pub gapped : Board → Board
+gapped board = record board { bus = record board.bus { gaps = rest_of board.bus.gaps } }
+
+pub begun_underway : (scene : Scene) (byte : ℕ) (old new : Board) → (access : Outputs 0x3F5 byte old new) → CanBegin scene byte old → ReadUnderway scene (gapped access.between)
+begun_underway scene byte old new access can =
     let between = access.between in
     let (controller, writes, chips_are) = access.writes.writes.controllers refl in
     let at : between.bus.chips ≡ shown_again (record old.bus.chips { controller = controller }) = ap (λ bus. bus.chips) access.writes.bus ∙ chips_are in
     let drive_is : drive_in between scene.bay ≡ drive_in old scene.bay =
     same_drive old.first old.second between.first between.second (access.writes.motors.first_stays refl) (access.writes.motors.second_stays refl) (scene.bay == 0) in
-    let moved = none_moved scene old.bus.chips.memory old.bus.chips.channel can.left can.memory can.size can.channel in
-    let gapped : Board = record between { bus = record between.bus { gaps = rest_of between.bus.gaps } } in
-    runs_keep (next_entry between.bus.gaps) gapped new access.gap.runs scene (
+    let moved = none_moved scene old.bus.chips.memory old.bus.chips.channel can.left can.memory can.size can.channel in (
       new_past,
       record {
         scene_is = can.scene_is;
@@ -217,3 +219,7 @@ outputs_begin scene byte old new access can =
             (none_heard scene (is_executing (controller_of between).phase) (drive_in old scene.bay) can.scene_is can.drive);
       },
     )
+
+pub outputs_begin : (scene : Scene) (byte : ℕ) (old new : Board) → Outputs 0x3F5 byte old new → CanBegin scene byte old → ReadUnderway scene new
+outputs_begin scene byte old new access can =
+    runs_keep (next_entry access.between.bus.gaps) (gapped access.between) new access.gap.runs scene (begun_underway scene byte old new access can)

@@ -1,7 +1,7 @@
 mod Bytes
-mod Transfers
-mod Words
-mod Steps
+pub mod Transfers
+pub mod Words
+pub mod Steps
 mod Results
 mod Commands
-mod Accesses
+pub mod Accesses

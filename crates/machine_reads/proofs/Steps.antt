@@ -119,7 +119,7 @@ in_phase scene past chips drive between after whole known works (Result answer) 
       hears = subst (λ b. IsHearing scene past b after) (sym idle) (hearing_over scene past drive after hears (moves_faults _ drive after moves));
     }
 
-word_time : (scene : Scene) (past : Past) (chips : Chips) (drive : DriveState) (between : Fdc) (after : DriveState) → IsScene scene → IsReadBy scene past chips
+pub word_time : (scene : Scene) (past : Past) (chips : Chips) (drive : DriveState) (between : Fdc) (after : DriveState) → IsScene scene → IsReadBy scene past chips
     → IsHearing scene past (is_executing chips.controller.phase) drive → Works chips.controller drive between after → IsBetween scene chips between after
 word_time scene past chips drive between after whole known hears works =
     let old = chips.controller in
@@ -169,7 +169,7 @@ behind scene chips between after whole was =
 
 -- ---- the device step
 
-first_or_second : (bay : ℕ) → bay ≤ 1 → (bay ≡ 0) ⊎ (bay ≡ 1)
+pub first_or_second : (bay : ℕ) → bay ≤ 1 → (bay ≡ 0) ⊎ (bay ≡ 1)
 first_or_second zero small = inl refl
 first_or_second (suc bay) small = inr (omega arith)
 

@@ -45,7 +45,7 @@ goes_further scene past old between new first second = record {
 }
 
 -- a READ DATA in execution reads
-reads_there : (past : Past) (sent : Sent) (phase : Phase) (asking : Bool) (fifo : List ℕ) → MayReadIn past sent phase asking fifo → is_executing phase ≡ true → is_reading phase ≡ true
+pub reads_there : (past : Past) (sent : Sent) (phase : Phase) (asking : Bool) (fifo : List ℕ) → MayReadIn past sent phase asking fifo → is_executing phase ≡ true → is_reading phase ≡ true
 reads_there past sent Command asking fifo was busy = absurd was
 reads_there past sent (Result answer) asking fifo was busy = absurd cc
 reads_there past sent (Execute execution) asking fifo was busy = in_task execution.task execution.head_drive execution.steps was
