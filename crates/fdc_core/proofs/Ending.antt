@@ -101,8 +101,8 @@ write_left (Wrote opened closed index word) head_drive steps writing old before 
 write_left Stopped head_drive steps writing old before new is = stop_left is.ending head_drive steps writing.wanted.key old new (stops_few steps _ _ is.ending is.stops) is.after_is
 
 format_left : (time : WordTime) (head_drive steps : ℕ) (formatting : Formatting) (old : Fdc) (before : DriveState) (new : Fdc) → FormatDoes time head_drive steps formatting old before new → steps_left new.phase < 65536 - steps
-format_left (Saw index word) head_drive steps formatting old before new is = laid_left head_drive steps formatting is.next old new is.few is.after_is
-format_left (KeptOut index word) head_drive steps formatting old before new is = laid_left head_drive steps formatting is.next old new is.few is.after_is
+format_left (Saw index word) head_drive steps formatting old before new (due, is) = laid_left head_drive steps formatting is.next old new is.few is.after_is
+format_left (KeptOut index word) head_drive steps formatting old before new (due, is) = laid_left head_drive steps formatting is.next old new is.few is.after_is
 format_left (Wrote opened closed index word) head_drive steps formatting old before new is = laid_left head_drive steps formatting is.next _ new is.few is.after_is
 format_left Stopped head_drive steps formatting old before new is = stop_left is.ending head_drive steps no_key old new (stops_few steps _ _ is.ending is.stops) is.after_is
 
@@ -118,7 +118,7 @@ nowhere_left (Read reading) head_drive steps old new is = listen_left false 0 he
 nowhere_left (Write writing) head_drive steps old new (inl (last, is)) = stop_left Late head_drive steps writing.wanted.key old new (omega arith) is
 nowhere_left (Write writing) head_drive steps old new (inr (few, (next, hears, is))) = next_left head_drive steps writing next old new few is
 nowhere_left (Format formatting) head_drive steps old new (inl (last, is)) = stop_left Late head_drive steps no_key old new (omega arith) is
-nowhere_left (Format formatting) head_drive steps old new (inr (few, (next, is))) = laid_left head_drive steps formatting next old new few is
+nowhere_left (Format formatting) head_drive steps old new (inr (few, (next, hears, is))) = laid_left head_drive steps formatting next old new few is
 
 pub executes_left : (old new : Fdc) (before after : DriveState) (execution : Execution) → old.phase ≡ Execute execution → TaskSteps execution.task execution.head_drive execution.steps old before after new → Ends old new
 executes_left old new before after execution is steps =

@@ -94,7 +94,7 @@ heard_overruns index word head_drive steps reading old (given.Byte stage value) 
     record { stage = stage; value = value; comes = hears; uncounted = uncounted; full = full }
 heard_overruns index word head_drive steps reading old (given.Ended ending) hears up = clash _ (failure_overruns ending head_drive reading.wanted.key old hears.1) up
 
-hears_overruns : (index : Bool) (word head_drive steps : ℕ) (task : Task) (old new : Fdc) → Hears head_drive steps task index word old new → OverrunsTask task index word old new
+pub hears_overruns : (index : Bool) (word head_drive steps : ℕ) (task : Task) (old new : Fdc) → Hears head_drive steps task index word old new → OverrunsTask task index word old new
 hears_overruns index word head_drive steps (Write writing) old new hears = tt
 hears_overruns index word head_drive steps (Format formatting) old new hears = tt
 hears_overruns index word head_drive steps (ReadId search) old new (after, hears, is) =

@@ -5,3 +5,6 @@ pub mod Staying
 pub mod Hearing
 pub mod Meanings
 pub mod Words
+pub mod MayWrite
+pub mod Writes
+pub mod Waiting

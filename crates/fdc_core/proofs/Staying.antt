@@ -123,8 +123,8 @@ write_keeps (Wrote opened closed index word) head_drive steps writing old before
 write_keeps Stopped head_drive steps writing old before new is = stop_keeps is.ending head_drive writing.wanted.key old new is.after_is
 
 format_keeps : (time : WordTime) (head_drive steps : ℕ) (formatting : Formatting) (old : Fdc) (before : DriveState) (new : Fdc) → FormatDoes time head_drive steps formatting old before new → Keeps old new
-format_keeps (Saw index word) head_drive steps formatting old before new is = laid_keeps head_drive (steps + 1) formatting is.next old old new refl (same_stays old) is.after_is
-format_keeps (KeptOut index word) head_drive steps formatting old before new is = laid_keeps head_drive (steps + 1) formatting is.next old old new refl (same_stays old) is.after_is
+format_keeps (Saw index word) head_drive steps formatting old before new (due, is) = laid_keeps head_drive (steps + 1) formatting is.next old old new refl (same_stays old) is.after_is
+format_keeps (KeptOut index word) head_drive steps formatting old before new (due, is) = laid_keeps head_drive (steps + 1) formatting is.next old old new refl (same_stays old) is.after_is
 format_keeps (Wrote opened closed index word) head_drive steps formatting old before new is =
     laid_keeps head_drive (steps + 1) formatting is.next old (without_byte is.needs old) new (without_asking is.needs old) (without_stays is.needs old) is.after_is
 format_keeps Stopped head_drive steps formatting old before new is = stop_keeps is.ending head_drive no_key old new is.after_is
@@ -141,7 +141,7 @@ nowhere_keeps (Read reading) head_drive steps old new is = listen_keeps false 0 
 nowhere_keeps (Write writing) head_drive steps old new (inl (last, is)) = stop_keeps Late head_drive writing.wanted.key old new is
 nowhere_keeps (Write writing) head_drive steps old new (inr (few, (next, hears, is))) = next_keeps head_drive (steps + 1) writing next old old new refl (same_stays old) is
 nowhere_keeps (Format formatting) head_drive steps old new (inl (last, is)) = stop_keeps Late head_drive no_key old new is
-nowhere_keeps (Format formatting) head_drive steps old new (inr (few, (next, is))) = laid_keeps head_drive (steps + 1) formatting next old old new refl (same_stays old) is
+nowhere_keeps (Format formatting) head_drive steps old new (inr (few, (next, hears, is))) = laid_keeps head_drive (steps + 1) formatting next old old new refl (same_stays old) is
 
 task_moves : (task : Task) (head_drive steps : ℕ) (old : Fdc) (before after : DriveState) (new : Fdc) → TaskSteps task head_drive steps old before after new → MovesTask (is_listening task) before after
 task_moves (ReadId search) head_drive steps old before after new is = is.passes

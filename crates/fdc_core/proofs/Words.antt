@@ -3,6 +3,10 @@ use Rattle.std.proofs.Common.{◌≡◌, ◌⊎◌, ◌<◌, ◌≤◌, ℕ, zer
 use Rattle.std.proofs.lemmas.Bool.{false≢true}
 use Rattle.drive_model.specs.Drive.{DriveState, Becomes, Reads, Writes, InRange, at_index, word_under, rate_of, with_gate, is_protected}
 use Rattle.flop_base.specs.Counts.{Rose, last_count}
+use Rattle.fdc_writing.specs.Formats as formats_of
+use Rattle.fdc_writing.specs.declared.formatting.FormatPart.{FormatPart}
+use Rattle.fdc_writing.specs.declared.formatting.FormatPart.TheVariants.{Await, Due, Lay, Barred}
+use Rattle.fdc_writing.specs.Leads.{HasLead}
 use Rattle.fdc_writing.specs.Writings.{opens, is_due, needs_byte}
 use Rattle.fdc_writing.specs.declared.writing.WriteStage.{WriteStage}
 use Rattle.fdc_writing.specs.declared.writing.WriteStage.TheVariants as stages
@@ -55,12 +59,6 @@ last_listens head_drive steps task old before after new passes does =
 
 -- ---- a write
 
--- the first word needs no byte
-pub opens_bare : (stage : WriteStage) → opens stage ≡ true → needs_byte stage ≡ false
-opens_bare (stages.Search search) is = refl
-opens_bare (stages.Gap left) is = refl
-opens_bare (stages.Window now) is = absurd (false≢true is)
-
 pub opens_due : (stage : WriteStage) → opens stage ≡ true → is_due stage ≡ true
 opens_due (stages.Search search) is = absurd (false≢true is)
 opens_due (stages.Gap zero) is = refl
@@ -76,46 +74,16 @@ pub kept_time : (head_drive steps : ℕ) (writing : Writing) (old : Fdc) (before
 kept_time head_drive steps writing old before after new firsts unfit is =
     record { time = KeptOut is.index is.word; is = (unfit, is.is); does = (firsts, is.does) }
 
-pub first_time : (head_drive steps : ℕ) (writing : Writing) (old : Fdc) (before from after : DriveState) (new : Fdc) → steps < 65535 → opens writing.stage ≡ true → rate_fits old.rate (rate_of before.medium) ≡ true
-    → Becomes before (with_gate true before) from → PutsByte head_drive steps writing 0 old from after new → IsWriteTime head_drive steps writing old before after new
-first_time head_drive steps writing old before from after new few firsts fits gate is = record {
-  time = Wrote true (is_ended is.next) (at_index before) is.given.word;
-  is = record {
-    from = from;
-    mid = is.mid;
-    index_is = refl;
-    fits = λ _. fits;
-    opens = gate;
-    writes = is.puts;
-    closes = is.closes;
-    range_from = is.range_from;
-    range_mid = is.range_mid;
-  };
-  does = record {
-    few = few;
-    due = opens_due writing.stage firsts;
-    opened_is = sym firsts;
-    byte = 0;
-    byte_is = ap (λ needs. byte_taken needs writing.counted old.fifo) (opens_bare writing.stage firsts);
-    given = is.given;
-    word_is = refl;
-    next = is.next;
-    writes = subst (λ index. StageWritesWord writing 0 index is.given is.next) (index_kept true before from gate) is.writes;
-    closed_is = refl;
-    after_is = subst (λ needs. new ≡ after_next head_drive (steps + 1) writing is.next (without_byte needs old)) (sym (opens_bare writing.stage firsts)) is.after_is;
-  };
-}
-
-pub next_time : (head_drive steps byte : ℕ) (writing : Writing) (old mid_fdc : Fdc) (before after : DriveState) (new : Fdc) → steps < 65535 → opens writing.stage ≡ false → is_due writing.stage ≡ true
+pub wrote_time : (head_drive steps byte : ℕ) (writing : Writing) (old mid_fdc : Fdc) (before after : DriveState) (new : Fdc) → steps < 65535 → (opens writing.stage ≡ true → rate_fits old.rate (rate_of before.medium) ≡ true) → is_due writing.stage ≡ true
     → byte_taken (needs_byte writing.stage) writing.counted old.fifo ≡ Some byte → mid_fdc ≡ without_byte (needs_byte writing.stage) old → PutsByte head_drive steps writing byte mid_fdc before after new → IsWriteTime head_drive steps writing old before after new
-next_time head_drive steps byte writing old mid_fdc before after new few firsts due takes leaves is = record {
-  time = Wrote false (is_ended is.next) (at_index before) is.given.word;
+wrote_time head_drive steps byte writing old mid_fdc before after new few fits due takes leaves is = record {
+  time = Wrote (opens writing.stage) (is_ended is.next) (at_index before) is.given.word;
   is = record {
-    from = before;
+    from = is.from;
     mid = is.mid;
     index_is = refl;
-    fits = λ up. absurd (false≢true up);
-    opens = refl;
+    fits = fits;
+    opens = is.opens_it;
     writes = is.puts;
     closes = is.closes;
     range_from = is.range_from;
@@ -124,7 +92,7 @@ next_time head_drive steps byte writing old mid_fdc before after new few firsts 
   does = record {
     few = few;
     due = due;
-    opened_is = sym firsts;
+    opened_is = refl;
     byte = byte;
     byte_is = takes;
     given = is.given;
@@ -136,45 +104,38 @@ next_time head_drive steps byte writing old mid_fdc before after new few firsts 
   };
 }
 
+-- the index is the same with the gate open
+pub opens_index : (first : Bool) (before from : DriveState) → Opens first before from → at_index from ≡ at_index before
+opens_index true before from is = ap at_index is.becomes
+opens_index false before from is = ap at_index is
+
 -- ---- a FORMAT
 
-pub heard_turn : (head_drive steps : ℕ) (formatting : Formatting) (old : Fdc) (before after : DriveState) (new : Fdc) → HearsATurn head_drive steps formatting old before after new → IsFormatTime head_drive steps formatting old before after new
-heard_turn head_drive steps formatting old before after new is =
-    record { time = Saw is.index is.word; is = is.is; does = is.does }
+pub opens_laid : (part : FormatPart) → formats_of.is_first part ≡ true → formats_of.is_next part ≡ true
+opens_laid Await is = absurd (false≢true is)
+opens_laid Due is = refl
+opens_laid Lay is = absurd (false≢true is)
+opens_laid Barred is = absurd (false≢true is)
 
-pub kept_turn : (head_drive steps : ℕ) (formatting : Formatting) (old : Fdc) (before after : DriveState) (new : Fdc) → rate_fits old.rate (rate_of before.medium) ≡ false → HearsATurn head_drive steps formatting old before after new
+pub heard_turn : (head_drive steps : ℕ) (formatting : Formatting) (old : Fdc) (before after : DriveState) (new : Fdc) → formats_of.is_due formatting.stage ≡ false → HearsATurn head_drive steps formatting old before after new → IsFormatTime head_drive steps formatting old before after new
+heard_turn head_drive steps formatting old before after new due is =
+    record { time = Saw is.index is.word; is = is.is; does = (due, is.does) }
+
+pub kept_turn : (head_drive steps : ℕ) (formatting : Formatting) (old : Fdc) (before after : DriveState) (new : Fdc) → formats_of.opens formatting.stage ≡ true → rate_fits old.rate (rate_of before.medium) ≡ false → HearsATurn head_drive steps formatting old before after new
     → IsFormatTime head_drive steps formatting old before after new
-kept_turn head_drive steps formatting old before after new unfit is =
-    record { time = KeptOut is.index is.word; is = (unfit, is.is); does = is.does }
+kept_turn head_drive steps formatting old before after new firsts unfit is =
+    record { time = KeptOut is.index is.word; is = (unfit, is.is); does = (firsts, is.does) }
 
-pub first_laid : (head_drive steps : ℕ) (formatting : Formatting) (old : Fdc) (before from after : DriveState) (new : Fdc) → steps < 65535 → rate_fits old.rate (rate_of before.medium) ≡ true
-    → Becomes before (with_gate true before) from → LaysByte head_drive steps formatting 0 old from after new → IsFormatTime head_drive steps formatting old before after new
-first_laid head_drive steps formatting old before from after new few fits gate is = record {
-  time = Wrote true (formats.is_ended is.next) (at_index before) is.given.word;
+pub laid_time : (head_drive steps byte : ℕ) (needs : Bool) (formatting : Formatting) (old mid_fdc : Fdc) (before after : DriveState) (new : Fdc) → steps < 65535 → (formats_of.opens formatting.stage ≡ true → rate_fits old.rate (rate_of before.medium) ≡ true) → formats_of.is_due formatting.stage ≡ true
+    → formats_of.Takes formatting.stage needs → ((lead : ℕ) → HasLead formatting.stage lead → needs ≡ true → lead ≡ 0) → byte_taken needs formatting.counted old.fifo ≡ Some byte → mid_fdc ≡ without_byte needs old → LaysByte head_drive steps formatting needs byte mid_fdc before after new → IsFormatTime head_drive steps formatting old before after new
+laid_time head_drive steps byte needs formatting old mid_fdc before after new few fits due asks needed takes leaves is = record {
+  time = Wrote (formats_of.opens formatting.stage) (formats.is_ended is.next) (at_index before) is.given.word;
   is = record {
-    from = from;
+    from = is.from;
     mid = is.mid;
     index_is = refl;
-    fits = λ _. fits;
-    opens = gate;
-    writes = is.puts;
-    closes = is.closes;
-    range_from = is.range_from;
-    range_mid = is.range_mid;
-  };
-  does = record { few = few; needs = false; byte = 0; byte_is = refl; next = is.next; closed_is = refl; after_is = is.after_is };
-}
-
-pub next_laid : (head_drive steps byte : ℕ) (needs : Bool) (formatting : Formatting) (old mid_fdc : Fdc) (before after : DriveState) (new : Fdc) → steps < 65535
-    → byte_taken needs formatting.counted old.fifo ≡ Some byte → mid_fdc ≡ without_byte needs old → LaysByte head_drive steps formatting byte mid_fdc before after new → IsFormatTime head_drive steps formatting old before after new
-next_laid head_drive steps byte needs formatting old mid_fdc before after new few takes leaves is = record {
-  time = Wrote false (formats.is_ended is.next) (at_index before) is.given.word;
-  is = record {
-    from = before;
-    mid = is.mid;
-    index_is = refl;
-    fits = λ up. absurd (false≢true up);
-    opens = refl;
+    fits = fits;
+    opens = is.opens_it;
     writes = is.puts;
     closes = is.closes;
     range_from = is.range_from;
@@ -182,10 +143,17 @@ next_laid head_drive steps byte needs formatting old mid_fdc before after new fe
   };
   does = record {
     few = few;
+    due = due;
+    opened_is = refl;
     needs = needs;
+    takes = asks;
+    needed = needed;
     byte = byte;
     byte_is = takes;
+    given = is.given;
+    word_is = refl;
     next = is.next;
+    lays = is.lays;
     closed_is = refl;
     after_is = subst (λ fdc. new ≡ formats.after_laid head_drive (steps + 1) formatting is.next fdc) leaves is.after_is;
   };

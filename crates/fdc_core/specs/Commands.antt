@@ -8,7 +8,7 @@ use Rattle.fdc_commands.specs.declared.bytes.Accepted.{Accepted}
 use Rattle.fdc_commands.specs.declared.bytes.Accepted.TheVariants.{More, Ready, Invalid}
 use Rattle.fdc_commands.specs.declared.command.Command.{Command}
 use Rattle.fdc_commands.specs.declared.command.Command.TheVariants as command
-use Rattle.fdc_fifo.specs.Fifo.{emptied}
+use Rattle.fdc_fifo.specs.Fifo.{Fifo, emptied}
 use Rattle.fdc_seek.specs.Seeking.{with_motion, seek_bits, sensed, after_sense}
 use Rattle.fdc_seek.specs.declared.motion.Motion.TheVariants.{Outward, Toward}
 use Rattle.fdc_stages.specs.History.{begun as new_past}
@@ -18,8 +18,9 @@ use Rattle.fdc_core.specs.declared.controller.Fdc.{Fdc}
 use Rattle.fdc_core.specs.declared.controller.Lines.{Lines}
 use Rattle.fdc_core.specs.declared.phases.Phase.TheVariants.{Execute, Result}
 use Rattle.fdc_core.specs.declared.phases.Task.{Task}
-use Rattle.fdc_core.specs.declared.phases.Task.TheVariants.{Write, Format}
-use Rattle.fdc_core.specs.Dma.{asked}
+use Rattle.fdc_core.specs.Dma.{asked, task_asks}
+use Rattle.fdc_core.specs.Written.{MayWriteTask, MayFormatTask}
+use Rattle.fdc_writing.specs.Formats.{Numbers}
 
 -- the result phase of a command without execution
 abbrev pub answered : ℕ → Option ℕ → Fdc → Fdc
@@ -93,13 +94,11 @@ BeginsAsking head_drive Is old new = (task : Task) × Is task × (new ≡ asked 
 
 -- WRITE DATA or WRITE DELETED of what was sent, which has heard, taken and written nothing
 abbrev pub IsWritingData : Sent → Bool → Task → Type 0
-IsWritingData sent deleted (Write writing) = Unit {0}
-IsWritingData sent deleted _ = ⊥
+IsWritingData sent deleted task = (fifo : Fifo) (asking : Bool) → fifo.bytes ≡ [] → MayWriteTask new_past sent deleted sent.head_drive 0 task (task_asks task asking fifo) fifo
 
--- FORMAT TRACK, which has heard, taken and written nothing
-abbrev pub IsFormattingTrack : Task → Type 0
-IsFormattingTrack (Format formatting) = formatting.counted ≡ false
-IsFormattingTrack _ = ⊥
+-- FORMAT TRACK of these numbers, which has heard, taken and written nothing
+abbrev pub IsFormattingTrack : ℕ → Numbers → Task → Type 0
+IsFormattingTrack head_drive numbers task = (fifo : Fifo) (asking : Bool) → fifo.bytes ≡ [] → MayFormatTask new_past head_drive numbers head_drive 0 task (task_asks task asking fifo) fifo
 
 -- a data command begins
 abbrev pub BeginsData : Command → Fdc → Fdc → Type 0
@@ -110,7 +109,8 @@ BeginsData (command.WriteData head_drive key last_sector _ _) old new =
     BeginsAsking head_drive (IsWritingData (record { head_drive = head_drive; key = key; last_sector = last_sector }) false) old new
 BeginsData (command.WriteDeleted head_drive key last_sector _ _) old new =
     BeginsAsking head_drive (IsWritingData (record { head_drive = head_drive; key = key; last_sector = last_sector }) true) old new
-BeginsData (command.FormatTrack head_drive n sectors gap3 fill) old new = BeginsAsking head_drive IsFormattingTrack old new
+BeginsData (command.FormatTrack head_drive n sectors gap3 fill) old new =
+    BeginsAsking head_drive (IsFormattingTrack head_drive (record { n = n; sectors = sectors; gap3 = gap3; fill = fill })) old new
 BeginsData _ old new = new ≡ answered 0x80 None old
 
 -- a data command begins, or is invalid where SPECIFY set ND

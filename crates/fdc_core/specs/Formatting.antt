@@ -1,18 +1,19 @@
 -- FORMAT TRACK, word by word.
-use Rattle.std.specs.Prelude.{◌≡◌, ◌<◌, ℕ, ◌+◌, Bool, true, false, List, Option, Some}
-use Rattle.drive_model.specs.Drive.{DriveState, is_protected, Writes, InRange}
+use Rattle.std.specs.Prelude.{◌≡◌, ◌<◌, ℕ, ◌+◌, ◌-◌, Bool, true, false, List, Option, Some}
+use Rattle.drive_model.specs.Drive.{DriveState, is_protected, at_index, Writes, InRange}
+use Rattle.fdc_stages.specs.History.{Past, wrote}
 use Rattle.fdc_stages.specs.declared.ending.Ending.{Ending}
+use Rattle.fdc_writing.specs.Formats.{Numbers, is_open, opens, is_due, Takes, IsFormatting, IsNextLaid, HasNext, FailsWell, EndsWell}
+use Rattle.fdc_writing.specs.Leads.{HasLead, LeadsOn}
+use Rattle.fdc_writing.specs.Writings.{handed_with, heard_where}
 use Rattle.fdc_writing.specs.declared.formatting.FormatNext.{FormatNext}
 use Rattle.fdc_writing.specs.declared.formatting.FormatNext.TheVariants.{On, Ended}
-use Rattle.fdc_writing.specs.declared.formatting.FormatPart.{FormatPart}
-use Rattle.fdc_writing.specs.declared.formatting.FormatPart.TheVariants.{Await, Due, Lay, Barred}
-use Rattle.fdc_writing.specs.declared.formatting.FormatStage.{FormatStage}
 use Rattle.fdc_writing.specs.declared.formatting.FormatWord.{FormatWord}
 use Rattle.fdc_core.specs.Answers.{no_key}
 use Rattle.fdc_core.specs.Dma.{gone_on}
 use Rattle.fdc_core.specs.Phases.{head_of, format_at}
 use Rattle.fdc_core.specs.State.{finished}
-use Rattle.fdc_core.specs.Times.{WordTime, Saw, KeptOut, Wrote, Stopped, IsTime, IsHeardTime, Closes}
+use Rattle.fdc_core.specs.Times.{WordTime, Saw, KeptOut, Wrote, Stopped, IsTime, IsHeardTime, Opens, Closes}
 use Rattle.fdc_core.specs.Writing.{byte_taken, without_byte, Stops}
 use Rattle.fdc_core.specs.declared.controller.Fdc.{Fdc}
 use Rattle.fdc_core.specs.declared.phases.Task.TheVariants.{Format}
@@ -27,21 +28,45 @@ abbrev pub is_ended : FormatNext → Bool
 is_ended (Ended _ _) = true
 is_ended (On _) = false
 
+-- ---- what a stage makes of a word, whatever has passed before
+
+abbrev pub StageHearsTurn : Formatting → Bool → FormatNext → Type 0
+StageHearsTurn formatting index next =
+    ((past : Past) (numbers : Numbers) (handed : List ℕ) (word : ℕ) → is_open formatting.stage ≡ false → IsFormatting past numbers handed formatting.stage
+    → HasNext (heard_where (opens formatting.stage) index word past) numbers handed next)
+    × FailsWell next × ((lead : ℕ) → HasLead formatting.stage lead → LeadsOn lead next)
+
+pub record StageLaysWord (formatting : Formatting) (takes : Bool) (byte : ℕ) (index : Bool) (given : FormatWord) (next : FormatNext) : Type 0 where
+  pub word_is : (past : Past) (numbers : Numbers) (handed : List ℕ) → is_due formatting.stage ≡ true → IsFormatting past numbers handed formatting.stage → Takes formatting.stage takes
+      → IsNextLaid past numbers (handed_with takes byte handed) given.word given.stream given.key
+  pub goes_on : (past : Past) (numbers : Numbers) (handed : List ℕ) → past.counted ≡ formatting.counted
+      → IsNextLaid past numbers handed given.word given.stream given.key → HasNext (wrote index given.word past) numbers handed next
+  pub well : EndsWell next
+  pub lead : (lead : ℕ) → HasLead formatting.stage lead → LeadsOn (lead - 1) next
+
 -- ---- a device step, behind so many others, by what its word time is
 
 -- a word is heard
 pub record HearsFormat (head_drive steps : ℕ) (formatting : Formatting) (index : Bool) (old new : Fdc) : Type 0 where
   pub few : steps < 65535
   pub next : FormatNext
+  pub hears : StageHearsTurn formatting index next
   pub after_is : new ≡ after_laid head_drive (steps + 1) formatting next old
 
 -- a word is written; where it is a byte of a key, that byte is taken
-pub record LaysWord (head_drive steps : ℕ) (formatting : Formatting) (closed index : Bool) (word : ℕ) (old new : Fdc) : Type 0 where
+pub record LaysWord (head_drive steps : ℕ) (formatting : Formatting) (opened closed index : Bool) (word : ℕ) (old new : Fdc) : Type 0 where
   pub few : steps < 65535
+  pub due : is_due formatting.stage ≡ true
+  pub opened_is : opened ≡ opens formatting.stage
   pub needs : Bool
+  pub takes : Takes formatting.stage needs
+  pub needed : (lead : ℕ) → HasLead formatting.stage lead → needs ≡ true → lead ≡ 0
   pub byte : ℕ
   pub byte_is : byte_taken needs formatting.counted old.fifo ≡ Some byte
+  pub given : FormatWord
+  pub word_is : word ≡ given.word
   pub next : FormatNext
+  pub lays : StageLaysWord formatting needs byte index given next
   pub closed_is : closed ≡ is_ended next
   pub after_is : new ≡ after_laid head_drive (steps + 1) formatting next (without_byte needs old)
 
@@ -49,16 +74,17 @@ pub record LaysWord (head_drive steps : ℕ) (formatting : Formatting) (closed i
 pub record StopsFormat (head_drive steps : ℕ) (formatting : Formatting) (old : Fdc) (before : DriveState) (new : Fdc) : Type 0 where
   pub ending : Ending
   pub needs : Bool
+  pub needed : (lead : ℕ) → HasLead formatting.stage lead → needs ≡ true → lead ≡ 0
   pub stops : Stops steps (is_protected before.medium) (byte_taken needs formatting.counted old.fifo) ending
   pub after_is : new ≡ finished ending head_drive no_key old
 
 abbrev pub FormatDoes : WordTime → ℕ → ℕ → Formatting → Fdc → DriveState → Fdc → Type 0
 FormatDoes (Saw index word) head_drive steps formatting old before new =
-    HearsFormat head_drive steps formatting index old new
+    (is_due formatting.stage ≡ false) × HearsFormat head_drive steps formatting index old new
 FormatDoes (KeptOut index word) head_drive steps formatting old before new =
-    HearsFormat head_drive steps formatting index old new
+    (opens formatting.stage ≡ true) × HearsFormat head_drive steps formatting index old new
 FormatDoes (Wrote opened closed index word) head_drive steps formatting old before new =
-    LaysWord head_drive steps formatting closed index word old new
+    LaysWord head_drive steps formatting opened closed index word old new
 FormatDoes Stopped head_drive steps formatting old before new = StopsFormat head_drive steps formatting old before new
 
 -- what the word time is, and what the controller does
@@ -81,11 +107,14 @@ pub record HearsATurn (head_drive steps : ℕ) (formatting : Formatting) (old : 
   pub is : IsHeardTime index word old.rate (head_of head_drive) before after
   pub does : HearsFormat head_drive steps formatting index old new
 
--- a word that records this byte is written, and the gate closes behind the last
-pub record LaysByte (head_drive steps : ℕ) (formatting : Formatting) (byte : ℕ) (old : Fdc) (from after : DriveState) (new : Fdc) : Type 0 where
+-- a word that records this byte is written; the gate opens before the first, and closes behind the last
+pub record LaysByte (head_drive steps : ℕ) (formatting : Formatting) (takes : Bool) (byte : ℕ) (old : Fdc) (before after : DriveState) (new : Fdc) : Type 0 where
+  pub from : DriveState
   pub mid : DriveState
   pub given : FormatWord
   pub next : FormatNext
+  pub lays : StageLaysWord formatting takes byte (at_index before) given next
+  pub opens_it : Opens (opens formatting.stage) before from
   pub puts : Writes from (head_of head_drive) given.word mid
   pub range_from : InRange from
   pub range_mid : InRange mid

@@ -129,10 +129,3 @@ MayReadIdIn past sent Command = ⊥
 -- the controller executes a READ ID of this head and drive, or gives its results, and this is what it heard
 abbrev pub MayReadId : Past → ℕ → Fdc → Type 0
 MayReadId past sent fdc = MayReadIdIn past sent fdc.phase
-
--- ---- port accesses
-
--- an access to a port keeps what is known of a command, or the controller takes commands again
-pub record KeepsKnown (old new : Fdc) : Type 0 where
-  pub reads : (past : Past) (sent : Sent) → MayRead past sent old → MayRead past sent new ⊎ (new.phase ≡ Command)
-  pub identifies : (past : Past) (sent : ℕ) → MayReadId past sent old → MayReadId past sent new ⊎ (new.phase ≡ Command)

@@ -14,3 +14,6 @@ pub mod Times
 pub mod Writing
 pub mod Formatting
 pub mod Tasks
+pub mod Written
+pub mod Writes
+pub mod Waiting

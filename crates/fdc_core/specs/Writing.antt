@@ -6,7 +6,7 @@ use Rattle.fdc_fifo.specs.Fifo.{Fifo}
 use Rattle.fdc_stages.specs.History.{Past, wrote}
 use Rattle.fdc_stages.specs.declared.ending.Ending.{Ending}
 use Rattle.fdc_stages.specs.declared.ending.Ending.TheVariants.{Protected, Overrun, Late}
-use Rattle.fdc_writing.specs.Writings.{is_open, opens, is_due, needs_byte, handed_with, heard_where, IsWriting, IsNextWord, HasNext, FailsWell, EndsWell}
+use Rattle.fdc_writing.specs.Writings.{is_open, opens, is_due, needs_byte, handed_with, heard_where, IsWriting, IsNextWord, HasNext, FailsWell, EndsWell, LeadsOn, lead_of}
 use Rattle.fdc_writing.specs.declared.writing.WriteNext.{WriteNext}
 use Rattle.fdc_writing.specs.declared.writing.WriteNext.TheVariants.{On, Ended}
 use Rattle.fdc_writing.specs.declared.writing.WriteStage.{WriteStage}
@@ -15,7 +15,7 @@ use Rattle.fdc_core.specs.Answers.{key_after}
 use Rattle.fdc_core.specs.Dma.{gone_on}
 use Rattle.fdc_core.specs.Phases.{head_of, write_at}
 use Rattle.fdc_core.specs.State.{finished}
-use Rattle.fdc_core.specs.Times.{WordTime, Saw, KeptOut, Wrote, Stopped, IsTime, IsHeardTime, Closes}
+use Rattle.fdc_core.specs.Times.{WordTime, Saw, KeptOut, Wrote, Stopped, IsTime, IsHeardTime, Opens, Closes}
 use Rattle.fdc_core.specs.declared.controller.Fdc.{Fdc}
 use Rattle.fdc_core.specs.declared.phases.Task.TheVariants.{Write}
 use Rattle.fdc_core.specs.declared.transfers.Writing.{Writing}
@@ -51,7 +51,7 @@ abbrev pub StageHearsWord : Writing → Bool → ℕ → WriteNext → Type 0
 StageHearsWord writing index word next =
     ((past : Past) (deleted : Bool) (handed : List ℕ) → is_open writing.stage ≡ false → IsWriting past writing.wanted.key deleted handed writing.stage
     → HasNext (heard_where (opens writing.stage) index word past) writing.wanted.key deleted handed next)
-    × FailsWell next
+    × FailsWell next × LeadsOn (lead_of writing.stage) next
 
 pub record StageWritesWord (writing : Writing) (byte : ℕ) (index : Bool) (given : WriteWord) (next : WriteNext) : Type 0 where
   pub word_is : (past : Past) (handed : List ℕ) → is_due writing.stage ≡ true → IsWriting past writing.wanted.key writing.deleted handed writing.stage
@@ -59,6 +59,7 @@ pub record StageWritesWord (writing : Writing) (byte : ℕ) (index : Bool) (give
   pub goes_on : (past : Past) (key : Chrn) (deleted : Bool) (handed : List ℕ) → past.counted ≡ writing.counted
       → IsNextWord past key deleted handed given.word given.rest → HasNext (wrote index given.word past) key deleted handed next
   pub well : EndsWell next
+  pub lead : is_due writing.stage ≡ true → LeadsOn (lead_of writing.stage) next
 
 -- ---- a device step, behind so many others, by what its word time is
 
@@ -124,12 +125,14 @@ pub record HearsAWord (head_drive steps : ℕ) (writing : Writing) (old : Fdc) (
   pub is : IsHeardTime index word old.rate (head_of head_drive) before after
   pub does : HearsWord head_drive steps writing index word old new
 
--- a word that records this byte is written, and the gate closes behind the last
-pub record PutsByte (head_drive steps : ℕ) (writing : Writing) (byte : ℕ) (old : Fdc) (from after : DriveState) (new : Fdc) : Type 0 where
+-- a word that records this byte is written; the gate opens before the first, and closes behind the last
+pub record PutsByte (head_drive steps : ℕ) (writing : Writing) (byte : ℕ) (old : Fdc) (before after : DriveState) (new : Fdc) : Type 0 where
+  pub from : DriveState
   pub mid : DriveState
   pub given : WriteWord
   pub next : WriteNext
-  pub writes : StageWritesWord writing byte (at_index from) given next
+  pub writes : StageWritesWord writing byte (at_index before) given next
+  pub opens_it : Opens (opens writing.stage) before from
   pub puts : Writes from (head_of head_drive) given.word mid
   pub range_from : InRange from
   pub range_mid : InRange mid

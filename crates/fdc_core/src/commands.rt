@@ -205,7 +205,7 @@ impl Fdc {
     /// FORMAT TRACK begins, and asks for bytes.
     fn begin_formatting(&mut self, head_drive: u8, n: u8, sectors: u8, gap3: u8, fill: u8)
         requires { IsSizeCode n }
-        ensures { BeginsAsking head_drive IsFormattingTrack self.old self.new }
+        ensures { BeginsAsking head_drive (IsFormattingTrack head_drive (record { n = n; sectors = sectors; gap3 = gap3; fill = fill })) self.old self.new }
     {
         let task = formatting_track(n, sectors, gap3, fill);
         self.begin(head_drive, task);
@@ -274,7 +274,8 @@ fn writing_data(key: Chrn, last_sector: u8, deleted: bool) -> Task
 /// FORMAT TRACK as it begins.
 fn formatting_track(n: u8, sectors: u8, gap3: u8, fill: u8) -> Task
     requires { IsSizeCode n }
-    ensures { IsFormattingTrack result }
+    ensures { (head_drive : ℕ)
+        → IsFormattingTrack head_drive (record { n = n; sectors = sectors; gap3 = gap3; fill = fill }) result }
 {
     Task::Format {
         formatting: Formatting {

@@ -1,9 +1,11 @@
 // The controller's side of the DMA channel.
-ghost use Rattle.std.specs.Prelude.{◌≡◌, IsTrue, IsFalse};
+ghost use Rattle.std.specs.Prelude.{◌≡◌, ℕ, Bool, IsTrue, IsFalse};
 ghost use Rattle.fdc_stages.specs.History.{Past};
 ghost use Rattle.fdc_core.specs.Heard.{Sent, MayRead, gave, told_in};
 ghost use Rattle.fdc_core.specs.Listening.{is_executing};
 ghost use Rattle.fdc_core.specs.State.{asks};
+ghost use Rattle.fdc_core.specs.Written.{MayWrite, MayFormat, took};
+ghost use Rattle.fdc_writing.specs.Formats.{Numbers};
 ghost use Rattle.fdc_core.specs.Dma.{asked, byte_out, taken_out, taken_in, with_byte, told_count, told_to, task_asks, to_memory_of};
 
 use crate::controller::Fdc;
@@ -46,6 +48,17 @@ impl Fdc {
         requires drq { IsTrue (asks self.old) }
         requires from_memory { IsFalse (to_memory_of self.old) }
         ensures after { self.new ≡ taken_in byte self.old }
+        ensures writes { (past : Past) (sent : Sent) (deleted : Bool) → MayWrite past sent deleted self.old
+            → MayWrite (took byte past) sent deleted self.new }
+        ensures formats { (past : Past) (sent : ℕ) (numbers : Numbers) → MayFormat past sent numbers self.old
+            → MayFormat (took byte past) sent numbers self.new }
+    {
+        self.take_in(byte);
+    }
+
+    /// Appends a byte to the FIFO.
+    fn take_in(&mut self, byte: u8)
+        ensures { self.new ≡ taken_in byte self.old }
     {
         self.put_in(byte);
         self.ask();
@@ -65,6 +78,10 @@ impl Fdc {
     pub fn tc(&mut self)
         ensures after { self.new ≡ told_count self.old }
         ensures reads { (past : Past) (sent : Sent) → MayRead past sent self.old → MayRead (told_in (is_executing self.old.phase) past) sent self.new }
+        ensures writes { (past : Past) (sent : Sent) (deleted : Bool) → MayWrite past sent deleted self.old
+            → MayWrite (told_in (is_executing self.old.phase) past) sent deleted self.new }
+        ensures formats { (past : Past) (sent : ℕ) (numbers : Numbers) → MayFormat past sent numbers self.old
+            → MayFormat (told_in (is_executing self.old.phase) past) sent numbers self.new }
     {
         self.end_transfer();
     }

@@ -1,12 +1,15 @@
 // FORMAT TRACK, word by word.
-ghost use Rattle.std.specs.Prelude.{◌≡◌, ◌<◌, ◌+◌};
+ghost use Rattle.std.specs.Prelude.{◌≡◌, ◌<◌, ◌+◌, Bool, true, false};
+ghost use Rattle.drive_model.specs.Drive.{rate_of};
+ghost use Rattle.fdc_writing.specs.Formats.{opens, is_due};
+ghost use Rattle.fdc_core.specs.Rates.{rate_fits};
 ghost use Rattle.fdc_writing.specs.declared.formatting.FormatNext.{FormatNext};
-ghost use Rattle.fdc_core.specs.Formatting.{IsFormatStep, IsFormatTime, HearsATurn, LaysByte, after_laid, is_ended};
+ghost use Rattle.fdc_core.specs.Formatting.{IsFormatStep, IsFormatTime, HearsATurn, LaysByte, StageHearsTurn, after_laid, is_ended};
 
 use crate::controller::Fdc;
 use crate::phases::{LAST_STEP, NO_KEY, Task, head_of};
 use crate::transfers::Formatting;
-use crate::writing::{NO_BYTE, close_behind};
+use crate::writing::{close_behind, open_before};
 use drive_model::Drive;
 use fdc_stages::Ending;
 use fdc_writing::FormatNext;
@@ -51,7 +54,7 @@ impl Fdc {
 
     /// Where no drive is selected, no index comes.
     pub(crate) fn await_nothing(&mut self, head_drive: u8, steps: u16, formatting: Formatting)
-        ensures { (next : FormatNext) × (self.new ≡ after_laid head_drive steps formatting next self.old) }
+        ensures { (next : FormatNext) × StageHearsTurn formatting false next × (self.new ≡ after_laid head_drive steps formatting next self.old) }
     {
         let next = formatting.stage.hear(false);
         self.follow_formatting(head_drive, steps, formatting, next);
@@ -59,33 +62,37 @@ impl Fdc {
 
     /// The first word of the layout is written, where the rate is the medium's.
     fn open_track<D: Drive>(&mut self, head_drive: u8, steps: u16, formatting: Formatting, drive: &mut D)
-        requires { steps < 65535 }
+        requires few { steps < 65535 }
+        requires opens { opens formatting.stage ≡ true }
         ensures { IsFormatTime head_drive steps formatting self.old (D.state drive.old) (D.state drive.new) self.new }
     {
         if self.rate.fits(drive.rate()) {
-            drive.gate(true);
-            self.lay_word(head_drive, steps, formatting, NO_BYTE, drive);
+            self.go_on_track(head_drive, steps, formatting, drive);
         } else {
             self.hear_formatting(head_drive, steps, formatting, drive);
         }
     }
 
-    /// A further word of the layout is written, unless its byte is missing.
+    /// The next word of the layout is written, unless its byte is missing.
     fn go_on_track<D: Drive>(&mut self, head_drive: u8, steps: u16, formatting: Formatting, drive: &mut D)
-        requires { steps < 65535 }
+        requires few { steps < 65535 }
+        requires fits { opens formatting.stage ≡ true → rate_fits self.old.rate (rate_of (D.state drive.old).medium) ≡ true }
+        requires due { is_due formatting.stage ≡ true }
         ensures { IsFormatTime head_drive steps formatting self.old (D.state drive.old) (D.state drive.new) self.new }
     {
-        match self.take_byte_for(formatting.stage.needs_byte(), formatting.counted) {
+        let takes = formatting.stage.needs_byte();
+        match self.take_byte_for(takes, formatting.counted) {
             Some(byte) => self.lay_word(head_drive, steps, formatting, byte, drive),
             None => self.stop(Ending::Overrun, head_drive, NO_KEY, drive),
         }
     }
 
-    /// Writes the next word, and closes the gate behind the last.
+    /// Writes the next word. The gate opens before the first, and closes behind the last.
     fn lay_word<D: Drive>(&mut self, head_drive: u8, steps: u16, formatting: Formatting, byte: u8, drive: &mut D)
         requires { steps < 65535 }
-        ensures { LaysByte head_drive steps formatting byte self.old (D.state drive.old) (D.state drive.new) self.new }
+        ensures { (takes : Bool) → LaysByte head_drive steps formatting takes byte self.old (D.state drive.old) (D.state drive.new) self.new }
     {
+        open_before(formatting.stage.opens(), drive);
         let given = formatting.stage.write(byte);
         let index = drive.write_word(head_of(head_drive), given.word);
         let next = given.after(index, formatting.counted);

@@ -1,6 +1,6 @@
 // The controller's ports (PC/AT): 3F2 DOR, 3F4 MSR and DSR, 3F5 the data port, 3F7 DIR and CCR.
 ghost use Rattle.std.specs.Prelude.{◌≡◌};
-ghost use Rattle.fdc_core.specs.Heard.{KeepsKnown};
+ghost use Rattle.fdc_core.specs.Written.{KeepsKnown};
 ghost use Rattle.fdc_core.specs.Ports.{is_taking, main_status, line_bits, result_byte, given, dor_written, dsr_written, Writes, value_read, after_read};
 
 use crate::controller::{Fdc, Lines};

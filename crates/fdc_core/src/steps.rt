@@ -5,6 +5,8 @@ ghost use Rattle.fdc_seek.specs.Seeking.{pulse_due};
 ghost use Rattle.fdc_core.specs.Listening.{Listens, ListensToNone, SeesUnder};
 ghost use Rattle.fdc_core.specs.Steps.{polled, seek_stepped, let_pass, Rests, Moves, MovesDrive, Ends, Stays, Flows};
 ghost use Rattle.fdc_core.specs.Tasks.{IsListenStep, TaskSteps, TaskStepsNowhere};
+ghost use Rattle.fdc_core.specs.Waiting.{LastsOn};
+ghost use Rattle.fdc_core.specs.Writes.{WritesOn};
 
 use crate::controller::Fdc;
 use crate::phases::{Execution, LAST_STEP, NO_KEY, Phase, Reading, Task, head_of};
@@ -23,10 +25,12 @@ impl Fdc {
     pub fn step<D: Drive>(&mut self, drive: &mut D)
         ensures rests { Rests (polled self.old) ((D.state drive.old).cylinder == 0) self.new }
         ensures reads { Listens self.old (polled self.old) (at_index (D.state drive.old)) (D.state drive.old) (D.state drive.new) self.new }
+        ensures writes { WritesOn self.old (polled self.old) (D.state drive.old) (D.state drive.new) self.new }
         ensures drive { MovesDrive (polled self.old) (D.state drive.old) (D.state drive.new) }
         ensures ends { Ends self.old self.new }
         ensures stays { Stays self.old self.new }
         ensures flows { Flows self.old self.new }
+        ensures lasts { LastsOn self.old self.new }
     {
         self.poll();
         self.advance(drive);
@@ -36,10 +40,12 @@ impl Fdc {
     fn advance<D: Drive>(&mut self, drive: &mut D)
         ensures rests { Rests self.old ((D.state drive.old).cylinder == 0) self.new }
         ensures reads { Listens self.old self.old (at_index (D.state drive.old)) (D.state drive.old) (D.state drive.new) self.new }
+        ensures writes { WritesOn self.old self.old (D.state drive.old) (D.state drive.new) self.new }
         ensures drive { MovesDrive self.old (D.state drive.old) (D.state drive.new) }
         ensures ends { Ends self.old self.new }
         ensures stays { Stays self.old self.new }
         ensures flows { Flows self.old self.new }
+        ensures lasts { LastsOn self.old self.new }
     {
         match self.phase {
             Phase::Execute { execution } => self.execute(execution, drive),

@@ -1,10 +1,11 @@
 // WRITE DATA and WRITE DELETED, word by word.
 ghost use Rattle.std.specs.Prelude.{◌≡◌, ◌<◌, ◌+◌, true, false, Option};
-ghost use Rattle.drive_model.specs.Drive.{Becomes};
+ghost use Rattle.drive_model.specs.Drive.{Becomes, rate_of};
 ghost use Rattle.fdc_writing.specs.Writings.{opens, is_due};
+ghost use Rattle.fdc_core.specs.Rates.{rate_fits};
 ghost use Rattle.fdc_core.specs.State.{finished};
 ghost use Rattle.fdc_core.specs.Steps.{let_pass};
-ghost use Rattle.fdc_core.specs.Times.{Closes};
+ghost use Rattle.fdc_core.specs.Times.{Opens, Closes};
 ghost use Rattle.fdc_core.specs.Writing.{IsWriteStep, IsWriteTime, HearsAWord, PutsByte, StageHearsWord, after_next, byte_taken, without_byte, is_ended};
 ghost use Rattle.fdc_writing.specs.declared.writing.WriteNext.{WriteNext};
 
@@ -17,7 +18,7 @@ use fdc_writing::WriteNext;
 use flop_base::Chrn;
 
 /// What is recorded where no byte is needed, or where none came before the terminal count.
-pub(crate) const NO_BYTE: u8 = 0x00;
+const NO_BYTE: u8 = 0x00;
 
 impl Fdc {
     /// A device step of a write, behind `steps` others. A protected medium is met in the first.
@@ -74,17 +75,16 @@ impl Fdc {
         ensures { IsWriteTime head_drive steps writing self.old (D.state drive.old) (D.state drive.new) self.new }
     {
         if self.rate.fits(drive.rate()) {
-            drive.gate(true);
-            self.put_word(head_drive, steps, writing, NO_BYTE, drive);
+            self.go_on_window(head_drive, steps, writing, drive);
         } else {
             self.hear_writing(head_drive, steps, writing, drive);
         }
     }
 
-    /// A further word of the window is written, unless its byte is missing.
+    /// The next word of the window is written, unless its byte is missing.
     fn go_on_window<D: Drive>(&mut self, head_drive: u8, steps: u16, writing: Writing, drive: &mut D)
         requires few { steps < 65535 }
-        requires open { opens writing.stage ≡ false }
+        requires fits { opens writing.stage ≡ true → rate_fits self.old.rate (rate_of (D.state drive.old).medium) ≡ true }
         requires due { is_due writing.stage ≡ true }
         ensures { IsWriteTime head_drive steps writing self.old (D.state drive.old) (D.state drive.new) self.new }
     {
@@ -94,11 +94,12 @@ impl Fdc {
         }
     }
 
-    /// Writes the next word, and closes the gate behind the last.
+    /// Writes the next word. The gate opens before the first, and closes behind the last.
     fn put_word<D: Drive>(&mut self, head_drive: u8, steps: u16, writing: Writing, byte: u8, drive: &mut D)
         requires { steps < 65535 }
         ensures { PutsByte head_drive steps writing byte self.old (D.state drive.old) (D.state drive.new) self.new }
     {
+        open_before(writing.stage.opens(), drive);
         let given = writing
             .stage
             .write(writing.wanted.key, writing.deleted, byte);
@@ -155,6 +156,15 @@ fn is_ended(next: WriteNext) -> bool
     ensures { result ≡ is_ended next }
 {
     matches!(next, WriteNext::Ended(_))
+}
+
+/// Opens the gate, where the word is the first.
+pub(crate) fn open_before<D: Drive>(first: bool, drive: &mut D)
+    ensures { Opens first (D.state drive.old) (D.state drive.new) }
+{
+    if first {
+        drive.gate(true);
+    }
 }
 
 /// Closes the gate, where the word was the last.

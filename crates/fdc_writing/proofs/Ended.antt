@@ -1,9 +1,12 @@
 -- What the ending of a writing or of a format says of the words written.
-use Rattle.std.proofs.Common.{◌≡◌, ℕ, ◌+◌, ◌-◌, ◌*◌, ◌≤◌, Bool, List, length, replicate, sym, ap, subst, ◌∙◌, arith, inl, inr}
-use Rattle.std.proofs.lemmas.List.{length-replicate}
+use Rattle.std.proofs.Common.{take, length-append, refl, ◌++◌, ◌≡◌, ℕ, ◌+◌, ◌-◌, ◌*◌, ◌≤◌, Bool, List, length, replicate, sym, ap, subst, ◌∙◌, arith, inl, inr}
+use Rattle.std.proofs.lemmas.List.{length-replicate, take_at, take_all, append-nil, drop_all}
 use Rattle.flop_base.specs.declared.key.Chrn.{Chrn}
 use Rattle.track_model.specs.Fields.{content_size}
-use Rattle.track_model.specs.Layouts.{laid_words}
+use Rattle.track_model.specs.Writing.{window}
+use Rattle.track_model.specs.Layouts.{laid_words, lay}
+use Rattle.track_model.specs.Windows.{window_word, with_words}
+use Rattle.track_separator.proofs.Laws.{address_stays}
 use Rattle.track_format.proofs.Asked.{length-key_bytes}
 use Rattle.fdc_stages.specs.declared.ending.Ending.{Ending}
 use Rattle.fdc_stages.specs.declared.ending.Ending.TheVariants.{Done, NoMark, NoSector, NoField, BadCheck, Overrun, NoCount, Protected, Late}
@@ -13,7 +16,7 @@ use Rattle.fdc_writing.specs.declared.writing.WriteStage.TheVariants as stage
 use Rattle.fdc_writing.specs.declared.formatting.FormatPart.{FormatPart}
 use Rattle.fdc_writing.specs.declared.formatting.FormatPart.TheVariants.{Await, Due, Lay, Barred}
 use Rattle.fdc_writing.specs.declared.formatting.FormatStage.{FormatStage}
-use Rattle.fdc_writing.specs.Writings.{IsStopped, IsWriting, HasBegun, HasWritten, WritesFirst}
+use Rattle.fdc_writing.specs.Writings.{IsStopped, IsWriting, IsFirstOf, HasBegun, HasWritten, IsWhole, WritesFirst, WritesWhole}
 use Rattle.fdc_writing.specs.Formats.{Numbers, keys_from, IsAtPart, IsFormatting, IsBehindIndex, HasLaid, HasFormatted, LaysFirst, LaysWhole}
 use Rattle.fdc_writing.proofs.Keyed.{length-keys_from, some_keys}
 use Rattle.fdc_writing.proofs.Windowed.{begun_in}
@@ -59,13 +62,52 @@ stopped_formatted NoCount now past numbers handed was stopped = absurd stopped
 
 -- ---- the words written
 
+taken_first : (words whole : List ℕ) → IsFirstOf words whole → (length words ≤ length whole) × (words ≡ take (length words) whole)
+taken_first words whole (others, is) =
+    (omega (arith, ap length is, length-append words others), sym (ap (take (length words)) is ∙ take_at words others (length words) refl))
+
 pub first_written : (past : Past) (key : Chrn) (deleted : Bool) (handed : List ℕ) → HasBegun past key deleted handed → WritesFirst past key deleted handed
 first_written past key deleted handed (inl none) = inl none.0
 first_written past key deleted handed (inr (p, begun)) =
     let zeros = content_size key.n - length handed in
-    let size : length handed + zeros ≡ content_size key.n = omega (arith, begun.few) in
-    let many : length (replicate {A = ℕ} zeros 0) ≡ zeros = length-replicate zeros 0 in
-    inr (p, zeros, record { address = begun.address; place = begun.place; size = size; first = begun.first (replicate zeros 0) (ap (λ k. length handed + k) many ∙ size) })
+    let rest : List ℕ = replicate zeros 0 in
+    let many : length rest ≡ zeros = length-replicate zeros 0 in
+    let size : length handed + length rest ≡ content_size key.n = omega (arith, begun.few) in
+    let content = handed ++ rest in
+    let taken = taken_first past.words (window deleted content) (begun.first rest size) in
+    let long : length content ≡ content_size key.n = length-append handed rest ∙ size in
+    inr (
+      p,
+      zeros,
+      record {
+        field = λ track part. record { address = address_stays past.seen track part p key begun.address; size = long };
+        cut = λ track inside. record {
+          cuttable = record { most = taken.0; inside = omega (arith, begun.place, inside) };
+          is = ap (λ start. with_words track start past.words) begun.place ∙ ap (with_words track (window_word p)) taken.1;
+        };
+      },
+    )
+
+pub whole_written : (past : Past) (key : Chrn) (deleted : Bool) (handed : List ℕ) (marked : Bool) → HasWritten past key deleted handed (Done marked) → WritesWhole past key deleted handed
+whole_written past key deleted handed marked written =
+    let p = written.cause.2.0 in
+    let at : IsWhole past.seen past.words key deleted handed p = written.cause.2.1 in
+    let all = window deleted handed in (
+      p,
+      record {
+        counted = written.cause.1;
+        words = at.whole;
+        field = λ track part. record { address = address_stays past.seen track part p key at.address; size = at.size };
+        written = λ track. ap (λ start. with_words track start past.words) at.place ∙ ap (with_words track (window_word p)) (at.whole ∙ sym (take_all (length all) all (omega arith)));
+      },
+    )
+
+-- a track of so many words
+pub track_over : (track words : List ℕ) → length track ≡ length words → with_words track 0 words ≡ words
+unfolding with_words
+track_over track words same =
+    let over : length track ≤ 0 + length words = omega (arith, same) in
+    ap (λ xs. words ++ xs) (drop_all (0 + length words) track over) ∙ append-nil words
 
 pub first_laid : (past : Past) (numbers : Numbers) (handed : List ℕ) → HasLaid past numbers handed → LaysFirst past numbers handed
 first_laid past numbers handed laid =
@@ -81,5 +123,9 @@ whole_laid past numbers handed marked formatted =
       index = turn.index;
       words = first_laid past numbers handed formatted.begun;
       fits = subst (λ count. laid_words count numbers.n numbers.gap3 ≤ length past.words) same turn.fits;
+      written = λ track same.
+          track_over track past.words same
+          ∙ (first_laid past numbers handed formatted.begun).laid
+          ∙ ap (lay (keys_from numbers.sectors handed) numbers.n numbers.gap3 numbers.fill) (sym same);
       all = ap length (sym turn.bytes) ∙ length-key_bytes keys ∙ ap (λ count. 4 * count) turn.many;
     }

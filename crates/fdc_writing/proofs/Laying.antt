@@ -1,5 +1,5 @@
 -- A word of a layout that a format writes.
-use Rattle.std.proofs.Common.{◌≡◌, ◌↔◌, ℕ, suc, ◌+◌, ◌*◌, ◌≤◌, Bool, true, false, IsTrue, List, [], ◌∷◌, ◌++◌, length, drop, slice_index, refl, sym, ap, subst, ◌∙◌, append_assoc, arith, length-append}
+use Rattle.std.proofs.Common.{◌-◌, ◌≡◌, ◌↔◌, ℕ, suc, ◌+◌, ◌*◌, ◌≤◌, Bool, true, false, IsTrue, List, [], ◌∷◌, ◌++◌, length, drop, slice_index, refl, sym, ap, subst, ◌∙◌, append_assoc, arith, length-append}
 use Rattle.std.proofs.lemmas.Bool.{false≢true}
 use Rattle.std.proofs.lemmas.List.{append-nil, drop-drop, drop_all, length-drop, length-replicate}
 use Rattle.std.specs.List.{flat_map}
@@ -13,8 +13,8 @@ use Rattle.track_format.specs.Keys.{key_bytes, asked_in}
 use Rattle.track_format.specs.Streams.{Gives, AsksKey, KeyIs, filled}
 use Rattle.track_format.specs.declared.stream.FormatStream.{FormatStream}
 use Rattle.track_format.proofs.Asked.{length-key_bytes, asked-track, asked_first, asked_same, recorded_more, recorded_none}
-use Rattle.fdc_writing.specs.Writings.{handed_with}
-use Rattle.fdc_writing.specs.Formats.{Numbers, AreKeys, IsLaidTo, IsLaid, StreamTakes, symbols_of, keys_from}
+use Rattle.fdc_writing.specs.Writings.{handed_with, IsFirstOf}
+use Rattle.fdc_writing.specs.Formats.{Numbers, AreKeys, IsLaidTo, IsLaid, StreamTakes, symbols_of, keys_from, IsFirstOfLayout}
 use Rattle.fdc_writing.proofs.Keyed.{some_keys}
 
 -- ---- how long a layout is
@@ -126,16 +126,30 @@ next_laid words handed numbers old new byte word false goes takes was = record {
 }
 
 -- the words are the first of the layout
-pub laid_words_are : (words handed : List ℕ) (numbers : Numbers) (stream : FormatStream) → IsLaid words numbers handed stream → (keys : List Chrn) (rest : List ℕ) → AreKeys numbers handed keys rest → words ≡ lay keys numbers.n numbers.gap3 numbers.fill (length words)
-unfolding lay
+module _ (words : List ℕ) (numbers : Numbers) (keys : List Chrn) (rest : List ℕ) (stream : FormatStream) (last : Bool) (left : List Symbol) (at : IsLaidTo words (symbols_of numbers keys) rest stream last left) where
+  abbrev layout_of : ℕ → List ℕ
+  layout_of turn = lay keys numbers.n numbers.gap3 numbers.fill turn
+
+  all_laid : words ≡ layout_of (length words)
+  unfolding lay
+  all_laid =
+      let count : length words + 0 ≡ length words = omega arith in
+      sym (append-nil words)
+      ∙ ap (λ xs. words ++ xs) (sym (recorded_none last left))
+      ∙ at.goes_on 0
+      ∙ ap (λ k. recorded false (filled k (symbols_of numbers keys))) count
+
+  first_laid : (turn : ℕ) → length words ≤ turn → IsFirstOf words (layout_of turn)
+  unfolding lay
+  first_laid turn more =
+      let others = turn - length words in
+      let count : turn ≡ length words + others = omega arith in
+      (recorded last (filled others left), ap (λ k. recorded false (filled k (symbols_of numbers keys))) count ∙ sym (at.goes_on others))
+
+pub laid_words_are : (words handed : List ℕ) (numbers : Numbers) (stream : FormatStream) → IsLaid words numbers handed stream → (keys : List Chrn) (rest : List ℕ) → AreKeys numbers handed keys rest → IsFirstOfLayout words numbers keys
 laid_words_are words handed numbers stream was keys rest are =
     let at = was.laid keys rest are in
-    let symbols = symbols_of numbers keys in
-    let count : length words + 0 ≡ length words = omega arith in
-    sym (append-nil words)
-    ∙ ap (λ xs. words ++ xs) (sym (recorded_none at.0 at.1))
-    ∙ at.2.goes_on 0
-    ∙ ap (λ k. recorded false (filled k symbols)) count
+    record { laid = all_laid words numbers keys rest stream at.0 at.1 at.2; first = first_laid words numbers keys rest stream at.0 at.1 at.2 }
 
 -- ---- whether they are the whole of it
 

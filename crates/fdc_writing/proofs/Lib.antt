@@ -3,5 +3,5 @@ mod Windowed
 mod Keyed
 mod Laying
 mod Turned
-mod Ended
+pub mod Ended
 mod Leading

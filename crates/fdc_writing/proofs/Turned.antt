@@ -11,8 +11,10 @@ use Rattle.fdc_writing.specs.declared.formatting.FormatPart.{FormatPart}
 use Rattle.fdc_writing.specs.declared.formatting.FormatPart.TheVariants.{Await, Due, Lay, Barred}
 use Rattle.fdc_writing.specs.declared.formatting.FormatStage.{FormatStage}
 use Rattle.fdc_writing.specs.Writings.{handed_with}
-use Rattle.fdc_writing.specs.Formats.{Numbers, is_next, is_due, StreamTakes, IsLaid, IsLastKey, IsBehindFirst, IsAtPart, IsFormatting, IsNextLaid, IsBehindIndex, HasLaid, HasWholeTurn, IsUnopened, HasFormatted, IsResultKey}
+use Rattle.fdc_writing.specs.Formats.{Numbers, is_next, is_due, StreamTakes, TakesAt, IsLaid, IsLastKey, IsBehindFirst, IsAtPart, IsFormatting, IsNextLaid, IsBehindIndex, HasLaid, HasWholeTurn, IsUnopened, HasFormatted, IsResultKey}
+use Rattle.fdc_writing.specs.Leads.{StreamLeads}
 use Rattle.fdc_writing.proofs.Keyed.{last_of}
+use Rattle.fdc_writing.proofs.Leading.{none_before}
 use Rattle.fdc_writing.proofs.Laying.{Goes, next_laid, same_takes, laid_words_are, StreamIsWhole, whole_fits, part_misfits}
 
 -- ---- the index is awaited
@@ -58,10 +60,23 @@ due_behind Due past due (behind, begins, none) = (behind, begins ∙ sym (ap len
 due_behind Lay past due (behind, place, some) = (behind, place)
 due_behind Barred past due was = absurd (false≢true due)
 
-pub write_laid : (past : Past) (numbers : Numbers) (handed : List ℕ) (now : FormatStage) (new : FormatStream) (key : Chrn) (byte word : ℕ) (takes given : Bool) → is_due now ≡ true → IsFormatting past numbers handed now → StreamTakes now.stream takes → StreamTakes now.stream given → Goes now.stream new byte word → (IsLastKey handed now.key → IsLastKey (handed_with given byte handed) key) → IsNextLaid past numbers (handed_with takes byte handed) word new key
+some_lead : (lead : ℕ) → lead ≡ 162 → lead ≡ 0 → ⊥
+some_lead lead is none = omega arith
+
+-- the first word takes none
+takes_agree : (part : FormatPart) (past : Past) (numbers : Numbers) (handed : List ℕ) (stream : FormatStream) (takes given : Bool) → is_next part ≡ true → IsAtPart past.turns past.seen past.place past.words past.barred part → IsLaid past.words numbers handed stream → TakesAt part stream takes → StreamTakes stream given → given ≡ takes
+takes_agree Await past numbers handed stream takes given due at laid is too = absurd (false≢true due)
+takes_agree Barred past numbers handed stream takes given due at laid is too = absurd (false≢true due)
+takes_agree Lay past numbers handed stream takes given due at laid is too = same_takes past.words handed numbers stream given takes laid too is
+takes_agree Due past numbers handed stream takes true due (behind, begins, none) laid is too =
+    let leads : StreamLeads stream 162 = record { numbers = numbers; words = past.words; handed = handed; laid = laid; most = omega (arith, ap length none) } in
+    absurd (some_lead 162 refl (none_before stream true 162 refl too leads))
+takes_agree Due past numbers handed stream takes false due at laid is too = sym is
+
+pub write_laid : (past : Past) (numbers : Numbers) (handed : List ℕ) (now : FormatStage) (new : FormatStream) (key : Chrn) (byte word : ℕ) (takes given : Bool) → is_due now ≡ true → IsFormatting past numbers handed now → TakesAt now.part now.stream takes → StreamTakes now.stream given → Goes now.stream new byte word → (IsLastKey handed now.key → IsLastKey (handed_with given byte handed) key) → IsNextLaid past numbers (handed_with takes byte handed) word new key
 write_laid past numbers handed now new key byte word takes given due (at, laid, last) is too goes shifts =
     let next = next_laid past.words handed numbers now.stream new byte word given goes too laid in
-    subst (λ t. IsNextLaid past numbers (handed_with t byte handed) word new key) (same_takes past.words handed numbers now.stream given takes laid too is)
+    subst (λ t. IsNextLaid past numbers (handed_with t byte handed) word new key) (takes_agree now.part past numbers handed now.stream takes given due at laid is too)
     (due_behind now.part past due at, next, shifts last)
 
 -- ---- behind a word of the layout
@@ -95,7 +110,7 @@ whole_turn true word past numbers handed stream key is whole ((behind, place), l
         many = fits.1.many;
         bytes = fits.1.bytes ∙ append-nil handed;
         fits = fits.2;
-        laid = laid_words_are (with_word past.words word) handed numbers stream laid fits.0 [] fits.1;
+        laid = (laid_words_are (with_word past.words word) handed numbers stream laid fits.0 [] fits.1).laid;
       },
     )
 

@@ -15,7 +15,7 @@ use Rattle.fdc_stages.specs.History.{Past, wrote}
 use Rattle.fdc_writing.specs.declared.writing.WriteStage.{WriteStage}
 use Rattle.fdc_writing.specs.declared.writing.WriteStage.TheVariants as stage
 use Rattle.fdc_writing.specs.Writings as writing
-use Rattle.fdc_writing.specs.Writings.{handed_with, IsBefore, IsInWindow, IsBegun, IsWhole, IsWriting, IsNextWord, HasBegun, HasWhole, HasWritten, is_due, lead_of, window_needs}
+use Rattle.fdc_writing.specs.Writings.{handed_with, IsBefore, IsInWindow, IsBegun, IsWhole, IsWriting, IsNextWord, HasBegun, HasWhole, HasWritten, is_due, lead_of}
 
 -- ---- the window that the next word belongs to
 
@@ -36,7 +36,7 @@ new_window (stage.Gap zero) past key deleted handed fresh closed all bytes count
 new_window (stage.Gap (suc left)) past key deleted handed fresh closed all bytes count due was = absurd (false≢true due)
 new_window (stage.Window opened) past key deleted handed fresh closed all bytes count due was = absurd (closed opened refl)
 
-pub new_needs : (now : WriteStage) (fresh : Window) → ((opened : Window) → now ≡ stage.Window opened → ⊥) → window_needs fresh ≡ false → window_needs fresh ≡ writing.needs_byte now
+pub new_needs : (now : WriteStage) (fresh : Window) → ((opened : Window) → now ≡ stage.Window opened → ⊥) → needs_byte fresh ≡ false → needs_byte fresh ≡ writing.needs_byte now
 new_needs (stage.Search searching) fresh closed begins = begins
 new_needs (stage.Gap left) fresh closed begins = begins
 new_needs (stage.Window opened) fresh closed begins = absurd (closed opened refl)
@@ -78,7 +78,7 @@ next_word seen words key deleted handed now p byte word behind was gives =
           ∙ ap (window deleted) (handed_ahead now.part byte handed rest);
     }
 
-pub write_word : (past : Past) (key : Chrn) (deleted : Bool) (handed : List ℕ) (at : WriteStage) (now : Window) (byte word : ℕ) (behind : Option Window) → IsWriting past key deleted handed at → (p : ℕ) × IsInWindow past.seen past.words key deleted handed (Some now) p → window_needs now ≡ writing.needs_byte at → Gives now.part now byte word behind → IsNextWord past key deleted (handed_with (writing.needs_byte at) byte handed) word behind
+pub write_word : (past : Past) (key : Chrn) (deleted : Bool) (handed : List ℕ) (at : WriteStage) (now : Window) (byte word : ℕ) (behind : Option Window) → IsWriting past key deleted handed at → (p : ℕ) × IsInWindow past.seen past.words key deleted handed (Some now) p → needs_byte now ≡ writing.needs_byte at → Gives now.part now byte word behind → IsNextWord past key deleted (handed_with (writing.needs_byte at) byte handed) word behind
 write_word past key deleted handed at now byte word behind was (p, inside) needs gives =
     let next = next_word past.seen past.words key deleted handed now p byte word behind inside gives in
     (was.0, (p, subst (λ b. IsInWindow past.seen (with_word past.words word) key deleted (handed_with b byte handed) behind p) needs next))

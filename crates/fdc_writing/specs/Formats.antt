@@ -4,6 +4,7 @@ use Rattle.std.specs.List.{flat_map}
 use Rattle.flop_base.specs.declared.key.Chrn.{Chrn}
 use Rattle.track_model.specs.declared.symbol.Symbol.{Symbol}
 use Rattle.track_model.specs.Layouts.{recorded, track_symbols, lay, Fits}
+use Rattle.track_model.specs.Windows.{with_words}
 use Rattle.track_separator.specs.Parts.{with_word}
 use Rattle.track_format.specs.Keys.{key_bytes, asked_in}
 use Rattle.track_format.specs.Streams.{Gives, AsksKey, filled}
@@ -12,6 +13,7 @@ use Rattle.fdc_stages.specs.declared.ending.Ending.{Ending}
 use Rattle.fdc_stages.specs.declared.ending.Ending.TheVariants.{Done, NoMark, NoSector, NoField, BadCheck, Overrun, NoCount, Protected, Late}
 use Rattle.fdc_stages.specs.History.{Past}
 use Rattle.fdc_stages.specs.Searches.{IsBetween}
+use Rattle.fdc_writing.specs.Writings.{IsFirstOf}
 use Rattle.fdc_writing.specs.declared.formatting.FormatPart.{FormatPart}
 use Rattle.fdc_writing.specs.declared.formatting.FormatPart.TheVariants.{Await, Due, Lay, Barred}
 use Rattle.fdc_writing.specs.declared.formatting.FormatStage.{FormatStage}
@@ -56,8 +58,13 @@ is_due now = is_next now.part
 abbrev pub StreamTakes : FormatStream → Bool → Type 0
 StreamTakes stream takes = (last : Bool) (left : List Symbol) → Gives stream last left → IsTrue takes ↔ AsksKey left
 
+-- the next word of the layout is a byte of a key, or isn't: the first isn't
+abbrev pub TakesAt : FormatPart → FormatStream → Bool → Type 0
+TakesAt Due stream takes = takes ≡ false
+TakesAt _ stream takes = StreamTakes stream takes
+
 abbrev pub Takes : FormatStage → Bool → Type 0
-Takes now takes = StreamTakes now.stream takes
+Takes now takes = TakesAt now.part now.stream takes
 
 -- ---- keys
 
@@ -140,12 +147,17 @@ IsNextLaid past numbers handed word stream key =
 abbrev pub IsBehindIndex : Past → Type 0
 IsBehindIndex past = (past.words ≡ []) ⊎ IsBehindFirst past.turns past.seen
 
--- the words are the first of the layout for all keys whose bytes begin with those that were handed in
+-- the words are the layout of these keys for a turn of so many words, and the first of that for any longer turn
+pub record IsFirstOfLayout (words : List ℕ) (numbers : Numbers) (keys : List Chrn) : Type 0 where
+  pub laid : words ≡ lay keys numbers.n numbers.gap3 numbers.fill (length words)
+  pub first : (turn : ℕ) → length words ≤ turn → IsFirstOf words (lay keys numbers.n numbers.gap3 numbers.fill turn)
+
+-- they are so for all keys whose bytes begin with those that were handed in
 pub record HasLaid (past : Past) (numbers : Numbers) (handed : List ℕ) : Type 0 where
   pub behind : IsBehindIndex past
   pub few : length handed ≤ 4 * numbers.sectors
   pub laid : (keys : List Chrn) (rest : List ℕ) → AreKeys numbers handed keys rest
-      → past.words ≡ lay keys numbers.n numbers.gap3 numbers.fill (length past.words)
+      → IsFirstOfLayout past.words numbers keys
 
 -- the index came behind these words, and their turn has the whole layout of these keys
 pub record IsWholeTurn (past : Past) (numbers : Numbers) (handed : List ℕ) (keys : List Chrn) : Type 0 where
@@ -221,12 +233,13 @@ EndsWell _ = Unit {0}
 
 -- the words are the first of the layout of the keys that were handed in, with 00 for what is missing
 abbrev pub LaysFirst : Past → Numbers → List ℕ → Type 0
-LaysFirst past numbers handed =
-    past.words ≡ lay (keys_from numbers.sectors handed) numbers.n numbers.gap3 numbers.fill (length past.words)
+LaysFirst past numbers handed = IsFirstOfLayout past.words numbers (keys_from numbers.sectors handed)
 
--- they are the whole turn, the layout fits in it, and all keys were handed in
+-- they are the whole turn, the layout fits in it, and all keys were handed in: a track of so many words becomes the layout
 pub record LaysWhole (past : Past) (numbers : Numbers) (handed : List ℕ) : Type 0 where
   pub index : past.place ≡ 0
   pub words : LaysFirst past numbers handed
   pub fits : Fits (keys_from numbers.sectors handed) numbers.n numbers.gap3 (length past.words)
   pub all : length handed ≡ 4 * numbers.sectors
+  pub written : (track : List ℕ) → length track ≡ length past.words
+      → with_words track 0 past.words ≡ lay (keys_from numbers.sectors handed) numbers.n numbers.gap3 numbers.fill (length track)

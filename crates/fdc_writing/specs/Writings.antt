@@ -2,9 +2,10 @@
 use Rattle.std.specs.Prelude.{◌≡◌, ◌⊎◌, ℕ, zero, suc, ◌+◌, ◌<◌, ◌≤◌, Bool, true, false, Option, Some, List, [], ◌++◌, length, replicate}
 use Rattle.flop_base.specs.declared.key.Chrn.{Chrn}
 use Rattle.track_model.specs.Fields.{IsAddressAt, content_size}
-use Rattle.track_model.specs.Windows.{window_word, window_words}
+use Rattle.track_model.specs.Windows.{window_word, window_words, with_words, IsFieldFor, IsCut}
+use Rattle.track_model.specs.Laid.{with_window}
 use Rattle.track_model.specs.Writing.{window}
-use Rattle.track_separator.specs.Parts.{with_word}
+use Rattle.track_separator.specs.Parts.{with_word, IsPart}
 use Rattle.fdc_windows.specs.declared.window.Window.{Window}
 use Rattle.fdc_windows.specs.Windows as windowed
 use Rattle.fdc_windows.specs.Windows.{words_behind, bytes_behind, count_behind, lead_left}
@@ -41,10 +42,6 @@ abbrev pub needs_byte : WriteStage → Bool
 needs_byte (stage.Window now) = windowed.needs_byte now
 needs_byte _ = false
 
--- the same of a window's words
-abbrev pub window_needs : Window → Bool
-window_needs now = windowed.needs_byte now
-
 -- how many words pass before a byte of the content is needed, at the least; 16 where none is needed any more
 abbrev pub lead_of : WriteStage → ℕ
 lead_of (stage.Search _) = 39
@@ -63,7 +60,7 @@ abbrev pub heard_where : Bool → Bool → ℕ → Past → Past
 heard_where true index word past = kept_out index word past
 heard_where false index word past = heard index word past
 
--- so many words were heard since the address field of the key at p began that its window begins behind so many more
+-- the window of the address field of the key at p begins behind so many words more
 pub record IsBefore (seen : List ℕ) (key : Chrn) (left p : ℕ) : Type 0 where
   pub address : IsAddressAt seen p key
   pub place : length seen + left ≡ window_word p
@@ -207,13 +204,24 @@ IsStopped past Late = past.steps ≡ 65536
 IsStopped past Protected = past.words ≡ []
 IsStopped past _ = ⊥
 
--- the words are the first of the window of the address field of the key at p, at its place; its content is what was handed in
--- and then so many bytes 00
-pub record IsFirstAt (past : Past) (key : Chrn) (deleted : Bool) (handed : List ℕ) (p zeros : ℕ) : Type 0 where
-  pub address : IsAddressAt past.seen p key
-  pub place : length past.seen ≡ window_word p
-  pub size : length handed + zeros ≡ content_size key.n
-  pub first : IsFirstOf past.words (window deleted (handed ++ replicate zeros 0))
+-- each track that begins with the words heard has the address field of the key at p, and the words written behind them are
+-- a cut of its window with this content
+pub record WritesCut (past : Past) (key : Chrn) (deleted : Bool) (content : List ℕ) (p : ℕ) : Type 0 where
+  pub field : (track : List ℕ) → IsPart past.seen track → IsFieldFor track p key content
+  pub cut : (track : List ℕ) → length past.seen + length past.words ≤ length track
+      → IsCut track (with_words track (length past.seen) past.words) p (length past.words) (window deleted content)
 
+-- nothing was written, or such words; the content is what was handed in, and then 00
 abbrev pub WritesFirst : Past → Chrn → Bool → List ℕ → Type 0
-WritesFirst past key deleted handed = (past.words ≡ []) ⊎ ((p : ℕ) × (zeros : ℕ) × IsFirstAt past key deleted handed p zeros)
+WritesFirst past key deleted handed =
+    (past.words ≡ []) ⊎ ((p : ℕ) × (zeros : ℕ) × WritesCut past key deleted (handed ++ replicate zeros 0) p)
+
+-- the terminal count came, and the words are the whole window with what was handed in, at the place of the address field at p
+pub record WritesWindow (past : Past) (key : Chrn) (deleted : Bool) (handed : List ℕ) (p : ℕ) : Type 0 where
+  pub counted : past.counted ≡ true
+  pub words : past.words ≡ window deleted handed
+  pub field : (track : List ℕ) → IsPart past.seen track → IsFieldFor track p key handed
+  pub written : (track : List ℕ) → with_words track (length past.seen) past.words ≡ with_window track p deleted handed
+
+abbrev pub WritesWhole : Past → Chrn → Bool → List ℕ → Type 0
+WritesWhole past key deleted handed = (p : ℕ) × WritesWindow past key deleted handed p

@@ -2,7 +2,7 @@
 ghost use Rattle.std.specs.Prelude.{ℕ, List};
 ghost use Rattle.fdc_stages.specs.History.{Past};
 ghost use Rattle.fdc_stages.specs.declared.ending.Ending.{Ending};
-ghost use Rattle.fdc_writing.specs.Writings.{IsStopped, IsWriting, HasWritten, WritesFirst};
+ghost use Rattle.fdc_writing.specs.Writings.{IsStopped, IsWriting, HasWritten, WritesFirst, WritesWhole};
 ghost use Rattle.fdc_writing.specs.Formats.{Numbers, IsFormatting, HasFormatted, LaysFirst, LaysWhole};
 
 use crate::formatting::FormatStage;
@@ -23,11 +23,17 @@ pub fn stopped_is_formatted(_stage: FormatStage, _ending: Ending)
         → IsStopped past _ending → HasFormatted past numbers handed _ending }
 {}
 
-/// However a writing ends, the words are none, or the first of the window of an address field of the key at its place; its
-/// content is what was handed in, and then 00.
+/// However a writing ends, the words are none, or a cut of the window of an address field of the key; its content is what was
+/// handed in, and then 00.
 pub fn written_is_first(_key: Chrn, _deleted: bool, _ending: Ending)
     ensures { (past : Past) (handed : List ℕ) → HasWritten past _key _deleted handed _ending
         → WritesFirst past _key _deleted handed }
+{}
+
+/// A writing that is done has written the whole window, with what was handed in as its content.
+pub fn done_is_written(_key: Chrn, _deleted: bool, _marked: bool)
+    ensures { (past : Past) (handed : List ℕ) → HasWritten past _key _deleted handed (Ending.Done _marked)
+        → WritesWhole past _key _deleted handed }
 {}
 
 /// However a format ends, the words are the first of the layout of the keys that were handed in, with 00 for what is missing.

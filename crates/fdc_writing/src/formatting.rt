@@ -92,13 +92,13 @@ impl FormatStage {
     /// Whether the next word is a byte of a key, which `write` is to be handed.
     pub fn needs_byte(&self) -> bool
         ensures takes { is_due self.now ≡ true → Takes self.now result }
-        ensures due { is_due self.now ≡ false → result ≡ false }
+        ensures open { is_open self.now ≡ false → result ≡ false }
         ensures lead { (lead : ℕ) → HasLead self.now lead → result ≡ true → lead ≡ 0 }
     {
-        if !self.is_due() {
-            return false;
+        match self.part {
+            FormatPart::Lay => self.stream.needs_byte(),
+            _ => false,
         }
-        self.stream.needs_byte()
     }
 
     /// Hears a word of the track. `index` says that the index follows it. A word that is heard where the first of the layout
@@ -173,7 +173,8 @@ impl FormatStage {
 
 impl FormatWord {
     /// What the word gives the format once it was written. `index` says that the index follows it, and `counted` that the
-    /// terminal count came.
+    /// terminal count came. The format is over at the index: as a write ends normally only after the terminal count, so does a
+    /// format whose whole layout was written; a layout that is longer than the turn has no data field for each key.
     pub fn after(self, index: bool, counted: bool) -> FormatNext
         ensures goes_on { (past : Past) (numbers : Numbers) (handed : List ℕ) → past.counted ≡ counted
             → IsNextLaid past numbers handed self.word self.stream self.key

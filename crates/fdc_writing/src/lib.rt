@@ -9,7 +9,8 @@ mod formatting;
 mod writing;
 
 pub use endings::{
-    done_is_laid, formatted_is_first, stopped_is_formatted, stopped_is_written, written_is_first,
+    done_is_laid, done_is_written, formatted_is_first, stopped_is_formatted, stopped_is_written,
+    written_is_first,
 };
 pub use formatting::{FormatNext, FormatPart, FormatStage, FormatWord};
 pub use writing::{WriteNext, WriteStage, WriteWord};

@@ -3,10 +3,11 @@ ghost use Rattle.std.specs.Prelude.{◌≡◌, ◌+◌, ◌≤◌, ℕ, Bool, tr
 ghost use Rattle.track_separator.specs.declared.state.Separator.{Separator};
 ghost use Rattle.flop_base.specs.declared.key.Chrn.{Chrn};
 ghost use Rattle.track_model.specs.Fields.{IsSizeCode};
+ghost use Rattle.fdc_windows.specs.Windows as windows;
 ghost use Rattle.fdc_windows.specs.Windows.{lead_left, lead_behind};
 ghost use Rattle.fdc_stages.specs.History.{Past, begun, heard, wrote};
 ghost use Rattle.fdc_stages.specs.Searches.{IsMet};
-ghost use Rattle.fdc_writing.specs.Writings.{is_open, opens, is_due, needs_byte, lead_of, handed_with, heard_where, IsInWindow, IsWriting, IsNextWord, HasBegun, HasWhole, HasWritten, HasNext, FailsWell, EndsWell, IsEnd, LeadsOn, window_needs};
+ghost use Rattle.fdc_writing.specs.Writings.{is_open, opens, is_due, needs_byte, lead_of, handed_with, heard_where, IsInWindow, IsWriting, IsNextWord, HasBegun, HasWhole, HasWritten, HasNext, FailsWell, EndsWell, IsEnd, LeadsOn};
 
 use fdc_stages::{Ending, Search, Searched};
 use fdc_windows::Window;
@@ -80,7 +81,8 @@ impl WriteStage {
     /// Hears a word of the track. `index` says that the index follows it. A word that is heard where the first of the window
     /// is due says that the gate could not be opened. While the gate is open no word is heard.
     pub fn hear(self, key: Chrn, word: u16, index: bool) -> WriteNext
-        ensures hears { (past : Past) (deleted : Bool) (handed : List ℕ) → is_open self ≡ false → IsWriting past key deleted handed self
+        ensures hears { (past : Past) (deleted : Bool) (handed : List ℕ) → is_open self ≡ false
+            → IsWriting past key deleted handed self
             → HasNext (heard_where (opens self) index word past) key deleted handed result }
         ensures well { FailsWell result }
         ensures lead { LeadsOn (lead_of self) result }
@@ -111,7 +113,7 @@ impl WriteStage {
         requires { IsSizeCode key.n }
         ensures is { (past : Past) (handed : List ℕ) → is_due self ≡ true → IsWriting past key deleted handed self
             → (p : ℕ) × IsInWindow past.seen past.words key deleted handed (Some result) p }
-        ensures needs { is_due self ≡ true → window_needs result ≡ needs_byte self }
+        ensures needs { is_due self ≡ true → windows.needs_byte result ≡ needs_byte self }
         ensures lead { is_due self ≡ true → lead_left result ≡ lead_of self }
     {
         match self {
@@ -123,7 +125,8 @@ impl WriteStage {
 
 impl WriteWord {
     /// What the word gives the writing once it was written. `index` says that the index follows it, and `counted` that the
-    /// terminal count came.
+    /// terminal count came. Behind the last word the writing is over, normally only after the terminal count; an index behind
+    /// another word cuts the window.
     pub fn after(self, index: bool, counted: bool) -> WriteNext
         ensures goes_on { (past : Past) (key : Chrn) (deleted : Bool) (handed : List ℕ) → past.counted ≡ counted
             → IsNextWord past key deleted handed self.word self.rest
@@ -160,8 +163,8 @@ fn search_on(searching: Search, key: Chrn, word: u16, index: bool) -> WriteNext
 
 /// Begins to count the words behind the address field.
 fn meet(index: bool) -> WriteNext
-    ensures hears { (past : Past) (key : Chrn) (deleted : Bool) (separator : Separator) → past.place ≡ length past.seen → past.words ≡ []
-        → IsMet index past key separator → HasNext past key deleted [] result }
+    ensures hears { (past : Past) (key : Chrn) (deleted : Bool) (separator : Separator) → past.place ≡ length past.seen
+        → past.words ≡ [] → IsMet index past key separator → HasNext past key deleted [] result }
     ensures well { FailsWell result }
     ensures lead { LeadsOn 39 result }
 {
@@ -174,7 +177,8 @@ fn meet(index: bool) -> WriteNext
 /// Hears a word behind the address field. Where the index follows it, or where it stands in place of the first of the
 /// window, there is no window.
 fn wait_on(left: u8, index: bool) -> WriteNext
-    ensures hears { (past : Past) (word : ℕ) (key : Chrn) (deleted : Bool) (handed : List ℕ) → IsWriting past key deleted handed (WriteStage.Gap left)
+    ensures hears { (past : Past) (word : ℕ) (key : Chrn) (deleted : Bool) (handed : List ℕ)
+        → IsWriting past key deleted handed (WriteStage.Gap left)
         → HasNext (heard_where (opens (WriteStage.Gap left)) index word past) key deleted handed result }
     ensures well { FailsWell result }
     ensures lead { LeadsOn (left + 16) result }
@@ -190,7 +194,8 @@ fn wait_on(left: u8, index: bool) -> WriteNext
 
 /// How a writing ends whose whole window was written. The result of a write never says that data were deleted.
 fn whole_ending(counted: bool) -> Ending
-    ensures is { (past : Past) (key : Chrn) (deleted : Bool) (handed : List ℕ) → past.counted ≡ counted → HasWhole past key deleted handed → HasBegun past key deleted handed
+    ensures is { (past : Past) (key : Chrn) (deleted : Bool) (handed : List ℕ) → past.counted ≡ counted
+        → HasWhole past key deleted handed → HasBegun past key deleted handed
         → HasWritten past key deleted handed result }
     ensures well { IsEnd result }
 {

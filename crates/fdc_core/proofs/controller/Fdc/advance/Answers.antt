@@ -3,6 +3,8 @@ use Rattle.std.proofs.Common.{◌==◌}
 use Rattle.fdc_core.proofs.Ending.{executes_left}
 use Rattle.fdc_core.proofs.Hearing.{executes_hears, rests_hears}
 use Rattle.fdc_core.proofs.Staying.{executes_stays, executes_flows, executes_moves}
+use Rattle.fdc_core.proofs.Waiting.{executes_lasts}
+use Rattle.fdc_core.proofs.Writes.{executes_writes, rests_writes}
 use Rattle.fdc_core.proofs.controller.Fdc.advance.Goals as goal
 
 pub returns-in-Execute-clause-reads : goal.returns-in-Execute-clause-reads
@@ -29,3 +31,16 @@ pub returns-in_default-clause-reads : goal.returns-in_default-clause-reads
 returns-in_default-clause-reads g c =
     let drive = g.D.Drive.state c.args.drive.now in
     rests_hears (drive.cylinder == 0) (at_index drive) c.args.self.now c.rest.new.self drive (g.D.Drive.state c.rest.new.drive) c.rest.ensures.state c.in_default.not-Execute
+
+pub returns-in-Execute-clause-writes : goal.returns-in-Execute-clause-writes
+returns-in-Execute-clause-writes g c =
+    executes_writes c.args.self.now c.execute.new.self (g.D.Drive.state c.args.drive.now) (g.D.Drive.state c.execute.new.drive) c.in-Execute.execution c.in-Execute.is c.execute.ensures
+
+pub returns-in_default-clause-writes : goal.returns-in_default-clause-writes
+returns-in_default-clause-writes g c =
+    let drive = g.D.Drive.state c.args.drive.now in
+    rests_writes (drive.cylinder == 0) c.args.self.now c.rest.new.self drive (g.D.Drive.state c.rest.new.drive) c.rest.ensures.state c.in_default.not-Execute
+
+pub returns-in-Execute-clause-lasts : goal.returns-in-Execute-clause-lasts
+returns-in-Execute-clause-lasts g c =
+    executes_lasts c.args.self.now c.execute.new.self (g.D.Drive.state c.args.drive.now) (g.D.Drive.state c.execute.new.drive) c.in-Execute.execution c.in-Execute.is c.execute.ensures

@@ -11,5 +11,5 @@ returns g c = record {
         sees = subst (λ head. SeesUnder c.args.self.now.rate head (g.D.Drive.state c.args.drive.now) c.listen-turn.result.word (g.D.Drive.state c.listen-turn.new.drive)) c.head_of.ensures c.listen-turn.ensures.word;
         passes = c.listen-turn.ensures.drive;
       };
-      does = record { few = c.requires; next = c.hear-next.result; after_is = c.follow_formatting.ensures };
+      does = record { few = c.requires; next = c.hear-next.result; hears = (c.hear-next.ensures.hears, c.hear-next.ensures.well, c.hear-next.ensures.lead); after_is = c.follow_formatting.ensures };
     }

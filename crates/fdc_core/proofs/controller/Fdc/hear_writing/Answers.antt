@@ -14,7 +14,7 @@ returns g c = record {
       does = record {
         few = c.requires;
         next = c.hear-next.result;
-        hears = (c.hear-next.ensures.hears, c.hear-next.ensures.well);
+        hears = (c.hear-next.ensures.hears, c.hear-next.ensures.well, c.hear-next.ensures.lead);
         after_is = c.follow_writing.ensures;
       };
     }

@@ -1,14 +1,14 @@
 use Rattle.std.proofs.Common.{sym, ap, ◌∙◌, ◌≡◌, true, false}
 use Rattle.drive_model.specs.Drive.{DriveState, rate_of}
 use Rattle.fdc_core.specs.Rates.{rate_fits}
-use Rattle.fdc_core.proofs.Words.{first_time, kept_time}
+use Rattle.fdc_core.proofs.Words.{kept_time, opens_due}
 use Rattle.fdc_core.proofs.controller.Fdc.open_window.Goals as goal
 
-pub returns-then-fits : goal.returns-then-fits
-returns-then-fits g c =
+pub go_on_window-requires : goal.go_on_window-requires
+go_on_window-requires g c =
     let before : DriveState = g.D.Drive.state c.args.drive.now in
     let fits : rate_fits c.args.self.now.rate (rate_of before.medium) ≡ true = ap (rate_fits c.args.self.now.rate) (sym c.rate.ensures) ∙ sym c.fits.ensures ∙ c.if-fits.true in
-    first_time c.args.head_drive c.args.steps c.args.writing c.args.self.now before (g.D.Drive.state c.gate.new.self) (g.D.Drive.state c.put_word.new.drive) c.put_word.new.self c.requires.few c.requires.opens fits c.gate.ensures.becomes c.put_word.ensures
+    record { few = c.requires.few; fits = λ _. fits; due = opens_due c.args.writing.stage c.requires.opens }
 
 pub returns-else-fits : goal.returns-else-fits
 returns-else-fits g c =

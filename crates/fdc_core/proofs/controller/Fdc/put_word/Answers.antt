@@ -1,20 +1,25 @@
-use Rattle.std.proofs.Common.{subst, sym}
+use Rattle.std.proofs.Common.{subst, sym, ◌∙◌}
 use Rattle.drive_model.specs.Drive.{Writes, at_index}
-use Rattle.fdc_core.specs.Times.{Closes}
+use Rattle.fdc_core.specs.Times.{Opens, Closes}
 use Rattle.fdc_core.specs.Writing.{StageWritesWord}
+use Rattle.fdc_writing.specs.Writings.{lead_of}
+use Rattle.fdc_core.proofs.Words.{opens_index}
 use Rattle.fdc_core.proofs.controller.Fdc.put_word.Goals as goal
 
 pub returns : goal.returns
 returns g c = record {
+      from = g.D.Drive.state c.open_before.new.drive;
       mid = g.D.Drive.state c.write_word-index.new.self;
       given = c.write-given.result;
       next = c.after-next.result;
-      writes = subst (λ index. StageWritesWord c.args.writing c.args.byte index c.write-given.result c.after-next.result) c.write_word-index.ensures.index (record {
+      writes = subst (λ index. StageWritesWord c.args.writing c.args.byte index c.write-given.result c.after-next.result) (c.write_word-index.ensures.index ∙ opens_index c.opens.result (g.D.Drive.state c.args.drive.now) (g.D.Drive.state c.open_before.new.drive) c.open_before.ensures) (record {
         word_is = c.write-given.ensures.writes;
         goes_on = c.after-next.ensures.goes_on;
         well = c.after-next.ensures.well;
+        lead = λ due. c.after-next.ensures.lead (lead_of c.args.writing.stage) (c.write-given.ensures.lead due);
       });
-      puts = subst (λ head. Writes (g.D.Drive.state c.args.drive.now) head c.write-given.result.word (g.D.Drive.state c.write_word-index.new.self)) c.head_of.ensures c.write_word-index.ensures.writes;
+      opens_it = subst (λ first. Opens first (g.D.Drive.state c.args.drive.now) (g.D.Drive.state c.open_before.new.drive)) c.opens.ensures c.open_before.ensures;
+      puts = subst (λ head. Writes (g.D.Drive.state c.open_before.new.drive) head c.write-given.result.word (g.D.Drive.state c.write_word-index.new.self)) c.head_of.ensures c.write_word-index.ensures.writes;
       range_from = c.write_word-index.ensures.range_before;
       range_mid = c.write_word-index.ensures.range;
       closes = subst (λ last. Closes last (g.D.Drive.state c.write_word-index.new.self) (g.D.Drive.state c.close_behind.new.drive)) c.is_ended.ensures c.close_behind.ensures;

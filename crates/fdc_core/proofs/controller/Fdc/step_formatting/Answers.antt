@@ -1,4 +1,5 @@
 use Rattle.std.proofs.Common.{refl, sym, ◌∙◌, false}
+use Rattle.std.proofs.lemmas.Bool.{false≢true}
 use Rattle.fdc_core.specs.Times.{Stopped}
 use Rattle.fdc_stages.specs.declared.ending.Ending.TheVariants.{Protected}
 use Rattle.fdc_core.proofs.controller.Fdc.step_formatting.Goals as goal
@@ -10,7 +11,9 @@ returns-then-protected g c = record {
         is = c.stop-then-protected.ensures.drive;
         does = record {
           ending = Protected;
-          needs = false; stops = (c.if-steps-eq0.true, sym c.protected.ensures ∙ c.if-protected.true);
+          needs = false;
+          needed = λ lead has up. absurd (false≢true up);
+          stops = (c.if-steps-eq0.true, sym c.protected.ensures ∙ c.if-protected.true);
           after_is = c.stop-then-protected.ensures.state;
         };
       };

@@ -1,0 +1,20 @@
+use Rattle.std.proofs.Common.{refl, inl, [], false}
+use Rattle.fdc_core.proofs.MayWrite.{rule_room}
+use Rattle.fdc_core.proofs.commands.writing_data.Goals as goal
+
+pub returns : goal.returns
+returns c = λ head_drive fifo asking none. (
+  rule_room false asking fifo,
+  (
+    [],
+    record {
+      sent_is = refl;
+      deleted_is = refl;
+      counted_is = refl;
+      steps_are = refl;
+      fresh = λ _. refl;
+      writes = c.new.ensures.begins c.args.key c.args.deleted;
+      handed_is = inl none;
+    },
+  ),
+)

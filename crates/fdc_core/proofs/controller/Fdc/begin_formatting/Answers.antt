@@ -1,0 +1,6 @@
+use Rattle.std.proofs.Common.{ap, ◌∙◌}
+use Rattle.fdc_core.specs.Dma.{asked}
+use Rattle.fdc_core.proofs.controller.Fdc.begin_formatting.Goals as goal
+
+pub returns : goal.returns
+returns c = (c.formatting_track-task.result, c.formatting_track-task.ensures c.args.head_drive, c.ask.ensures ∙ ap asked c.begin.ensures)

@@ -1,0 +1,18 @@
+use Rattle.std.proofs.Common.{sym, subst}
+use Rattle.fdc_core.specs.State.{is_gated}
+use Rattle.fdc_core.specs.Written.{MayWrite, MayFormat, took}
+use Rattle.fdc_core.proofs.MayRead.{second_true}
+use Rattle.fdc_core.proofs.MayWrite.{in_writes, in_formats}
+use Rattle.fdc_core.proofs.controller.Fdc.dma_in.Goals as goal
+
+pub returns-clause-writes : goal.returns-clause-writes
+returns-clause-writes c = λ past sent deleted was.
+    let old = c.args.self.now in
+    let up = second_true (is_gated old) old.asking c.requires.drq in
+    subst (λ fdc. MayWrite (took c.args.byte past) sent deleted fdc) (sym c.take_in.ensures) (in_writes past sent deleted old.phase old.asking old.fifo c.args.byte up was)
+
+pub returns-clause-formats : goal.returns-clause-formats
+returns-clause-formats c = λ past sent numbers was.
+    let old = c.args.self.now in
+    let up = second_true (is_gated old) old.asking c.requires.drq in
+    subst (λ fdc. MayFormat (took c.args.byte past) sent numbers fdc) (sym c.take_in.ensures) (in_formats past sent numbers old.phase old.asking old.fifo c.args.byte up was)

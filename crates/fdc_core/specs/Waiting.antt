@@ -1,0 +1,62 @@
+-- How long the controller can wait for DMA: so many device steps, no byte finds the FIFO full or is missing.
+use Rattle.std.specs.Prelude.{◌≡◌, ℕ, ◌+◌, ◌≤◌, Bool, true, false, length}
+use Rattle.fdc_fifo.specs.Fifo.{Fifo, room_of}
+use Rattle.fdc_writing.specs.Leads.{HasLead}
+use Rattle.fdc_writing.specs.Writings.{lead_of}
+use Rattle.fdc_core.specs.Dma.{phase_asks}
+use Rattle.fdc_core.specs.Phases.{is_overrun}
+use Rattle.fdc_core.specs.State.{is_gated}
+use Rattle.fdc_core.specs.declared.controller.Fdc.{Fdc}
+use Rattle.fdc_core.specs.declared.phases.Phase.{Phase}
+use Rattle.fdc_core.specs.declared.phases.Phase.TheVariants.{Execute}
+use Rattle.fdc_core.specs.declared.phases.Task.{Task}
+use Rattle.fdc_core.specs.declared.phases.Task.TheVariants.{ReadId, Read, Write, Format}
+
+-- the terminal count came, or no bytes are moved
+abbrev pub task_counted : Task → Bool
+task_counted (ReadId _) = true
+task_counted (Read reading) = reading.counted
+task_counted (Write writing) = writing.counted
+task_counted (Format formatting) = formatting.counted
+
+abbrev pub phase_counted : Phase → Bool
+phase_counted (Execute execution) = task_counted execution.task
+phase_counted _ = true
+
+-- so many device steps can pass without a transfer: a reading has room in the FIFO; of a write, bytes in the FIFO and words
+-- that need none are to come first
+abbrev pub TaskWaits : ℕ → Task → Fifo → Type 0
+TaskWaits slack (ReadId _) fifo = Unit {0}
+TaskWaits slack (Read reading) fifo = reading.counted ≡ false → slack + length fifo.bytes ≤ room_of fifo.on
+TaskWaits slack (Write writing) fifo = writing.counted ≡ false → slack ≤ lead_of writing.stage + length fifo.bytes
+TaskWaits slack (Format formatting) fifo =
+    formatting.counted ≡ false → (lead : ℕ) × HasLead formatting.stage lead × (slack ≤ lead + length fifo.bytes)
+
+abbrev pub PhaseWaits : ℕ → Phase → Fifo → Type 0
+PhaseWaits slack (Execute execution) fifo = TaskWaits slack execution.task fifo
+PhaseWaits slack _ fifo = Unit {0}
+
+abbrev pub CanWait : ℕ → Fdc → Type 0
+CanWait slack fdc = PhaseWaits slack fdc.phase fdc.fifo
+
+-- a device step of a controller that could wait so long and one step more: it doesn't end with OR, it can wait so long, and the
+-- terminal count came where it had come
+pub record Lasts (slack : ℕ) (old new : Fdc) : Type 0 where
+  pub no_overrun : is_overrun new.phase ≡ false
+  pub waits : CanWait slack new
+  pub uncounted : phase_counted new.phase ≡ false → phase_counted old.phase ≡ false
+
+abbrev pub LastsIn : Phase → Fdc → Fdc → Type 0
+LastsIn (Execute execution) old new = (slack : ℕ) → PhaseWaits (slack + 1) (Execute execution) old.fifo → Lasts slack old new
+LastsIn _ old new = Unit {0}
+
+abbrev pub LastsOn : Fdc → Fdc → Type 0
+LastsOn old new = LastsIn old.phase old new
+
+-- DRQ goes by the FIFO's rule, DOR lets it out, and the FIFO is on with the threshold 8
+pub record Feeds (fdc : Fdc) : Type 0 where
+  pub before : Bool
+  pub asks : fdc.asking ≡ phase_asks fdc.phase before fdc.fifo
+  pub gated : is_gated fdc ≡ true
+  pub on : fdc.fifo.on ≡ true
+  pub threshold : fdc.fifo.threshold ≡ 8
