@@ -2,3 +2,4 @@ mod Served
 mod Kept
 mod Timely
 mod InTime
+mod Ends

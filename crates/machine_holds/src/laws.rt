@@ -1,6 +1,7 @@
 // What follows of transfers. The bodies are empty.
-ghost use Rattle.std.specs.Prelude.{◌≡◌, ◌⊎◌, ◌≤◌, ℕ, true, false};
+ghost use Rattle.std.specs.Prelude.{◌≡◌, ◌⊎◌, ◌≤◌, ◌-◌, ℕ, true, false};
 ghost use Rattle.fdc_core.specs.State.{is_gated};
+ghost use Rattle.fdc_core.specs.Steps.{steps_left};
 ghost use Rattle.machine_reads.specs.Begins.{CanBegin};
 ghost use Rattle.machine_reads.specs.Scenes.{Scene};
 ghost use Rattle.machine_holds.specs.Timely.{ReadInTime, Stalled};
@@ -27,4 +28,10 @@ pub fn a_read_overruns_only_by_a_stall()
     ensures step { (old new : Board) → Step old new → (scene : Scene) → ReadInTime scene old → ReadInTime scene new ⊎ Stalled old new }
     ensures runs { (n : ℕ) (old new : Board) → Runs n old new → (scene : Scene) → ReadInTime scene old → ReadInTime scene new ⊎ Stalled old new }
     ensures unset { (n : ℕ) (old new : Board) → RunsUnset n old new → (scene : Scene) → ReadInTime scene old → ReadInTime scene new ⊎ Stalled old new }
+{}
+
+/// Each device step leaves a data command fewer of its 65,536, whatever the pace: after so many it has reached its results,
+/// or a reset ended it.
+pub fn a_data_command_ends()
+    ensures { (n : ℕ) (old new : Board) → Runs n old new → steps_left (controller_of new).phase ≤ steps_left (controller_of old).phase - n }
 {}

@@ -1,5 +1,5 @@
 -- Runs of transfers, one by one.
-use Rattle.std.proofs.Common.{◌≡◌, ℕ, zero, suc, ◌+◌, ◌-◌, ◌<◌, ◌≤◌, Bool, true, false, refl, sym, ◌∙◌, subst, arith}
+use Rattle.std.proofs.Common.{◌≡◌, ℕ, zero, suc, ◌+◌, ◌-◌, ◌<◌, ◌≤◌, true, false, refl, sym, ◌∙◌, arith}
 use Rattle.pc_bus.specs.Transfers.{can_move, moved, moved_up_to}
 use Rattle.pc_bus.specs.declared.chips.Chips.{Chips}
 

@@ -1,5 +1,5 @@
 -- Device steps one by one, and their count.
-use Rattle.std.proofs.Common.{◌≡◌, ℕ, zero, suc, ◌+◌, ◌≤◌, min, Bool, true, false, refl, ap, ◌∙◌, sym, subst, add-one, arith}
+use Rattle.std.proofs.Common.{◌≡◌, ℕ, ◌+◌, ◌≤◌, min, Bool, true, false, refl, ap, ◌∙◌, add-one, arith}
 use Rattle.flop_base.specs.Counts.{last_count}
 use Rattle.pc_bus.specs.Boards.{Board, latch_of}
 use Rattle.pc_bus.specs.Steps.{Step, Runs, RunsUnset, Waits, stirred}

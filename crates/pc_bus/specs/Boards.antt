@@ -1,7 +1,7 @@
 -- The machine as contracts see it: a board of chips, with a drive in each bay.
-use Rattle.std.specs.Prelude.{◌≡◌, ℕ, ◌-◌, ◌%◌, Bool, true, false, ◌==◌, if◌then◌else◌, List, None}
+use Rattle.std.specs.Prelude.{◌≡◌, ℕ, ◌%◌, true, false, ◌==◌, if◌then◌else◌, List, None}
 use Rattle.bay_model.specs.Memory.{zeroes}
-use Rattle.drive_model.specs.Drive.{DriveState, Becomes, is_protected, passed, with_motor}
+use Rattle.drive_model.specs.Drive.{DriveState, Becomes, is_protected, with_motor}
 use Rattle.dma_8237.specs.Channel.{Channel, power_up}
 use Rattle.irq_events.specs.Latch.{Latch}
 use Rattle.irq_events.specs.declared.pace.Pace.{Pace}

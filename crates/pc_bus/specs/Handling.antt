@@ -1,5 +1,5 @@
 -- Calls past the controller: to memory, to media, to drives, and to the latch.
-use Rattle.std.specs.Prelude.{◌≡◌, ℕ, ◌-◌, Bool, true, false, nat_lt, if◌then◌else◌, slice_set}
+use Rattle.std.specs.Prelude.{◌≡◌, ℕ, ◌-◌, false, nat_lt, if◌then◌else◌, slice_set}
 use Rattle.bay_model.specs.Memory.{user_bytes}
 use Rattle.machine_pace.specs.Holds.{counted}
 use Rattle.pc_bus.specs.Boards.{Board, drive_in}

@@ -7,10 +7,9 @@ use Rattle.fdc_core.specs.State.{dor_of}
 use Rattle.fdc_core.specs.declared.controller.Fdc.{Fdc}
 use Rattle.fdc_core.specs.declared.controller.Lines.{Lines}
 use Rattle.machine_pace.specs.Entries.{next_entry, rest_of}
-use Rattle.pc_bus.specs.Boards.{Board, controller_of, lines_of}
-use Rattle.pc_bus.specs.Steps.{Runs, stirred}
+use Rattle.pc_bus.specs.Boards.{Board, lines_of}
+use Rattle.pc_bus.specs.Steps.{Runs}
 use Rattle.pc_bus.specs.Transfers.{shown_again}
-use Rattle.pc_bus.specs.declared.bus.Bus.{Bus}
 use Rattle.pc_bus.specs.declared.chips.Chips.{Chips}
 
 -- the ports 3F0 to 3F7 are the controller's; all others go to the DMA channel, which knows its own

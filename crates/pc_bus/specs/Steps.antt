@@ -4,9 +4,11 @@ use Rattle.drive_model.specs.Drive.{DriveState, Becomes, at_index, passed}
 use Rattle.irq_events.specs.Latch.{Latch}
 use Rattle.machine_pace.specs.Entries.{is_stray_due, strays_after}
 use Rattle.machine_pace.specs.Holds.{counted}
-use Rattle.fdc_core.specs.State.{interrupts, dor_of}
+use Rattle.fdc_core.specs.State.{interrupts}
 use Rattle.fdc_core.specs.Listening.{Listens, ListensToNone}
 use Rattle.fdc_core.specs.Steps.{polled, Rests, MovesDrive, Ends, Stays, Flows}
+use Rattle.fdc_core.specs.Waiting.{LastsOn}
+use Rattle.fdc_core.specs.Writes.{WritesOn}
 use Rattle.fdc_core.specs.declared.controller.Fdc.{Fdc}
 use Rattle.pc_bus.specs.Boards.{Board, controller_of, selected_of, latch_of}
 use Rattle.pc_bus.specs.Transfers.{dma_stepped}
@@ -18,10 +20,12 @@ use Rattle.pc_bus.specs.declared.bus.Bus.{Bus}
 pub record Works (old : Fdc) (before : DriveState) (new : Fdc) (after : DriveState) : Type 0 where
   pub rests : Rests (polled old) (before.cylinder == 0) new
   pub reads : Listens old (polled old) (at_index before) before after new
+  pub writes : WritesOn old (polled old) before after new
   pub drive : MovesDrive (polled old) before after
   pub ends : Ends old new
   pub stays : Stays old new
   pub flows : Flows old new
+  pub lasts : LastsOn old new
 
 -- the controller makes a device step where no drive is selected
 pub record WorksAlone (old new : Fdc) : Type 0 where

@@ -1,6 +1,6 @@
 // The machine, its making and its counts.
 ghost use Rattle.std.specs.Prelude.{◌≡◌, ◌≤◌, IfOk};
-ghost use Rattle.drive_model.specs.Drive.{rate_of};
+ghost use Rattle.drive_model.specs.Drive.{InRange, rate_of};
 ghost use Rattle.fdc_core.specs.State.{data_commands_of};
 ghost use Rattle.pc_bus.specs.Boards.{board, drive_in, controller_of, memory_of, holds_of, IsEmpty, IsNew};
 
@@ -81,7 +81,8 @@ impl<D: Drive> MachineOf<D> {
     /// The count of faults of a drive, which stays at its last value.
     pub fn faults(&self, bay: u8) -> u64
         requires { bay ≤ 1 }
-        ensures { result ≡ (drive_in (board D.state self.now) bay).faults }
+        ensures count { result ≡ (drive_in (board D.state self.now) bay).faults }
+        ensures range { InRange (drive_in (board D.state self.now) bay) }
     {
         if bay == 0 {
             self.first.faults()

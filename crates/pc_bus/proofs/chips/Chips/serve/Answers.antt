@@ -1,4 +1,4 @@
-use Rattle.std.proofs.Common.{◌≡◌, ◌-◌, refl, sym, ◌∙◌}
+use Rattle.std.proofs.Common.{refl, sym, ◌∙◌}
 use Rattle.pc_bus.proofs.Moves.{moved_on, moved_out, moved_all}
 use Rattle.pc_bus.proofs.chips.Chips.serve.Goals as goal
 

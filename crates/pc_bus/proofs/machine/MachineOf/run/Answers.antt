@@ -1,4 +1,4 @@
-use Rattle.std.proofs.Common.{◌≡◌, ◌+◌, min, refl, arith}
+use Rattle.std.proofs.Common.{◌≡◌, arith}
 use Rattle.pc_bus.specs.Boards.{board}
 use Rattle.pc_bus.proofs.RunSteps.{runs_none, runs_more, steps_none, steps_more}
 use Rattle.pc_bus.proofs.machine.MachineOf.run.Goals as goal

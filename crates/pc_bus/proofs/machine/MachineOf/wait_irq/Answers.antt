@@ -1,4 +1,4 @@
-use Rattle.std.proofs.Common.{◌≡◌, sym, ◌∙◌, arith}
+use Rattle.std.proofs.Common.{sym, ◌∙◌, arith}
 use Rattle.pc_bus.specs.Boards.{board}
 use Rattle.pc_bus.proofs.RunSteps.{unset_none, unset_more, waits_set, waits_all}
 use Rattle.pc_bus.proofs.machine.MachineOf.wait_irq.Goals as goal
