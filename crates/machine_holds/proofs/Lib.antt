@@ -1,0 +1,5 @@
+mod Served
+mod Kept
+mod Timely
+mod InTime
+mod Ends

@@ -1,0 +1,27 @@
+-- Lists of a pace, used up from their front.
+use Rattle.std.specs.Prelude.{ℕ, ◌-◌, Bool, false, nat_le, if◌then◌else◌, List, [], ◌∷◌, Option, Some, None}
+
+-- the next entry, 0 where none is left
+abbrev pub next_entry : List ℕ → ℕ
+next_entry [] = 0
+next_entry (entry ∷ _) = entry
+
+-- the entries behind it
+abbrev pub rest_of : List ℕ → List ℕ
+rest_of [] = []
+rest_of (_ ∷ rest) = rest
+
+-- a stray comes in this device step: the first entry counts the steps to it, this one included, and 0 counts as 1
+abbrev pub is_stray_due : List ℕ → Bool
+is_stray_due [] = false
+is_stray_due (steps ∷ _) = nat_le steps 1
+
+-- the strays that are to come after this device step
+abbrev pub strays_after : List ℕ → List ℕ
+strays_after [] = []
+strays_after (steps ∷ rest) = if nat_le steps 1 then rest else (steps - 1) ∷ rest
+
+-- the strays that are to come: the next one and those behind it
+abbrev pub coming : Option ℕ → List ℕ → List ℕ
+coming None rest = []
+coming (Some steps) rest = steps ∷ rest

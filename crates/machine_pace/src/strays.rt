@@ -1,0 +1,53 @@
+// Stray interrupts.
+ghost use Rattle.std.specs.Prelude.{◌≡◌};
+ghost use Rattle.machine_pace.specs.Entries.{is_stray_due, strays_after};
+
+use std::marker::Model;
+use std::vec::IntoIter;
+
+/// The stray interrupts that are to come.
+#[derive(Drop)]
+pub struct Strays {
+    /// The device steps to the next one, that in which it comes included; 0 counts as 1. None where no more come.
+    next: Option<u16>,
+    /// The same from each to the one behind it.
+    entries: IntoIter<u16>,
+}
+
+impl Model for Strays {
+    ghost use Rattle.std.specs.Prelude.{List, ℕ};
+    ghost use Rattle.machine_pace.specs.Entries.{coming};
+    ghost use Rattle.std.specs.Vec.Iter.{into_iter_items};
+
+    ghost Value = { List ℕ };
+
+    ghost view = { λ strays. coming strays.next (into_iter_items strays.entries) };
+}
+
+impl Strays {
+    pub fn new(strays: Vec<u16>) -> Strays
+        ensures { result ≡ strays.items }
+    {
+        let mut entries = strays.into_iter();
+        let next = entries.next();
+        Strays { next, entries }
+    }
+
+    /// Lets a device step pass, and tells whether a stray comes in it.
+    pub fn pass(&mut self) -> bool
+        ensures due { result ≡ is_stray_due self.old }
+        ensures after { self.new ≡ strays_after self.old }
+    {
+        match self.next {
+            None => false,
+            Some(steps) => {
+                if steps <= 1 {
+                    self.next = self.entries.next();
+                    return true;
+                }
+                self.next = Some(steps - 1);
+                false
+            }
+        }
+    }
+}

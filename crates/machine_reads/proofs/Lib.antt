@@ -1,0 +1,7 @@
+mod Bytes
+pub mod Transfers
+pub mod Words
+pub mod Steps
+mod Results
+mod Commands
+pub mod Accesses

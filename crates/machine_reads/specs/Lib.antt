@@ -1,0 +1,4 @@
+pub mod Scenes
+pub mod Underway
+pub mod Results
+pub mod Begins

@@ -1,0 +1,38 @@
+// What follows of the machine's steps. The bodies are empty.
+ghost use Rattle.std.specs.Prelude.{◌≡◌, ◌⊎◌, ℕ};
+ghost use Rattle.track_model.specs.Fields.{IsSizeCode, content_size};
+ghost use Rattle.pc_bus.specs.Boards.{Board, controller_of, memory_of};
+ghost use Rattle.pc_bus.specs.Ports.{Inputs, Outputs};
+ghost use Rattle.pc_bus.specs.Steps.{Step, Runs, RunsUnset};
+ghost use Rattle.fdc_core.specs.declared.phases.Phase.TheVariants.{Command};
+ghost use Rattle.machine_reads.specs.Begins.{CanBegin};
+ghost use Rattle.machine_reads.specs.Results.{ReadEnded, StaysOutside};
+ghost use Rattle.machine_reads.specs.Scenes.{Scene};
+ghost use Rattle.machine_reads.specs.Underway.{KeepsRead, ReadUnderway};
+
+use fdc_core::read_data_tells;
+
+/// Each device step keeps what is known of a READ DATA, whatever holds, strays and gaps there are.
+pub fn device_steps_keep_a_read()
+    ensures step { (old new : Board) → Step old new → KeepsRead old new }
+    ensures runs { (n : ℕ) (old new : Board) → Runs n old new → KeepsRead old new }
+    ensures unset { (n : ℕ) (old new : Board) → RunsUnset n old new → KeepsRead old new }
+{}
+
+/// The port write that completes the bytes of a READ DATA begins it, and a read of a port keeps what is known of it until the
+/// last result byte was read; whatever gaps follow the accesses.
+pub fn port_accesses_keep_a_read()
+    ensures begins { (scene : Scene) (byte : ℕ) (old new : Board) → Outputs 0x3F5 byte old new → CanBegin scene byte old → ReadUnderway scene new }
+    ensures keeps { (port value : ℕ) (old new : Board) → Inputs port value old new → (scene : Scene) → ReadUnderway scene old
+        → ReadUnderway scene new ⊎ ((controller_of new).phase ≡ Command) }
+{}
+
+/// What the results of a READ DATA say of the track under the head, where the channel was set to as many bytes as the
+/// sector has; and what else there is in memory stays as it was, however it ends.
+pub fn a_read_tells_of_the_track()
+    ensures ended { (scene : Scene) (board : Board) → IsSizeCode scene.sent.key.n → scene.size ≡ content_size scene.sent.key.n
+        → ReadUnderway scene board → ReadEnded scene board }
+    ensures outside { (scene : Scene) (board : Board) → ReadUnderway scene board → StaysOutside scene (memory_of board) }
+{
+    read_data_tells();
+}

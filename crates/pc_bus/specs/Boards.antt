@@ -1,0 +1,96 @@
+-- The machine as contracts see it: a board of chips, with a drive in each bay.
+use Rattle.std.specs.Prelude.{◌≡◌, ℕ, ◌%◌, true, false, ◌==◌, if◌then◌else◌, List, None}
+use Rattle.bay_model.specs.Memory.{zeroes}
+use Rattle.drive_model.specs.Drive.{DriveState, Becomes, is_protected, with_motor}
+use Rattle.dma_8237.specs.Channel.{Channel, power_up}
+use Rattle.irq_events.specs.Latch.{Latch}
+use Rattle.irq_events.specs.declared.pace.Pace.{Pace}
+use Rattle.machine_pace.specs.Holds.{Holds}
+use Rattle.machine_pace.specs.declared.holding.Request.TheVariants.{Low}
+use Rattle.fdc_core.specs.State.{at_power_up, dor_of}
+use Rattle.fdc_core.specs.declared.controller.Fdc.{Fdc}
+use Rattle.fdc_core.specs.declared.controller.Lines.{Lines}
+use Rattle.pc_bus.specs.declared.bus.Bus.{Bus}
+use Rattle.pc_bus.specs.declared.machine.MachineOf.{MachineOf}
+
+-- the chips, and the states of both drives
+pub record Board : Type 0 where
+  pub bus : Bus
+  pub first : DriveState
+  pub second : DriveState
+
+-- the board of a machine whose drives have these states
+abbrev pub board : {D : Type 0} → (D → DriveState) → MachineOf D → Board
+board state machine =
+    record { bus = machine.bus; first = state machine.first; second = state machine.second }
+
+abbrev pub controller_of : Board → Fdc
+controller_of board = board.bus.chips.controller
+
+abbrev pub channel_of : Board → Channel
+channel_of board = board.bus.chips.channel
+
+-- its bytes, the first at address 0
+abbrev pub memory_of : Board → List ℕ
+memory_of board = board.bus.chips.memory
+
+-- the request for DMA, the holds that are left, and the stalls
+abbrev pub holds_of : Board → Holds
+holds_of board = board.bus.chips.holding
+
+abbrev pub latch_of : Board → Latch
+latch_of board = board.bus.latch
+
+-- the drive in a bay: bay 0 is the first, and 1 the second
+abbrev pub drive_in : Board → ℕ → DriveState
+drive_in board bay = if bay == 0 then board.first else board.second
+
+-- the drive that DOR selects: those of bays 2 and 3 are absent
+abbrev pub selected_of : Board → ℕ
+selected_of board = dor_of (controller_of board) % 4
+
+-- a drive with no medium in and its change line set
+pub record IsEmpty (drive : DriveState) : Type 0 where
+  pub medium : drive.medium ≡ None
+  pub change : drive.change ≡ true
+
+-- the chips of a new machine: the controller in reset, memory all 00, nothing counted
+abbrev pub new_bus : Pace → Bus
+new_bus pace = record {
+  chips = record {
+    controller = at_power_up;
+    channel = power_up;
+    memory = zeroes 1048576;
+    holding = record { entries = pace.holds.items; request = Low; stalls = 0 };
+  };
+  latch = record { is_set = false; level = false };
+  gaps = pace.gaps.items;
+  strays = pace.strays.items;
+  steps = 0;
+  direct = 0;
+  taken = 0;
+  fresh = true;
+}
+
+-- a new machine with these drives: the controller turns their motors off
+pub record IsNew (pace : Pace) (bay0 bay1 : DriveState) (new : Board) : Type 0 where
+  pub bus : new.bus ≡ new_bus pace
+  pub first : Becomes bay0 (with_motor false bay0) new.first
+  pub second : Becomes bay1 (with_motor false bay1) new.second
+
+-- ---- the lines of the selected drive
+
+-- those of a drive
+abbrev pub lines_of_drive : DriveState → Lines
+lines_of_drive drive =
+    record { track0 = drive.cylinder == 0; protected = is_protected drive.medium; changed = drive.change }
+
+-- an absent drive's are all low
+abbrev pub absent_lines : Lines
+absent_lines = record { track0 = false; protected = false; changed = false }
+
+abbrev pub lines_of : Board → Lines
+lines_of board =
+    if selected_of board == 0 then lines_of_drive board.first else (
+    if selected_of board == 1 then lines_of_drive board.second else
+    absent_lines)

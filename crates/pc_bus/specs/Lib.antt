@@ -1,0 +1,5 @@
+pub mod Transfers
+pub mod Boards
+pub mod Steps
+pub mod Ports
+pub mod Handling

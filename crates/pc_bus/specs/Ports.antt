@@ -1,0 +1,75 @@
+-- Port accesses of the machine.
+use Rattle.std.specs.Prelude.{◌≡◌, ◌↔◌, ◌+◌, ℕ, Bool, true, false, ◌&&◌, ◌==◌, nat_le, if◌then◌else◌, IsTrue, IsBitSet}
+use Rattle.drive_model.specs.Drive.{DriveState, Becomes, with_motor}
+use Rattle.dma_8237.specs.Channel.{after_write, after_read, value_read}
+use Rattle.fdc_core.specs.Ports.{Writes, value_read as controller_value, after_read as controller_after}
+use Rattle.fdc_core.specs.State.{dor_of}
+use Rattle.fdc_core.specs.declared.controller.Fdc.{Fdc}
+use Rattle.fdc_core.specs.declared.controller.Lines.{Lines}
+use Rattle.machine_pace.specs.Entries.{next_entry, rest_of}
+use Rattle.pc_bus.specs.Boards.{Board, lines_of}
+use Rattle.pc_bus.specs.Steps.{Runs}
+use Rattle.pc_bus.specs.Transfers.{shown_again}
+use Rattle.pc_bus.specs.declared.chips.Chips.{Chips}
+
+-- the ports 3F0 to 3F7 are the controller's; all others go to the DMA channel, which knows its own
+abbrev pub is_controllers : ℕ → Bool
+is_controllers port = nat_le 0x3F0 port && nat_le port 0x3F7
+
+-- ---- reading
+
+-- what a port gives: FF where nothing answers
+abbrev pub port_value : ℕ → Lines → Chips → ℕ
+port_value port lines chips =
+    if is_controllers port then controller_value port lines chips.controller else value_read port chips.channel
+
+-- what a read of a port leaves
+abbrev pub port_read : ℕ → Chips → Chips
+port_read port old =
+    if is_controllers port then shown_again (record old { controller = controller_after port old.controller })
+    else record old { channel = after_read port old.channel }
+
+-- ---- writing
+
+-- a byte is written to a port
+pub record WritesChips (port value : ℕ) (lines : Lines) (old new : Chips) : Type 0 where
+  pub controllers : is_controllers port ≡ true
+      → (controller : Fdc) × Writes port value lines old.controller controller
+      × (new ≡ shown_again (record old { controller = controller }))
+  pub channels : is_controllers port ≡ false → new ≡ record old { channel = after_write port value old.channel }
+
+-- a drive's motor line is the bit of DOR
+abbrev pub FollowsMotor : ℕ → Fdc → DriveState → DriveState → Type 0
+FollowsMotor bay controller before after =
+    (on : Bool) × (IsTrue on ↔ IsBitSet (dor_of controller) (4 + bay)) × Becomes before (with_motor on before) after
+
+-- a write of DOR turns the motors of both drives on and off, with no device step; another access leaves the drives
+pub record SetsMotors (port : ℕ) (controller : Fdc) (old new : Board) : Type 0 where
+  pub first : port ≡ 0x3F2 → FollowsMotor 0 controller old.first new.first
+  pub second : port ≡ 0x3F2 → FollowsMotor 1 controller old.second new.second
+  pub first_stays : (port == 0x3F2) ≡ false → new.first ≡ old.first
+  pub second_stays : (port == 0x3F2) ≡ false → new.second ≡ old.second
+
+-- a byte is written to a port of the machine
+pub record WritesPort (port value : ℕ) (old new : Board) : Type 0 where
+  pub chips : Chips
+  pub writes : WritesChips port value (lines_of old) old.bus.chips chips
+  pub bus : new.bus ≡ record old.bus { chips = chips; fresh = false }
+  pub motors : SetsMotors port chips.controller old new
+
+-- ---- the gap behind an access
+
+-- as many device steps as the next gap has
+pub record RunsGap (old new : Board) : Type 0 where
+  pub runs : Runs (next_entry old.bus.gaps) (record old { bus = record old.bus { gaps = rest_of old.bus.gaps } }) new
+
+-- a port is read, and then the gap runs
+pub record Inputs (port value : ℕ) (old new : Board) : Type 0 where
+  pub value_is : value ≡ port_value port (lines_of old) old.bus.chips
+  pub gap : RunsGap (record old { bus = record old.bus { chips = port_read port old.bus.chips; fresh = false } }) new
+
+-- a port is written, and then the gap runs
+pub record Outputs (port value : ℕ) (old new : Board) : Type 0 where
+  pub between : Board
+  pub writes : WritesPort port value old between
+  pub gap : RunsGap between new

@@ -1,0 +1,105 @@
+-- Device steps of the machine.
+use Rattle.std.specs.Prelude.{◌≡◌, ◌≤◌, ◌==◌, ℕ, zero, suc, Bool, true, false, not, ◌&&◌, ◌||◌}
+use Rattle.drive_model.specs.Drive.{DriveState, Becomes, at_index, passed}
+use Rattle.irq_events.specs.Latch.{Latch}
+use Rattle.machine_pace.specs.Entries.{is_stray_due, strays_after}
+use Rattle.machine_pace.specs.Holds.{counted}
+use Rattle.fdc_core.specs.State.{interrupts}
+use Rattle.fdc_core.specs.Listening.{Listens, ListensToNone}
+use Rattle.fdc_core.specs.Steps.{polled, Rests, MovesDrive, Ends, Stays, Flows}
+use Rattle.fdc_core.specs.Waiting.{LastsOn}
+use Rattle.fdc_core.specs.Writes.{WritesOn}
+use Rattle.fdc_core.specs.declared.controller.Fdc.{Fdc}
+use Rattle.pc_bus.specs.Boards.{Board, controller_of, selected_of, latch_of}
+use Rattle.pc_bus.specs.Transfers.{dma_stepped}
+use Rattle.pc_bus.specs.declared.bus.Bus.{Bus}
+
+-- ---- the word time of the drives
+
+-- the controller and the selected drive make a device step
+pub record Works (old : Fdc) (before : DriveState) (new : Fdc) (after : DriveState) : Type 0 where
+  pub rests : Rests (polled old) (before.cylinder == 0) new
+  pub reads : Listens old (polled old) (at_index before) before after new
+  pub writes : WritesOn old (polled old) before after new
+  pub drive : MovesDrive (polled old) before after
+  pub ends : Ends old new
+  pub stays : Stays old new
+  pub flows : Flows old new
+  pub lasts : LastsOn old new
+
+-- the controller makes a device step where no drive is selected
+pub record WorksAlone (old new : Fdc) : Type 0 where
+  pub rests : Rests (polled old) false new
+  pub reads : ListensToNone old (polled old) new
+  pub ends : Ends old new
+  pub stays : Stays old new
+  pub flows : Flows old new
+
+-- a word time passes at a drive that isn't selected
+abbrev pub Passes : DriveState → DriveState → Type 0
+Passes before after = Becomes before (passed before) after
+
+-- the controller makes its device step with the selected drive, and the word time passes at the others
+pub record Turns (selected : ℕ) (old : Fdc) (first second : DriveState) (new : Fdc) (first_after second_after : DriveState) : Type 0 where
+  pub at_first : selected ≡ 0 → Works old first new first_after × Passes second second_after
+  pub at_second : selected ≡ 1 → Works old second new second_after × Passes first first_after
+  pub at_none : 2 ≤ selected → WorksAlone old new × Passes first first_after × Passes second second_after
+
+-- ---- the chips beside
+
+-- the latch once the strays of a device step were looked at
+abbrev pub strayed_if : Bool → Latch → Latch
+strayed_if true latch = record latch { is_set = true }
+strayed_if false latch = latch
+
+-- the step is counted, and a stray sets the latch where it is due
+abbrev pub step_begun : Bus → Bus
+step_begun old = record old {
+  latch = strayed_if (is_stray_due old.strays) old.latch;
+  strays = strays_after old.strays;
+  steps = counted old.steps;
+  fresh = false;
+}
+
+-- the controller has made its device step
+abbrev pub with_controller : Fdc → Bus → Bus
+with_controller controller old = record old { chips = record old.chips { controller = controller } }
+
+-- a latch that is shown the line
+abbrev pub lined : Bool → Latch → Latch
+lined level old = record { is_set = old.is_set || (level && not old.level); level = level }
+
+-- requests are served, and the interrupt line goes to the latch
+abbrev pub step_ended : Bus → Bus
+step_ended old = let chips = dma_stepped old.chips in
+    record old { chips = chips; latch = lined (interrupts chips.controller) old.latch }
+
+-- one device step: strays, the word time with the drives, transfers, and the interrupt line, in this order
+pub record Step (old new : Board) : Type 0 where
+  -- the controller behind its word time
+  pub between : Fdc
+  pub turns : Turns (selected_of old) (controller_of old) old.first old.second between new.first new.second
+  pub bus : new.bus ≡ step_ended (with_controller between (step_begun old.bus))
+
+-- so many device steps
+unfoldable pub Runs : ℕ → Board → Board → Type 0
+Runs zero old new = new ≡ old
+Runs (suc n) old new = (between : Board) × Runs n old between × Step between new
+
+-- so many device steps, each of which the latch wasn't set before
+unfoldable pub RunsUnset : ℕ → Board → Board → Type 0
+RunsUnset zero old new = new ≡ old
+RunsUnset (suc n) old new =
+    (between : Board) × RunsUnset n old between × ((latch_of between).is_set ≡ false) × Step between new
+
+-- a call came, so that the machine isn't fresh
+abbrev pub stirred : Board → Board
+stirred old = record old { bus = record old.bus { fresh = false } }
+
+-- device steps until the latch is set, and so many at most
+pub record Waits (most : ℕ) (old : Board) (set : Bool) (new : Board) : Type 0 where
+  pub steps : ℕ
+  pub within : steps ≤ most
+  pub runs : RunsUnset steps (stirred old) new
+  pub answer : set ≡ (latch_of new).is_set
+  pub all : set ≡ false → steps ≡ most

@@ -1,0 +1,130 @@
+// The machine without its drives.
+ghost use Rattle.std.specs.Prelude.{◌≡◌, ◌<◌, IfOk, List, false};
+ghost use Rattle.fdc_core.specs.State.{interrupts};
+ghost use Rattle.machine_pace.specs.Entries.{next_entry, rest_of};
+ghost use Rattle.pc_bus.specs.Boards.{new_bus};
+ghost use Rattle.pc_bus.specs.Handling.{byte_set, irq_taken, touched};
+ghost use Rattle.pc_bus.specs.Ports.{port_value, port_read, WritesChips};
+ghost use Rattle.pc_bus.specs.Steps.{step_begun, step_ended};
+
+use crate::chips::Chips;
+use fdc_core::Lines;
+use flop_base::NoMemory;
+use irq_events::{IrqLatch, Pace};
+use machine_pace::{Gaps, Strays};
+use std::alloc::Global;
+
+/// Memory below this address is the user's; the page above it is the driver's.
+const USER_BYTES: u32 = 0xF_0000;
+
+/// The chips, what is left of the pace, and the counts, each of which stays at its last value.
+#[derive(Drop)]
+pub struct Bus {
+    pub chips: Chips,
+    pub latch: IrqLatch,
+    pub gaps: Gaps,
+    pub strays: Strays,
+    /// The device steps.
+    pub steps: u64,
+    /// The accesses to user memory, media and drives past the controller.
+    pub direct: u64,
+    /// The interrupts that were taken.
+    pub taken: u64,
+    /// No call that may change the machine came yet.
+    pub fresh: bool,
+}
+
+impl Bus {
+    pub fn new(alloc: Global, pace: Pace) -> Result<Bus, NoMemory>
+        ensures { IfOk result (λ bus. bus ≡ new_bus pace) }
+    {
+        Ok(Bus {
+            chips: Chips::new(alloc, pace.holds)?,
+            latch: IrqLatch::new(),
+            gaps: Gaps::new(pace.gaps),
+            strays: Strays::new(pace.strays),
+            steps: 0,
+            direct: 0,
+            taken: 0,
+            fresh: true,
+        })
+    }
+
+    /// Part 1 of a device step, which is counted: a stray sets the latch where it is due.
+    pub fn begin_step(&mut self)
+        ensures { self.new ≡ step_begun self.old }
+    {
+        self.steps = self.steps.saturating_add(1);
+        self.fresh = false;
+        if self.strays.pass() {
+            self.latch.stray();
+        }
+    }
+
+    /// Parts 3 and 4 of a device step: requests are served, and the interrupt line goes to the latch.
+    pub fn end_step(&mut self)
+        ensures { self.new ≡ step_ended self.old }
+    {
+        self.chips.step_dma();
+        self.latch.line(self.chips.controller.int());
+    }
+
+    /// Reads a port, where the selected drive has these lines.
+    pub fn read_port(&mut self, port: u16, lines: Lines) -> u8
+        ensures value { result ≡ port_value port lines self.old.chips }
+        ensures after { self.new ≡ record self.old { chips = port_read port self.old.chips; fresh = false } }
+    {
+        self.fresh = false;
+        self.chips.read_port(port, lines)
+    }
+
+    /// Writes a port, where the selected drive has these lines.
+    pub fn write_port(&mut self, port: u16, value: u8, lines: Lines)
+        ensures writes { WritesChips port value lines self.old.chips self.new.chips }
+        ensures others { self.new ≡ record self.old { chips = self.new.chips; fresh = false } }
+    {
+        self.fresh = false;
+        self.chips.write_port(port, value, lines);
+    }
+
+    /// Takes the next gap.
+    pub fn next_gap(&mut self) -> u8
+        ensures gap { result ≡ next_entry self.old.gaps }
+        ensures after { self.new ≡ record self.old { gaps = rest_of self.old.gaps } }
+    {
+        self.gaps.take()
+    }
+
+    /// Counts an access past the controller.
+    pub fn touch(&mut self)
+        ensures { self.new ≡ touched self.old }
+    {
+        self.fresh = false;
+        self.direct = self.direct.saturating_add(1);
+    }
+
+    /// Sets a byte of memory. In user memory it counts as an access past the controller.
+    pub fn set_byte(&mut self, address: u32, value: u8)
+        requires { address < 1048576 }
+        ensures { self.new ≡ byte_set address value self.old }
+    {
+        self.fresh = false;
+        if address < USER_BYTES {
+            self.direct = self.direct.saturating_add(1);
+        }
+        self.chips.memory.set(address, value);
+    }
+
+    /// Takes the latch.
+    pub fn take_irq(&mut self) -> bool
+        ensures was { result ≡ self.old.latch.is_set }
+        ensures after { self.new ≡ irq_taken self.old }
+    {
+        self.fresh = false;
+        let was_set = self.latch.take();
+        if was_set {
+            self.taken = self.taken.saturating_add(1);
+        }
+        was_set
+    }
+}

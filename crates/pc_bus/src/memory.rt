@@ -1,0 +1,80 @@
+// The memory of the machine.
+ghost use Rattle.std.specs.Prelude.{◌≡◌, ◌==◌, ◌<◌, IfOk, IsTrue, length, slice_index, slice_set};
+ghost use Rattle.bay_model.specs.Memory.{zeroes};
+ghost use Rattle.dma_8237.specs.Channel.{grants, after_transfer};
+ghost use Rattle.pc_bus.specs.Transfers.{byte_read, memory_after};
+
+use dma_8237::{Dma, MEMORY_SIZE};
+use flop_base::NoMemory;
+use std::alloc::Global;
+use std::marker::Model;
+
+/// 1,048,576 bytes.
+#[derive(Drop)]
+pub struct Memory {
+    bytes: Vec<u8>,
+}
+
+impl Model for Memory {
+    ghost use Rattle.std.specs.Prelude.{◌≡◌, ℕ, List, length};
+
+    ghost Value = { List ℕ };
+
+    ghost view = { λ memory. memory.bytes.items };
+
+    ghost invariant = { λ memory. length memory.bytes.items ≡ 1048576 };
+}
+
+impl Memory {
+    /// All bytes are 00.
+    pub fn new(alloc: Global) -> Result<Memory, NoMemory>
+        ensures { IfOk result (λ memory. memory ≡ zeroes 1048576) }
+    {
+        Ok(Memory {
+            bytes: blank(alloc, MEMORY_SIZE)?,
+        })
+    }
+
+    pub fn byte(&self, address: u32) -> u8
+        requires { address < MEMORY_SIZE }
+        ensures { result ≡ slice_index self.now address }
+    {
+        self.bytes[address as usize]
+    }
+
+    pub fn set(&mut self, address: u32, value: u8)
+        requires { address < MEMORY_SIZE }
+        ensures { self.new ≡ slice_set self.old address value }
+    {
+        self.bytes[address as usize] = value;
+    }
+
+    /// Takes a byte through the channel, and tells whether it is the last one (TC).
+    pub fn receive(&mut self, channel: &mut Dma, byte: u8) -> bool
+        requires { IsTrue (grants channel.old) }
+        ensures terminal { result ≡ (channel.old.count == 0) }
+        ensures channel { channel.new ≡ after_transfer channel.old }
+        ensures memory { self.new ≡ memory_after channel.old byte self.old }
+    {
+        channel.move_in(&mut self.bytes, byte)
+    }
+
+    /// Gives a byte through the channel, and tells whether it is the last one (TC).
+    pub fn deliver(&self, channel: &mut Dma) -> (u8, bool)
+        requires { IsTrue (grants channel.old) }
+        ensures byte { result.0 ≡ byte_read channel.old self.now }
+        ensures terminal { result.1 ≡ (channel.old.count == 0) }
+        ensures channel { channel.new ≡ after_transfer channel.old }
+    {
+        channel.move_out(&self.bytes)
+    }
+}
+
+/// So many bytes 00.
+#[tactic(auto, unfolding(bay_model::specs::Memory::zeroes))]
+fn blank(alloc: Global, count: usize) -> Result<Vec<u8>, NoMemory>
+    ensures bytes { IfOk result (λ bytes. bytes.items ≡ zeroes count) }
+    ensures len { IfOk result (λ bytes. length bytes.items ≡ count) }
+{
+    Ok(vec![in alloc; 0u8; count]?)
+}

@@ -1,0 +1,96 @@
+// Port accesses.
+ghost use Rattle.std.specs.Prelude.{◌≡◌, ◌<◌};
+ghost use Rattle.pc_bus.specs.Boards.{board, lines_of, lines_of_drive};
+ghost use Rattle.pc_bus.specs.Ports.{port_value, port_read, Inputs, Outputs, RunsGap, WritesPort, SetsMotors, FollowsMotor};
+
+use crate::machine::MachineOf;
+use drive_model::Drive;
+use fdc_core::{Fdc, Lines};
+
+/// The controller's output register, which turns motors on and off.
+const DOR: u16 = 0x3F2;
+
+/// The lines of an absent drive.
+const ABSENT: Lines = Lines {
+    track0: false,
+    protected: false,
+    changed: false,
+};
+
+impl<D: Drive> MachineOf<D> {
+    /// Reads a port. FF where nothing answers.
+    pub fn inb(&mut self, port: u16) -> u8
+        ensures { Inputs port result (board D.state self.old) (board D.state self.new) }
+    {
+        let lines = self.lines();
+        let value = self.bus.read_port(port, lines);
+        self.run_gap();
+        value
+    }
+
+    /// Writes a port. It is ignored where nothing answers.
+    pub fn outb(&mut self, port: u16, value: u8)
+        ensures { Outputs port value (board D.state self.old) (board D.state self.new) }
+    {
+        self.write_port(port, value);
+        self.run_gap();
+    }
+
+    /// Writes a port. The motors follow a write of DOR.
+    fn write_port(&mut self, port: u16, value: u8)
+        ensures { WritesPort port value (board D.state self.old) (board D.state self.new) }
+    {
+        let lines = self.lines();
+        self.bus.write_port(port, value, lines);
+        self.set_motors(port);
+    }
+
+    /// The motor lines after an access to a port.
+    fn set_motors(&mut self, port: u16)
+        ensures motors { SetsMotors port self.old.bus.chips.controller (board D.state self.old) (board D.state self.new) }
+        ensures bus { self.new.bus ≡ self.old.bus }
+    {
+        if port == DOR {
+            follow_motor(&self.bus.chips.controller, 0, &mut self.first);
+            follow_motor(&self.bus.chips.controller, 1, &mut self.second);
+        }
+    }
+
+    /// The device steps behind an access.
+    fn run_gap(&mut self)
+        ensures { RunsGap (board D.state self.old) (board D.state self.new) }
+    {
+        let gap = self.bus.next_gap();
+        self.run(u32::from(gap));
+    }
+
+    /// The lines of the selected drive.
+    fn lines(&self) -> Lines
+        ensures { result ≡ lines_of (board D.state self.now) }
+    {
+        match self.bus.chips.controller.selected() {
+            0 => lines_of_drive(&self.first),
+            1 => lines_of_drive(&self.second),
+            _ => ABSENT,
+        }
+    }
+}
+
+/// The lines of a drive.
+fn lines_of_drive<D: Drive>(drive: &D) -> Lines
+    ensures { result ≡ lines_of_drive (D.state drive.now) }
+{
+    Lines {
+        track0: drive.track0(),
+        protected: drive.protected(),
+        changed: drive.changed(),
+    }
+}
+
+/// Gives a drive its motor line.
+pub(crate) fn follow_motor<D: Drive>(controller: &Fdc, bay: u8, drive: &mut D)
+    requires { bay < 4 }
+    ensures { FollowsMotor bay controller.now (D.state drive.old) (D.state drive.new) }
+{
+    drive.motor(controller.motor(bay));
+}

@@ -1,0 +1,94 @@
+// Device steps.
+ghost use Rattle.std.specs.Prelude.{◌≡◌, ◌≤◌, ◌+◌, min};
+ghost use Rattle.flop_base.specs.Counts.{last_count};
+ghost use Rattle.pc_bus.specs.Boards.{board, controller_of, selected_of};
+ghost use Rattle.pc_bus.specs.Steps.{Works, WorksAlone, Turns, Step, Runs, Waits, stirred};
+
+use crate::machine::MachineOf;
+use drive_model::Drive;
+use fdc_core::Fdc;
+
+impl<D: Drive> MachineOf<D> {
+    /// One device step.
+    fn step(&mut self)
+        ensures { Step (board D.state self.old) (board D.state self.new) }
+    {
+        self.bus.begin_step();
+        self.turn();
+        self.bus.end_step();
+    }
+
+    /// Part 2 of a device step: the controller's, with the selected drive, and the word time of the others.
+    fn turn(&mut self)
+        ensures turns { Turns (selected_of (board D.state self.old)) (controller_of (board D.state self.old))
+            (D.state self.old.first) (D.state self.old.second)
+            (controller_of (board D.state self.new)) (D.state self.new.first) (D.state self.new.second) }
+        ensures bus { self.new.bus ≡ record self.old.bus {
+          chips = record self.old.bus.chips { controller = self.new.bus.chips.controller };
+        } }
+    {
+        match self.bus.chips.controller.selected() {
+            0 => {
+                work(&mut self.bus.chips.controller, &mut self.first);
+                self.second.pass();
+            }
+            1 => {
+                work(&mut self.bus.chips.controller, &mut self.second);
+                self.first.pass();
+            }
+            _ => {
+                work_alone(&mut self.bus.chips.controller);
+                self.first.pass();
+                self.second.pass();
+            }
+        }
+    }
+
+    /// Device steps, so many.
+    pub(crate) fn run(&mut self, steps: u32)
+        ensures runs { Runs steps (board D.state self.old) (board D.state self.new) }
+        ensures steps { self.new.bus.steps ≡ min (self.old.bus.steps + steps) last_count }
+    {
+        let _from = self.bus.steps;
+        for _i in 0..steps {
+            self.step();
+        }
+    }
+
+    /// Runs exactly so many device steps.
+    pub fn wait(&mut self, steps: u32)
+        ensures runs { Runs steps (stirred (board D.state self.old)) (board D.state self.new) }
+        ensures steps { (board D.state self.new).bus.steps ≡ min ((board D.state self.old).bus.steps + steps) last_count }
+    {
+        self.bus.fresh = false;
+        self.run(steps);
+    }
+
+    /// Runs device steps until the latch is set, at most `most`, and tells whether it is.
+    pub fn wait_irq(&mut self, most: u32) -> bool
+        ensures { Waits most (board D.state self.old) result (board D.state self.new) }
+    {
+        self.bus.fresh = false;
+        for _i in 0..most {
+            if self.bus.latch.is_set() {
+                return true;
+            }
+            self.step();
+        }
+        self.bus.latch.is_set()
+    }
+}
+
+/// The controller's device step with the selected drive.
+fn work<D: Drive>(controller: &mut Fdc, drive: &mut D)
+    ensures { Works controller.old (D.state drive.old) controller.new (D.state drive.new) }
+{
+    controller.step(drive);
+}
+
+/// The controller's device step where no drive is selected.
+fn work_alone(controller: &mut Fdc)
+    ensures { WorksAlone controller.old controller.new }
+{
+    controller.step_empty();
+}
