@@ -14,7 +14,7 @@ use Rattle.sector_model.specs.Ties.{TiesCounts, accesses_of, accesses_of_job, Is
 use Rattle.bay_model.proofs.Counted.{goes_on_itself}
 use Rattle.sector_model.proofs.Runs.{run_more, requests_more}
 use Rattle.sector_model.proofs.Ties.{Tied, tied_after, tied_more, tied_none, run_tied, stop_tied, ends_tied, end_stop_tied, stop_goes, ends_goes, end_stop_goes}
-use Rattle.sector_model.proofs.Courses.{told_paid, since_came, all_undisturbed}
+use Rattle.sector_model.proofs.Courses.{told_paid, all_tell, since_came, all_undisturbed}
 
 -- the counters of a world
 abbrev counters_of : World → Counters
@@ -33,6 +33,7 @@ run_ties old mid told after course new most run goes tied = record {
   stalls = tied.stalls;
   stalls_left = tied.stalls_left;
   told = told_paid old mid told after course new run goes;
+  tells = all_tell old mid told after course new run goes;
   since = λ bay is. since_came bay is new old mid told after course (faults_of old.station.counters bay) 0 run goes (omega arith);
   undisturbed = all_undisturbed old mid told after course run;
 }
