@@ -1,4 +1,6 @@
 pub mod Blanks
+pub mod Faults
 pub mod Loads
 pub mod Session
+pub mod Shapes
 pub mod Tries
