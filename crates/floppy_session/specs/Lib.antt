@@ -1,5 +1,4 @@
 pub mod Blanks
-pub mod Faults
 pub mod Loads
 pub mod Session
 pub mod Shapes

@@ -4,7 +4,7 @@ ghost use Rattle.flop_base.specs.Shelf.{stored};
 ghost use Rattle.raw_image.specs.Image.{image_of, file_of, Reads};
 ghost use Rattle.sector_model.specs.Steps.{IsImageOf, StopCause};
 ghost use Rattle.sector_model.specs.Runs.{IsEndStop};
-ghost use Rattle.floppy_session.specs.Faults.{Blames};
+ghost use Rattle.sector_model.specs.Faults.{Blames};
 ghost use Rattle.floppy_session.specs.Loads.{StopsFor, StopsForStore};
 
 use flop_base::{LoadError, Name, NoMemory, Shelf, StoreError};

@@ -5,7 +5,7 @@ ghost use Rattle.bay_model.specs.Bays.{in_bay, with_bay};
 ghost use Rattle.sector_model.specs.States.{ChangesMedium};
 ghost use Rattle.sector_model.specs.Steps.{Step, StopsAt, StoresMedium, is_loaded, is_blank_request as is_blank_request_of, blank_of};
 ghost use Rattle.sector_model.specs.Runs.{EndsBay, DropsMedium, IsEndStop};
-ghost use Rattle.floppy_session.specs.Faults.{Blames};
+ghost use Rattle.sector_model.specs.Faults.{Blames};
 ghost use Rattle.floppy_session.specs.Blanks.{blank_request};
 
 use crate::loading::{load_medium, store_medium};

@@ -4,7 +4,7 @@ ghost use Rattle.sector_model.specs.Stations.{IsFresh, bay_of};
 ghost use Rattle.sector_model.specs.States.{start_of};
 ghost use Rattle.sector_model.specs.Steps.{Step, StopsAt};
 ghost use Rattle.sector_model.specs.Runs.{Ends, EndStopsAt, IsEndStop};
-ghost use Rattle.floppy_session.specs.Faults.{Blames};
+ghost use Rattle.sector_model.specs.Faults.{Blames};
 ghost use Rattle.floppy_session.specs.Tries.{HasTries};
 ghost use Rattle.floppy_session.specs.Shapes.{shape_in};
 

@@ -1,7 +1,7 @@
 use Rattle.std.proofs.Common.{◌≡◌, ◌≤◌, ◌+◌, ◌*◌, ◌%◌}
 use Rattle.flop_base.specs.Sink.{grown}
-use Rattle.floppy_tools.proofs.DumpLines.{lines_below}
-use Rattle.floppy_tools.proofs.report.put_dump.Given as goal
+use Rattle.floppy_report.proofs.DumpLines.{lines_below}
+use Rattle.floppy_report.proofs.lines.put_dump.Given as goal
 
 abbrev pub invariant-loop-i : goal.invariant-loop-i
 invariant-loop-i g l = record {

@@ -1,11 +1,11 @@
 // The lines of a report. Each ends with a line feed and is put by one call.
 ghost use Rattle.std.specs.Prelude.{◌≡◌, ◌≤◌, ◌++◌, ℕ, List, codes, IfErr, MatchResult, ◌≢◌, OnOk, OnErr, IfOk, IsErrOf, string_bytes, map};
 ghost use Rattle.std.specs.Fmt.{decimal};
-ghost use Rattle.flop_base.specs.Counts.{Rose};
 ghost use Rattle.flop_base.specs.Sink.{grown, GrowsByPart};
 ghost use Rattle.sector_model.specs.Texts.{reply_text, stop_text, stop_status, bad_line_text, absent_text, image_text, image_error_text, reason_text, dump_text, dump_line, dump_byte, line_end};
 ghost use Rattle.sector_model.specs.Plays.{IsPutFault, Prints};
-ghost use Rattle.floppy_tools.specs.Programs.{bad_words_text};
+ghost use Rattle.sector_model.specs.Faults.{Blames};
+ghost use Rattle.floppy_report.specs.LastLines.{bad_words_text, stopped_text};
 
 use flop_base::{PutError, Sink, Status};
 use floppy_jobs::{Address, MemoryByte, Request};
@@ -21,9 +21,7 @@ fn put<K: Sink>(out: &mut K, line: &str) -> Result<(), Status>
     ensures ok { OnOk result (K.told out.new ≡ grown (K.told out.old) line.now) }
     ensures err { OnErr result (GrowsByPart (K.told out.old) line.now (K.told out.new)) }
     ensures only { IfErr result IsPutFault }
-    ensures fault { IsErrOf result Status.SinkFault
-        → Rose (K.fault_count out.old) (K.fault_count out.new) }
-    ensures never_falls { K.fault_count out.old ≤ K.fault_count out.new }
+    ensures faults { Blames (IsErrOf result Status.SinkFault) (K.fault_count out.old) (K.fault_count out.new) }
 {
     match out.put(line.as_bytes()) {
         Ok(()) => Ok(()),
@@ -33,15 +31,13 @@ fn put<K: Sink>(out: &mut K, line: &str) -> Result<(), Status>
 }
 
 /// Puts a line that was made.
-fn put_line<K: Sink>(out: &mut K, line: Result<String, AllocError>) -> Result<(), Status>
+pub fn put_line<K: Sink>(out: &mut K, line: Result<String, AllocError>) -> Result<(), Status>
     ensures ok { (text : List ℕ) → IfOk line (λ made. string_bytes made ≡ text)
         → OnOk result (K.told out.new ≡ grown (K.told out.old) text) }
     ensures err { (text : List ℕ) → IfOk line (λ made. string_bytes made ≡ text)
         → OnErr result (GrowsByPart (K.told out.old) text (K.told out.new)) }
     ensures only { IfErr result IsPutFault }
-    ensures fault { IsErrOf result Status.SinkFault
-        → Rose (K.fault_count out.old) (K.fault_count out.new) }
-    ensures never_falls { K.fault_count out.old ≤ K.fault_count out.new }
+    ensures faults { Blames (IsErrOf result Status.SinkFault) (K.fault_count out.old) (K.fault_count out.new) }
 {
     match line {
         Ok(line) => put(out, line.as_str()),
@@ -50,7 +46,7 @@ fn put_line<K: Sink>(out: &mut K, line: Result<String, AllocError>) -> Result<()
 }
 
 /// Why a request was refused.
-fn reason_word(alloc: Global, reason: Reason) -> Result<String, AllocError>
+pub fn reason_word(alloc: Global, reason: Reason) -> Result<String, AllocError>
     ensures { IfOk result (λ word. string_bytes word ≡ reason_text reason) }
 {
     match reason {
@@ -125,9 +121,7 @@ fn put_row<K: Sink>(alloc: Global, out: &mut K, address: u32, row: &[u8]) -> Res
     ensures ok { OnOk result (K.told out.new ≡ grown (K.told out.old) (dump_line address row.now)) }
     ensures err { OnErr result (GrowsByPart (K.told out.old) (dump_line address row.now) (K.told out.new)) }
     ensures only { IfErr result IsPutFault }
-    ensures fault { IsErrOf result Status.SinkFault
-        → Rose (K.fault_count out.old) (K.fault_count out.new) }
-    ensures never_falls { K.fault_count out.old ≤ K.fault_count out.new }
+    ensures faults { Blames (IsErrOf result Status.SinkFault) (K.fault_count out.old) (K.fault_count out.new) }
 {
     put_line(out, dump_line(alloc, address, row))
 }
@@ -137,9 +131,7 @@ fn put_dump<K: Sink>(alloc: Global, out: &mut K, address: u32, content: &[u8]) -
     ensures ok { OnOk result (K.told out.new ≡ grown (K.told out.old) (dump_text address content.now)) }
     ensures err { OnErr result (GrowsByPart (K.told out.old) (dump_text address content.now) (K.told out.new)) }
     ensures only { IfErr result IsPutFault }
-    ensures fault { IsErrOf result Status.SinkFault
-        → Rose (K.fault_count out.old) (K.fault_count out.new) }
-    ensures never_falls { K.fault_count out.old ≤ K.fault_count out.new }
+    ensures faults { Blames (IsErrOf result Status.SinkFault) (K.fault_count out.old) (K.fault_count out.new) }
 {
     let mut place = address;
     for i in 0..content.len().div_ceil(DUMP_LINE) {
@@ -153,7 +145,7 @@ fn put_dump<K: Sink>(alloc: Global, out: &mut K, address: u32, content: &[u8]) -
 
 /// Puts the lines that tell the answer to a request.
 #[tactic(auto, unfolding(sector_model::specs::Texts::reply_text))]
-pub(crate) fn put_reply<K: Sink>(
+pub fn put_reply<K: Sink>(
     alloc: Global,
     out: &mut K,
     request: &Request,
@@ -162,9 +154,7 @@ pub(crate) fn put_reply<K: Sink>(
     ensures ok { OnOk result (K.told out.new ≡ grown (K.told out.old) (reply_text request.now reply.now)) }
     ensures err { OnErr result (GrowsByPart (K.told out.old) (reply_text request.now reply.now) (K.told out.new)) }
     ensures only { IfErr result IsPutFault }
-    ensures fault { IsErrOf result Status.SinkFault
-        → Rose (K.fault_count out.old) (K.fault_count out.new) }
-    ensures never_falls { K.fault_count out.old ≤ K.fault_count out.new }
+    ensures faults { Blames (IsErrOf result Status.SinkFault) (K.fault_count out.old) (K.fault_count out.new) }
 {
     let verb = request.verb();
     match reply {
@@ -181,9 +171,7 @@ fn put_stop<K: Sink>(alloc: Global, out: &mut K, stop: &Stop) -> Result<(), Stat
     ensures ok { OnOk result (K.told out.new ≡ grown (K.told out.old) (stop_text stop.now)) }
     ensures err { OnErr result (GrowsByPart (K.told out.old) (stop_text stop.now) (K.told out.new)) }
     ensures only { IfErr result IsPutFault }
-    ensures fault { IsErrOf result Status.SinkFault
-        → Rose (K.fault_count out.old) (K.fault_count out.new) }
-    ensures never_falls { K.fault_count out.old ≤ K.fault_count out.new }
+    ensures faults { Blames (IsErrOf result Status.SinkFault) (K.fault_count out.old) (K.fault_count out.new) }
 {
     match stop {
         Stop::BadImage { name, error } => put_line(out, image_line(alloc, name.as_str(), *error)),
@@ -206,9 +194,7 @@ fn put_absent<K: Sink>(alloc: Global, out: &mut K, name: &str) -> Result<(), Sta
     ensures ok { OnOk result (K.told out.new ≡ grown (K.told out.old) (absent_text name.now)) }
     ensures err { OnErr result (GrowsByPart (K.told out.old) (absent_text name.now) (K.told out.new)) }
     ensures only { IfErr result IsPutFault }
-    ensures fault { IsErrOf result Status.SinkFault
-        → Rose (K.fault_count out.old) (K.fault_count out.new) }
-    ensures never_falls { K.fault_count out.old ≤ K.fault_count out.new }
+    ensures faults { Blames (IsErrOf result Status.SinkFault) (K.fault_count out.old) (K.fault_count out.new) }
 {
     put_line(out, format!(in alloc; "{name} absent\n"))
 }
@@ -218,9 +204,7 @@ fn put_bad_line<K: Sink>(alloc: Global, out: &mut K, line: usize) -> Result<(), 
     ensures ok { OnOk result (K.told out.new ≡ grown (K.told out.old) (bad_line_text line)) }
     ensures err { OnErr result (GrowsByPart (K.told out.old) (bad_line_text line) (K.told out.new)) }
     ensures only { IfErr result IsPutFault }
-    ensures fault { IsErrOf result Status.SinkFault
-        → Rose (K.fault_count out.old) (K.fault_count out.new) }
-    ensures never_falls { K.fault_count out.old ≤ K.fault_count out.new }
+    ensures faults { Blames (IsErrOf result Status.SinkFault) (K.fault_count out.old) (K.fault_count out.new) }
 {
     put_line(out, bad_line(alloc, line))
 }
@@ -233,7 +217,7 @@ fn bad_line(alloc: Global, line: usize) -> Result<String, AllocError>
 }
 
 /// The status behind a last line, or why the line couldn't be put.
-fn after(put: Result<(), Status>, status: Status) -> Status
+pub fn after(put: Result<(), Status>, status: Status) -> Status
     requires { IfErr put IsPutFault }
     ensures exactly { MatchResult put (λ _. result ≡ status) (λ failed. result ≡ failed) }
     ensures fault { result ≢ status → IsPutFault result }
@@ -245,7 +229,7 @@ fn after(put: Result<(), Status>, status: Status) -> Status
 }
 
 /// The status of a run that this stopped.
-pub(crate) fn stop_status(stop: &Stop) -> Status
+pub fn stop_status(stop: &Stop) -> Status
     ensures { result ≡ stop_status stop.now }
 {
     match stop {
@@ -257,46 +241,73 @@ pub(crate) fn stop_status(stop: &Stop) -> Status
 }
 
 /// Puts the last line of a run that stopped, and gives its status.
-pub(crate) fn put_last<K: Sink>(alloc: Global, out: &mut K, stop: &Stop) -> Status
+pub fn put_last<K: Sink>(alloc: Global, out: &mut K, stop: &Stop) -> Status
     ensures prints { Prints (K.told out.old) (stop_text stop.now) (stop_status stop.now) (K.told out.new) result }
     ensures is_form { result ≢ Status.BadWords }
     ensures shelf_fault { result ≡ Status.FileFault → stop.now ≡ Stop.FileFault }
-    ensures sink_fault { result ≡ Status.SinkFault
-        → Rose (K.fault_count out.old) (K.fault_count out.new) }
-    ensures never_falls { K.fault_count out.old ≤ K.fault_count out.new }
+    ensures faults { Blames (result ≡ Status.SinkFault) (K.fault_count out.old) (K.fault_count out.new) }
 {
     after(put_stop(alloc, out, stop), stop_status(stop))
 }
 
 /// Puts the last line where a file isn't there, and gives the status.
-pub(crate) fn put_last_absent<K: Sink>(alloc: Global, out: &mut K, name: &str) -> Status
+pub fn put_last_absent<K: Sink>(alloc: Global, out: &mut K, name: &str) -> Status
     ensures prints { Prints (K.told out.old) (absent_text name.now) Status.Absent (K.told out.new) result }
     ensures only { result ≢ Status.Absent → IsPutFault result }
-    ensures sink_fault { result ≡ Status.SinkFault
-        → Rose (K.fault_count out.old) (K.fault_count out.new) }
-    ensures never_falls { K.fault_count out.old ≤ K.fault_count out.new }
+    ensures faults { Blames (result ≡ Status.SinkFault) (K.fault_count out.old) (K.fault_count out.new) }
 {
     after(put_absent(alloc, out, name), Status::Absent)
 }
 
 /// Puts the last line where a job's line isn't understood, and gives the status.
-pub(crate) fn put_last_bad_line<K: Sink>(alloc: Global, out: &mut K, line: usize) -> Status
+pub fn put_last_bad_line<K: Sink>(alloc: Global, out: &mut K, line: usize) -> Status
     ensures prints { Prints (K.told out.old) (bad_line_text line) Status.BadJob (K.told out.new) result }
     ensures only { result ≢ Status.BadJob → IsPutFault result }
-    ensures sink_fault { result ≡ Status.SinkFault
-        → Rose (K.fault_count out.old) (K.fault_count out.new) }
-    ensures never_falls { K.fault_count out.old ≤ K.fault_count out.new }
+    ensures faults { Blames (result ≡ Status.SinkFault) (K.fault_count out.old) (K.fault_count out.new) }
 {
     after(put_bad_line(alloc, out, line), Status::BadJob)
 }
 
+/// The line of a command that stopped at a refused request.
+#[tactic(auto, unfolding(crate::specs::LastLines::stopped_text))]
+fn stopped_line(alloc: Global, request: &Request, reason: Reason) -> Result<String, AllocError>
+    ensures { IfOk result (λ line. string_bytes line ≡ stopped_text request.now reason) }
+{
+    let word = reason_word(alloc, reason)?;
+    let word = word.as_str();
+    format!(in alloc; "stopped at {request}: {word}\n")
+}
+
+/// Puts the last line of a command that stopped at a refused request, and gives the status.
+pub fn put_last_stopped<K: Sink>(
+    alloc: Global,
+    out: &mut K,
+    request: &Request,
+    reason: Reason,
+) -> Status
+    ensures prints { Prints (K.told out.old) (stopped_text request.now reason) Status.SomeRefused (K.told out.new) result }
+    ensures only { result ≢ Status.SomeRefused → IsPutFault result }
+    ensures faults { Blames (result ≡ Status.SinkFault) (K.fault_count out.old) (K.fault_count out.new) }
+{
+    put_last_line(out, stopped_line(alloc, request, reason), Status::SomeRefused)
+}
+
+/// Puts the last line of a command, and gives the status.
+pub fn put_last_line<K: Sink>(out: &mut K, line: Result<String, AllocError>, status: Status) -> Status
+    ensures prints { (text : List ℕ) → IfOk line (λ made. string_bytes made ≡ text)
+        → Prints (K.told out.old) text status (K.told out.new) result }
+    ensures only { result ≢ status → IsPutFault result }
+    ensures faults { status ≢ Status.SinkFault
+        → Blames (result ≡ Status.SinkFault) (K.fault_count out.old) (K.fault_count out.new) }
+{
+    after(put_line(out, line), status)
+}
+
 /// Puts the last line where the words are no form of the program, and gives the status.
-pub(crate) fn put_last_bad_words<K: Sink>(out: &mut K) -> Status
+pub fn put_last_bad_words<K: Sink>(out: &mut K) -> Status
     ensures prints { Prints (K.told out.old) bad_words_text Status.BadWords (K.told out.new) result }
     ensures only { result ≢ Status.BadWords → IsPutFault result }
-    ensures sink_fault { result ≡ Status.SinkFault
-        → Rose (K.fault_count out.old) (K.fault_count out.new) }
-    ensures never_falls { K.fault_count out.old ≤ K.fault_count out.new }
+    ensures faults { Blames (result ≡ Status.SinkFault) (K.fault_count out.old) (K.fault_count out.new) }
 {
     after(put(out, "words not understood\n"), Status::BadWords)
 }

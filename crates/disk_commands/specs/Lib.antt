@@ -1,0 +1,5 @@
+pub mod Plans
+pub mod Carried
+pub mod Commands
+pub mod Halts
+pub mod Worlds
