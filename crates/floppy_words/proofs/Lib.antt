@@ -1,2 +1,3 @@
+pub mod DashLemmas
 pub mod NumberLemmas
 pub mod PlaceLemmas

@@ -1,5 +1,5 @@
 -- What the words of the command line spell: a verb, and the words behind it.
-use Rattle.std.specs.Prelude.{◌≡◌, ℕ, List, [], ◌∷◌, Option, Some, None, IsSome, Result, Ok, Err, codes, if◌then◌else◌}
+use Rattle.std.specs.Prelude.{◌≡◌, ◌==◌, ℕ, Bool, slice_index, List, [], ◌∷◌, Option, Some, None, IsSome, Result, Ok, Err, codes, if◌then◌else◌}
 use Rattle.flop_base.specs.declared.answers.NoMemory.{NoMemory}
 use Rattle.std.specs.Str.{bytes_eq}
 use Rattle.floppy_jobs.specs.Names.{name_of}
@@ -69,3 +69,7 @@ form_of (verb ∷ words) =
 abbrev pub Reads : {T : Type 0} → Result (Option T) NoMemory → Option T → Type 0
 Reads (Ok read) spelled = read ≡ spelled
 Reads (Err _) spelled = IsSome spelled
+
+-- a word that looks like an option
+abbrev pub begins_with_dash : List ℕ → Bool
+begins_with_dash word = slice_index word 0 == 45

@@ -1,6 +1,7 @@
 // The form that the words of the command line spell.
-ghost use Rattle.std.specs.Prelude.{◌≡◌, map, string_bytes};
-ghost use Rattle.floppy_words.specs.Forms.{Reads, cylinders_of, disk_of, play_of, format_of, formatdd_of, copy_of, verify_of, form_of};
+ghost use Rattle.std.specs.Prelude.{◌≡◌, map, string_bytes, true};
+ghost use Rattle.std.specs.List.{list_any};
+ghost use Rattle.floppy_words.specs.Forms.{Reads, begins_with_dash, cylinders_of, disk_of, play_of, format_of, formatdd_of, copy_of, verify_of, form_of};
 
 use crate::places::{one_place, two_places};
 use crate::{Cylinders, Form};
@@ -11,8 +12,15 @@ use std::alloc::Global;
 
 /// The form that the words after the program's name spell; nothing where they are no form. The first word is the
 /// form's verb. Words that are no form are told without any memory.
-#[tactic(auto, unfolding(crate::specs::Forms::form_of))]
 pub fn form_named(alloc: Global, words: &[String]) -> Result<Option<Form>, NoMemory>
+    ensures form { Reads result (form_of (map string_bytes words.now)) }
+    ensures no_dash { list_any begins_with_dash (map string_bytes words.now) ≡ true → result ≡ Ok None }
+{
+    form(alloc, words)
+}
+
+#[tactic(auto, unfolding(crate::specs::Forms::form_of))]
+fn form(alloc: Global, words: &[String]) -> Result<Option<Form>, NoMemory>
     ensures { Reads result (form_of (map string_bytes words.now)) }
 {
     let Some((verb, behind)) = words.split_first() else {
