@@ -11,9 +11,9 @@ kept_is true v n e = (refl, cc)
 kept_is false v n e = absurd cc
 
 -- a number that a word spells is one that may be spelled
-pub number-least : (base fewest most least greatest : ℕ) (word : List ℕ) (n : ℕ)
+pub number_least : (base fewest most least greatest : ℕ) (word : List ℕ) (n : ℕ)
     → number_of base fewest most least greatest word ≡ Some n → least ≤ n
 unfolding number_of
-number-least base fewest most least greatest word n e =
+number_least base fewest most least greatest word n e =
     let p = kept_is _ _ n e in
     grind (arith, nat_tests, p.0, p.1)

@@ -122,7 +122,7 @@ fn disk(alloc: Global, verb: &str, words: &[String]) -> Result<Option<(Name, Cyl
     }
 }
 
-#[tactic(auto, unfolding(crate::specs::Forms::cylinders_of))]
+#[tactic(auto, using(crate::proofs::NumberLemmas::number_least), unfolding(crate::specs::Forms::cylinders_of))]
 fn cylinders(word: &[u8]) -> Option<Cylinders>
     ensures { result ≡ cylinders_of word.now }
 {
