@@ -113,7 +113,7 @@ step_never_fell old new told after asked answer step keeps =
     either (refusal_of old asked) step (λ does. does_goes old new told after asked answer does keeps) (λ cause refused. refused.same.counts) in
     record { first = goes.first.never_falls; second = goes.second.never_falls; stalls = goes.stalls }
 
-and_both : (a b : Bool) → (a && b) ≡ true → (a ≡ true) × (b ≡ true)
+pub and_both : (a b : Bool) → (a && b) ≡ true → (a ≡ true) × (b ≡ true)
 and_both true b e = (refl, e)
 and_both false b e = absurd (true≢false (sym e))
 
