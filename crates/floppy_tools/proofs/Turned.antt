@@ -27,9 +27,10 @@ use Rattle.floppy_tools.specs.Turns.{world, IsTurn, HasRun, HasPlayed, Breaks, A
 use Rattle.sector_model.specs.Ties.{IsJob, accesses_of_job}
 use Rattle.sector_model.proofs.PlayTies.{play_ties, alone_ties, play_accesses}
 use Rattle.sector_model.proofs.Runs.{run_more, requests_more, text_more, refusal_more}
-use Rattle.floppy_tools.specs.Programs.{bad_words_text, Performs, Programs}
+use Rattle.floppy_report.specs.LastLines.{bad_words_text}
+use Rattle.floppy_tools.specs.Programs.{Performs, Programs}
 use Rattle.floppy_tools.specs.Words.{job_of}
-use Rattle.floppy_tools.proofs.DumpLines.{grown-twice, grown-nothing}
+use Rattle.floppy_report.proofs.DumpLines.{grown-twice, grown-nothing}
 
 -- no request was run
 pub has-run-none : (old : World) → HasRun old [] false old

@@ -1,6 +1,6 @@
 // The top call.
 ghost use Rattle.std.specs.Prelude.{◌≡◌, ◌≤◌, ◌+◌, ℕ, List, Option, Some, None, map, string_bytes};
-ghost use Rattle.flop_base.specs.Counts.{Rose};
+ghost use Rattle.sector_model.specs.Faults.{Blames};
 ghost use Rattle.floppy_jobs.specs.declared.request.Request.{Request};
 ghost use Rattle.bay_model.specs.Bays.{Two};
 ghost use Rattle.sector_model.specs.Ties.{IsJob, accesses_of_job};
@@ -12,7 +12,7 @@ ghost use Rattle.floppy_tools.specs.Words.{job_of};
 ghost use Rattle.floppy_tools.specs.Programs.{Programs};
 
 use crate::play::play;
-use crate::report::put_last_bad_words;
+use floppy_report::put_last_bad_words;
 use crate::words::job_named;
 use flop_base::{Shelf, Sink, Status};
 use floppy_session::Session;
@@ -43,10 +43,8 @@ pub fn floppy<S: Shelf, K: Sink, D: Station>(
     // 2 exactly where the words are no form, also where nothing is told.
     ensures bad_words { result.0 ≡ Status.BadWords → job_of (map string_bytes words.now) ≡ None }
     ensures ready { D.is_ready result.1 }
-    ensures shelf_fault { result.0 ≡ Status.FileFault
-        → Rose (S.fault_count shelf.old) (S.fault_count shelf.new) }
-    ensures sink_fault { result.0 ≡ Status.SinkFault
-        → Rose (K.fault_count out.old) (K.fault_count out.new) }
+    ensures shelf_faults { Blames (result.0 ≡ Status.FileFault) (S.fault_count shelf.old) (S.fault_count shelf.new) }
+    ensures sink_faults { Blames (result.0 ≡ Status.SinkFault) (K.fault_count out.old) (K.fault_count out.new) }
 {
     let mut session = Session::new(alloc, station);
     let status = perform(alloc, &mut session, words, shelf, out);
@@ -63,18 +61,18 @@ fn perform<S: Shelf, K: Sink, D: Station>(
 ) -> Status
     requires running { IsRunning D.shown D.is_ready session.old }
     ensures runs { Programs (map string_bytes words.now)
-        (world (state_of D.shown session.old) (S.told shelf.old) (K.told out.old))
-        (world (state_of D.shown session.new) (S.told shelf.new) (K.told out.new)) result }
+        (world_of D.shown S.told K.told session.old shelf.old out.old)
+        (world_of D.shown S.told K.told session.new shelf.new out.new) result }
     ensures accesses { (job : List ℕ) (requests : List Request)
         → job_of (map string_bytes words.now) ≡ Some job → IsJob (S.told shelf.old) job requests
         → (state_of D.shown session.new).station.counters.direct
         ≤ (state_of D.shown session.old).station.counters.direct + accesses_of_job requests }
     ensures bad_words { result ≡ Status.BadWords → job_of (map string_bytes words.now) ≡ None }
     ensures running { IsRunning D.shown D.is_ready session.new }
-    ensures shelf_fault { result ≡ Status.FileFault
-        → Rose (S.fault_count shelf.old) (S.fault_count shelf.new) }
-    ensures sink_fault { result ≡ Status.SinkFault
-        → Rose (K.fault_count out.old) (K.fault_count out.new) }
+    ensures shelf_faults { Blames (result ≡ Status.FileFault) (S.fault_count shelf.old)
+        (S.fault_count shelf.new) }
+    ensures sink_faults { Blames (result ≡ Status.SinkFault) (K.fault_count out.old)
+        (K.fault_count out.new) }
 {
     match job_named(words) {
         Some(job) => play(alloc, session, job, shelf, out),
