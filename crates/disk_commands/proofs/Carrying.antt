@@ -40,30 +40,37 @@ asked_join earlier (p ∷ plan) next (taken ∷ later) second one two =
 pub none_carried : (Fits : List Taken → Type 0) (stage : Stage) → Carries Fits [] stage stage
 none_carried Fits stage = record { course = []; run = (refl, refl); asked = λ earlier fits. tt; fine = refl }
 
-pub one_carried : (asked : Request) (answer : Reply) (old new : Stage) → IsTaken asked answer old new → Carries Any (Asks asked ∷ []) old new
-one_carried asked answer old new taken =
+-- a request that was answered is the plan of that request
+pub taken_carried : (Fits : List Taken → Type 0) (next : Planned) (asked : Request) (answer : Reply) (old new : Stage) → ((earlier : List Taken) → Fits earlier → asked_after earlier next ≡ asked) → IsTaken asked answer old new → Carries Fits (next ∷ []) old new
+taken_carried Fits next asked answer old new is taken =
     let step : Taken = record { asked = asked; answer = answer; after = new.state } in
     record {
       course = step ∷ [];
       run = (new.files, taken.1, (refl, refl));
-      asked = λ earlier fits. (refl, tt);
+      asked = λ earlier fits. (sym (is earlier fits), tt);
       fine = ap (λ (b : Bool). b || false) taken.0;
     }
 
-pub one_halted : (asked : Request) (old new : Stage) (cause : Halt) → HaltsAt asked old cause new → IsHalted Any (Asks asked ∷ []) old cause new
-one_halted asked old new cause halts = record {
+pub taken_halted : (Fits : List Taken → Type 0) (next : Planned) (asked : Request) (old new : Stage) (cause : Halt) → ((earlier : List Taken) → Fits earlier → asked_after earlier next ≡ asked) → HaltsAt asked old cause new → IsHalted Fits (next ∷ []) old cause new
+taken_halted Fits next asked old new cause is halts = record {
   done = [];
-  next = Asks asked;
+  next = next;
   later = [];
   parts = refl;
   mid = old;
-  carried = none_carried Any old;
+  carried = record { course = []; run = (refl, refl); asked = λ earlier fits. tt; fine = refl };
   asked = asked;
-  asks = λ earlier fits. refl;
+  asks = λ earlier fits. subst (λ (e : List Taken). asked_after e next ≡ asked) (sym (append-nil earlier)) (is earlier fits);
   halts = halts;
 }
 
-pub carries_then : (Fits Next : List Taken → Type 0) (plan next : List Planned) (old mid new : Stage) (one : Carries Fits plan old mid) → Carries Next next mid new → ((earlier : List Taken) → Fits earlier → Next (earlier ++ one.course)) → Carries Fits (plan ++ next) old new
+pub one_carried : (asked : Request) (answer : Reply) (old new : Stage) → IsTaken asked answer old new → Carries Any (Asks asked ∷ []) old new
+one_carried asked answer old new taken = taken_carried Any (Asks asked) asked answer old new (λ earlier fits. refl) taken
+
+pub one_halted : (asked : Request) (old new : Stage) (cause : Halt) → HaltsAt asked old cause new → IsHalted Any (Asks asked ∷ []) old cause new
+one_halted asked old new cause halts = taken_halted Any (Asks asked) asked old new cause (λ earlier fits. refl) halts
+
+unfoldable pub carries_then : (Fits Next : List Taken → Type 0) (plan next : List Planned) (old mid new : Stage) (one : Carries Fits plan old mid) → Carries Next next mid new → ((earlier : List Taken) → Fits earlier → Next (earlier ++ one.course)) → Carries Fits (plan ++ next) old new
 carries_then Fits Next plan next old mid new one two leads = record {
   course = one.course ++ two.course;
   run = run_join old.state mid.state new.state old.files mid.files new.files one.course two.course one.run two.run;
@@ -71,7 +78,7 @@ carries_then Fits Next plan next old mid new one two leads = record {
   fine = fine_join one.course two.course one.fine two.fine;
 }
 
-pub halts_then : (Fits Next : List Taken → Type 0) (plan next : List Planned) (old mid new : Stage) (cause : Halt) (one : Carries Fits plan old mid) → IsHalted Next next mid cause new → ((earlier : List Taken) → Fits earlier → Next (earlier ++ one.course)) → IsHalted Fits (plan ++ next) old cause new
+unfoldable pub halts_then : (Fits Next : List Taken → Type 0) (plan next : List Planned) (old mid new : Stage) (cause : Halt) (one : Carries Fits plan old mid) → IsHalted Next next mid cause new → ((earlier : List Taken) → Fits earlier → Next (earlier ++ one.course)) → IsHalted Fits (plan ++ next) old cause new
 unfolding carries_then
 halts_then Fits Next plan next old mid new cause one two leads = record {
   done = plan ++ two.done;
@@ -87,7 +94,7 @@ halts_then Fits Next plan next old mid new cause one two leads = record {
   halts = two.halts;
 }
 
-pub halts_first : (Fits : List Taken → Type 0) (plan next : List Planned) (old new : Stage) (cause : Halt) → IsHalted Fits plan old cause new → IsHalted Fits (plan ++ next) old cause new
+unfoldable pub halts_first : (Fits : List Taken → Type 0) (plan next : List Planned) (old new : Stage) (cause : Halt) → IsHalted Fits plan old cause new → IsHalted Fits (plan ++ next) old cause new
 halts_first Fits plan next old new cause one = record {
   done = one.done;
   next = one.next;
@@ -102,10 +109,10 @@ halts_first Fits plan next old new cause one = record {
 
 -- ---- For any earlier course.
 
-pub then_any : (plan next : List Planned) (old mid new : Stage) → Carries Any plan old mid → Carries Any next mid new → Carries Any (plan ++ next) old new
+unfoldable pub then_any : (plan next : List Planned) (old mid new : Stage) → Carries Any plan old mid → Carries Any next mid new → Carries Any (plan ++ next) old new
 then_any plan next old mid new one two = carries_then Any Any plan next old mid new one two (λ earlier fits. tt)
 
-pub then_halts : (plan next : List Planned) (old mid new : Stage) (cause : Halt) → Carries Any plan old mid → IsHalted Any next mid cause new → IsHalted Any (plan ++ next) old cause new
+unfoldable pub then_halts : (plan next : List Planned) (old mid new : Stage) (cause : Halt) → Carries Any plan old mid → IsHalted Any next mid cause new → IsHalted Any (plan ++ next) old cause new
 then_halts plan next old mid new cause one two = halts_then Any Any plan next old mid new cause one two (λ earlier fits. tt)
 
 -- ---- A plan for each number.
@@ -126,19 +133,32 @@ each_one : (start : ℕ) (plan : ℕ → List Planned) → each start 1 plan ≡
 each_one start plan = append-nil (plan start)
 
 -- the next number
-pub more_carried : (start i r : ℕ) (plan : ℕ → List Planned) (old mid new : Stage) → r ≡ start + i → Carries Any (each start i plan) old mid → Carries Any (plan r) mid new → Carries Any (each start (i + 1) plan) old new
-more_carried start i r plan old mid new at one two =
-    let all : each start (i + 1) plan ≡ each start i plan ++ plan r = each_append start i 1 plan ∙ ap (λ (p : List Planned). each start i plan ++ p) (each_one (start + i) plan ∙ ap plan (sym at)) in
-    subst (λ (p : List Planned). Carries Any p old new) (sym all) (then_any (each start i plan) (plan r) old mid new one two)
+pub next_number : (start i r k : ℕ) (plan : ℕ → List Planned) → r ≡ start + i → k ≡ i + 1 → each start k plan ≡ each start i plan ++ plan r
+next_number start i r k plan at next = ap (λ n. each start n plan) next ∙ each_append start i 1 plan ∙ ap (λ (p : List Planned). each start i plan ++ p) (each_one (start + i) plan ∙ ap plan (sym at))
 
--- a number at which it ends
-pub more_halted : (start i r n : ℕ) (plan : ℕ → List Planned) (old mid new : Stage) (cause : Halt) → r ≡ start + i → i < n → Carries Any (each start i plan) old mid → IsHalted Any (plan r) mid cause new → IsHalted Any (each start n plan) old cause new
-more_halted start i r n plan old mid new cause at within one two =
+-- a number, those before it and those after it
+pub around_number : (start i r n : ℕ) (plan : ℕ → List Planned) → r ≡ start + i → i < n → each start n plan ≡ each start i plan ++ (plan r ++ each (start + i + 1) (n - (i + 1)) plan)
+around_number start i r n plan at within =
     let rest : ℕ = n - (i + 1) in
     let count : i + (1 + rest) ≡ n = omega arith in
     let tail : each (start + i) (1 + rest) plan ≡ plan r ++ each (start + i + 1) rest plan = each_append (start + i) 1 rest plan ∙ ap (λ (p : List Planned). p ++ each (start + i + 1) rest plan) (each_one (start + i) plan ∙ ap plan (sym at)) in
-    let all : each start n plan ≡ each start i plan ++ (plan r ++ each (start + i + 1) rest plan) = ap (λ k. each start k plan) (sym count) ∙ each_append start i (1 + rest) plan ∙ ap (λ (p : List Planned). each start i plan ++ p) tail in
-    subst (λ (p : List Planned). IsHalted Any p old cause new) (sym all) (then_halts (each start i plan) _ old mid new cause one (halts_first Any (plan r) (each (start + i + 1) rest plan) mid new cause two))
+    ap (λ k. each start k plan) (sym count) ∙ each_append start i (1 + rest) plan ∙ ap (λ (p : List Planned). each start i plan ++ p) tail
+
+pub more_fits : (Fits Next : List Taken → Type 0) (start i r k : ℕ) (plan : ℕ → List Planned) (old mid new : Stage) → r ≡ start + i → k ≡ i + 1 → (one : Carries Fits (each start i plan) old mid) → Carries Next (plan r) mid new → ((earlier : List Taken) → Fits earlier → Next (earlier ++ one.course)) → Carries Fits (each start k plan) old new
+more_fits Fits Next start i r k plan old mid new at next one two leads =
+    subst (λ (p : List Planned). Carries Fits p old new) (sym (next_number start i r k plan at next)) (carries_then Fits Next (each start i plan) (plan r) old mid new one two leads)
+
+-- a number at which it ends
+pub stop_fits : (Fits Next : List Taken → Type 0) (start i r n : ℕ) (plan : ℕ → List Planned) (old mid new : Stage) (cause : Halt) → r ≡ start + i → i < n → (one : Carries Fits (each start i plan) old mid) → IsHalted Next (plan r) mid cause new → ((earlier : List Taken) → Fits earlier → Next (earlier ++ one.course)) → IsHalted Fits (each start n plan) old cause new
+stop_fits Fits Next start i r n plan old mid new cause at within one two leads =
+    let rest = each (start + i + 1) (n - (i + 1)) plan in
+    subst (λ (p : List Planned). IsHalted Fits p old cause new) (sym (around_number start i r n plan at within)) (halts_then Fits Next (each start i plan) (plan r ++ rest) old mid new cause one (halts_first Next (plan r) rest mid new cause two) leads)
+
+pub more_carried : (start i r : ℕ) (plan : ℕ → List Planned) (old mid new : Stage) → r ≡ start + i → Carries Any (each start i plan) old mid → Carries Any (plan r) mid new → Carries Any (each start (i + 1) plan) old new
+more_carried start i r plan old mid new at one two = more_fits Any Any start i r (i + 1) plan old mid new at refl one two (λ earlier fits. tt)
+
+pub more_halted : (start i r n : ℕ) (plan : ℕ → List Planned) (old mid new : Stage) (cause : Halt) → r ≡ start + i → i < n → Carries Any (each start i plan) old mid → IsHalted Any (plan r) mid cause new → IsHalted Any (each start n plan) old cause new
+more_halted start i r n plan old mid new cause at within one two = stop_fits Any Any start i r n plan old mid new cause at within one two (λ earlier fits. tt)
 
 -- ---- By the result of the last part.
 

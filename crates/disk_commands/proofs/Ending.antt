@@ -13,7 +13,7 @@ use Rattle.disk_commands.specs.declared.ask.Halt.{Halt}
 use Rattle.disk_commands.specs.declared.ask.Halt.TheVariants as halt
 use Rattle.disk_commands.specs.Plans.{Planned}
 use Rattle.disk_commands.specs.Carried.{Stage, Any, Carries, IsHalted}
-use Rattle.disk_commands.specs.Commands.{Performs, Whole, AtRefusal, AtStop}
+use Rattle.disk_commands.specs.Commands.{Halts, AtRefusal, AtStop, Performs, Whole, Halted}
 use Rattle.disk_commands.specs.Halts.{TellsHalt}
 
 -- the world with what is printed
@@ -29,8 +29,8 @@ abbrev pub course_to : List Taken → Request → Halt → State → List Taken
 course_to before asked (halt.Refused named cause) after = before ++ (record { asked = asked; answer = reply.Refused cause; after = after }) ∷ []
 course_to before asked (halt.Stopped cause) after = before
 
-pub halt_performs : (plan : List Planned) (line : List ℕ) (old new : Stage) (report after : Option (List ℕ)) (cause : Halt) (ended : Status) (halted : IsHalted Any plan old cause new) → TellsHalt report cause after ended → Performs plan line (told_of old report) (course_to halted.carried.course halted.asked cause new.state) (told_of new after) ended
-halt_performs plan line old new report after (halt.Refused named cause) ended halted tells =
+pub halt_told : (plan : List Planned) (old new : Stage) (report after : Option (List ℕ)) (cause : Halt) (ended : Status) (halted : IsHalted Any plan old cause new) → TellsHalt report cause after ended → Halts plan (told_of old report) (course_to halted.carried.course halted.asked cause new.state) (told_of new after) ended
+halt_told plan old new report after (halt.Refused named cause) ended halted tells =
     AtRefusal (record {
       before = halted.carried.course;
       last = record { asked = halted.asked; answer = reply.Refused cause; after = new.state };
@@ -46,7 +46,7 @@ halt_performs plan line old new report after (halt.Refused named cause) ended ha
       after = refl;
       prints = subst (λ (r : Request). Prints report (stopped_text r cause) status.SomeRefused after ended) halted.halts.0 tells;
     })
-halt_performs plan line old new report after (halt.Stopped cause) ended halted tells =
+halt_told plan old new report after (halt.Stopped cause) ended halted tells =
     AtStop (record {
       next = halted.next;
       mid = halted.mid.state;
@@ -56,3 +56,6 @@ halt_performs plan line old new report after (halt.Stopped cause) ended halted t
       stops = subst (λ (r : Request). StopsAt halted.mid.state halted.mid.files r cause new.state new.files) (sym (halted.asks [] tt)) halted.halts;
       prints = tells;
     })
+
+pub halt_performs : (plan : List Planned) (line : List ℕ) (old new : Stage) (report after : Option (List ℕ)) (cause : Halt) (ended : Status) (halted : IsHalted Any plan old cause new) → TellsHalt report cause after ended → Performs plan line (told_of old report) (course_to halted.carried.course halted.asked cause new.state) (told_of new after) ended
+halt_performs plan line old new report after cause ended halted tells = Halted (halt_told plan old new report after cause ended halted tells)

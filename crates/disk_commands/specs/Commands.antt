@@ -14,6 +14,7 @@ use Rattle.sector_model.specs.States.{State}
 use Rattle.sector_model.specs.Steps.{Step, StopsAt}
 use Rattle.sector_model.specs.Texts.{is_refusal, stop_text, stop_status}
 use Rattle.sector_model.specs.Runs.{Taken, Run, has_refusal}
+use Rattle.sector_model.specs.Ties.{TiesCounts}
 use Rattle.sector_model.specs.Plays.{World, Prints}
 use Rattle.floppy_report.specs.LastLines.{stopped_text}
 use Rattle.floppy_session.specs.declared.shape.Shape.{Shape}
@@ -62,11 +63,15 @@ pub record IsStoppedAt (plan : List Planned) (old : World) (course : List Taken)
   pub stops : StopsAt mid files (asked_after course next) cause new.state new.files
   pub prints : Prints old.report (stop_text cause) (stop_status cause) new.report ended
 
--- a command goes through its plan, up to the first request that is refused or stops the run
+-- a command ends at the first request that is refused or stops the run
+pub data Halts (plan : List Planned) (old : World) (course : List Taken) (new : World) (ended : Status) : Type 0 where
+  AtRefusal : IsRefusedAt plan old course new ended → Halts plan old course new ended
+  AtStop : IsStoppedAt plan old course new ended → Halts plan old course new ended
+
+-- a command goes through its plan, or halts
 pub data Performs (plan : List Planned) (line : List ℕ) (old : World) (course : List Taken) (new : World) (ended : Status) : Type 0 where
   Whole : IsWhole plan line old course new ended → Performs plan line old course new ended
-  AtRefusal : IsRefusedAt plan old course new ended → Performs plan line old course new ended
-  AtStop : IsStoppedAt plan old course new ended → Performs plan line old course new ended
+  Halted : Halts plan old course new ended → Performs plan line old course new ended
 
 -- the disk that the first request put in has this shape
 abbrev pub IsShapePutIn : List Taken → Shape → Type 0
@@ -95,3 +100,9 @@ abbrev pub Copies : List ℕ → List ℕ → World → List Taken → World →
 Copies from to old course new ended =
     (shape : Shape) × IsShapePutIn course shape
     × Performs (copy_plan from to shape) (copy_text (sectors_of shape)) old course new ended
+
+-- what is done between two worlds, by some course whose counts are tied to those that the station shows before and after
+pub record Runs (Does : World → List Taken → World → Status → Type 0) (old new : World) (ended : Status) : Type 0 where
+  pub course : List Taken
+  pub does : Does old course new ended
+  pub ties : TiesCounts old.state.station.counters course new.state.station.counters

@@ -96,13 +96,20 @@ write_track sectors c h = each 1 sectors (λ r. WritesBack sectors (key_of c h r
 abbrev pub copy_track : ℕ → ℕ → ℕ → List Planned
 copy_track sectors c h = Asks (request.Format 1 c h) ∷ (read_track sectors c h ++ write_track sectors c h)
 
+-- the new disk is made, and both are acknowledged
+abbrev pub prepare_plan : List ℕ → Shape → List Planned
+prepare_plan to shape =
+    Asks (blank_request 1 to shape.cylinders shape.rate) ∷ (ack_plan 0 shape.rate ++ ack_plan 1 shape.rate)
+
+-- what is asked behind the disk that was put in
+abbrev pub copy_rest : List ℕ → Shape → List Planned
+copy_rest to shape =
+    prepare_plan to shape
+    ++ (by_track shape.cylinders shape.heads (copy_track (sectors_at shape.rate)) ++ Asks (request.Eject 1) ∷ [])
+
 -- the sectors of a disk of this shape are read, and written to a new disk that is stored under the second name
 abbrev pub copy_plan : List ℕ → List ℕ → Shape → List Planned
-copy_plan from to shape =
-    Asks (request.Insert 0 from)
-    ∷ (Asks (blank_request 1 to shape.cylinders shape.rate)
-    ∷ (ack_plan 0 shape.rate ++ (ack_plan 1 shape.rate
-    ++ (by_track shape.cylinders shape.heads (copy_track (sectors_at shape.rate)) ++ Asks (request.Eject 1) ∷ []))))
+copy_plan from to shape = Asks (request.Insert 0 from) ∷ copy_rest to shape
 
 -- ---- Verify.
 

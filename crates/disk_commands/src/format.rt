@@ -2,12 +2,11 @@
 ghost use Rattle.std.specs.Prelude.{◌≡◌, ◌≢◌, ◌*◌, ◌≤◌, ◌∷◌, List, OnOk, IfOk, IfErr, IsErrOf, string_bytes};
 ghost use Rattle.sector_model.specs.Faults.{Blames};
 ghost use Rattle.sector_model.specs.Plays.{IsPutFault};
-ghost use Rattle.sector_model.specs.Runs.{Taken};
 ghost use Rattle.floppy_session.specs.Session.{IsRunning};
 ghost use Rattle.floppy_session.specs.Blanks.{blank_request};
 ghost use Rattle.disk_commands.specs.Plans.{each, by_track, format_track, format_plan};
 ghost use Rattle.disk_commands.specs.Carried.{Any, stage_of, Goes};
-ghost use Rattle.disk_commands.specs.Commands.{Formats, format_text};
+ghost use Rattle.disk_commands.specs.Commands.{Formats, format_text, Runs};
 ghost use Rattle.disk_commands.specs.Worlds.{world_of};
 
 use crate::ask::{Halt, acknowledge, carry, tell_halt};
@@ -115,8 +114,8 @@ pub fn format_disk<S: Shelf, K: Sink, D: Station>(
     out: &mut K,
 ) -> Status
     requires running { IsRunning D.shown D.is_ready session.old }
-    ensures formats { (course : List Taken) × Formats name cylinders rate
-        (world_of D.shown S.told K.told session.old shelf.old out.old) course
+    ensures formats { Runs (Formats name cylinders rate)
+        (world_of D.shown S.told K.told session.old shelf.old out.old)
         (world_of D.shown S.told K.told session.new shelf.new out.new) result }
     ensures running { IsRunning D.shown D.is_ready session.new }
     ensures is_form { result ≢ Status.BadWords }

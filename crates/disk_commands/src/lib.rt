@@ -2,6 +2,12 @@
 #![tactic(auto)]
 
 mod ask;
+mod copy;
 mod format;
+mod open;
+mod tally;
+mod verify;
 
+pub use copy::copy_disk;
 pub use format::format_disk;
+pub use verify::verify_disk;

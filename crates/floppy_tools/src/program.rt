@@ -7,6 +7,7 @@ ghost use Rattle.sector_model.specs.Ties.{IsJob, accesses_of_job};
 ghost use Rattle.sector_model.specs.Stations.{IsFresh};
 ghost use Rattle.sector_model.specs.States.{start_of};
 ghost use Rattle.floppy_session.specs.Session.{state_of, IsRunning};
+ghost use Rattle.disk_commands.specs.Worlds.{world_of};
 ghost use Rattle.floppy_tools.specs.Turns.{world};
 ghost use Rattle.floppy_tools.specs.Words.{job_of};
 ghost use Rattle.floppy_tools.specs.Programs.{Programs};
