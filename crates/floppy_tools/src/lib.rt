@@ -3,7 +3,6 @@
 
 mod play;
 mod program;
-mod words;
 
 pub use floppy_session::Session;
 pub use program::floppy;

@@ -9,9 +9,9 @@ ghost use Rattle.floppy_session.specs.Tries.{HasTries};
 ghost use Rattle.disk_commands.specs.Worlds.{world_of};
 ghost use Rattle.floppy_tools.specs.Turns.{IsTurn, Breaks, HasRun, HasPlayed, EndsAs, PlaysOrStarves, Misses};
 
-use floppy_report::{put_last, put_last_absent, put_last_bad_line, put_reply, stop_status};
 use flop_base::{LoadError, Shelf, Sink, Status};
 use floppy_jobs::{JobError, Request, parse_job};
+use floppy_report::{put_last, put_last_absent, put_last_bad_line, put_reply, stop_status};
 use floppy_session::Session;
 use sector_model::{Reply, Station, Stop};
 use std::alloc::Global;
