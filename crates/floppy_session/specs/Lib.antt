@@ -1,4 +1,5 @@
 pub mod Blanks
 pub mod Loads
 pub mod Session
+pub mod Shapes
 pub mod Tries

@@ -6,5 +6,7 @@ mod loading;
 mod media;
 mod memory;
 mod session;
+mod shape;
 
 pub use session::Session;
+pub use shape::Shape;

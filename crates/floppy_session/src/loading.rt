@@ -1,10 +1,10 @@
 // Image files, from a shelf and back to it.
 ghost use Rattle.std.specs.Prelude.{◌≡◌, ◌≤◌, ℕ, IfOk, IfErr, OnOk, OnErr, IsErrOf};
-ghost use Rattle.flop_base.specs.Counts.{Rose};
 ghost use Rattle.flop_base.specs.Shelf.{stored};
 ghost use Rattle.raw_image.specs.Image.{image_of, file_of, Reads};
 ghost use Rattle.sector_model.specs.Steps.{IsImageOf, StopCause};
 ghost use Rattle.sector_model.specs.Runs.{IsEndStop};
+ghost use Rattle.sector_model.specs.Faults.{Blames};
 ghost use Rattle.floppy_session.specs.Loads.{StopsFor, StopsForStore};
 
 use flop_base::{LoadError, Name, NoMemory, Shelf, StoreError};
@@ -28,9 +28,8 @@ pub(crate) fn load_medium<S: Shelf>(
     ensures image { IfOk result (λ medium. IsImageOf (S.told shelf.old) name.now medium) }
     ensures cause { IfErr result (λ stop. (bay : ℕ) → StopCause (S.told shelf.old) (Request.Insert bay name.now) stop) }
     ensures stays { S.told shelf.new ≡ S.told shelf.old }
-    ensures fault { IsErrOf result Stop.FileFault
-        → Rose (S.fault_count shelf.old) (S.fault_count shelf.new) }
-    ensures never_falls { S.fault_count shelf.old ≤ S.fault_count shelf.new }
+    ensures faults { Blames (IsErrOf result Stop.FileFault) (S.fault_count shelf.old)
+        (S.fault_count shelf.new) }
 {
     let bytes = match shelf.load(alloc, name.as_str(), MOST_IMAGE_BYTES) {
         Ok(bytes) => bytes,
@@ -87,9 +86,8 @@ pub(crate) fn store_medium<S: Shelf>(
     ensures ok { OnOk result (S.told shelf.new ≡ stored (S.told shelf.old) name.now (file_of medium.now)) }
     ensures cause { IfErr result IsEndStop }
     ensures err { OnErr result (S.told shelf.new ≡ S.told shelf.old) }
-    ensures fault { IsErrOf result Stop.FileFault
-        → Rose (S.fault_count shelf.old) (S.fault_count shelf.new) }
-    ensures never_falls { S.fault_count shelf.old ≤ S.fault_count shelf.new }
+    ensures faults { Blames (IsErrOf result Stop.FileFault) (S.fault_count shelf.old)
+        (S.fault_count shelf.new) }
 {
     let bytes = write_image(alloc, medium)?;
     match shelf.store(name.as_str(), &bytes) {

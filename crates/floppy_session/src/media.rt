@@ -1,15 +1,16 @@
 // The requests that exchange media and drives.
 ghost use Rattle.std.specs.Prelude.{◌≡◌, ◌≤◌, Option, false, true, IfOk, IfErr, OnOk, OnErr, IsErrOf, IsOkUnless};
-ghost use Rattle.flop_base.specs.Counts.{Rose};
 ghost use Rattle.flop_base.specs.Shelf.{Files};
 ghost use Rattle.bay_model.specs.Bays.{in_bay, with_bay};
 ghost use Rattle.sector_model.specs.States.{ChangesMedium};
 ghost use Rattle.sector_model.specs.Steps.{Step, StopsAt, StoresMedium, is_loaded, is_blank_request as is_blank_request_of, blank_of};
 ghost use Rattle.sector_model.specs.Runs.{EndsBay, DropsMedium, IsEndStop};
+ghost use Rattle.sector_model.specs.Faults.{Blames};
 ghost use Rattle.floppy_session.specs.Blanks.{blank_request};
 
 use crate::loading::{load_medium, store_medium};
 use crate::session::{Session, bad_request};
+use crate::shape::Shape;
 use flop_base::{Name, NoMemory, Rate, Shelf};
 use floppy_jobs::Request;
 use raw_image::Medium;
@@ -17,7 +18,7 @@ use sector_model::{Reason, Reply, Station, Stop};
 use std::alloc::Global;
 
 impl<D: Station> Session<D> {
-    ghost use Rattle.floppy_session.specs.Session.{state_of, IsRunning};
+    ghost use Rattle.floppy_session.specs.Session.{state_of, shapes_of, IsRunning};
 
     /// Loads the image of this name and puts its medium in.
     pub(crate) fn insert<S: Shelf>(
@@ -32,9 +33,8 @@ impl<D: Station> Session<D> {
         ensures stop { IfErr result (λ stop. StopsAt (state_of D.shown self.old) (S.told shelf.old)
             (Request.Insert bay name.now) stop (state_of D.shown self.new) (S.told shelf.new)) }
         ensures running { IsRunning D.shown D.is_ready self.new }
-        ensures fault { IsErrOf result Stop.FileFault
-            → Rose (S.fault_count shelf.old) (S.fault_count shelf.new) }
-        ensures never_falls { S.fault_count shelf.old ≤ S.fault_count shelf.new }
+        ensures faults { Blames (IsErrOf result Stop.FileFault) (S.fault_count shelf.old)
+            (S.fault_count shelf.new) }
     {
         if bay > 1 {
             return Ok(bad_request());
@@ -85,22 +85,26 @@ impl<D: Station> Session<D> {
             (state_of D.shown self.new) }
         ensures running { IsRunning D.shown D.is_ready self.new }
     {
+        let shape = Shape::of(&medium);
         match self.station.insert(bay, medium) {
-            Ok(()) => self.set_name(bay, name),
+            Ok(()) => self.set_loaded(bay, name, shape),
             Err(_) => unreachable!(),
         }
     }
 
-    /// Sets the name of a bay.
-    fn set_name(&mut self, bay: u8, name: Name)
+    /// Sets the name of a bay, and the shape of its medium.
+    fn set_loaded(&mut self, bay: u8, name: Name, shape: Shape)
         ensures names { (state_of D.shown self.new).names
             ≡ with_bay (state_of D.shown self.old).names bay (Some name) }
+        ensures shapes { shapes_of self.new ≡ with_bay (shapes_of self.old) bay (Some shape) }
         ensures station { self.new.station ≡ self.old.station }
     {
         if bay == 0 {
             self.name0 = Some(name);
+            self.shape0 = Some(shape);
         } else {
             self.name1 = Some(name);
+            self.shape1 = Some(shape);
         }
     }
 
@@ -112,9 +116,8 @@ impl<D: Station> Session<D> {
         ensures stop { IfErr result (λ stop. StopsAt (state_of D.shown self.old) (S.told shelf.old)
             (Request.Eject bay) stop (state_of D.shown self.new) (S.told shelf.new)) }
         ensures running { IsRunning D.shown D.is_ready self.new }
-        ensures fault { IsErrOf result Stop.FileFault
-            → Rose (S.fault_count shelf.old) (S.fault_count shelf.new) }
-        ensures never_falls { S.fault_count shelf.old ≤ S.fault_count shelf.new }
+        ensures faults { Blames (IsErrOf result Stop.FileFault) (S.fault_count shelf.old)
+            (S.fault_count shelf.new) }
     {
         if bay > 1 {
             return Ok(bad_request());
@@ -138,25 +141,28 @@ impl<D: Station> Session<D> {
             (state_of D.shown self.new)) }
         ensures err { OnErr result (S.told shelf.new ≡ S.told shelf.old) }
         ensures ready { D.is_ready self.new.station }
-        ensures fault { IsErrOf result Stop.FileFault
-            → Rose (S.fault_count shelf.old) (S.fault_count shelf.new) }
-        ensures never_falls { S.fault_count shelf.old ≤ S.fault_count shelf.new }
+        ensures shapes { shapes_of self.new ≡ with_bay (shapes_of self.old) bay None }
+        ensures faults { Blames (IsErrOf result Stop.FileFault) (S.fault_count shelf.old)
+            (S.fault_count shelf.new) }
     {
         let name = self.take_name(bay).unwrap();
         let medium = self.station.eject(bay).unwrap();
         store_medium(self.alloc, shelf, &name, &medium)
     }
 
-    /// Takes the name of a bay out, so that it has none.
+    /// Takes the name of a bay out, so that it has none, and drops the shape of its medium.
     fn take_name(&mut self, bay: u8) -> Option<Name>
         ensures name { result ≡ in_bay (state_of D.shown self.old).names bay }
         ensures names { (state_of D.shown self.new).names
             ≡ with_bay (state_of D.shown self.old).names bay None }
+        ensures shapes { shapes_of self.new ≡ with_bay (shapes_of self.old) bay None }
         ensures station { self.new.station ≡ self.old.station }
     {
         if bay == 0 {
+            self.shape0 = None;
             self.name0.take()
         } else {
+            self.shape1 = None;
             self.name1.take()
         }
     }
@@ -171,9 +177,8 @@ impl<D: Station> Session<D> {
         ensures dropped { OnErr result (DropsMedium (state_of D.shown self.old) bay (state_of D.shown self.new)) }
         ensures err { OnErr result (S.told shelf.new ≡ S.told shelf.old) }
         ensures running { IsRunning D.shown D.is_ready self.new }
-        ensures fault { IsErrOf result Stop.FileFault
-            → Rose (S.fault_count shelf.old) (S.fault_count shelf.new) }
-        ensures never_falls { S.fault_count shelf.old ≤ S.fault_count shelf.new }
+        ensures faults { Blames (IsErrOf result Stop.FileFault) (S.fault_count shelf.old)
+            (S.fault_count shelf.new) }
     {
         if self.station.is_loaded(bay) {
             self.take_out(shelf, bay)

@@ -11,7 +11,7 @@ use floppy_jobs::Request;
 use sector_model::{Reply, Station, Stop};
 
 impl<D: Station> Session<D> {
-    ghost use Rattle.floppy_session.specs.Session.{state_of, IsRunning};
+    ghost use Rattle.floppy_session.specs.Session.{state_of, shapes_of, IsRunning};
 
     /// Sets bytes of memory.
     pub(crate) fn fill(&mut self, address: u32, length: u32, byte: u8) -> Reply
@@ -32,6 +32,7 @@ impl<D: Station> Session<D> {
         requires ready { D.is_ready self.old.station }
         requires range { address + length ≤ user_bytes }
         ensures fills { Fills (state_of D.shown self.old) address length byte (state_of D.shown self.new) }
+        ensures shapes { shapes_of self.new ≡ shapes_of self.old }
         ensures ready { D.is_ready self.new.station }
     {
         for i in 0..length {

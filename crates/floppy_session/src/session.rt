@@ -1,12 +1,14 @@
 // A session: a station, and the names under which the media in its bays are stored.
 ghost use Rattle.std.specs.Prelude.{◌≡◌, ◌≤◌, IfOk, IfErr, OnOk, IsErrOf};
-ghost use Rattle.flop_base.specs.Counts.{Rose};
-ghost use Rattle.sector_model.specs.Stations.{IsFresh};
+ghost use Rattle.sector_model.specs.Stations.{IsFresh, bay_of};
 ghost use Rattle.sector_model.specs.States.{start_of};
 ghost use Rattle.sector_model.specs.Steps.{Step, StopsAt};
 ghost use Rattle.sector_model.specs.Runs.{Ends, EndStopsAt, IsEndStop};
+ghost use Rattle.sector_model.specs.Faults.{Blames};
 ghost use Rattle.floppy_session.specs.Tries.{HasTries};
+ghost use Rattle.floppy_session.specs.Shapes.{shape_in};
 
+use crate::shape::Shape;
 use flop_base::{Code, Name, Rate, Shelf};
 use floppy_jobs::Request;
 use sector_model::{Reason, Reply, Station, Stop};
@@ -21,6 +23,10 @@ pub struct Session<D> {
     pub(crate) name0: Option<Name>,
     /// The name of the medium in bay 1.
     pub(crate) name1: Option<Name>,
+    /// The shape of the medium in bay 0.
+    pub(crate) shape0: Option<Shape>,
+    /// The shape of the medium in bay 1.
+    pub(crate) shape1: Option<Shape>,
 }
 
 impl<D: Station> Session<D> {
@@ -38,6 +44,8 @@ impl<D: Station> Session<D> {
             station,
             name0: None,
             name1: None,
+            shape0: None,
+            shape1: None,
         }
     }
 
@@ -45,6 +53,15 @@ impl<D: Station> Session<D> {
         ensures { D.shown result.now ≡ (state_of D.shown self.now).station }
     {
         &self.station
+    }
+
+    /// The shape of the medium in a bay; nothing where none is in.
+    pub fn shape(&self, bay: u8) -> Option<Shape>
+        requires running { IsRunning D.shown D.is_ready self.now }
+        requires bay { bay ≤ 1 }
+        ensures { result ≡ shape_in (bay_of (state_of D.shown self.now).station bay) }
+    {
+        if bay == 0 { self.shape0 } else { self.shape1 }
     }
 
     /// The station alone. The names are dropped.
@@ -65,9 +82,8 @@ impl<D: Station> Session<D> {
         ensures stop { IfErr result (λ stop. StopsAt (state_of D.shown self.old) (S.told shelf.old) request.now stop
             (state_of D.shown self.new) (S.told shelf.new)) }
         ensures running { IsRunning D.shown D.is_ready self.new }
-        ensures fault { IsErrOf result Stop.FileFault
-            → Rose (S.fault_count shelf.old) (S.fault_count shelf.new) }
-        ensures never_falls { S.fault_count shelf.old ≤ S.fault_count shelf.new }
+        ensures faults { Blames (IsErrOf result Stop.FileFault) (S.fault_count shelf.old)
+            (S.fault_count shelf.new) }
     {
         match request {
             Request::Insert { bay, name } => self.insert(shelf, *bay, name),
@@ -109,9 +125,8 @@ impl<D: Station> Session<D> {
         ensures stop { IfErr result (λ stop. IsEndStop stop × EndStopsAt (state_of D.shown self.old) (S.told shelf.old)
             (state_of D.shown self.new) (S.told shelf.new)) }
         ensures running { IsRunning D.shown D.is_ready self.new }
-        ensures fault { IsErrOf result Stop.FileFault
-            → Rose (S.fault_count shelf.old) (S.fault_count shelf.new) }
-        ensures never_falls { S.fault_count shelf.old ≤ S.fault_count shelf.new }
+        ensures faults { Blames (IsErrOf result Stop.FileFault) (S.fault_count shelf.old)
+            (S.fault_count shelf.new) }
     {
         self.end_bay(shelf, 0)?;
         self.end_bay(shelf, 1)

@@ -56,6 +56,9 @@ fn words_of_the_program(rt: HostRuntime) -> Result<(), Fail> {
         ("run job", none, Status::BadWords),
         ("play job more", none, Status::BadWords),
         ("play .job", none, Status::BadWords),
+        ("format a.rt", none, Status::BadWords),
+        ("format a.rt 81", none, Status::BadWords),
+        ("copy a.rt", none, Status::BadWords),
         ("play nojob", "nojob absent\n", Status::Absent),
     ] {
         let mut words: Vec<String> = Vec::new(alloc);

@@ -19,3 +19,5 @@ mod sectors;
 mod session;
 #[cfg(test)]
 mod tracks;
+#[cfg(test)]
+mod whole;

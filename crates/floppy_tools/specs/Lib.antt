@@ -1,3 +1,2 @@
 pub mod Programs
 pub mod Turns
-pub mod Words

@@ -1,23 +1,30 @@
 -- What the program does with its words.
-use Rattle.std.specs.Prelude.{ℕ, List, Option, Some, None, codes}
+use Rattle.std.specs.Prelude.{◌≡◌, List, [], Option, Some, None}
+use Rattle.flop_base.specs.declared.answers.Rate.TheVariants.{R500, R250}
 use Rattle.flop_base.specs.declared.answers.Status.{Status}
 use Rattle.flop_base.specs.declared.answers.Status.TheVariants as status
 use Rattle.sector_model.specs.Runs.{Taken}
-use Rattle.sector_model.specs.Ties.{TiesCounts}
-use Rattle.sector_model.specs.Plays.{World, Plays, TellsAlone}
-use Rattle.floppy_tools.specs.Words.{job_of}
+use Rattle.sector_model.specs.Plays.{World, Plays, TellsAlone, IsIdle}
+use Rattle.floppy_report.specs.LastLines.{bad_words_text}
+use Rattle.floppy_words.specs.declared.form.Form.{Form}
+use Rattle.floppy_words.specs.declared.form.Form.TheVariants as form
+use Rattle.disk_commands.specs.Commands.{Formats, Copies}
+use Rattle.disk_commands.specs.Verifies.{Verifies}
 
--- the line where the words are no form of the program
-abbrev pub bad_words_text : List ℕ
-bad_words_text = codes "words not understood\n"
+-- what a form asks for
+abbrev pub DoesForm : Form → World → List Taken → World → Status → Type 0
+DoesForm (form.Play job) old course new ended = Plays old job course new ended
+DoesForm (form.Format name cylinders) old course new ended = Formats name cylinders R500 old course new ended
+DoesForm (form.FormatDd name cylinders) old course new ended = Formats name cylinders R250 old course new ended
+DoesForm (form.Copy from to) old course new ended = Copies from to old course new ended
+DoesForm (form.Verify name) old course new ended = Verifies name old course new ended
 
--- the job that the words name is played, or the words are no form
-abbrev pub Performs : Option (List ℕ) → World → List Taken → World → Status → Type 0
-Performs (Some job) old course new ended = Plays old job course new ended
-Performs None old course new ended = TellsAlone old bad_words_text status.BadWords course new ended
+-- the form is done, or memory for its words couldn't be had
+pub data DoesOrStarves (asked : Form) (old : World) (course : List Taken) (new : World) (ended : Status) : Type 0 where
+  AsAsked : DoesForm asked old course new ended → DoesOrStarves asked old course new ended
+  StarvesWords : course ≡ [] → IsIdle old new status.NoMemory ended → DoesOrStarves asked old course new ended
 
--- what the program does with these words: a run with some course, and what ties its counts
-pub record Programs (words : List (List ℕ)) (old new : World) (ended : Status) : Type 0 where
-  pub course : List Taken
-  pub performs : Performs (job_of words) old course new ended
-  pub ties : TiesCounts old.state.station.counters course new.state.station.counters
+-- what the program does with the form that its words are, or with words that are none
+abbrev pub Does : Option Form → World → List Taken → World → Status → Type 0
+Does (Some asked) old course new ended = DoesOrStarves asked old course new ended
+Does None old course new ended = TellsAlone old bad_words_text status.BadWords course new ended

@@ -3,8 +3,6 @@
 
 mod play;
 mod program;
-mod report;
-mod words;
 
 pub use floppy_session::Session;
 pub use program::floppy;

@@ -1,16 +1,17 @@
 // The form `play JOB`: a job is read and run to its end, or up to what stops it.
 ghost use Rattle.std.specs.Prelude.{◌≡◌, ◌≢◌, ◌≤◌, ◌||◌, All, List, IfOk, IfErr, IsErrOf, Err};
-ghost use Rattle.flop_base.specs.Counts.{Rose};
+ghost use Rattle.sector_model.specs.Faults.{Blames};
 ghost use Rattle.sector_model.specs.Texts.{is_refusal};
 ghost use Rattle.sector_model.specs.Runs.{Taken};
 ghost use Rattle.sector_model.specs.Plays.{Plays, whole_status};
 ghost use Rattle.floppy_session.specs.Session.{state_of, IsRunning};
 ghost use Rattle.floppy_session.specs.Tries.{HasTries};
-ghost use Rattle.floppy_tools.specs.Turns.{world, IsTurn, Breaks, HasRun, HasPlayed, EndsAs, PlaysOrStarves, Misses};
+ghost use Rattle.disk_commands.specs.Worlds.{world_of};
+ghost use Rattle.floppy_tools.specs.Turns.{IsTurn, Breaks, HasRun, HasPlayed, EndsAs, PlaysOrStarves, Misses};
 
-use crate::report::{put_last, put_last_absent, put_last_bad_line, put_reply, stop_status};
 use flop_base::{LoadError, Shelf, Sink, Status};
 use floppy_jobs::{JobError, Request, parse_job};
+use floppy_report::{put_last, put_last_absent, put_last_bad_line, put_reply, stop_status};
 use floppy_session::Session;
 use sector_model::{Reply, Station, Stop};
 use std::alloc::Global;
@@ -29,19 +30,17 @@ fn run_one<S: Shelf, K: Sink, D: Station>(
     requires running { IsRunning D.shown D.is_ready session.old }
     requires tries { HasTries request.now }
     ensures turn { IfOk result (λ refused. IsTurn
-        (world (state_of D.shown session.old) (S.told shelf.old) (K.told out.old)) request.now refused
-        (world (state_of D.shown session.new) (S.told shelf.new) (K.told out.new))) }
+        (world_of D.shown S.told K.told session.old shelf.old out.old) request.now refused
+        (world_of D.shown S.told K.told session.new shelf.new out.new)) }
     ensures breaks { IfErr result (λ ended. Breaks
-        (world (state_of D.shown session.old) (S.told shelf.old) (K.told out.old)) request.now
-        (world (state_of D.shown session.new) (S.told shelf.new) (K.told out.new)) ended) }
+        (world_of D.shown S.told K.told session.old shelf.old out.old) request.now
+        (world_of D.shown S.told K.told session.new shelf.new out.new) ended) }
     ensures running { IsRunning D.shown D.is_ready session.new }
     ensures is_form { result ≢ Err Status.BadWords }
-    ensures shelf_fault { IsErrOf result Status.FileFault
-        → Rose (S.fault_count shelf.old) (S.fault_count shelf.new) }
-    ensures shelf_never_falls { S.fault_count shelf.old ≤ S.fault_count shelf.new }
-    ensures sink_fault { IsErrOf result Status.SinkFault
-        → Rose (K.fault_count out.old) (K.fault_count out.new) }
-    ensures sink_never_falls { K.fault_count out.old ≤ K.fault_count out.new }
+    ensures shelf_faults { Blames (IsErrOf result Status.FileFault) (S.fault_count shelf.old)
+        (S.fault_count shelf.new) }
+    ensures sink_faults { Blames (IsErrOf result Status.SinkFault) (K.fault_count out.old)
+        (K.fault_count out.new) }
 {
     match session.run(shelf, request) {
         Ok(reply) => match put_reply(alloc, out, request, &reply) {
@@ -79,19 +78,17 @@ fn run_requests<S: Shelf, K: Sink, D: Station>(
     requires running { IsRunning D.shown D.is_ready session.old }
     requires tries { All HasTries requests.now }
     ensures run { IfOk result (λ refused. HasRun
-        (world (state_of D.shown session.old) (S.told shelf.old) (K.told out.old)) requests.now refused
-        (world (state_of D.shown session.new) (S.told shelf.new) (K.told out.new))) }
+        (world_of D.shown S.told K.told session.old shelf.old out.old) requests.now refused
+        (world_of D.shown S.told K.told session.new shelf.new out.new)) }
     ensures plays { IfErr result (λ ended. HasPlayed
-        (world (state_of D.shown session.old) (S.told shelf.old) (K.told out.old)) requests.now
-        (world (state_of D.shown session.new) (S.told shelf.new) (K.told out.new)) ended) }
+        (world_of D.shown S.told K.told session.old shelf.old out.old) requests.now
+        (world_of D.shown S.told K.told session.new shelf.new out.new) ended) }
     ensures running { IsRunning D.shown D.is_ready session.new }
     ensures is_form { result ≢ Err Status.BadWords }
-    ensures shelf_fault { IsErrOf result Status.FileFault
-        → Rose (S.fault_count shelf.old) (S.fault_count shelf.new) }
-    ensures shelf_never_falls { S.fault_count shelf.old ≤ S.fault_count shelf.new }
-    ensures sink_fault { IsErrOf result Status.SinkFault
-        → Rose (K.fault_count out.old) (K.fault_count out.new) }
-    ensures sink_never_falls { K.fault_count out.old ≤ K.fault_count out.new }
+    ensures shelf_faults { Blames (IsErrOf result Status.FileFault) (S.fault_count shelf.old)
+        (S.fault_count shelf.new) }
+    ensures sink_faults { Blames (IsErrOf result Status.SinkFault) (K.fault_count out.old)
+        (K.fault_count out.new) }
 {
     let mut refused = false;
     for request in requests {
@@ -110,9 +107,8 @@ fn finish<S: Shelf, D: Station>(session: &mut Session<D>, shelf: &mut S, refused
         (state_of D.shown session.new) (S.told shelf.new) result }
     ensures running { IsRunning D.shown D.is_ready session.new }
     ensures is_form { result ≢ Status.BadWords }
-    ensures shelf_fault { result ≡ Status.FileFault
-        → Rose (S.fault_count shelf.old) (S.fault_count shelf.new) }
-    ensures shelf_never_falls { S.fault_count shelf.old ≤ S.fault_count shelf.new }
+    ensures shelf_faults { Blames (result ≡ Status.FileFault) (S.fault_count shelf.old)
+        (S.fault_count shelf.new) }
     ensures no_sink_fault { result ≢ Status.SinkFault }
 {
     match session.end(shelf) {
@@ -142,15 +138,14 @@ fn play_requests<S: Shelf, K: Sink, D: Station>(
     requires running { IsRunning D.shown D.is_ready session.old }
     requires tries { All HasTries requests.now }
     ensures plays { HasPlayed
-        (world (state_of D.shown session.old) (S.told shelf.old) (K.told out.old)) requests.now
-        (world (state_of D.shown session.new) (S.told shelf.new) (K.told out.new)) result }
+        (world_of D.shown S.told K.told session.old shelf.old out.old) requests.now
+        (world_of D.shown S.told K.told session.new shelf.new out.new) result }
     ensures running { IsRunning D.shown D.is_ready session.new }
     ensures is_form { result ≢ Status.BadWords }
-    ensures shelf_fault { result ≡ Status.FileFault
-        → Rose (S.fault_count shelf.old) (S.fault_count shelf.new) }
-    ensures shelf_never_falls { S.fault_count shelf.old ≤ S.fault_count shelf.new }
-    ensures sink_fault { result ≡ Status.SinkFault
-        → Rose (K.fault_count out.old) (K.fault_count out.new) }
+    ensures shelf_faults { Blames (result ≡ Status.FileFault) (S.fault_count shelf.old)
+        (S.fault_count shelf.new) }
+    ensures sink_faults { Blames (result ≡ Status.SinkFault) (K.fault_count out.old)
+        (K.fault_count out.new) }
 {
     match run_requests(alloc, session, requests, shelf, out) {
         Ok(refused) => finish(session, shelf, refused),
@@ -168,15 +163,14 @@ fn play_text<S: Shelf, K: Sink, D: Station>(
 ) -> Status
     requires running { IsRunning D.shown D.is_ready session.old }
     ensures plays { PlaysOrStarves
-        (world (state_of D.shown session.old) (S.told shelf.old) (K.told out.old)) text.now
-        (world (state_of D.shown session.new) (S.told shelf.new) (K.told out.new)) result }
+        (world_of D.shown S.told K.told session.old shelf.old out.old) text.now
+        (world_of D.shown S.told K.told session.new shelf.new out.new) result }
     ensures running { IsRunning D.shown D.is_ready session.new }
     ensures is_form { result ≢ Status.BadWords }
-    ensures shelf_fault { result ≡ Status.FileFault
-        → Rose (S.fault_count shelf.old) (S.fault_count shelf.new) }
-    ensures shelf_never_falls { S.fault_count shelf.old ≤ S.fault_count shelf.new }
-    ensures sink_fault { result ≡ Status.SinkFault
-        → Rose (K.fault_count out.old) (K.fault_count out.new) }
+    ensures shelf_faults { Blames (result ≡ Status.FileFault) (S.fault_count shelf.old)
+        (S.fault_count shelf.new) }
+    ensures sink_faults { Blames (result ≡ Status.SinkFault) (K.fault_count out.old)
+        (K.fault_count out.new) }
 {
     match parse_job(alloc, text) {
         Ok(requests) => play_requests(alloc, session, &requests, shelf, out),
@@ -190,8 +184,8 @@ fn not_loaded<K: Sink>(alloc: Global, job: &str, out: &mut K, error: LoadError) 
     ensures ends { Misses error job.now (K.told out.old) (K.told out.new) result }
     ensures is_form { result ≢ Status.BadWords }
     ensures shelf_fault { result ≡ Status.FileFault → error ≡ LoadError.Failed }
-    ensures sink_fault { result ≡ Status.SinkFault
-        → Rose (K.fault_count out.old) (K.fault_count out.new) }
+    ensures sink_faults { Blames (result ≡ Status.SinkFault) (K.fault_count out.old)
+        (K.fault_count out.new) }
 {
     match error {
         LoadError::Absent => put_last_absent(alloc, out, job),
@@ -211,14 +205,14 @@ pub(crate) fn play<S: Shelf, K: Sink, D: Station>(
 ) -> Status
     requires running { IsRunning D.shown D.is_ready session.old }
     ensures plays { (course : List Taken) × Plays
-        (world (state_of D.shown session.old) (S.told shelf.old) (K.told out.old)) job.now course
-        (world (state_of D.shown session.new) (S.told shelf.new) (K.told out.new)) result }
+        (world_of D.shown S.told K.told session.old shelf.old out.old) job.now course
+        (world_of D.shown S.told K.told session.new shelf.new out.new) result }
     ensures running { IsRunning D.shown D.is_ready session.new }
     ensures is_form { result ≢ Status.BadWords }
-    ensures shelf_fault { result ≡ Status.FileFault
-        → Rose (S.fault_count shelf.old) (S.fault_count shelf.new) }
-    ensures sink_fault { result ≡ Status.SinkFault
-        → Rose (K.fault_count out.old) (K.fault_count out.new) }
+    ensures shelf_faults { Blames (result ≡ Status.FileFault) (S.fault_count shelf.old)
+        (S.fault_count shelf.new) }
+    ensures sink_faults { Blames (result ≡ Status.SinkFault) (K.fault_count out.old)
+        (K.fault_count out.new) }
 {
     match shelf.load(alloc, job, MOST_JOB_BYTES) {
         Ok(text) => play_text(alloc, session, &text, shelf, out),

@@ -1,26 +1,31 @@
 // The top call.
-ghost use Rattle.std.specs.Prelude.{◌≡◌, ◌≤◌, ◌+◌, ℕ, List, Option, Some, None, map, string_bytes};
-ghost use Rattle.flop_base.specs.Counts.{Rose};
+ghost use Rattle.std.specs.Prelude.{◌≡◌, ◌≢◌, ◌≤◌, ◌+◌, ℕ, List, Option, Some, None, map, string_bytes};
 ghost use Rattle.floppy_jobs.specs.declared.request.Request.{Request};
 ghost use Rattle.bay_model.specs.Bays.{Two};
+ghost use Rattle.sector_model.specs.Faults.{Blames};
 ghost use Rattle.sector_model.specs.Ties.{IsJob, accesses_of_job};
 ghost use Rattle.sector_model.specs.Stations.{IsFresh};
 ghost use Rattle.sector_model.specs.States.{start_of};
 ghost use Rattle.floppy_session.specs.Session.{state_of, IsRunning};
+ghost use Rattle.floppy_words.specs.declared.form.Form.TheVariants as form;
+ghost use Rattle.floppy_words.specs.Forms.{form_of};
+ghost use Rattle.disk_commands.specs.Commands.{Runs};
+ghost use Rattle.disk_commands.specs.Worlds.{world_of};
 ghost use Rattle.floppy_tools.specs.Turns.{world};
-ghost use Rattle.floppy_tools.specs.Words.{job_of};
-ghost use Rattle.floppy_tools.specs.Programs.{Programs};
+ghost use Rattle.floppy_tools.specs.Programs.{Does, DoesForm};
 
 use crate::play::play;
-use crate::report::put_last_bad_words;
-use crate::words::job_named;
-use flop_base::{Shelf, Sink, Status};
+use disk_commands::{copy_disk, format_disk, verify_disk};
+use flop_base::{NoMemory, Rate, Shelf, Sink, Status};
+use floppy_report::put_last_bad_words;
 use floppy_session::Session;
+use floppy_words::{Form, form_named};
 use sector_model::Station;
 use std::alloc::Global;
 
-/// Does what the words after the program's name say, on a station that is as it comes: `play JOB` runs a job. It prints
-/// a report to the sink, and the status says how it ended. The station comes back in every case.
+/// Does what the words after the program's name say, on a station that is as it comes: `play JOB` runs a job, `format NAME CYLS` and
+/// `formatdd NAME CYLS` store a formatted disk, `copy FROM TO` copies one, `verify NAME` reads all of one. It prints a report to the
+/// sink, and the status says how it ended. The station comes back in every case.
 pub fn floppy<S: Shelf, K: Sink, D: Station>(
     alloc: Global,
     words: &[String],
@@ -32,21 +37,19 @@ pub fn floppy<S: Shelf, K: Sink, D: Station>(
     requires ready { D.is_ready station }
     // The headline: what is printed and stored is a run of the sector model, whose counts are those that the station shows
     // before and after it.
-    ensures runs { (names : Two (Option (List ℕ))) × Programs (map string_bytes words.now)
+    ensures runs { (names : Two (Option (List ℕ))) × Runs (Does (form_of (map string_bytes words.now)))
         (world (start_of (D.shown station)) (S.told shelf.old) (K.told out.old))
         (world (record { station = D.shown result.1; names = names }) (S.told shelf.new) (K.told out.new))
         result.0 }
     ensures accesses { (job : List ℕ) (requests : List Request)
-        → job_of (map string_bytes words.now) ≡ Some job → IsJob (S.told shelf.old) job requests
+        → form_of (map string_bytes words.now) ≡ Some (form.Play job) → IsJob (S.told shelf.old) job requests
         → (D.shown result.1).counters.direct
         ≤ (D.shown station).counters.direct + accesses_of_job requests }
     // 2 exactly where the words are no form, also where nothing is told.
-    ensures bad_words { result.0 ≡ Status.BadWords → job_of (map string_bytes words.now) ≡ None }
+    ensures bad_words { result.0 ≡ Status.BadWords → form_of (map string_bytes words.now) ≡ None }
     ensures ready { D.is_ready result.1 }
-    ensures shelf_fault { result.0 ≡ Status.FileFault
-        → Rose (S.fault_count shelf.old) (S.fault_count shelf.new) }
-    ensures sink_fault { result.0 ≡ Status.SinkFault
-        → Rose (K.fault_count out.old) (K.fault_count out.new) }
+    ensures shelf_faults { Blames (result.0 ≡ Status.FileFault) (S.fault_count shelf.old) (S.fault_count shelf.new) }
+    ensures sink_faults { Blames (result.0 ≡ Status.SinkFault) (K.fault_count out.old) (K.fault_count out.new) }
 {
     let mut session = Session::new(alloc, station);
     let status = perform(alloc, &mut session, words, shelf, out);
@@ -62,22 +65,85 @@ fn perform<S: Shelf, K: Sink, D: Station>(
     out: &mut K,
 ) -> Status
     requires running { IsRunning D.shown D.is_ready session.old }
-    ensures runs { Programs (map string_bytes words.now)
-        (world (state_of D.shown session.old) (S.told shelf.old) (K.told out.old))
-        (world (state_of D.shown session.new) (S.told shelf.new) (K.told out.new)) result }
+    ensures runs { Runs (Does (form_of (map string_bytes words.now)))
+        (world_of D.shown S.told K.told session.old shelf.old out.old)
+        (world_of D.shown S.told K.told session.new shelf.new out.new) result }
     ensures accesses { (job : List ℕ) (requests : List Request)
-        → job_of (map string_bytes words.now) ≡ Some job → IsJob (S.told shelf.old) job requests
+        → form_of (map string_bytes words.now) ≡ Some (form.Play job) → IsJob (S.told shelf.old) job requests
         → (state_of D.shown session.new).station.counters.direct
         ≤ (state_of D.shown session.old).station.counters.direct + accesses_of_job requests }
-    ensures bad_words { result ≡ Status.BadWords → job_of (map string_bytes words.now) ≡ None }
+    ensures bad_words { result ≡ Status.BadWords → form_of (map string_bytes words.now) ≡ None }
     ensures running { IsRunning D.shown D.is_ready session.new }
-    ensures shelf_fault { result ≡ Status.FileFault
-        → Rose (S.fault_count shelf.old) (S.fault_count shelf.new) }
-    ensures sink_fault { result ≡ Status.SinkFault
-        → Rose (K.fault_count out.old) (K.fault_count out.new) }
+    ensures shelf_faults { Blames (result ≡ Status.FileFault) (S.fault_count shelf.old) (S.fault_count shelf.new) }
+    ensures sink_faults { Blames (result ≡ Status.SinkFault) (K.fault_count out.old) (K.fault_count out.new) }
 {
-    match job_named(words) {
-        Some(job) => play(alloc, session, job, shelf, out),
+    match form_named(alloc, words) {
+        Ok(form) => perform_any(alloc, session, form, shelf, out),
+        Err(NoMemory) => Status::NoMemory,
+    }
+}
+
+/// Does what a form asks for, if the words are one.
+fn perform_any<S: Shelf, K: Sink, D: Station>(
+    alloc: Global,
+    session: &mut Session<D>,
+    form: Option<Form>,
+    shelf: &mut S,
+    out: &mut K,
+) -> Status
+    requires running { IsRunning D.shown D.is_ready session.old }
+    ensures runs { Runs (Does form)
+        (world_of D.shown S.told K.told session.old shelf.old out.old)
+        (world_of D.shown S.told K.told session.new shelf.new out.new) result }
+    ensures bad_words { result ≡ Status.BadWords → form ≡ None }
+    ensures running { IsRunning D.shown D.is_ready session.new }
+    ensures shelf_faults { Blames (result ≡ Status.FileFault) (S.fault_count shelf.old) (S.fault_count shelf.new) }
+    ensures sink_faults { Blames (result ≡ Status.SinkFault) (K.fault_count out.old) (K.fault_count out.new) }
+{
+    match form {
+        Some(form) => perform_form(alloc, session, form, shelf, out),
         None => put_last_bad_words(out),
+    }
+}
+
+/// Does what a form asks for.
+fn perform_form<S: Shelf, K: Sink, D: Station>(
+    alloc: Global,
+    session: &mut Session<D>,
+    form: Form,
+    shelf: &mut S,
+    out: &mut K,
+) -> Status
+    requires running { IsRunning D.shown D.is_ready session.old }
+    ensures runs { Runs (DoesForm form)
+        (world_of D.shown S.told K.told session.old shelf.old out.old)
+        (world_of D.shown S.told K.told session.new shelf.new out.new) result }
+    ensures running { IsRunning D.shown D.is_ready session.new }
+    ensures is_form { result ≢ Status.BadWords }
+    ensures shelf_faults { Blames (result ≡ Status.FileFault) (S.fault_count shelf.old) (S.fault_count shelf.new) }
+    ensures sink_faults { Blames (result ≡ Status.SinkFault) (K.fault_count out.old) (K.fault_count out.new) }
+{
+    match form {
+        Form::Play { job } => play(alloc, session, job.as_str(), shelf, out),
+        Form::Format { name, cylinders } => format_disk(
+            alloc,
+            session,
+            name,
+            cylinders.count(),
+            Rate::R500,
+            shelf,
+            out,
+        ),
+        Form::FormatDd { name, cylinders } => format_disk(
+            alloc,
+            session,
+            name,
+            cylinders.count(),
+            Rate::R250,
+            shelf,
+            out,
+        ),
+        Form::Copy { from, to } => copy_disk(alloc, session, from, to, shelf, out),
+        Form::Verify { name } => verify_disk(alloc, session, name, shelf, out),
     }
 }

@@ -1,5 +1,5 @@
 -- What a course's counts come to.
-use Rattle.std.proofs.Common.{arith, ◌≡◌, ℕ, zero, suc, ◌+◌, ◌≤◌, Bool, true, false, All, List, [], ◌∷◌, refl, ap, ◌∙◌, sym, subst, Option, Some}
+use Rattle.std.proofs.Common.{arith, ◌≡◌, ℕ, zero, suc, ◌+◌, ◌≤◌, Bool, true, false, All, List, [], ◌∷◌, refl, ap, ◌∙◌, sym, subst, Option, Some, None, IsSome}
 use Rattle.std.proofs.lemmas.Bool.{true≢false, leb-true, eqb-false}
 use Rattle.std.specs.Prelude.{◌==◌, if◌then◌else◌, MatchOption}
 use Rattle.flop_base.specs.Counts.{Spends}
@@ -16,7 +16,7 @@ use Rattle.sector_model.specs.States.{State}
 use Rattle.sector_model.specs.Orders.{is_bay}
 use Rattle.sector_model.specs.Steps.{Step, IsRefused, unless_bad}
 use Rattle.sector_model.specs.Runs.{Taken, Run}
-use Rattle.sector_model.specs.Ties.{with_spare, entered_by, entered, left_by, step_faults, sum_told, all_left, is_exchange_by, is_exchange, came_with, faults_since, IsSpent, HasNothingLeft, AreUndisturbed}
+use Rattle.sector_model.specs.Ties.{with_spare, entered_by, entered, left_by, step_faults, sum_told, all_left, is_exchange_by, is_exchange, came_with, faults_since, OfAllDrives, TellsFaults, IsSpent, HasNothingLeft, AreUndisturbed}
 use Rattle.bay_model.proofs.Counted.{faults_go_on}
 use Rattle.sector_model.proofs.Counted.{not-first, left_paid, spare_left}
 use Rattle.sector_model.proofs.Ties.{step_goes}
@@ -123,6 +123,91 @@ since_came bay is new old mid told after (taken ∷ later) count sum run goes wi
     since_step bay is old told run.0 taken later new count sum run.1 within (is_exchange bay taken) refl
     (λ came risen fits. since_came bay is new taken.after mid run.0 after later came risen run.2 goes fits)
 
+-- ---- What holds of all drives.
+
+-- a spare that comes into a bay is one of them
+spare_all : (P : DriveCounts → Type 0) (counters : Counters) (bay : ℕ) (spares : List DriveCounts) → OfAllDrives P counters → All P spares → OfAllDrives P (with_spare counters bay spares)
+spare_all P counters bay [] all more = all
+spare_all P counters bay (next ∷ later) all more = by_bay (bay == 0)
+  where
+    here : P next
+    here = more 0 next (omega arith)
+
+    rest : All P later
+    rest k default within = more (suc k) default (omega arith)
+
+    by_bay : (is_first : Bool) → OfAllDrives P (record counters { drives = (if is_first then record counters.drives { first = next } else record counters.drives { second = next }); spares = later })
+    by_bay true = record { first = here; second = all.second; spares = rest }
+    by_bay false = record { first = all.first; second = here; spares = rest }
+
+entered_all : (P : DriveCounts → Type 0) (counters : Counters) (asked : Request) (answer : Reply) → OfAllDrives P counters → OfAllDrives P (entered_by counters asked answer)
+entered_all P counters (request.Unit bay) reply.Done all = spare_all P counters bay counters.spares all all.spares
+entered_all P counters (request.Unit bay) reply.DoneDeleted all = all
+entered_all P counters (request.Unit bay) (reply.Bytes address content) all = all
+entered_all P counters (request.Unit bay) (reply.Refused cause) all = all
+entered_all P counters (request.Insert bay name) answer all = all
+entered_all P counters (request.Blank bay name cylinders) answer all = all
+entered_all P counters (request.BlankDd bay name cylinders) answer all = all
+entered_all P counters (request.Eject bay) answer all = all
+entered_all P counters (request.Ack bay) answer all = all
+entered_all P counters (request.Read bay key address) answer all = all
+entered_all P counters (request.Write bay key address) answer all = all
+entered_all P counters (request.WriteDeleted bay key address) answer all = all
+entered_all P counters (request.Format bay c h) answer all = all
+entered_all P counters (request.Fill address count byte) answer all = all
+entered_all P counters (request.Dump address count) answer all = all
+entered_all P counters (request.SetRate bay rate) answer all = all
+entered_all P counters (request.Tries tries) answer all = all
+
+spare_stalls : (counters : Counters) (bay : ℕ) (spares : List DriveCounts) → ((with_spare counters bay spares).stalls ≡ counters.stalls) × ((with_spare counters bay spares).stalls_left ≡ counters.stalls_left)
+spare_stalls counters bay [] = (refl, refl)
+spare_stalls counters bay (next ∷ later) = (refl, refl)
+
+-- the stalls as a step finds them
+entered_stalls : (counters : Counters) (asked : Request) (answer : Reply) → ((entered_by counters asked answer).stalls ≡ counters.stalls) × ((entered_by counters asked answer).stalls_left ≡ counters.stalls_left)
+entered_stalls counters (request.Unit bay) reply.Done = spare_stalls counters bay counters.spares
+entered_stalls counters (request.Unit bay) reply.DoneDeleted = (refl, refl)
+entered_stalls counters (request.Unit bay) (reply.Bytes address content) = (refl, refl)
+entered_stalls counters (request.Unit bay) (reply.Refused cause) = (refl, refl)
+entered_stalls counters (request.Insert bay name) answer = (refl, refl)
+entered_stalls counters (request.Blank bay name cylinders) answer = (refl, refl)
+entered_stalls counters (request.BlankDd bay name cylinders) answer = (refl, refl)
+entered_stalls counters (request.Eject bay) answer = (refl, refl)
+entered_stalls counters (request.Ack bay) answer = (refl, refl)
+entered_stalls counters (request.Read bay key address) answer = (refl, refl)
+entered_stalls counters (request.Write bay key address) answer = (refl, refl)
+entered_stalls counters (request.WriteDeleted bay key address) answer = (refl, refl)
+entered_stalls counters (request.Format bay c h) answer = (refl, refl)
+entered_stalls counters (request.Fill address count byte) answer = (refl, refl)
+entered_stalls counters (request.Dump address count) answer = (refl, refl)
+entered_stalls counters (request.SetRate bay rate) answer = (refl, refl)
+entered_stalls counters (request.Tries tries) answer = (refl, refl)
+
+-- what a drive that goes on keeps, all drives keep
+goes_all : (P : DriveCounts → Type 0) → ((old new : DriveCounts) → P old → DriveGoesOn old new → P new) → (old new : Counters) → OfAllDrives P old → GoesOn old new → OfAllDrives P new
+goes_all P keeps old new all goes = record {
+  first = keeps old.drives.first new.drives.first all.first goes.first;
+  second = keeps old.drives.second new.drives.second all.second goes.second;
+  spares = subst (λ (spares : List DriveCounts). All P spares) (sym goes.spares) all.spares;
+}
+
+told_still : (faults after : ℕ) (left later : Option ℕ) → IsSome left → Spends faults left after later → IsSome later
+told_still faults after None later told spends = absurd (true≢false (sym told))
+told_still faults after (Some most) later told spends = subst (λ (o : Option ℕ). IsSome o) (sym spends.1) refl
+
+-- a drive that tells what is left goes on telling it
+tells_on : (old new : DriveCounts) → TellsFaults old → DriveGoesOn old new → TellsFaults new
+tells_on old new told goes = told_still old.faults new.faults old.left new.left told goes.spends
+
+-- drives that all tell it still do after a course
+pub all_tell : (old mid : State) (told after : Option Files) (course : List Taken) (new : Counters) → Run old told course mid after → GoesOn mid.station.counters new → OfAllDrives TellsFaults old.station.counters → OfAllDrives TellsFaults new
+all_tell old mid told after [] new run goes all =
+    goes_all TellsFaults tells_on mid.station.counters new (subst (λ (s : State). OfAllDrives TellsFaults s.station.counters) (sym run.0) all) goes
+all_tell old mid told after (taken ∷ later) new run goes all =
+    all_tell taken.after mid run.0 after later new run.2 goes
+    (goes_all TellsFaults tells_on (entered old.station.counters taken) (left_by taken) (entered_all TellsFaults old.station.counters taken.asked taken.answer all)
+    (step_goes old taken.after told run.0 taken.asked taken.answer run.1))
+
 -- ---- With nothing left nothing is disturbed.
 
 -- the count of a drive with no faults left stays
@@ -133,63 +218,39 @@ spent_stays old new spent goes =
     let none : pays.0 ≡ 0 = omega (arith, pays.2, goes.never_falls) in
     (same, record { left = pays.1 ∙ ap (λ (n : ℕ). Some n) none; below = omega (arith, spent.below, same) })
 
-spare_spent : (counters : Counters) (bay : ℕ) (spares : List DriveCounts) → HasNothingLeft counters → All IsSpent spares → HasNothingLeft (with_spare counters bay spares)
-spare_spent counters bay [] none all = none
-spare_spent counters bay (next ∷ later) none all = by_bay (bay == 0)
-  where
-    here : IsSpent next
-    here = all 0 next (omega arith)
-
-    rest : All IsSpent later
-    rest k default within = all (suc k) default (omega arith)
-
-    by_bay : (is_first : Bool) → HasNothingLeft (record counters { drives = (if is_first then record counters.drives { first = next } else record counters.drives { second = next }); spares = later })
-    by_bay true = record { first = here; second = none.second; spares = rest; stalls = none.stalls; stalls_below = none.stalls_below }
-    by_bay false = record { first = none.first; second = here; spares = rest; stalls = none.stalls; stalls_below = none.stalls_below }
+-- nothing is left of a drive that goes on, where nothing was
+spent_on : (old new : DriveCounts) → IsSpent old → DriveGoesOn old new → IsSpent new
+spent_on old new spent goes = let stays = spent_stays old new spent goes in stays.1
 
 entered_spent : (counters : Counters) (asked : Request) (answer : Reply) → HasNothingLeft counters → HasNothingLeft (entered_by counters asked answer)
-entered_spent counters (request.Unit bay) reply.Done none = spare_spent counters bay counters.spares none none.spares
-entered_spent counters (request.Unit bay) reply.DoneDeleted none = none
-entered_spent counters (request.Unit bay) (reply.Bytes address content) none = none
-entered_spent counters (request.Unit bay) (reply.Refused cause) none = none
-entered_spent counters (request.Insert bay name) answer none = none
-entered_spent counters (request.Blank bay name cylinders) answer none = none
-entered_spent counters (request.BlankDd bay name cylinders) answer none = none
-entered_spent counters (request.Eject bay) answer none = none
-entered_spent counters (request.Ack bay) answer none = none
-entered_spent counters (request.Read bay key address) answer none = none
-entered_spent counters (request.Write bay key address) answer none = none
-entered_spent counters (request.WriteDeleted bay key address) answer none = none
-entered_spent counters (request.Format bay c h) answer none = none
-entered_spent counters (request.Fill address count byte) answer none = none
-entered_spent counters (request.Dump address count) answer none = none
-entered_spent counters (request.SetRate bay rate) answer none = none
-entered_spent counters (request.Tries tries) answer none = none
+entered_spent counters asked answer none = record {
+  drives = entered_all IsSpent counters asked answer none.drives;
+  stalls = omega (arith, none.stalls, entered_stalls counters asked answer);
+  stalls_below = omega (arith, none.stalls_below, entered_stalls counters asked answer);
+}
 
 module _ (old new : Counters) (none : HasNothingLeft old) (goes : GoesOn old new) where
   first_stays : (new.drives.first.faults ≡ old.drives.first.faults) × IsSpent new.drives.first
-  first_stays = spent_stays old.drives.first new.drives.first none.first goes.first
+  first_stays = spent_stays old.drives.first new.drives.first none.drives.first goes.first
 
   second_stays : (new.drives.second.faults ≡ old.drives.second.faults) × IsSpent new.drives.second
-  second_stays = spent_stays old.drives.second new.drives.second none.second goes.second
+  second_stays = spent_stays old.drives.second new.drives.second none.drives.second goes.second
 
   stalls_stay : new.stalls ≡ old.stalls
   stalls_stay = omega (arith, none.stalls, goes.stalls, goes.stalls_spent)
 
   none_after : HasNothingLeft new
   none_after = record {
-    first = (let stays = first_stays in stays.1);
-    second = (let stays = second_stays in stays.1);
-    spares = subst (λ (spares : List DriveCounts). All IsSpent spares) (sym goes.spares) none.spares;
+    drives = goes_all IsSpent spent_on old new none.drives goes;
     stalls = omega (arith, none.stalls, goes.stalls, goes.stalls_spent);
     stalls_below = omega (arith, none.stalls_below, stalls_stay);
   }
 
   undisturbed_first : IsUndisturbed 0 old new
-  undisturbed_first = let same = first_stays in let none = none_after in record { faults = none.first.below; stalls = none.stalls_below; together = omega (arith, same.0, stalls_stay) }
+  undisturbed_first = let same = first_stays in let none = none_after in record { faults = none.drives.first.below; stalls = none.stalls_below; together = omega (arith, same.0, stalls_stay) }
 
   undisturbed_second : IsUndisturbed 1 old new
-  undisturbed_second = let same = second_stays in let none = none_after in record { faults = none.second.below; stalls = none.stalls_below; together = omega (arith, same.0, stalls_stay) }
+  undisturbed_second = let same = second_stays in let none = none_after in record { faults = none.drives.second.below; stalls = none.stalls_below; together = omega (arith, same.0, stalls_stay) }
 
 pub all_undisturbed : (old mid : State) (told after : Option Files) (course : List Taken) → Run old told course mid after → HasNothingLeft old.station.counters → AreUndisturbed old.station.counters course
 all_undisturbed old mid told after [] run none = tt

@@ -8,13 +8,15 @@ use Rattle.bay_model.specs.Counters.{Counters, GoesOn, faults_of}
 use Rattle.floppy_jobs.specs.Texts.{job_of}
 use Rattle.floppy_jobs.specs.declared.request.Request.{Request}
 use Rattle.sector_model.specs.States.{State}
+use Rattle.sector_model.specs.declared.reply.Stop.{Stop}
+use Rattle.sector_model.specs.Steps.{StopsAt}
 use Rattle.sector_model.specs.Runs.{Taken, Run, requests_of}
 use Rattle.sector_model.specs.Plays.{World, TellsAlone, PlaysRequests, Played, Stopped, CutOff, EndStopped, PlaysParsed, Plays, There, Missing, TooLong, Faulty, Starved, IsText, most_job_bytes}
 use Rattle.sector_model.specs.Ties.{TiesCounts, accesses_of, accesses_of_job, IsJob}
 use Rattle.bay_model.proofs.Counted.{goes_on_itself}
 use Rattle.sector_model.proofs.Runs.{run_more, requests_more}
 use Rattle.sector_model.proofs.Ties.{Tied, tied_after, tied_more, tied_none, run_tied, stop_tied, ends_tied, end_stop_tied, stop_goes, ends_goes, end_stop_goes}
-use Rattle.sector_model.proofs.Courses.{told_paid, since_came, all_undisturbed}
+use Rattle.sector_model.proofs.Courses.{told_paid, all_tell, since_came, all_undisturbed}
 
 -- the counters of a world
 abbrev counters_of : World → Counters
@@ -33,6 +35,7 @@ run_ties old mid told after course new most run goes tied = record {
   stalls = tied.stalls;
   stalls_left = tied.stalls_left;
   told = told_paid old mid told after course new run goes;
+  tells = all_tell old mid told after course new run goes;
   since = λ bay is. since_came bay is new old mid told after course (faults_of old.station.counters bay) 0 run goes (omega arith);
   undisturbed = all_undisturbed old mid told after course run;
 }
@@ -74,6 +77,15 @@ requests_tied old new requests course ended (CutOff p) =
     (subst (λ (s : State). PlayTied (counters_of old) requests (p.before ++ p.last ∷ []) s.station.counters) (sym p.after) tied)
 requests_tied old new requests course ended (EndStopped p) =
     play_tied old.state p.mid old.files p.files course requests (counters_of new) 2 p.run (end_stop_goes p.mid new.state p.files new.files p.stops) (end_stop_tied p.mid new.state p.files new.files p.stops) (to_the_end course requests p.all)
+
+-- a run alone
+pub ran_ties : (old new : State) (told after : Option Files) (course : List Taken) → Run old told course new after → TiesCounts old.station.counters course new.station.counters
+ran_ties old new told after course run = (play_tied old new told after course (requests_of course) new.station.counters 0 run (goes_on_itself _) (tied_none _) (omega arith)).ties
+
+-- a run that a request stopped
+pub stopped_ties : (old mid new : State) (told mid_told after : Option Files) (course : List Taken) (asked : Request) (cause : Stop) → Run old told course mid mid_told → StopsAt mid mid_told asked cause new after → TiesCounts old.station.counters course new.station.counters
+stopped_ties old mid new told mid_told after course asked cause run stops =
+    (play_tied old mid told mid_told course (requests_of course ++ asked ∷ []) new.station.counters (accesses_of asked) run (stop_goes mid new mid_told after asked cause stops) (stop_tied mid new mid_told after asked cause stops) (up_to_one course (requests_of course ++ asked ∷ []) [] asked refl)).ties
 
 -- where nothing was run and the state stays, nothing was counted
 stays_tied : (old new : World) (requests : List Request) (course : List Taken) → course ≡ [] → new.state ≡ old.state → PlayTied (counters_of old) requests course (counters_of new)

@@ -11,3 +11,4 @@ pub mod Texts
 pub mod Runs
 pub mod Plays
 pub mod Ties
+pub mod Faults

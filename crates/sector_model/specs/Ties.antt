@@ -1,5 +1,5 @@
 -- What ties the counts of a run to what the station shows before and after it.
-use Rattle.std.specs.Prelude.{◌≡◌, ℕ, ◌+◌, ◌-◌, ◌<◌, ◌≤◌, ◌==◌, Bool, false, if◌then◌else◌, All, List, [], ◌∷◌, Option, Some, Ok, sum_by}
+use Rattle.std.specs.Prelude.{◌≡◌, ℕ, ◌+◌, ◌-◌, ◌<◌, ◌≤◌, ◌==◌, Bool, false, if◌then◌else◌, All, List, [], ◌∷◌, Option, Some, IsSome, Ok, sum_by}
 use Rattle.std.specs.Option.{option_map_or}
 use Rattle.flop_base.specs.Counts.{last_count, RoseBy}
 use Rattle.flop_base.specs.Shelf.{Files, file_at}
@@ -78,6 +78,16 @@ faults_since bay sum counters [] = sum
 faults_since bay sum counters (taken ∷ later) =
     faults_since bay ((if is_exchange bay taken then 0 else sum) + step_faults bay counters taken) (left_by taken) later
 
+-- so it is with all drives, in the bays and spare
+pub record OfAllDrives (P : DriveCounts → Type 0) (counters : Counters) : Type 0 where
+  pub first : P counters.drives.first
+  pub second : P counters.drives.second
+  pub spares : All P counters.spares
+
+-- a drive tells what is left of its faults
+abbrev pub TellsFaults : DriveCounts → Type 0
+TellsFaults drive = IsSome drive.left
+
 -- no fault of a drive is left
 pub record IsSpent (drive : DriveCounts) : Type 0 where
   pub left : drive.left ≡ Some 0
@@ -85,9 +95,7 @@ pub record IsSpent (drive : DriveCounts) : Type 0 where
 
 -- nothing is left: no drive can have a fault any more, and no stall can come
 pub record HasNothingLeft (counters : Counters) : Type 0 where
-  pub first : IsSpent counters.drives.first
-  pub second : IsSpent counters.drives.second
-  pub spares : All IsSpent counters.spares
+  pub drives : OfAllDrives IsSpent counters
   pub stalls : counters.stalls_left ≡ 0
   pub stalls_below : counters.stalls < last_count
 
@@ -108,6 +116,8 @@ pub record TiesCounts (old : Counters) (course : List Taken) (new : Counters) : 
   pub stalls_left : new.stalls + new.stalls_left ≤ old.stalls + old.stalls_left
   -- what was left of the faults of all drives that tell it pays for theirs in all steps
   pub told : sum_told old course + all_left new ≤ all_left old
+  -- and drives that all told it still do
+  pub tells : OfAllDrives TellsFaults old → OfAllDrives TellsFaults new
   -- for each bay, its faults since its last exchange are faults of the drive that stands in it
   pub since : (bay : ℕ) → bay ≤ 1
       → came_with bay (faults_of old bay) old course + faults_since bay 0 old course ≤ faults_of new bay

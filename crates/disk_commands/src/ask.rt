@@ -1,0 +1,131 @@
+// Requests that a command asks, one after the other, up to the first that is refused or stops the run.
+ghost use Rattle.std.specs.Prelude.{◌≡◌, ◌≢◌, [], ◌∷◌, IfOk, IfErr, OnOk, IsErrOf};
+ghost use Rattle.flop_base.specs.declared.answers.Rate.{Rate};
+ghost use Rattle.sector_model.specs.Texts.{is_refusal};
+ghost use Rattle.sector_model.specs.Faults.{Blames};
+ghost use Rattle.floppy_session.specs.Session.{IsRunning};
+ghost use Rattle.floppy_session.specs.Tries.{HasTries};
+ghost use Rattle.disk_commands.specs.Plans.{Asks, ack_plan, rate_plan};
+ghost use Rattle.disk_commands.specs.Halts.{TellsHalt};
+ghost use Rattle.disk_commands.specs.Carried.{Any, stage_of, IsTaken, HaltsAt, Goes, Judges};
+
+use flop_base::{Rate, Shelf, Sink, Status};
+use floppy_jobs::Request;
+use floppy_report::{put_last, put_last_stopped};
+use floppy_session::Session;
+use sector_model::{Reason, Reply, Station, Stop};
+use std::alloc::Global;
+
+/// What ends a command before its last request.
+#[derive(Drop)]
+pub(crate) enum Halt {
+    /// This request was refused.
+    Refused { request: Request, reason: Reason },
+    /// A request stopped the run.
+    Stopped(Stop),
+}
+
+/// Asks a request that a command can't go on without.
+pub(crate) fn ask<S: Shelf, D: Station>(
+    session: &mut Session<D>,
+    shelf: &mut S,
+    request: Request,
+) -> Result<Reply, Halt>
+    requires running { IsRunning D.shown D.is_ready session.old }
+    requires tries { HasTries request }
+    ensures taken { IfOk result (λ reply. IsTaken request reply
+        (stage_of D.shown S.told session.old shelf.old) (stage_of D.shown S.told session.new shelf.new)) }
+    ensures halts { IfErr result (λ halt. HaltsAt request
+        (stage_of D.shown S.told session.old shelf.old) halt (stage_of D.shown S.told session.new shelf.new)) }
+    ensures running { IsRunning D.shown D.is_ready session.new }
+    ensures faults { Blames (IsErrOf result (Halt.Stopped Stop.FileFault)) (S.fault_count shelf.old)
+        (S.fault_count shelf.new) }
+{
+    match session.run(shelf, &request) {
+        Ok(reply) => unless_refused(request, reply),
+        Err(stop) => Err(Halt::Stopped(stop)),
+    }
+}
+
+/// The answer to a request, unless it was refused.
+fn unless_refused(request: Request, reply: Reply) -> Result<Reply, Halt>
+    ensures { Judges request reply result }
+{
+    match reply {
+        Reply::Refused(reason) => Err(Halt::Refused { request, reason }),
+        done => Ok(done),
+    }
+}
+
+/// Asks a request whose answer tells nothing more.
+pub(crate) fn carry<S: Shelf, D: Station>(
+    session: &mut Session<D>,
+    shelf: &mut S,
+    request: Request,
+) -> Result<(), Halt>
+    requires running { IsRunning D.shown D.is_ready session.old }
+    requires tries { HasTries request }
+    ensures goes { Goes Any (Asks request ∷ [])
+        (stage_of D.shown S.told session.old shelf.old) result (stage_of D.shown S.told session.new shelf.new) }
+    ensures running { IsRunning D.shown D.is_ready session.new }
+    ensures faults { Blames (IsErrOf result (Halt.Stopped Stop.FileFault)) (S.fault_count shelf.old)
+        (S.fault_count shelf.new) }
+{
+    match ask(session, shelf, request) {
+        Ok(_) => Ok(()),
+        Err(halt) => Err(halt),
+    }
+}
+
+/// Acknowledges a bay and sets it to the rate of its medium.
+pub(crate) fn acknowledge<S: Shelf, D: Station>(
+    session: &mut Session<D>,
+    shelf: &mut S,
+    bay: u8,
+    rate: Rate,
+) -> Result<(), Halt>
+    requires running { IsRunning D.shown D.is_ready session.old }
+    ensures goes { Goes Any (ack_plan bay rate)
+        (stage_of D.shown S.told session.old shelf.old) result (stage_of D.shown S.told session.new shelf.new) }
+    ensures running { IsRunning D.shown D.is_ready session.new }
+    ensures faults { Blames (IsErrOf result (Halt.Stopped Stop.FileFault)) (S.fault_count shelf.old)
+        (S.fault_count shelf.new) }
+{
+    match carry(session, shelf, Request::Ack { bay }) {
+        Ok(()) => set_rate(session, shelf, bay, rate),
+        Err(halt) => Err(halt),
+    }
+}
+
+/// Sets an acknowledged bay to a rate; 500 kbit/s needs no request.
+fn set_rate<S: Shelf, D: Station>(
+    session: &mut Session<D>,
+    shelf: &mut S,
+    bay: u8,
+    rate: Rate,
+) -> Result<(), Halt>
+    requires running { IsRunning D.shown D.is_ready session.old }
+    ensures goes { Goes Any (rate_plan bay rate)
+        (stage_of D.shown S.told session.old shelf.old) result (stage_of D.shown S.told session.new shelf.new) }
+    ensures running { IsRunning D.shown D.is_ready session.new }
+    ensures faults { Blames (IsErrOf result (Halt.Stopped Stop.FileFault)) (S.fault_count shelf.old)
+        (S.fault_count shelf.new) }
+{
+    match rate {
+        Rate::R500 => Ok(()),
+        Rate::R250 => carry(session, shelf, Request::SetRate { bay, rate }),
+    }
+}
+
+/// Puts the last line of a command that was halted, and gives the status.
+pub(crate) fn tell_halt<K: Sink>(alloc: Global, out: &mut K, halt: &Halt) -> Status
+    ensures tells { TellsHalt (K.told out.old) halt.now (K.told out.new) result }
+    ensures is_form { result ≢ Status.BadWords }
+    ensures shelf_fault { result ≡ Status.FileFault → halt.now ≡ Halt.Stopped Stop.FileFault }
+    ensures sink_faults { Blames (result ≡ Status.SinkFault) (K.fault_count out.old) (K.fault_count out.new) }
+{
+    match halt {
+        Halt::Refused { request, reason } => put_last_stopped(alloc, out, request, *reason),
+        Halt::Stopped(stop) => put_last(alloc, out, stop),
+    }
+}

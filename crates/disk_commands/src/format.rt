@@ -1,0 +1,129 @@
+// The format of a whole disk.
+ghost use Rattle.std.specs.Prelude.{◌≡◌, ◌≢◌, ◌*◌, ◌≤◌, ◌∷◌, List, OnOk, IfOk, IfErr, IsErrOf, string_bytes};
+ghost use Rattle.sector_model.specs.Faults.{Blames};
+ghost use Rattle.sector_model.specs.Plays.{IsPutFault};
+ghost use Rattle.floppy_session.specs.Session.{IsRunning};
+ghost use Rattle.floppy_session.specs.Blanks.{blank_request};
+ghost use Rattle.disk_commands.specs.Plans.{each, by_track, format_track, format_plan};
+ghost use Rattle.disk_commands.specs.Carried.{Any, stage_of, Goes};
+ghost use Rattle.disk_commands.specs.Commands.{Formats, format_text, Runs};
+ghost use Rattle.disk_commands.specs.Worlds.{world_of};
+
+use crate::ask::{Halt, acknowledge, carry, tell_halt};
+use flop_base::{Name, Rate, Shelf, Sink, Status};
+use floppy_jobs::Request;
+use floppy_report::put_last_line;
+use floppy_session::Session;
+use sector_model::{Station, Stop};
+use std::alloc::{AllocError, Global};
+
+/// The request for a blank medium of this rate.
+pub(crate) fn blank_request(bay: u8, name: Name, cylinders: u8, rate: Rate) -> Request
+    ensures { result ≡ blank_request bay name cylinders rate }
+{
+    match rate {
+        Rate::R500 => Request::Blank {
+            bay,
+            name,
+            cylinders,
+        },
+        Rate::R250 => Request::BlankDd {
+            bay,
+            name,
+            cylinders,
+        },
+    }
+}
+
+/// Formats the two tracks of a cylinder.
+fn format_cylinder<S: Shelf, D: Station>(
+    session: &mut Session<D>,
+    shelf: &mut S,
+    c: u8,
+) -> Result<(), Halt>
+    requires running { IsRunning D.shown D.is_ready session.old }
+    ensures goes { Goes Any (each 0 2 (format_track c))
+        (stage_of D.shown S.told session.old shelf.old) result (stage_of D.shown S.told session.new shelf.new) }
+    ensures running { IsRunning D.shown D.is_ready session.new }
+    ensures faults { Blames (IsErrOf result (Halt.Stopped Stop.FileFault)) (S.fault_count shelf.old)
+        (S.fault_count shelf.new) }
+{
+    for h in 0..2u8 {
+        carry(session, shelf, Request::Format { bay: 0, c, h })?;
+    }
+    Ok(())
+}
+
+/// Formats all tracks, by cylinder, then head.
+fn format_tracks<S: Shelf, D: Station>(
+    session: &mut Session<D>,
+    shelf: &mut S,
+    cylinders: u8,
+) -> Result<(), Halt>
+    requires running { IsRunning D.shown D.is_ready session.old }
+    ensures goes { Goes Any (by_track cylinders 2 format_track)
+        (stage_of D.shown S.told session.old shelf.old) result (stage_of D.shown S.told session.new shelf.new) }
+    ensures running { IsRunning D.shown D.is_ready session.new }
+    ensures faults { Blames (IsErrOf result (Halt.Stopped Stop.FileFault)) (S.fault_count shelf.old)
+        (S.fault_count shelf.new) }
+{
+    for c in 0..cylinders {
+        format_cylinder(session, shelf, c)?;
+    }
+    Ok(())
+}
+
+/// Asks all that a format asks.
+fn run_format<S: Shelf, D: Station>(
+    session: &mut Session<D>,
+    shelf: &mut S,
+    name: Name,
+    cylinders: u8,
+    rate: Rate,
+) -> Result<(), Halt>
+    requires running { IsRunning D.shown D.is_ready session.old }
+    ensures goes { Goes Any (format_plan name cylinders rate)
+        (stage_of D.shown S.told session.old shelf.old) result (stage_of D.shown S.told session.new shelf.new) }
+    ensures running { IsRunning D.shown D.is_ready session.new }
+    ensures faults { Blames (IsErrOf result (Halt.Stopped Stop.FileFault)) (S.fault_count shelf.old)
+        (S.fault_count shelf.new) }
+{
+    carry(session, shelf, blank_request(0, name, cylinders, rate))?;
+    acknowledge(session, shelf, 0, rate)?;
+    format_tracks(session, shelf, cylinders)?;
+    carry(session, shelf, Request::Eject { bay: 0 })
+}
+
+#[tactic(auto, unfolding(crate::specs::Commands::format_text))]
+fn format_line(alloc: Global, cylinders: u8) -> Result<String, AllocError>
+    ensures { IfOk result (λ line. string_bytes line ≡ format_text (cylinders * 2)) }
+{
+    let tracks = cylinders as u16 * 2;
+    format!(in alloc; "format ok {tracks}\n")
+}
+
+/// Makes a disk of so many cylinders with two heads, formats it at this rate, and stores it under the name. It prints how many tracks
+/// were formatted, or what stopped it.
+pub fn format_disk<S: Shelf, K: Sink, D: Station>(
+    alloc: Global,
+    session: &mut Session<D>,
+    name: Name,
+    cylinders: u8,
+    rate: Rate,
+    shelf: &mut S,
+    out: &mut K,
+) -> Status
+    requires running { IsRunning D.shown D.is_ready session.old }
+    ensures formats { Runs (Formats name cylinders rate)
+        (world_of D.shown S.told K.told session.old shelf.old out.old)
+        (world_of D.shown S.told K.told session.new shelf.new out.new) result }
+    ensures running { IsRunning D.shown D.is_ready session.new }
+    ensures is_form { result ≢ Status.BadWords }
+    ensures shelf_faults { Blames (result ≡ Status.FileFault) (S.fault_count shelf.old) (S.fault_count shelf.new) }
+    ensures sink_faults { Blames (result ≡ Status.SinkFault) (K.fault_count out.old) (K.fault_count out.new) }
+{
+    match run_format(session, shelf, name, cylinders, rate) {
+        Ok(()) => put_last_line(out, format_line(alloc, cylinders), Status::AllOk),
+        Err(halt) => tell_halt(alloc, out, &halt),
+    }
+}

@@ -1,0 +1,5 @@
+pub mod Formatted
+pub mod Formatting
+pub mod Prepared
+pub mod Tracks
+pub mod Steps

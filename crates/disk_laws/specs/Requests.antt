@@ -1,0 +1,105 @@
+-- The requests of the commands on whole disks, one list each. Tracks go by cylinder, then head.
+use Rattle.std.specs.Prelude.{ℕ, ◌+◌, ◌-◌, ◌*◌, Bool, true, false, List, [], ◌∷◌, ◌++◌, map, take, drop}
+use Rattle.std.specs.List.{flat_map, range_with_len}
+use Rattle.flop_base.specs.Standard.{sectors_at}
+use Rattle.flop_base.specs.declared.key.Chrn.{Chrn}
+use Rattle.flop_base.specs.declared.answers.Rate.{Rate}
+use Rattle.flop_base.specs.declared.answers.Rate.TheVariants.{R500, R250}
+use Rattle.raw_image.specs.Disk.{Disk}
+use Rattle.sector_map.specs.Standard.{track_keys, standard_keys}
+use Rattle.floppy_jobs.specs.declared.request.Request.{Request}
+use Rattle.floppy_jobs.specs.declared.request.Request.TheVariants as request
+use Rattle.sector_model.specs.declared.reply.Reply.{Reply}
+use Rattle.sector_model.specs.declared.reply.Reply.TheVariants as reply
+use Rattle.sector_model.specs.Runs.{Taken}
+
+-- a track: its cylinder, and its head
+abbrev pub Track : Type 0
+Track = ℕ × ℕ
+
+-- the tracks of a cylinder
+abbrev pub heads_of : ℕ → ℕ → List Track
+heads_of heads c = map (λ h. (c, h)) (range_with_len 0 heads)
+
+-- the tracks of a disk
+unfoldable pub tracks_of : ℕ → ℕ → List Track
+tracks_of cylinders heads = flat_map (heads_of heads) (range_with_len 0 cylinders)
+
+-- a blank medium of a rate is put in, to be stored under this name
+abbrev pub blank_request : Rate → ℕ → List ℕ → ℕ → Request
+blank_request R500 bay name cylinders = request.Blank bay name cylinders
+blank_request R250 bay name cylinders = request.BlankDd bay name cylinders
+
+-- a bay that was acknowledged gets the rate 250 kbit/s, where that is asked for
+abbrev pub rate_requests : Rate → ℕ → List Request
+rate_requests R500 bay = []
+rate_requests R250 bay = request.SetRate bay R250 ∷ []
+
+-- a format of each track
+abbrev pub format_each : ℕ → List Track → List Request
+format_each bay tracks = map (λ (track : Track). request.Format bay track.0 track.1) tracks
+
+-- what a formatted disk of a rate, with these cylinders and two heads, is made by in bay 0
+abbrev pub formatting : Rate → List ℕ → ℕ → List Request
+formatting rate name cylinders =
+    blank_request rate 0 name cylinders ∷ request.Ack 0 ∷ (rate_requests rate 0 ++ format_each 0 (tracks_of cylinders 2))
+
+-- the command that formats: 1.44 MB at 500 kbit/s, 720 KB at 250 kbit/s
+abbrev pub format_requests : Rate → List ℕ → ℕ → List Request
+format_requests rate name cylinders = formatting rate name cylinders ++ request.Eject 0 ∷ []
+
+-- a read of each key to one address
+abbrev pub read_each : ℕ → List Chrn → List Request
+read_each bay keys = map (λ key. request.Read bay key 0x10000) keys
+
+-- the command that reads every sector of the disk of this name
+abbrev pub verify_requests : List ℕ → Disk → List Request
+verify_requests name disk =
+    request.Insert 0 name ∷ request.Ack 0 ∷ (rate_requests disk.rate 0 ++ read_each 0 (standard_keys disk))
+
+-- where a record lies in memory while its track is copied
+abbrev pub record_address : ℕ → ℕ
+record_address r = 0x10000 + 0x200 * (r - 1)
+
+-- a read of each record of a track, to its own place
+abbrev pub read_records : ℕ → List Chrn → List Request
+read_records bay keys = map (λ key. request.Read bay key (record_address key.r)) keys
+
+-- a write of a record from its place, with a mark
+abbrev pub write_record : ℕ → Chrn → Bool → Request
+write_record bay key true = request.WriteDeleted bay key (record_address key.r)
+write_record bay key false = request.Write bay key (record_address key.r)
+
+-- a write of each record of a track, with its mark
+abbrev pub write_records : ℕ → List Chrn → List Bool → List Request
+write_records bay (key ∷ keys) (deleted ∷ marks) = write_record bay key deleted ∷ write_records bay keys marks
+write_records bay keys marks = []
+
+-- a track is formatted in bay 1, its records are read in bay 0, and written in bay 1 with the marks that were read
+abbrev pub copy_track : Rate → Track → List Bool → List Request
+copy_track rate track marks =
+    request.Format 1 track.0 track.1 ∷ (read_records 0 (track_keys (sectors_at rate) track.0 track.1)
+    ++ write_records 1 (track_keys (sectors_at rate) track.0 track.1) marks)
+
+-- so each track, with as many marks as it has records
+abbrev pub copy_each : Rate → List Track → List Bool → List Request
+copy_each rate [] marks = []
+copy_each rate (track ∷ tracks) marks =
+    copy_track rate track (take (sectors_at rate) marks) ++ copy_each rate tracks (drop (sectors_at rate) marks)
+
+-- the command that copies the disk of one name to another, where the reads give these marks
+abbrev pub copy_requests : List ℕ → List ℕ → Disk → List Bool → List Request
+copy_requests from to disk marks =
+    request.Insert 0 from ∷ blank_request disk.rate 1 to disk.cylinders ∷ request.Ack 0
+    ∷ (rate_requests disk.rate 0 ++ (request.Ack 1 ∷ (rate_requests disk.rate 1
+    ++ (copy_each disk.rate (tracks_of disk.cylinders disk.heads) marks ++ request.Eject 1 ∷ []))))
+
+-- the mark that a read told
+abbrev pub mark_of : Request → Reply → List Bool
+mark_of (request.Read bay key address) reply.Done = false ∷ []
+mark_of (request.Read bay key address) reply.DoneDeleted = true ∷ []
+mark_of _ _ = []
+
+-- the marks that the reads of a course told
+abbrev pub marks_read : List Taken → List Bool
+marks_read course = flat_map (λ taken. mark_of taken.asked taken.answer) course

@@ -1,0 +1,2 @@
+//! Laws over runs of requests for whole disks: what a disk that was formatted, copied or verified is.
+#![tactic(auto)]

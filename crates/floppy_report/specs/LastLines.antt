@@ -1,0 +1,14 @@
+-- The last lines of the program that no job has.
+use Rattle.std.specs.Prelude.{ℕ, List, ◌++◌, codes}
+use Rattle.floppy_jobs.specs.declared.request.Request.{Request}
+use Rattle.floppy_jobs.specs.Spelling.{spelling}
+use Rattle.sector_model.specs.declared.reply.Reason.{Reason}
+use Rattle.sector_model.specs.Texts.{reason_text, line_end}
+
+-- the line where the words are no form of the program
+abbrev pub bad_words_text : List ℕ
+bad_words_text = codes "words not understood\n"
+
+-- the line where a refusal stopped a command
+unfoldable pub stopped_text : Request → Reason → List ℕ
+stopped_text asked cause = codes "stopped at " ++ (spelling asked ++ (codes ": " ++ (reason_text cause ++ line_end)))

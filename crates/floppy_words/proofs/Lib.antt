@@ -1,0 +1,3 @@
+pub mod DashLemmas
+pub mod NumberLemmas
+pub mod PlaceLemmas

@@ -1,0 +1,67 @@
+-- What clap makes of a command with places alone, behind `--`.
+use Rattle.std.proofs.Common.{◌≡◌, ◌∙◌, List, [], ◌∷◌, Option, Some, None, IsSome, option_map, true, codes, refl, ap, ap₂, rules, Bor}
+use Rattle.clap.specs.Words.{App, HasMatchesOf, Row, Rule, Text, first_of, first_value, found_of, is_simple, matches_of, new_app, new_rule, rows_of, with_rule}
+use Rattle.clap.specs.declared.builder.ArgAction.TheVariants.{Set}
+use Rattle.clap.specs.declared.parser.matches.Found.{Found}
+use Rattle.clap.specs.declared.parser.matches.ArgMatches.{ArgMatches}
+use Rattle.clap.proofs.OnLiterals.{clap_on_literals}
+use Rattle.clap.proofs.WalkLemmas.{first_value-rows}
+
+abbrev pub place : Text → Rule
+place id = record (new_rule id) { required = true; action = Some Set }
+
+abbrev pub one_place : Text → App
+one_place verb = with_rule (new_app verb) (place (codes "FIRST"))
+
+abbrev pub two_places : Text → App
+two_places verb = with_rule (one_place verb) (place (codes "SECOND"))
+
+abbrev pub behind : Text → List Text → List Text
+behind verb words = verb ∷ codes "--" ∷ words
+
+pub one_simple : (verb : Text) → is_simple (one_place verb) ≡ true
+unfolding clap_on_literals
+one_simple verb = refl
+
+pub one_first : (verb word : Text) → first_of (codes "FIRST") (matches_of (one_place verb) (behind verb (word ∷ []))) ≡ Some word
+unfolding clap_on_literals
+one_first verb word = refl
+
+pub two_simple : (verb : Text) → is_simple (two_places verb) ≡ true
+unfolding clap_on_literals
+two_simple verb = refl
+
+pub two_first : (verb word next : Text) → first_of (codes "FIRST") (matches_of (two_places verb) (behind verb (word ∷ next ∷ []))) ≡ Some word
+unfolding clap_on_literals
+two_first verb word next = refl
+
+pub two_second : (verb word next : Text) → first_of (codes "SECOND") (matches_of (two_places verb) (behind verb (word ∷ next ∷ []))) ≡ Some next
+unfolding clap_on_literals
+two_second verb word next = refl
+
+-- the first value of a place, as the rows of the matches have it
+pub found : (f : Found) (id word : Text) (rows : List Row) → rows_of f ≡ rows → first_of id rows ≡ Some word → first_value f id ≡ Some word
+found f id word rows e first = first_value-rows f id ∙ ap (first_of id) e ∙ first
+
+-- what a parse of words behind a verb finds
+pub one_value : (verb word : Text) (a : App) (words : List Text) (m : ArgMatches) → a ≡ one_place verb → words ≡ behind verb (word ∷ [])
+    → HasMatchesOf a words m → first_value (found_of m) (codes "FIRST") ≡ Some word
+one_value verb word a words m app_is words_are has =
+    found (found_of m) _ word _ ((has (ap is_simple app_is ∙ one_simple verb)).0 ∙ ap₂ matches_of app_is words_are) (one_first verb word)
+
+pub two_values : (verb word next : Text) (a : App) (words : List Text) (m : ArgMatches) → a ≡ two_places verb → words ≡ behind verb (word ∷ next ∷ [])
+    → HasMatchesOf a words m
+    → (first_value (found_of m) (codes "FIRST") ≡ Some word) × (first_value (found_of m) (codes "SECOND") ≡ Some next)
+two_values verb word next a words m app_is words_are has =
+    let rows = (has (ap is_simple app_is ∙ two_simple verb)).0 ∙ ap₂ matches_of app_is words_are in
+    (found (found_of m) _ word _ rows (two_first verb word next), found (found_of m) _ next _ rows (two_second verb word next))
+
+-- a text that was found is there
+pub is_there : (read : Option (Bor Text)) (text : Text) → option_map (λ s. s.now) read ≡ Some text → IsSome read
+is_there None text e = absurd cc
+is_there (Some s) text e = search rules
+
+-- and it is that text
+pub is_text : (read : Option (Bor Text)) (s : Bor Text) (text : Text) → option_map (λ s. s.now) read ≡ Some text → read ≡ Some s → s.now ≡ text
+is_text None s text e same = absurd cc
+is_text (Some other) s text e same = let taken : other ≡ s = cc in let is : other.now ≡ text = cc in rw taken at is

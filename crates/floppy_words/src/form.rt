@@ -1,0 +1,55 @@
+// The forms of the program.
+
+use flop_base::Name;
+use std::marker::Model;
+
+/// A number of cylinders, 1 to 80.
+#[derive(Drop)]
+pub struct Cylinders {
+    count: u8,
+}
+
+impl Model for Cylinders {
+    ghost use Rattle.std.specs.Prelude.{ℕ, ◌≤◌};
+
+    ghost Value = { ℕ };
+
+    ghost view = { λ kept. kept.count };
+
+    ghost invariant = { λ kept. (1 ≤ kept.count) × (kept.count ≤ 80) };
+}
+
+impl Cylinders {
+    ghost use Rattle.std.specs.Prelude.{◌≡◌, ◌≤◌};
+
+    pub fn new(count: u8) -> Cylinders
+        requires some { 1 ≤ count }
+        requires most { count ≤ 80 }
+        ensures { result ≡ count }
+    {
+        Cylinders { count }
+    }
+
+    pub fn count(&self) -> u8
+        ensures value { result ≡ self.now }
+        ensures some { 1 ≤ result }
+        ensures most { result ≤ 80 }
+    {
+        self.count
+    }
+}
+
+/// What the program is asked to do.
+#[derive(Drop)]
+pub enum Form {
+    /// Runs the job of this name.
+    Play { job: Name },
+    /// Stores a formatted 1.44 MB disk.
+    Format { name: Name, cylinders: Cylinders },
+    /// Stores a formatted 720 KB disk.
+    FormatDd { name: Name, cylinders: Cylinders },
+    /// Stores the sectors of one disk on a new one.
+    Copy { from: Name, to: Name },
+    /// Reads every sector of a disk, and lists those that can't be read.
+    Verify { name: Name },
+}

@@ -1,0 +1,9 @@
+//! What the words of the command line ask for: one of the program's forms, or none.
+#![tactic(auto)]
+
+mod form;
+mod places;
+mod read;
+
+pub use form::{Cylinders, Form};
+pub use read::form_named;

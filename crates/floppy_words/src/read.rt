@@ -1,0 +1,131 @@
+// The form that the words of the command line spell.
+ghost use Rattle.std.specs.Prelude.{◌≡◌, map, string_bytes, true};
+ghost use Rattle.std.specs.List.{list_any};
+ghost use Rattle.floppy_words.specs.Forms.{Reads, begins_with_dash, cylinders_of, disk_of, play_of, format_of, formatdd_of, copy_of, verify_of, form_of};
+
+use crate::places::{one_place, two_places};
+use crate::{Cylinders, Form};
+use flop_base::{Name, NoMemory};
+use floppy_jobs::numbers::number;
+use floppy_jobs::{is_verb, name_text};
+use std::alloc::Global;
+
+/// The form that the words after the program's name spell; nothing where they are no form. The first word is the
+/// form's verb. Words that are no form are told without any memory.
+pub fn form_named(alloc: Global, words: &[String]) -> Result<Option<Form>, NoMemory>
+    ensures form { Reads result (form_of (map string_bytes words.now)) }
+    ensures no_dash { list_any begins_with_dash (map string_bytes words.now) ≡ true → result ≡ Ok None }
+{
+    form(alloc, words)
+}
+
+#[tactic(auto, unfolding(crate::specs::Forms::form_of))]
+fn form(alloc: Global, words: &[String]) -> Result<Option<Form>, NoMemory>
+    ensures { Reads result (form_of (map string_bytes words.now)) }
+{
+    let Some((verb, behind)) = words.split_first() else {
+        return Ok(None);
+    };
+    let verb = verb.as_bytes();
+    if is_verb(verb, "play") {
+        play(alloc, behind)
+    } else if is_verb(verb, "format") {
+        format(alloc, behind)
+    } else if is_verb(verb, "formatdd") {
+        formatdd(alloc, behind)
+    } else if is_verb(verb, "copy") {
+        copy(alloc, behind)
+    } else if is_verb(verb, "verify") {
+        verify(alloc, behind)
+    } else {
+        Ok(None)
+    }
+}
+
+#[tactic(auto, unfolding(crate::specs::Forms::play_of))]
+fn play(alloc: Global, words: &[String]) -> Result<Option<Form>, NoMemory>
+    ensures { Reads result (play_of (map string_bytes words.now)) }
+{
+    let [job] = words else { return Ok(None) };
+    let Some(job) = name_text(job.as_bytes()) else {
+        return Ok(None);
+    };
+    let job = one_place(alloc, "play", job)?;
+    Ok(Some(Form::Play { job }))
+}
+
+#[tactic(auto, unfolding(crate::specs::Forms::format_of))]
+fn format(alloc: Global, words: &[String]) -> Result<Option<Form>, NoMemory>
+    ensures { Reads result (format_of (map string_bytes words.now)) }
+{
+    match disk(alloc, "format", words)? {
+        Some((name, cylinders)) => Ok(Some(Form::Format { name, cylinders })),
+        None => Ok(None),
+    }
+}
+
+#[tactic(auto, unfolding(crate::specs::Forms::formatdd_of))]
+fn formatdd(alloc: Global, words: &[String]) -> Result<Option<Form>, NoMemory>
+    ensures { Reads result (formatdd_of (map string_bytes words.now)) }
+{
+    match disk(alloc, "formatdd", words)? {
+        Some((name, cylinders)) => Ok(Some(Form::FormatDd { name, cylinders })),
+        None => Ok(None),
+    }
+}
+
+#[tactic(auto, unfolding(crate::specs::Forms::copy_of))]
+fn copy(alloc: Global, words: &[String]) -> Result<Option<Form>, NoMemory>
+    ensures { Reads result (copy_of (map string_bytes words.now)) }
+{
+    let [from, to] = words else { return Ok(None) };
+    let Some(from) = name_text(from.as_bytes()) else {
+        return Ok(None);
+    };
+    let Some(to) = name_text(to.as_bytes()) else {
+        return Ok(None);
+    };
+    let (from, to) = two_places(alloc, "copy", from, to)?;
+    Ok(Some(Form::Copy { from, to }))
+}
+
+#[tactic(auto, unfolding(crate::specs::Forms::verify_of))]
+fn verify(alloc: Global, words: &[String]) -> Result<Option<Form>, NoMemory>
+    ensures { Reads result (verify_of (map string_bytes words.now)) }
+{
+    let [name] = words else { return Ok(None) };
+    let Some(name) = name_text(name.as_bytes()) else {
+        return Ok(None);
+    };
+    let name = one_place(alloc, "verify", name)?;
+    Ok(Some(Form::Verify { name }))
+}
+
+/// The name and the cylinders of a disk that is to be formatted.
+#[tactic(auto, unfolding(crate::specs::Forms::disk_of))]
+fn disk(alloc: Global, verb: &str, words: &[String]) -> Result<Option<(Name, Cylinders)>, NoMemory>
+    ensures { Reads result (disk_of (map string_bytes words.now)) }
+{
+    let [name, count] = words else {
+        return Ok(None);
+    };
+    let Some(name) = name_text(name.as_bytes()) else {
+        return Ok(None);
+    };
+    if cylinders(count.as_bytes()).is_none() {
+        return Ok(None);
+    }
+    let (name, count) = two_places(alloc, verb, name, count.as_str())?;
+    match cylinders(count.as_str().as_bytes()) {
+        Some(cylinders) => Ok(Some((name, cylinders))),
+        None => Ok(None),
+    }
+}
+
+#[tactic(auto, using(crate::proofs::NumberLemmas::number_least), unfolding(crate::specs::Forms::cylinders_of))]
+fn cylinders(word: &[u8]) -> Option<Cylinders>
+    ensures { result ≡ cylinders_of word.now }
+{
+    let count = number(word, 10, 1, 10, 1, 80)?;
+    Some(Cylinders::new(count as u8))
+}
