@@ -127,3 +127,43 @@ never_fell old new told after (asked ∷ rest) course all keeps =
     let here = step_never_fell old first.mid told first.files asked first.answer first.step both.0 in
     let there = never_fell first.mid new first.files after rest first.later first.behind both.1 in
     record { first = omega arith; second = omega arith; stalls = omega arith }
+
+-- ---- one list of requests behind another
+
+-- a run of two lists of requests is two runs
+pub record Splits (old : State) (told : Option Files) (first second : List Request) (new : State) (after : Option Files) : Type 0 where
+  pub mid : State
+  pub files : Option Files
+  pub one : List Taken
+  pub two : List Taken
+  pub before : DoesAll old told first one mid files
+  pub behind : DoesAll mid files second two new after
+
+more_done : (a b : Bool) → a ≡ false → b ≡ false → (a || b) ≡ false
+more_done true b e f = e
+more_done false b e f = f
+
+pub splits : (old new : State) (told after : Option Files) (first second : List Request) (course : List Taken) → DoesAll old told (first ++ second) course new after → Splits old told first second new after
+splits old new told after [] second course all = record {
+  mid = old;
+  files = told;
+  one = [];
+  two = course;
+  before = record { run = (refl, refl); all = refl; done = refl };
+  behind = all;
+}
+splits old new told after (asked ∷ first) second course all =
+    let begun = begins old new told after asked (first ++ second) course all in
+    let rest = splits begun.mid new begun.files after first second begun.later begun.behind in
+    record {
+      mid = rest.mid;
+      files = rest.files;
+      one = record { asked = asked; answer = begun.answer; after = begun.mid } ∷ rest.one;
+      two = rest.two;
+      before = record {
+        run = (begun.files, begun.step, rest.before.run);
+        all = ap (λ (requests : List Request). asked ∷ requests) rest.before.all;
+        done = more_done (is_refusal begun.answer) (has_refusal rest.one) begun.done rest.before.done;
+      };
+      behind = rest.behind;
+    }

@@ -1,2 +1,6 @@
 //! Laws over runs of requests for whole disks: what a disk that was formatted, copied or verified is.
 #![tactic(auto)]
+
+mod formats;
+
+pub use formats::{formats_disk, formatted_disk_has_sectors};
