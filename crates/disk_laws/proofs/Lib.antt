@@ -1,5 +1,6 @@
 pub mod Formatted
 pub mod Formatting
+pub mod Looks
 pub mod Prepared
 pub mod Sectors
 pub mod Tracks

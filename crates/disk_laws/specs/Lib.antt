@@ -1,3 +1,4 @@
 pub mod Requests
 pub mod Done
 pub mod Formatted
+pub mod Verified

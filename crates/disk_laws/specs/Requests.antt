@@ -52,10 +52,13 @@ format_requests rate name cylinders = formatting rate name cylinders ++ request.
 abbrev pub read_each : ℕ → List Chrn → List Request
 read_each bay keys = map (λ key. request.Read bay key 0x10000) keys
 
+-- the disk of this name is put into bay 0 and acknowledged, and the bay gets its rate
+abbrev pub verify_opening : List ℕ → Disk → List Request
+verify_opening name disk = request.Insert 0 name ∷ request.Ack 0 ∷ rate_requests disk.rate 0
+
 -- the command that reads every sector of the disk of this name
 abbrev pub verify_requests : List ℕ → Disk → List Request
-verify_requests name disk =
-    request.Insert 0 name ∷ request.Ack 0 ∷ (rate_requests disk.rate 0 ++ read_each 0 (standard_keys disk))
+verify_requests name disk = verify_opening name disk ++ read_each 0 (standard_keys disk)
 
 -- where a record lies in memory while its track is copied
 abbrev pub record_address : ℕ → ℕ
