@@ -9,6 +9,7 @@ use Rattle.flop_base.specs.declared.answers.Rate.{Rate}
 use Rattle.flop_base.specs.declared.answers.Rate.TheVariants.{R500, R250}
 use Rattle.raw_image.specs.Disk.{Disk, IsDisk}
 use Rattle.bay_model.specs.Bays.{Two, in_bay}
+use Rattle.bay_model.specs.Counters.{faults_of}
 use Rattle.floppy_jobs.specs.declared.request.Request.{Request}
 use Rattle.floppy_jobs.specs.declared.request.Request.TheVariants as request
 use Rattle.sector_model.specs.declared.reply.Reply.{Reply}
@@ -92,6 +93,7 @@ blanks R250 name cylinders old new told after answer step done =
 pub record IsAcked (disk : Disk) (old : State) (told : Option Files) (new : State) (after : Option Files) : Type 0 where
   pub medium : (bay_of new.station 0).medium ≡ Some disk
   pub high : disk.rate ≡ R500 → (bay_of new.station 0).rate ≡ R500
+  pub kept : (bay_of new.station 0).acknowledged ≡ Some (faults_of new.station.counters 0)
   pub names : new.names ≡ old.names
   pub files : after ≡ told
 
@@ -112,7 +114,13 @@ pub acks : (disk : Disk) (old new : State) (told after : Option Files) (answer :
 acks disk old new told after answer does done medium =
     let ok = ok_called does.1.0 answer does.1.1 done in
     let bay = acked_bay disk old.station new.station (does.1.2.done ok) medium in
-    record { medium = bay.0; high = bay.1; names = does.0.names; files = does.0.files }
+    record {
+      medium = bay.0;
+      high = bay.1;
+      kept = ap (λ (s : StationState). (bay_of s 0).acknowledged) (does.1.2.done ok).becomes;
+      names = does.0.names;
+      files = does.0.files;
+    }
 
 -- ---- at its rate
 
@@ -123,6 +131,7 @@ pub record IsRated (disk : Disk) (old : State) (told : Option Files) (rest : Lis
   pub course : List Taken
   pub medium : (bay_of mid.station 0).medium ≡ Some disk
   pub rate : (bay_of mid.station 0).rate ≡ disk.rate
+  pub kept : (bay_of mid.station 0).acknowledged ≡ (bay_of old.station 0).acknowledged
   pub names : mid.names ≡ old.names
   pub same_files : files ≡ told
   pub fell : NeverFell old.station.counters mid.station.counters
@@ -135,6 +144,7 @@ rates R500 disk rest old new told after course all is medium high = record {
   course = course;
   medium = medium;
   rate = high is ∙ sym is;
+  kept = refl;
   names = refl;
   same_files = refl;
   fell = record { first = omega arith; second = omega arith; stalls = omega arith };
@@ -151,6 +161,7 @@ rates R250 disk rest old new told after course all is medium high =
       course = first.later;
       medium = ap (λ (s : StationState). (bay_of s 0).medium) sets.becomes ∙ medium;
       rate = ap (λ (s : StationState). (bay_of s 0).rate) sets.becomes ∙ sym is;
+      kept = ap (λ (s : StationState). (bay_of s 0).acknowledged) sets.becomes;
       names = does.0.names;
       same_files = does.0.files;
       fell = step_never_fell old first.mid told first.files (request.SetRate 0 R250) first.answer first.step refl;

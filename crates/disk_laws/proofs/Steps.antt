@@ -128,6 +128,16 @@ never_fell old new told after (asked ∷ rest) course all keeps =
     let there = never_fell first.mid new first.files after rest first.later first.behind both.1 in
     record { first = omega arith; second = omega arith; stalls = omega arith }
 
+-- the same of a run in which some may be refused
+pub run_never_fell : (old new : State) (told after : Option Files) (course : List Taken) → Run old told course new after → list_all keeps_drives (requests_of course) ≡ true → NeverFell old.station.counters new.station.counters
+run_never_fell old new told after [] run keeps =
+    subst (λ (s : State). NeverFell old.station.counters s.station.counters) (sym run.0) (record { first = omega arith; second = omega arith; stalls = omega arith })
+run_never_fell old new told after (taken ∷ later) run keeps =
+    let both = and_both (keeps_drives taken.asked) (list_all keeps_drives (requests_of later)) keeps in
+    let here = step_never_fell old taken.after told run.0 taken.asked taken.answer run.1 both.0 in
+    let there = run_never_fell taken.after new run.0 after later run.2 both.1 in
+    record { first = omega arith; second = omega arith; stalls = omega arith }
+
 -- ---- one list of requests behind another
 
 -- a run of two lists of requests is two runs
