@@ -2,7 +2,9 @@ pub mod Formatted
 pub mod Formatting
 pub mod Looks
 pub mod Prepared
+pub mod Ranges
 pub mod Reading
 pub mod Sectors
 pub mod Tracks
 pub mod Steps
+pub mod Verified

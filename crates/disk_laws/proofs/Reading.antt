@@ -2,13 +2,14 @@
 use Rattle.std.proofs.Common.{arith, ◌≡◌, ◌∙◌, ◌+◌, ◌-◌, ◌<◌, ◌≤◌, ◌&&◌, ℕ, zero, suc, Bool, true, false, All, List, [], ◌∷◌, ◌++◌, map, length, refl, sym, ap, subst, inl, inr, Option, Some, None, Result, Ok, Err, le-leb, nat_le}
 use Rattle.std.specs.Prelude.{◌⊎◌, MatchOption, is_some}
 use Rattle.std.specs.List.{list_all, flat_map}
+use Rattle.std.proofs.lemmas.Grind.{flat_map-append}
 use Rattle.flop_base.specs.Shelf.{Files}
 use Rattle.flop_base.specs.Counts.{last_count}
 use Rattle.flop_base.specs.Standard.{sectors_at, standard_code}
 use Rattle.flop_base.specs.declared.key.Chrn.{Chrn}
 use Rattle.flop_base.specs.declared.answers.Rate.{Rate}
 use Rattle.flop_base.specs.declared.answers.Code.{Code}
-use Rattle.raw_image.specs.Disk.{Disk, IsDisk, HasTrack, track_of}
+use Rattle.raw_image.specs.Disk.{Disk, HasTrack, track_of}
 use Rattle.track_model.specs.declared.Look.{Look}
 use Rattle.track_model.specs.declared.Look.TheVariants.{Found, NoMark, NoSector, NoData, BadCrc}
 use Rattle.track_model.specs.Fields.{IsAddressAt}
@@ -27,7 +28,7 @@ use Rattle.sector_model.specs.Stations.{StationState, Bay, bay_of}
 use Rattle.sector_model.specs.Orders.{read_refusal, IsRefusedAtOnce}
 use Rattle.sector_model.specs.Reads.{IsRead, IsReadRefused, IsReadCause, ReadsDrive}
 use Rattle.sector_model.specs.States.{State}
-use Rattle.sector_model.specs.Steps.{Does, read_reply}
+use Rattle.sector_model.specs.Steps.{Step, Does, read_reply}
 use Rattle.sector_model.specs.Runs.{Taken, Run, requests_of}
 use Rattle.disk_laws.specs.Requests.{read_each}
 use Rattle.disk_laws.specs.Verified.{IsStandardKey, IsUnmistaken, told_of, all_told_of, refused_read, refused_reads}
@@ -95,8 +96,8 @@ module _ (disk : Disk) (unmistaken : IsUnmistaken disk) (count : ℕ) (key : Chr
   cause_tells tries cause is = cause_look (track_of disk key.c key.h) key plain single tries 0 cause old new is quiet fell.stalls fell.first
 
   -- what the driver answered
-  drive_tells : IsDisk disk → (called : Result Bool Code) → ReadsDrive old 0 key 0x10000 called new → Tells disk count key (read_reply called) new
-  drive_tells valid (Ok deleted) drive =
+  drive_tells : (called : Result Bool Code) → ReadsDrive old 0 key 0x10000 called new → Tells disk count key (read_reply called) new
+  drive_tells (Ok deleted) drive =
       let found = read_tells deleted drive.found in
       record {
         look = Found deleted found.0;
@@ -108,7 +109,7 @@ module _ (disk : Disk) (unmistaken : IsUnmistaken disk) (count : ℕ) (key : Chr
       none_told : (d : Bool) → refused_read (request.Read 0 key 0x10000) (read_reply (Ok d)) ≡ []
       none_told true = refl
       none_told false = refl
-  drive_tells valid (Err cause) drive =
+  drive_tells (Err cause) drive =
       let met = met_track (bay_of old 0).medium (bay_of old 0).rate key.c key.h disk (record { is_in = holds.medium; has = standard.track; same_rate = sym holds.rate }) in
       let is = subst (λ track. IsReadCause track key old.tries 0 cause old new) met drive.refused.cause in
       let told = cause_tells old.tries cause is in
@@ -118,3 +119,70 @@ module _ (disk : Disk) (unmistaken : IsUnmistaken disk) (count : ℕ) (key : Chr
         told = sym told.2;
         holds = holds_on disk count old new holds (bays_stay old new _ drive.refused.becomes) same_faults;
       }
+
+key_is : (key : Chrn) → key.n ≡ standard_code → key ≡ key_of key.c key.h key.r
+key_is key size = ap (λ (n : ℕ). record { c = key.c; h = key.h; r = key.r; n = n }) size
+
+-- a read of a standard key
+one_read : (disk : Disk) (count : ℕ) (key : Chrn) (old new : State) (told after : Option Files) (answer : Reply) → disk.cylinders ≤ 80 → disk.heads ≤ 2 → IsUnmistaken disk → IsStandardKey disk key → Does old told (request.Read 0 key 0x10000) answer new after → Holds disk count old.station → IsUndisturbed 0 old.station.counters new.station.counters → NeverFell old.station.counters new.station.counters → Tells disk count key answer new.station
+one_read disk count key old new told after answer few_cylinders few_heads unmistaken standard does holds quiet fell =
+    let cylinder : key.c ≤ 79 = omega (arith, standard.track.0, few_cylinders) in
+    let head : key.h ≤ 1 = omega (arith, standard.track.1, few_heads) in
+    let free = subst (λ (k : Chrn). read_refusal old.station 0 k 0x10000 ≡ None) (sym (key_is key standard.size)) (not_refused old.station key.c key.h key.r count cylinder head standard.sector.0 holds.acknowledged) in
+    let drive = reaches _ (read_refusal old.station 0 key 0x10000) free does.1.2 in
+    let tells = drive_tells disk unmistaken count key standard old.station new.station holds quiet fell does.1.0 drive in
+    subst (λ (r : Reply). Tells disk count key r new.station) (sym does.1.1) tells
+
+-- a call without disturbance, in two parts
+pub quiet_parts : (old mid new : Counters) → NeverFell old mid → NeverFell mid new → IsUndisturbed 0 old new → IsUndisturbed 0 old mid × IsUndisturbed 0 mid new
+quiet_parts old mid new one two quiet = (
+  record {
+    faults = omega (arith, two.first, quiet.faults);
+    stalls = omega (arith, two.stalls, quiet.stalls);
+    together = omega (arith, one.first, two.first, one.stalls, two.stalls, quiet.together);
+  },
+  record {
+    faults = quiet.faults;
+    stalls = quiet.stalls;
+    together = omega (arith, one.first, two.first, one.stalls, two.stalls, quiet.together);
+  },
+)
+
+pub reads_keep : (keys : List Chrn) → list_all keeps_drives (read_each 0 keys) ≡ true
+reads_keep [] = refl
+reads_keep (key ∷ later) = reads_keep later
+
+told_alone : (key : Chrn) (look : Look) → all_told_of (unless_found key look) ≡ told_of key look
+told_alone key (Found deleted place) = refl
+told_alone key NoMark = refl
+told_alone key NoSector = refl
+told_alone key NoData = refl
+told_alone key BadCrc = refl
+
+told_more : (key : Chrn) (look : Look) (rest : List (Chrn × Look)) → all_told_of (unless_found key look ++ rest) ≡ told_of key look ++ all_told_of rest
+told_more key look rest =
+    flat_map-append (λ (pair : Chrn × Look). told_of pair.0 pair.1) (unless_found key look) rest
+    ∙ ap (λ (row : List (Chrn × Code)). row ++ all_told_of rest) (told_alone key look)
+
+-- the reads of some keys tell of those that aren't found
+pub reads_tell : (disk : Disk) (count : ℕ) (keys : List Chrn) (failed : List (Chrn × Look)) (old new : State) (told after : Option Files) (course : List Taken) → disk.cylinders ≤ 80 → disk.heads ≤ 2 → IsUnmistaken disk → All (IsStandardKey disk) keys → AreFailing disk keys failed → Run old told course new after → requests_of course ≡ read_each 0 keys → Holds disk count old.station → IsUndisturbed 0 old.station.counters new.station.counters → refused_reads course ≡ all_told_of failed
+reads_tell disk count [] failed old new told after [] few_cylinders few_heads unmistaken standard failing run all holds quiet = ap all_told_of (sym failing)
+reads_tell disk count [] failed old new told after (taken ∷ later) few_cylinders few_heads unmistaken standard failing run all holds quiet = absurd (cc all)
+reads_tell disk count (key ∷ keys) failed old new told after [] few_cylinders few_heads unmistaken standard failing run all holds quiet = absurd (cc all)
+reads_tell disk count (key ∷ keys) failed old new told after (taken ∷ later) few_cylinders few_heads unmistaken standard failing run all holds quiet =
+    let asked : taken.asked ≡ request.Read 0 key 0x10000 = cc all in
+    let others : requests_of later ≡ read_each 0 keys = cc all in
+    let is_standard : IsStandardKey disk key = standard 0 key (omega arith) in
+    let does = subst (λ (q : Request). Step old told q taken.answer taken.after run.0) asked run.1 in
+    let here = step_never_fell old taken.after told run.0 (request.Read 0 key 0x10000) taken.answer does refl in
+    let keep = subst (λ (requests : List Request). list_all keeps_drives requests ≡ true) (sym others) (reads_keep keys) in
+    let there = run_never_fell taken.after new run.0 after later run.2 keep in
+    let parts = quiet_parts old.station.counters taken.after.station.counters new.station.counters here there quiet in
+    let tells = one_read disk count key old taken.after told run.0 taken.answer few_cylinders few_heads unmistaken is_standard does holds parts.0 here in
+    let same : tells.look ≡ failing.0 = one_look_for (track_of disk key.c key.h) key tells.look failing.0 tells.looked (failing.2.there is_standard.track) in
+    let rest = reads_tell disk count keys failing.1 taken.after new run.0 after later few_cylinders few_heads unmistaken (λ i d below. standard (suc i) d (omega arith)) failing.4 run.2 others tells.holds parts.1 in
+    let first : refused_read taken.asked taken.answer ≡ told_of key failing.0 = ap (λ (q : Request). refused_read q taken.answer) asked ∙ tells.told ∙ ap (told_of key) same in
+    ap (λ (row : List (Chrn × Code)). row ++ refused_reads later) first
+    ∙ ap (λ (row : List (Chrn × Code)). told_of key failing.0 ++ row) rest
+    ∙ sym (told_more key failing.0 failing.1)
+    ∙ ap all_told_of (sym failing.3)

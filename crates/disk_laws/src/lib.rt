@@ -2,5 +2,7 @@
 #![tactic(auto)]
 
 mod formats;
+mod reads;
 
 pub use formats::{formats_disk, formatted_disk_has_sectors};
+pub use reads::reads_tell_of_disk;
