@@ -1,5 +1,5 @@
 -- What the requests of a run did, one by one.
-use Rattle.std.proofs.Common.{arith, ◌≡◌, ℕ, ◌≤◌, ◌&&◌, Bool, true, false, true≢false, List, [], ◌∷◌, ◌++◌, refl, sym, ap, subst, Option, Some, None, Result, Ok, Err, IsOk}
+use Rattle.std.proofs.Common.{arith, ◌≡◌, ◌∙◌, take, length, ℕ, ◌≤◌, ◌&&◌, Bool, true, false, true≢false, List, [], ◌∷◌, ◌++◌, refl, sym, ap, subst, Option, Some, None, Result, Ok, Err, IsOk}
 use Rattle.std.specs.Prelude.{◌||◌, MatchOption}
 use Rattle.std.specs.List.{list_all}
 use Rattle.flop_base.specs.Shelf.{Files}
@@ -176,4 +176,48 @@ splits old new told after (asked ∷ first) second course all =
         done = more_done (is_refusal begun.answer) (has_refusal rest.one) begun.done rest.before.done;
       };
       behind = rest.behind;
+    }
+
+-- the same of a run in which some may be refused
+pub record SplitsRun (old : State) (told : Option Files) (first second : List Request) (course : List Taken) (new : State) (after : Option Files) : Type 0 where
+  pub mid : State
+  pub files : Option Files
+  pub one : List Taken
+  pub two : List Taken
+  pub is : course ≡ one ++ two
+  pub begun : take (length first) course ≡ one
+  pub run_one : Run old told one mid files
+  pub run_two : Run mid files two new after
+  pub all_one : requests_of one ≡ first
+  pub all_two : requests_of two ≡ second
+
+pub splits_run : (old new : State) (told after : Option Files) (first second : List Request) (course : List Taken) → Run old told course new after → requests_of course ≡ first ++ second → SplitsRun old told first second course new after
+splits_run old new told after [] second course run all = record {
+  mid = old;
+  files = told;
+  one = [];
+  two = course;
+  is = refl;
+  begun = refl;
+  run_one = (refl, refl);
+  run_two = run;
+  all_one = refl;
+  all_two = all;
+}
+splits_run old new told after (asked ∷ first) second [] run all = absurd (cc all)
+splits_run old new told after (asked ∷ first) second (taken ∷ later) run all =
+    let here : taken.asked ≡ asked = cc all in
+    let there : requests_of later ≡ first ++ second = cc all in
+    let rest = splits_run taken.after new run.0 after first second later run.2 there in
+    record {
+      mid = rest.mid;
+      files = rest.files;
+      one = taken ∷ rest.one;
+      two = rest.two;
+      is = ap (λ (row : List Taken). taken ∷ row) rest.is;
+      begun = ap (λ (row : List Taken). taken ∷ row) rest.begun;
+      run_one = (run.0, run.1, rest.run_one);
+      run_two = rest.run_two;
+      all_one = ap (λ (q : Request). q ∷ requests_of rest.one) here ∙ ap (λ (row : List Request). asked ∷ row) rest.all_one;
+      all_two = rest.all_two;
     }

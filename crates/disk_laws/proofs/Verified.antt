@@ -2,6 +2,7 @@
 use Rattle.std.proofs.Common.{arith, ◌≡◌, ◌∙◌, ◌+◌, ◌<◌, ◌≤◌, ◌&&◌, ℕ, zero, suc, Bool, true, false, All, List, [], ◌∷◌, ◌++◌, refl, sym, ap, subst, inl, inr, Option, Some, None, Result, Ok, Err, length}
 use Rattle.std.specs.Prelude.{IsSomeAnd, ◌⊎◌}
 use Rattle.std.specs.List.{list_all, flat_map, range_with_len}
+use Rattle.std.proofs.lemmas.Grind.{flat_map-append}
 use Rattle.std.proofs.lemmas.List.{append-nil}
 use Rattle.std.proofs.lemmas.List.Elements.{All-nil, All-append}
 use Rattle.flop_base.specs.Shelf.{Files, file_at}
@@ -23,11 +24,11 @@ use Rattle.floppy_jobs.specs.declared.request.Request.TheVariants as request
 use Rattle.sector_model.specs.Stations.{StationState, bay_of}
 use Rattle.sector_model.specs.States.{State}
 use Rattle.sector_model.specs.Steps.{IsImageOf, most_image_bytes}
-use Rattle.sector_model.specs.Runs.{Taken, Run, requests_of}
+use Rattle.sector_model.specs.Runs.{Taken, Run, requests_of, has_refusal}
 use Rattle.disk_laws.specs.Done.{DoesAll}
 use Rattle.disk_laws.specs.Requests.{verify_opening, rate_requests, read_each}
-use Rattle.disk_laws.specs.Verified.{IsStandardKey, IsUnmistaken, all_told_of, refused_reads, ReadsDisk}
-use Rattle.disk_laws.proofs.Steps.{begins, ends_there, NeverFell, step_never_fell, never_fell, run_never_fell, keeps_drives}
+use Rattle.disk_laws.specs.Verified.{IsStandardKey, IsUnmistaken, all_told_of, refused_read, refused_reads, ReadsDisk}
+use Rattle.disk_laws.proofs.Steps.{begins, ends_there, splits_run, NeverFell, step_never_fell, never_fell, run_never_fell, keeps_drives}
 use Rattle.disk_laws.proofs.Prepared.{acks, rates}
 use Rattle.disk_laws.proofs.Ranges.{image_range}
 use Rattle.disk_laws.proofs.Reading.{Holds, quiet_parts, reads_keep, reads_tell}
@@ -108,11 +109,38 @@ opens name disk files old new after course end image all last quiet =
       quiet = subst (λ (s : State). IsUndisturbed 0 s.station.counters end) (sym there) calm;
     }
 
+-- the requests of the opening are no reads
+opening_tells : (name : List ℕ) (disk : Disk) (course : List Taken) → requests_of course ≡ verify_opening name disk → refused_reads course ≡ []
+opening_tells name disk [] all = refl
+opening_tells name disk (one ∷ []) all = absurd (cc all)
+opening_tells name disk (one ∷ two ∷ later) all =
+    let first : one.asked ≡ request.Insert 0 name = cc all in
+    let second : two.asked ≡ request.Ack 0 = cc all in
+    let rest : requests_of later ≡ rate_requests disk.rate 0 = cc all in
+    ap (λ (q : Request). refused_read q one.answer ++ (refused_read two.asked two.answer ++ refused_reads later)) first
+    ∙ ap (λ (q : Request). refused_read q two.answer ++ refused_reads later) second
+    ∙ go disk.rate later rest
+  where
+    go : (rate : Rate) (course : List Taken) → requests_of course ≡ rate_requests rate 0 → refused_reads course ≡ []
+    go R500 [] all = refl
+    go R500 (taken ∷ later) all = absurd (cc all)
+    go R250 [] all = refl
+    go R250 (taken ∷ []) all =
+        let asked : taken.asked ≡ request.SetRate 0 R250 = cc all in
+        ap (λ (q : Request). refused_read q taken.answer ++ []) asked
+    go R250 (taken ∷ next ∷ later) all = absurd (cc all)
+
 -- the reads of a whole disk tell of its standard keys that aren't found
-pub disk_tells : (old new : State) (files : Files) (name : List ℕ) (disk : Disk) (opened reads : List Taken) (after : Option Files) (failed : List (Chrn × Look)) → ReadsDisk old files name disk opened reads new after → IsUndisturbed 0 old.station.counters new.station.counters → IsUnmistaken disk → AreFailing disk (standard_keys disk) failed → refused_reads reads ≡ all_told_of failed
-disk_tells old new files name disk opened reads after failed all quiet unmistaken failing =
-    let keep = subst (λ (requests : List Request). list_all keeps_drives requests ≡ true) (sym all.all) (reads_keep (standard_keys disk)) in
-    let last = run_never_fell all.mid new all.mid_files after reads all.run keep in
-    let start = opens name disk files old all.mid all.mid_files opened new.station.counters all.image all.opens last quiet in
+pub disk_tells : (old new : State) (files : Files) (name : List ℕ) (disk : Disk) (course : List Taken) (after : Option Files) (failed : List (Chrn × Look)) → ReadsDisk old files name disk course new after → IsUndisturbed 0 old.station.counters new.station.counters → IsUnmistaken disk → AreFailing disk (standard_keys disk) failed → refused_reads course ≡ all_told_of failed
+disk_tells old new files name disk course after failed all quiet unmistaken failing =
+    let parts = splits_run old new (Some files) after (verify_opening name disk) (read_each 0 (standard_keys disk)) course all.run all.all in
+    let done = subst (λ (row : List Taken). has_refusal row ≡ false) parts.begun all.opened in
+    let keep = subst (λ (requests : List Request). list_all keeps_drives requests ≡ true) (sym parts.all_two) (reads_keep (standard_keys disk)) in
+    let last = run_never_fell parts.mid new parts.files after parts.two parts.run_two keep in
+    let start = opens name disk files old parts.mid parts.files parts.one new.station.counters all.image (record { run = parts.run_one; all = parts.all_one; done = done }) last quiet in
     let ranges = image_ranges files name disk all.image in
-    reads_tell disk start.count (standard_keys disk) failed all.mid new all.mid_files after reads ranges.0 ranges.1 unmistaken (standard_all disk) failing all.run all.all start.holds start.quiet
+    let told = reads_tell disk start.count (standard_keys disk) failed parts.mid new parts.files after parts.two ranges.0 ranges.1 unmistaken (standard_all disk) failing parts.run_two parts.all_two start.holds start.quiet in
+    ap refused_reads parts.is
+    ∙ flat_map-append (λ (taken : Taken). refused_read taken.asked taken.answer) parts.one parts.two
+    ∙ ap (λ (row : List (Chrn × Code)). row ++ refused_reads parts.two) (opening_tells name disk parts.one parts.all_one)
+    ∙ told

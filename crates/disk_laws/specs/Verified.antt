@@ -1,5 +1,5 @@
 -- Disks that are read whole.
-use Rattle.std.specs.Prelude.{◌≡◌, ◌≤◌, ℕ, List, [], ◌∷◌, Option, Some}
+use Rattle.std.specs.Prelude.{◌≡◌, ◌≤◌, ℕ, List, [], ◌∷◌, false, length, take, Option, Some}
 use Rattle.std.specs.List.{flat_map}
 use Rattle.flop_base.specs.Shelf.{Files}
 use Rattle.flop_base.specs.Standard.{sectors_at, standard_code}
@@ -11,7 +11,6 @@ use Rattle.track_model.specs.declared.Look.{Look}
 use Rattle.track_model.specs.declared.Look.TheVariants.{Found, NoMark, NoSector, NoData, BadCrc}
 use Rattle.track_model.specs.Fields.{IsAddressAt}
 use Rattle.track_model.specs.Sectors.{IsPlain}
-use Rattle.sector_map.specs.Standard.{standard_keys}
 use Rattle.floppy_jobs.specs.declared.request.Request.{Request}
 use Rattle.floppy_jobs.specs.declared.request.Request.TheVariants as request
 use Rattle.sector_model.specs.declared.reply.Reply.{Reply}
@@ -19,9 +18,8 @@ use Rattle.sector_model.specs.declared.reply.Reply.TheVariants as reply
 use Rattle.sector_model.specs.declared.reply.Reason.TheVariants as reason
 use Rattle.sector_model.specs.States.{State}
 use Rattle.sector_model.specs.Steps.{IsImageOf}
-use Rattle.sector_model.specs.Runs.{Taken, Run, requests_of}
-use Rattle.disk_laws.specs.Done.{DoesAll}
-use Rattle.disk_laws.specs.Requests.{verify_opening, read_each}
+use Rattle.sector_model.specs.Runs.{Taken, Run, requests_of, has_refusal}
+use Rattle.disk_laws.specs.Requests.{verify_opening, verify_requests}
 
 -- a key of the standard format of a disk
 pub record IsStandardKey (disk : Disk) (key : Chrn) : Type 0 where
@@ -56,11 +54,9 @@ refused_read _ _ = []
 abbrev pub refused_reads : List Taken → List (Chrn × Code)
 refused_reads course = flat_map (λ taken. refused_read taken.asked taken.answer) course
 
--- the disk of this name was put into bay 0, and then each of its standard keys was read, whatever the answers were
-pub record ReadsDisk (old : State) (files : Files) (name : List ℕ) (disk : Disk) (opened reads : List Taken) (new : State) (after : Option Files) : Type 0 where
+-- the command that reads every sector was run on the disk of this name: its opening was done, and the reads had any answers
+pub record ReadsDisk (old : State) (files : Files) (name : List ℕ) (disk : Disk) (course : List Taken) (new : State) (after : Option Files) : Type 0 where
   pub image : IsImageOf (Some files) name disk
-  pub mid : State
-  pub mid_files : Option Files
-  pub opens : DoesAll old (Some files) (verify_opening name disk) opened mid mid_files
-  pub run : Run mid mid_files reads new after
-  pub all : requests_of reads ≡ read_each 0 (standard_keys disk)
+  pub run : Run old (Some files) course new after
+  pub all : requests_of course ≡ verify_requests name disk
+  pub opened : has_refusal (take (length (verify_opening name disk)) course) ≡ false

@@ -16,10 +16,10 @@ ghost use Rattle.disk_laws.specs.Verified.{ReadsDisk, IsUnmistaken, refused_read
 /// the code of its look: 02 where the track has no address mark or the key no data, 04 where no address field has the key, and
 /// 10 where its data is damaged.
 pub fn reads_tell_of_disk(_name: &str)
-    ensures { (old new : State) (files : Files) (disk : Disk) (opened reads : List Taken)
+    ensures { (old new : State) (files : Files) (disk : Disk) (course : List Taken)
         (after : Option Files) (failed : List (Chrn × Look))
-        → ReadsDisk old files _name.now disk opened reads new after
+        → ReadsDisk old files _name.now disk course new after
         → IsUndisturbed 0 old.station.counters new.station.counters
         → IsUnmistaken disk → AreFailing disk (standard_keys disk) failed
-        → refused_reads reads ≡ all_told_of failed }
+        → refused_reads course ≡ all_told_of failed }
 {}
