@@ -61,10 +61,10 @@ lays_in format before after disk next layings e f lays =
     let here = subst (λ (o : Option Disk). Lays format o layings after) e lays in
     subst (λ (o : Option Disk). Lays format (Some disk) layings o) f here
 
-drive_formats : (rate : Rate) (c h : ℕ) (disk : Disk) (old new : StationState) (called : Result (Unit {0}) Code) → FormatsDrive (format_at c h rate (gap_at rate) standard_fill) 0 called old new → IsOk called → IsFaultless 0 old.counters new.counters → (bay_of old 0).medium ≡ Some disk → IsDisk disk
-    → (next : Disk) × ((bay_of new 0).medium ≡ Some next) × KeepsTracks disk c h next
+pub drive_formats : (bay : ℕ) (rate : Rate) (c h : ℕ) (disk : Disk) (old new : StationState) (called : Result (Unit {0}) Code) → FormatsDrive (format_at c h rate (gap_at rate) standard_fill) bay called old new → IsOk called → IsFaultless bay old.counters new.counters → (bay_of old bay).medium ≡ Some disk → IsDisk disk
+    → (next : Disk) × ((bay_of new bay).medium ≡ Some next) × KeepsTracks disk c h next
     × (track_of next c h ≡ formatted (format_at c h rate (gap_at rate) standard_fill) disk.words_per_track)
-drive_formats rate c h disk old new called drive ok faultless medium valid =
+drive_formats bay rate c h disk old new called drive ok faultless medium valid =
     let done = drive.formatted_track ok faultless in
     let can = done.0 in
     let is : can.0 ≡ disk = same_some _ _ _ can.1 medium in
@@ -80,7 +80,7 @@ one_format rate c h disk old new told after answer does done faultless medium ba
     let ok = ok_called called answer does.1.1 done in
     let drive = reached (format_refusal old.station 0 c h (gap_at (bay_of old.station 0).rate)) called old.station new.station does.1.2 ok in
     let at = subst (λ (r : Rate). FormatsDrive (format_at c h r (gap_at r) standard_fill) 0 called old.station new.station) bay_rate drive in
-    let formats = drive_formats rate c h disk old.station new.station called at ok faultless medium valid in
+    let formats = drive_formats 0 rate c h disk old.station new.station called at ok faultless medium valid in
     record {
       next = formats.0;
       medium = formats.1;
