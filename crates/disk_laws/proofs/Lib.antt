@@ -4,6 +4,7 @@ pub mod Looks
 pub mod Prepared
 pub mod Ranges
 pub mod Reading
+pub mod Records
 pub mod Sectors
 pub mod Tracks
 pub mod Steps

@@ -22,7 +22,7 @@ pub either : {A : Type 0} {P R : Type 0} {Q : A → Type 0} (value : Option A) �
 either None holds none some = none holds
 either (Some x) holds none some = some x holds
 
-or_false : (a b : Bool) → (a || b) ≡ false → (a ≡ false) × (b ≡ false)
+pub or_false : (a b : Bool) → (a || b) ≡ false → (a ≡ false) × (b ≡ false)
 or_false true b e = absurd (true≢false e)
 or_false false b e = (refl, e)
 

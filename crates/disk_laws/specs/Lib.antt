@@ -2,3 +2,4 @@ pub mod Requests
 pub mod Done
 pub mod Formatted
 pub mod Verified
+pub mod Copied

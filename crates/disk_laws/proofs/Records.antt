@@ -1,0 +1,182 @@
+-- The records of a track in memory: reads of each to its own place.
+use Rattle.std.proofs.Common.{arith, ◌≡◌, ◌∙◌, ◌+◌, ◌-◌, ◌*◌, ◌<◌, ◌≤◌, ℕ, zero, suc, Bool, true, false, true≢false, List, [], ◌∷◌, ◌++◌, map, take, drop, length, get_or, refl, sym, ap, subst, inl, inr, Option, Some, None, Result, Ok, Err, IsOk}
+use Rattle.std.specs.Prelude.{◌⊎◌}
+use Rattle.std.specs.List.{range_with_len, flat_map}
+use Rattle.std.proofs.lemmas.List.{ext_get_or, get_or-take, get_or-drop, length-take, length-drop}
+use Rattle.std.proofs.lemmas.List.FromFn.{length-map-range_with_len}
+use Rattle.flop_base.specs.Shelf.{Files}
+use Rattle.flop_base.specs.declared.key.Chrn.{Chrn}
+use Rattle.flop_base.specs.declared.answers.Code.{Code}
+use Rattle.raw_image.specs.Disk.{track_of}
+use Rattle.bay_model.specs.Memory.{user_bytes, bytes_from, with_bytes}
+use Rattle.track_model.specs.Bytes.{byte_at, bytes_at}
+use Rattle.track_model.specs.Windows.{with_words}
+use Rattle.track_model.proofs.Splices.{length-with_words, with_words_before, with_words_at}
+use Rattle.floppy_jobs.specs.declared.request.Request.{Request}
+use Rattle.floppy_jobs.specs.declared.request.Request.TheVariants as request
+use Rattle.sector_map.specs.Standard.{key_of}
+use Rattle.sector_model.specs.declared.reply.Reply.{Reply}
+use Rattle.sector_model.specs.Orders.{read_refusal}
+use Rattle.sector_model.specs.Reads.{ReadsDrive}
+use Rattle.sector_model.specs.Stations.{StationState}
+use Rattle.sector_model.specs.States.{State}
+use Rattle.sector_model.specs.Steps.{Step, Does, read_reply}
+use Rattle.sector_model.specs.Texts.{is_refusal}
+use Rattle.sector_model.specs.Runs.{Taken, requests_of, has_refusal}
+use Rattle.disk_laws.specs.Done.{DoesAll}
+use Rattle.disk_laws.specs.Requests.{record_address, read_records, mark_of, marks_read}
+use Rattle.disk_laws.specs.Copied.{SomeStep, Gave}
+use Rattle.disk_laws.proofs.Steps.{reached, or_false, done_does}
+
+-- ---- memory
+
+length-with : (memory : List ℕ) (address : ℕ) (bytes : List ℕ) → address + length bytes ≤ length memory → length (with_bytes memory address bytes) ≡ length memory
+unfolding with_bytes with_words
+length-with memory address bytes fits = length-with_words memory address bytes fits
+
+with_before : (memory : List ℕ) (address : ℕ) (bytes : List ℕ) → address + length bytes ≤ length memory → (k : ℕ) → k < address → get_or (with_bytes memory address bytes) k 0 ≡ get_or memory k 0
+unfolding with_bytes with_words
+with_before memory address bytes fits k before = with_words_before memory address bytes fits k before
+
+-- the bytes of a range, one by one
+byte_from : (memory : List ℕ) (place count k : ℕ) → k < count → get_or (bytes_from memory place count) k 0 ≡ get_or memory (place + k) 0
+byte_from memory place count k below = get_or-take count (drop place memory) k 0 below ∙ get_or-drop place memory k 0
+
+pub length-bytes_from : (memory : List ℕ) (place count : ℕ) → place + count ≤ length memory → length (bytes_from memory place count) ≡ count
+length-bytes_from memory place count inside = omega (arith, length-take count (drop place memory), length-drop place memory)
+
+-- what is before a range stays
+below_stays : (memory : List ℕ) (address : ℕ) (bytes : List ℕ) (place count : ℕ) → address + length bytes ≤ length memory → place + count ≤ address → bytes_from (with_bytes memory address bytes) place count ≡ bytes_from memory place count
+below_stays memory address bytes place count fits below =
+    let long = length-with memory address bytes fits in
+    let one : length (bytes_from (with_bytes memory address bytes) place count) ≡ count = length-bytes_from (with_bytes memory address bytes) place count (omega arith) in
+    let two : length (bytes_from memory place count) ≡ count = length-bytes_from memory place count (omega arith) in
+    ext_get_or 0 (bytes_from (with_bytes memory address bytes) place count) (bytes_from memory place count) (one ∙ sym two)
+    (λ k within.
+    let inside : k < count = omega arith in
+    byte_from (with_bytes memory address bytes) place count k inside
+    ∙ with_before memory address bytes fits (place + k) (omega arith)
+    ∙ sym (byte_from memory place count k inside))
+
+-- ---- one read
+
+length-bytes_at : (track : List ℕ) (place count : ℕ) → length (bytes_at track place count) ≡ count
+length-bytes_at track place count = length-map-range_with_len (λ i. byte_at track (place + 16 * i)) 0 count
+
+ok_read : (called : Result Bool Code) (answer : Reply) → answer ≡ read_reply called → is_refusal answer ≡ false → (deleted : Bool) × (called ≡ Ok deleted)
+ok_read (Ok deleted) answer e done = (deleted, refl)
+ok_read (Err code) answer e done = absurd (true≢false (subst (λ (r : Reply). is_refusal r ≡ false) e done))
+
+-- what the read of a record did
+pub record ReadsOne (c h r : ℕ) (old : State) (told : Option Files) (answer : Reply) (new : State) (after : Option Files) : Type 0 where
+  pub deleted : Bool
+  pub mark : mark_of (request.Read 0 (key_of c h r) (record_address r)) answer ≡ deleted ∷ []
+  pub content : List ℕ
+  pub sized : length content ≡ 512
+  pub memory : new.station.memory ≡ with_bytes old.station.memory (record_address r) content
+  pub bays : new.station.bays ≡ old.station.bays
+  pub names : new.names ≡ old.names
+  pub files : after ≡ told
+
+told_mark : (key : Chrn) (address : ℕ) (deleted : Bool) → mark_of (request.Read 0 key address) (read_reply (Ok deleted)) ≡ deleted ∷ []
+told_mark key address true = refl
+told_mark key address false = refl
+
+pub one_record : (c h r : ℕ) (old new : State) (told after : Option Files) (answer : Reply) → Does old told (request.Read 0 (key_of c h r) (record_address r)) answer new after → is_refusal answer ≡ false → ReadsOne c h r old told answer new after
+one_record c h r old new told after answer does done =
+    let key = key_of c h r in
+    let address = record_address r in
+    let ok = ok_read does.1.0 answer does.1.1 done in
+    let is_ok : IsOk does.1.0 = rw ok.1 refl in
+    let drive = reached (read_refusal old.station 0 key address) does.1.0 old.station new.station does.1.2 is_ok in
+    let there = subst (λ (r : Result Bool Code). ReadsDrive old.station 0 key address r new.station) ok.1 drive in
+    let found = there.found in
+    record {
+      deleted = ok.0;
+      mark = ap (mark_of (request.Read 0 key address)) (does.1.1 ∙ ap read_reply ok.1) ∙ told_mark key address ok.0;
+      content = found.content;
+      sized = ap length found.whole.content_is ∙ length-bytes_at (track_of found.disk found.cylinder h) (found.mark + 64) 512;
+      memory = ap (λ (s : StationState). s.memory) found.becomes;
+      bays = ap (λ (s : StationState). s.bays) found.becomes;
+      names = does.0.names;
+      files = does.0.files;
+    }
+
+-- ---- the records of a track
+
+-- each record from a on has been read with this mark, and its content stands at its place
+pub record IsGiven (course : List Taken) (memory : List ℕ) (c h r : ℕ) (deleted : Bool) : Type 0 where
+  pub step : SomeStep (Gave (key_of c h r) deleted (bytes_from memory (record_address r) 512)) course
+
+abbrev pub AreGiven : List Taken → List ℕ → ℕ → ℕ → ℕ → List Bool → Type 0
+AreGiven course memory c h a [] = Unit {0}
+AreGiven course memory c h a (deleted ∷ marks) = IsGiven course memory c h a deleted × AreGiven course memory c h (a + 1) marks
+
+-- also of a longer course
+pub given_later : (taken : Taken) (course : List Taken) (memory : List ℕ) (c h a : ℕ) (marks : List Bool) → AreGiven course memory c h a marks → AreGiven (taken ∷ course) memory c h a marks
+given_later taken course memory c h a [] given = tt
+given_later taken course memory c h a (deleted ∷ marks) given =
+    (record { step = inr given.0.step }, given_later taken course memory c h (a + 1) marks given.1)
+
+-- what the reads of n records from a on did
+pub record ReadsAll (c h a n : ℕ) (old : State) (told : Option Files) (course : List Taken) (new : State) (after : Option Files) : Type 0 where
+  pub marks : List Bool
+  pub marks_are : marks_read course ≡ marks
+  pub count : length marks ≡ n
+  pub given : AreGiven course new.station.memory c h a marks
+  pub below : (place : ℕ) → place + 512 ≤ record_address a → bytes_from new.station.memory place 512 ≡ bytes_from old.station.memory place 512
+  pub size : length new.station.memory ≡ user_bytes
+  pub bays : new.station.bays ≡ old.station.bays
+  pub names : new.names ≡ old.names
+  pub files : after ≡ told
+
+abbrev pub keys_from : ℕ → ℕ → ℕ → ℕ → List Chrn
+keys_from c h a n = map (key_of c h) (range_with_len a n)
+
+pub all_records : (c h a n : ℕ) (old new : State) (told after : Option Files) (course : List Taken) → DoesAll old told (read_records 0 (keys_from c h a n)) course new after → length old.station.memory ≡ user_bytes → 1 ≤ a → a + n ≤ 19 → ReadsAll c h a n old told course new after
+all_records c h a zero old new told after [] all size least most = record {
+  marks = [];
+  marks_are = refl;
+  count = refl;
+  given = tt;
+  below = λ place inside. ap (λ (s : State). bytes_from s.station.memory place 512) all.run.0;
+  size = ap (λ (s : State). length s.station.memory) all.run.0 ∙ size;
+  bays = ap (λ (s : State). s.station.bays) all.run.0;
+  names = ap (λ (s : State). s.names) all.run.0;
+  files = all.run.1;
+}
+all_records c h a zero old new told after (taken ∷ later) all size least most = let e = all.all in absurd (cc e)
+all_records c h a (suc n) old new told after [] all size least most = let e = all.all in absurd (cc e)
+all_records c h a (suc n) old new told after (taken ∷ later) all size least most =
+    let key = key_of c h a in
+    let address = record_address a in
+    let e = all.all in
+    let asked : taken.asked ≡ request.Read 0 key address = cc e in
+    let others : requests_of later ≡ read_records 0 (keys_from c h (a + 1) n) = cc e in
+    let parts = or_false (is_refusal taken.answer) (has_refusal later) all.done in
+    let step = subst (λ (q : Request). Step old told q taken.answer taken.after all.run.0) asked all.run.1 in
+    let does = done_does old taken.after told all.run.0 (request.Read 0 key address) taken.answer step parts.0 in
+    let one = one_record c h a old taken.after told all.run.0 taken.answer does parts.0 in
+    let sized = one.sized in
+    let fits : address + length one.content ≤ length old.station.memory = omega arith in
+    let same_size : length taken.after.station.memory ≡ user_bytes = ap length one.memory ∙ length-with old.station.memory address one.content fits ∙ size in
+    let rest = all_records c h (a + 1) n taken.after new all.run.0 after later (record { run = all.run.2; all = others; done = parts.1 }) same_size (omega arith) (omega arith) in
+    let stays : bytes_from new.station.memory address 512 ≡ bytes_from taken.after.station.memory address 512 = rest.below address (omega arith) in
+    let marked : mark_of taken.asked taken.answer ≡ one.deleted ∷ [] = ap (λ (q : Request). mark_of q taken.answer) asked ∙ one.mark in
+    record {
+      marks = one.deleted ∷ rest.marks;
+      marks_are = ap (λ (row : List Bool). row ++ marks_read later) marked ∙ ap (λ (row : List Bool). one.deleted ∷ row) rest.marks_are;
+      count = let count = rest.count in omega arith;
+      given = (
+        record { step = inl (record { address = address; asked = asked; mark = marked; content = stays }) },
+        given_later taken later new.station.memory c h (a + 1) rest.marks rest.given,
+      );
+      below = λ place inside.
+          rest.below place (omega arith)
+          ∙ ap (λ (m : List ℕ). bytes_from m place 512) one.memory
+          ∙ below_stays old.station.memory address one.content place 512 fits inside;
+      size = rest.size;
+      bays = rest.bays ∙ one.bays;
+      names = rest.names ∙ one.names;
+      files = rest.files ∙ one.files;
+    }

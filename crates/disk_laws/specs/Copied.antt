@@ -1,0 +1,44 @@
+-- Disks that were copied.
+use Rattle.std.specs.Prelude.{◌≡◌, ◌≤◌, ◌⊎◌, ℕ, Bool, List, [], ◌∷◌, Option, Some}
+use Rattle.flop_base.specs.Shelf.{Files, stored}
+use Rattle.flop_base.specs.Standard.{words_at, sectors_at}
+use Rattle.flop_base.specs.declared.key.Chrn.{Chrn}
+use Rattle.raw_image.specs.Disk.{Disk, IsDisk, HasTrack, track_of}
+use Rattle.raw_image.specs.Image.{file_of}
+use Rattle.track_model.specs.Fields.{content_size}
+use Rattle.track_model.specs.Laid.{IsLaid}
+use Rattle.bay_model.specs.Memory.{bytes_from}
+use Rattle.floppy_jobs.specs.declared.request.Request.TheVariants as request
+use Rattle.sector_map.specs.Disks.{Entry, IsOnMap, IsRegularDisk}
+use Rattle.sector_map.specs.Standard.{key_of}
+use Rattle.sector_model.specs.Runs.{Taken}
+use Rattle.disk_laws.specs.Requests.{mark_of}
+
+-- some step of a course
+abbrev pub SomeStep : (Taken → Type 0) → List Taken → Type 0
+SomeStep P [] = ⊥
+SomeStep P (taken ∷ later) = P taken ⊎ SomeStep P later
+
+-- a read of a key in bay 0 gave this mark, and these bytes at its address
+pub record Gave (key : Chrn) (deleted : Bool) (bytes : List ℕ) (taken : Taken) : Type 0 where
+  pub address : ℕ
+  pub asked : taken.asked ≡ request.Read 0 key address
+  pub mark : mark_of taken.asked taken.answer ≡ deleted ∷ []
+  pub content : bytes ≡ bytes_from taken.after.station.memory address (content_size key.n)
+
+-- a sector of a copy, where its address field is at this place
+abbrev pub copied_entry : ℕ → ℕ → ℕ → ℕ → Bool → List ℕ → Entry
+copied_entry c h r place deleted content = record {
+  cylinder = c;
+  head = h;
+  place = place;
+  key = key_of c h r;
+  deleted = deleted;
+  content = content;
+}
+
+-- a disk has the sector of a key as a read of it in the course gave it
+abbrev pub HasAsGiven : List Taken → Disk → ℕ → ℕ → ℕ → Type 0
+HasAsGiven course copied c h r =
+    (place : ℕ) × (deleted : Bool) × (content : List ℕ) × SomeStep (Gave (key_of c h r) deleted content) course
+    × IsOnMap copied (copied_entry c h r place deleted content)
