@@ -9,3 +9,4 @@ pub mod Sectors
 pub mod Tracks
 pub mod Steps
 pub mod Verified
+pub mod Written
