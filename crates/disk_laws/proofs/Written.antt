@@ -1,7 +1,7 @@
 -- Writes of the records of a formatted track in bay 1.
 use Rattle.std.proofs.Common.{arith, ◌≡◌, ◌≢◌, ◌↔◌, ◌∙◌, ◌+◌, ◌-◌, ◌*◌, ◌<◌, ◌≤◌, ℕ, zero, suc, Bool, true, false, true≢false, All, List, [], ◌∷◌, ◌++◌, map, take, drop, length, get_or, refl, sym, ap, subst, inl, inr, Option, Some, None, Result, Ok, Err, IsOk}
 use Rattle.std.specs.Prelude.{◌⊎◌}
-use Rattle.std.specs.List.{range_with_len}
+use Rattle.std.specs.List.{range_with_len, list_all}
 use Rattle.std.proofs.lemmas.Bool.{cases_lt}
 use Rattle.std.proofs.lemmas.List.{ext_get_or, get_or-take, length-take}
 use Rattle.flop_base.specs.Shelf.{Files}
@@ -23,7 +23,7 @@ use Rattle.sector_map.specs.Disks.{Entry, IsOnMap, IsRegularDisk}
 use Rattle.sector_map.specs.KeptDisks.{KeepsTracks}
 use Rattle.sector_map.specs.Standard.{key_of}
 use Rattle.sector_map.proofs.Changed.{change_keeps_tracks, change_keeps_address}
-use Rattle.sector_map.proofs.KeptTracks.{with_track_keeps, alike_tracks}
+use Rattle.sector_map.proofs.KeptTracks.{with_track_keeps, alike_tracks, keeps_itself, keeps_both}
 use Rattle.sector_map.proofs.MetTracks.{met_track}
 use Rattle.sector_map.proofs.RegularTracks.{length-track_of, key_cylinder, one_address}
 use Rattle.sector_model.specs.declared.reply.Reply.{Reply}
@@ -38,7 +38,7 @@ use Rattle.disk_laws.specs.Done.{DoesAll}
 use Rattle.disk_laws.specs.Requests.{record_address, write_record, write_records}
 use Rattle.disk_laws.specs.Copied.{copied_entry}
 use Rattle.disk_laws.proofs.Records.{length-bytes_from, keys_from}
-use Rattle.disk_laws.proofs.Steps.{ok_called, reached, or_false, done_does}
+use Rattle.disk_laws.proofs.Steps.{begins, ends_there, step_never_fell, never_fell, keeps_drives, ok_called, reached}
 
 -- on Laid tracks no write brings up an address mark, however short it stops
 abbrev pub AllTidy : Type 0
@@ -207,4 +207,91 @@ one_write tidy disk c h r p deleted old new told after answer valid regular has 
       memory = ap (λ (s : StationState). s.memory) drive.becomes;
       names = call.0.names;
       files = call.0.files;
+    }
+
+-- ---- the records of a track
+
+-- the disk has each record from a on with its mark and what memory has at its place
+abbrev pub AreCopied : Disk → List ℕ → ℕ → ℕ → ℕ → List Bool → Type 0
+AreCopied disk memory c h a [] = Unit {0}
+AreCopied disk memory c h a (deleted ∷ marks) =
+    ((place : ℕ) × IsOnMap disk (copied_entry c h a place deleted (bytes_from memory (record_address a) 512)))
+    × AreCopied disk memory c h (a + 1) marks
+
+-- the disk has some sector under the key
+abbrev pub HasSome : Disk → ℕ → ℕ → ℕ → Type 0
+HasSome disk c h r = (place : ℕ) × (deleted : Bool) × (content : List ℕ) × IsOnMap disk (copied_entry c h r place deleted content)
+
+-- what the writes of records from a on, with these marks, made of the disk in bay 1
+pub record WritesAll (disk : Disk) (c h a : ℕ) (marks : List Bool) (old : State) (told : Option Files) (new : State) (after : Option Files) : Type 0 where
+  pub final : Disk
+  pub medium : (bay_of new.station 1).medium ≡ Some final
+  pub bay_rate : (bay_of new.station 1).rate ≡ (bay_of old.station 1).rate
+  pub keeps : KeepsTracks disk c h final
+  pub regular : IsRegularDisk final
+  pub laid : IsLaid (track_of final c h)
+  pub kept : (entry : Entry) → ((r : ℕ) → a ≤ r → entry.key ≢ key_of c h r) → IsOnMap disk entry → IsOnMap final entry
+  pub copied : AreCopied final old.station.memory c h a marks
+  pub memory : new.station.memory ≡ old.station.memory
+  pub names : new.names ≡ old.names
+  pub files : after ≡ told
+
+write_keeps : (key : Chrn) (deleted : Bool) → keeps_drives (write_record 1 key deleted) ≡ true
+write_keeps key true = refl
+write_keeps key false = refl
+
+pub writes_keep : (keys : List Chrn) (marks : List Bool) → list_all keeps_drives (write_records 1 keys marks) ≡ true
+writes_keep [] marks = refl
+writes_keep (key ∷ keys) [] = refl
+writes_keep (key ∷ keys) (deleted ∷ marks) = let first = write_keeps key deleted in rw first (writes_keep keys marks)
+
+other_key : (c h r s : ℕ) → (r ≡ s → ⊥) → key_of c h r ≢ key_of c h s
+other_key c h r s differ e = differ (ap (λ (k : Chrn). k.r) e)
+
+pub all_writes : (tidy : AllTidy) (disk : Disk) (c h a n : ℕ) (marks : List Bool) (old new : State) (told after : Option Files) (course : List Taken) → DoesAll old told (write_records 1 (keys_from c h a n) marks) course new after → length marks ≡ n → 1 ≤ a → a + n ≤ 19 → ((r : ℕ) → a ≤ r → r < a + n → HasSome disk c h r) → IsDisk disk → IsRegularDisk disk → HasTrack disk c h → IsLaid (track_of disk c h) → length old.station.memory ≡ user_bytes → IsFaultless 1 old.station.counters new.station.counters → (bay_of old.station 1).medium ≡ Some disk → (bay_of old.station 1).rate ≡ disk.rate → WritesAll disk c h a marks old told new after
+all_writes tidy disk c h a zero [] old new told after course all count least most there valid regular has laid size faultless medium rate =
+    let same = ends_there old new told after course all in
+    record {
+      final = disk;
+      medium = ap (λ (s : State). (bay_of s.station 1).medium) same.0 ∙ medium;
+      bay_rate = ap (λ (s : State). (bay_of s.station 1).rate) same.0;
+      keeps = keeps_itself disk c h valid;
+      regular = regular;
+      laid = laid;
+      kept = λ entry other on. on;
+      copied = tt;
+      memory = ap (λ (s : State). s.station.memory) same.0;
+      names = ap (λ (s : State). s.names) same.0;
+      files = same.1;
+    }
+all_writes tidy disk c h a zero (deleted ∷ marks) old new told after course all count least most there valid regular has laid size faultless medium rate = absurd (omega (arith, count))
+all_writes tidy disk c h a (suc n) [] old new told after course all count least most there valid regular has laid size faultless medium rate = absurd (omega (arith, count))
+all_writes tidy disk c h a (suc n) (deleted ∷ marks) old new told after course all count least most there valid regular has laid size faultless medium rate =
+    let asked = write_record 1 (key_of c h a) deleted in
+    let rest_asked = write_records 1 (keys_from c h (a + 1) n) marks in
+    let first = begins old new told after asked rest_asked course all in
+    let here = step_never_fell old first.mid told first.files asked first.answer first.step (write_keeps (key_of c h a) deleted) in
+    let later = never_fell first.mid new first.files after rest_asked first.later first.behind (writes_keep (keys_from c h (a + 1) n) marks) in
+    let some = there a (omega arith) (omega arith) in
+    let one = one_write tidy disk c h a some.0 deleted old first.mid told first.files first.answer valid regular has laid some.3.address size (omega arith) first.does first.done (omega (arith, here.second, later.second, faultless.0), omega (arith, later.second, faultless.1)) medium rate in
+    let has_next = (alike_tracks disk one.next c h one.keeps.alike).0 has in
+    let next_there = λ (r : ℕ) (from : a + 1 ≤ r) (below : r < a + 1 + n).
+    let had = there r (omega arith) (omega arith) in
+    let differ : r ≡ a → ⊥ = λ e. absurd (omega arith) in
+    let still : HasSome one.next c h r = (had.0, had.1, had.2, (one.others (copied_entry c h r had.0 had.1 had.2) (other_key c h r a differ)).0 had.3) in
+    still in
+    let rest = all_writes tidy one.next c h (a + 1) n marks first.mid new first.files after first.later first.behind (omega arith) (omega arith) (omega arith) next_there one.keeps.alike.valid one.regular has_next one.laid (ap length one.memory ∙ size) (omega (arith, here.second, faultless.0), faultless.1) one.medium (one.bay_rate ∙ rate ∙ sym one.keeps.alike.rate) in
+    let copied = rest.kept (copied_entry c h a one.place deleted (bytes_from old.station.memory (record_address a) 512)) (λ r from e. other_key c h a r (λ same. absurd (omega arith)) e) one.entry in
+    record {
+      final = rest.final;
+      medium = rest.medium;
+      bay_rate = rest.bay_rate ∙ one.bay_rate;
+      keeps = keeps_both disk one.next rest.final c h one.keeps rest.keeps;
+      regular = rest.regular;
+      laid = rest.laid;
+      kept = λ entry other on. rest.kept entry (λ r from. other r (omega arith)) ((one.others entry (other a (omega arith))).0 on);
+      copied = ((one.place, copied), subst (λ (m : List ℕ). AreCopied rest.final m c h (a + 1) marks) one.memory rest.copied);
+      memory = rest.memory ∙ one.memory;
+      names = rest.names ∙ one.names;
+      files = rest.files ∙ one.files;
     }
