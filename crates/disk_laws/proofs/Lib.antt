@@ -1,6 +1,7 @@
 pub mod Formatted
 pub mod Formatting
 pub mod Looks
+pub mod Marks
 pub mod Prepared
 pub mod Ranges
 pub mod Reading

@@ -14,6 +14,8 @@ use Rattle.track_model.specs.Looks.{LookAt}
 use Rattle.track_model.specs.Layouts.{lay, Fits}
 use Rattle.track_model.specs.LaidFields.{HasLaidFields, IsKey, HasEndRoom, sector_place, content_place}
 use Rattle.track_model.specs.Regular.{IsRegular}
+use Rattle.track_model.specs.Laid.{IsLaid}
+use Rattle.track_model.proofs.Laid.{lay_laid}
 use Rattle.track_model.proofs.Unique.{one_look_at}
 use Rattle.track_format.proofs.Read.{read_regular, read_fields, read_only, read_filled}
 use Rattle.sector_map.specs.Disks.{Entry, IsOnMap, IsRegularDisk}
@@ -22,7 +24,7 @@ use Rattle.sector_map.specs.LaidDisks.{format_at}
 use Rattle.sector_map.proofs.Laid.{length-track_keys, track_key_at, all_track_keys, format_fits}
 use Rattle.disk_laws.specs.Formatted.{standard_track, standard_content, IsFormattedDisk, formatted_entry, IsFormattedEntry}
 
-few_sectors : (rate : Rate) → sectors_at rate ≤ 18
+pub few_sectors : (rate : Rate) → sectors_at rate ≤ 18
 few_sectors R500 = lit≤ tt
 few_sectors R250 = lit≤ tt
 
@@ -76,6 +78,19 @@ module _ (rate : Rate) (c h : ℕ) where
   track_regular small_c small_h =
       read_regular keys standard_code (gap_at rate) standard_fill (words_at rate) fits coded (bytes small_c small_h) asked wide c h room distinct together
 
+  pub track_laid : c < 256 → h < 256 → IsLaid (standard_track rate c h)
+  track_laid small_c small_h = lay_laid (standard_track rate c h) keys standard_code (gap_at rate) standard_fill (words_at rate) (record {
+    is = refl;
+    fits = fits;
+    coded = coded;
+    wide = wide;
+    bytes = bytes small_c small_h;
+    asked = asked;
+    distinct = distinct;
+    together = (c, h, together);
+    room = room;
+  })
+
   track_fields : c < 256 → h < 256 → HasLaidFields (standard_track rate c h) keys standard_code (gap_at rate) standard_fill
   track_fields small_c small_h = read_fields keys standard_code (gap_at rate) standard_fill (words_at rate) fits coded (lit< tt) (bytes small_c small_h)
 
@@ -91,11 +106,11 @@ are_track_keys rate c h = all_track_keys (sectors_at rate) c h (IsTrackKey rate 
     (λ r least most. record { cylinder = refl; head = refl; sector = (least, most); size = refl })
 
 -- what is at an address field of a track
-record HasContent (track : List ℕ) (place : ℕ) (key : Chrn) (content : List ℕ) : Type 0 where
+pub record HasContent (track : List ℕ) (place : ℕ) (key : Chrn) (content : List ℕ) : Type 0 where
   pub address : IsAddressAt track place key
   pub found : (data_place : ℕ) × LookAt track place key.n (Found false data_place) × (content ≡ content_at track data_place key.n)
 
-track_sector : (rate : Rate) (c h r : ℕ) → c < 256 → h < 256 → 1 ≤ r → r ≤ sectors_at rate → (place : ℕ) × HasContent (standard_track rate c h) place (key_of c h r) standard_content
+pub track_sector : (rate : Rate) (c h r : ℕ) → c < 256 → h < 256 → 1 ≤ r → r ≤ sectors_at rate → (place : ℕ) × HasContent (standard_track rate c h) place (key_of c h r) standard_content
 unfolding standard_content
 track_sector rate c h r small_c small_h least most =
     let fields = track_fields rate c h small_c small_h in

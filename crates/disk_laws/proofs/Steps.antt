@@ -141,44 +141,6 @@ run_never_fell old new told after (taken ∷ later) run keeps =
 -- ---- one list of requests behind another
 
 -- a run of two lists of requests is two runs
-pub record Splits (old : State) (told : Option Files) (first second : List Request) (new : State) (after : Option Files) : Type 0 where
-  pub mid : State
-  pub files : Option Files
-  pub one : List Taken
-  pub two : List Taken
-  pub before : DoesAll old told first one mid files
-  pub behind : DoesAll mid files second two new after
-
-more_done : (a b : Bool) → a ≡ false → b ≡ false → (a || b) ≡ false
-more_done true b e f = e
-more_done false b e f = f
-
-pub splits : (old new : State) (told after : Option Files) (first second : List Request) (course : List Taken) → DoesAll old told (first ++ second) course new after → Splits old told first second new after
-splits old new told after [] second course all = record {
-  mid = old;
-  files = told;
-  one = [];
-  two = course;
-  before = record { run = (refl, refl); all = refl; done = refl };
-  behind = all;
-}
-splits old new told after (asked ∷ first) second course all =
-    let begun = begins old new told after asked (first ++ second) course all in
-    let rest = splits begun.mid new begun.files after first second begun.later begun.behind in
-    record {
-      mid = rest.mid;
-      files = rest.files;
-      one = record { asked = asked; answer = begun.answer; after = begun.mid } ∷ rest.one;
-      two = rest.two;
-      before = record {
-        run = (begun.files, begun.step, rest.before.run);
-        all = ap (λ (requests : List Request). asked ∷ requests) rest.before.all;
-        done = more_done (is_refusal begun.answer) (has_refusal rest.one) begun.done rest.before.done;
-      };
-      behind = rest.behind;
-    }
-
--- the same of a run in which some may be refused
 pub record SplitsRun (old : State) (told : Option Files) (first second : List Request) (course : List Taken) (new : State) (after : Option Files) : Type 0 where
   pub mid : State
   pub files : Option Files
@@ -220,4 +182,36 @@ splits_run old new told after (asked ∷ first) second (taken ∷ later) run all
       run_two = rest.run_two;
       all_one = ap (λ (q : Request). q ∷ requests_of rest.one) here ∙ ap (λ (row : List Request). asked ∷ row) rest.all_one;
       all_two = rest.all_two;
+    }
+
+-- so it is where all are done
+pub record Splits (old : State) (told : Option Files) (first second : List Request) (course : List Taken) (new : State) (after : Option Files) : Type 0 where
+  pub mid : State
+  pub files : Option Files
+  pub one : List Taken
+  pub two : List Taken
+  pub is : course ≡ one ++ two
+  pub before : DoesAll old told first one mid files
+  pub behind : DoesAll mid files second two new after
+
+refusals_apart : (one two : List Taken) → has_refusal (one ++ two) ≡ false → (has_refusal one ≡ false) × (has_refusal two ≡ false)
+refusals_apart [] two done = (refl, done)
+refusals_apart (taken ∷ one) two done =
+    let parts = or_false (is_refusal taken.answer) (has_refusal (one ++ two)) done in
+    let rest = refusals_apart one two parts.1 in
+    let first = parts.0 in
+    (rw first rest.0, rest.1)
+
+pub splits : (old new : State) (told after : Option Files) (first second : List Request) (course : List Taken) → DoesAll old told (first ++ second) course new after → Splits old told first second course new after
+splits old new told after first second course all =
+    let parts = splits_run old new told after first second course all.run all.all in
+    let done = refusals_apart parts.one parts.two (subst (λ (row : List Taken). has_refusal row ≡ false) parts.is all.done) in
+    record {
+      mid = parts.mid;
+      files = parts.files;
+      one = parts.one;
+      two = parts.two;
+      is = parts.is;
+      before = record { run = parts.run_one; all = parts.all_one; done = done.0 };
+      behind = record { run = parts.run_two; all = parts.all_two; done = done.1 };
     }
