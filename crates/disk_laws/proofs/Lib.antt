@@ -1,3 +1,5 @@
+pub mod Copied
+pub mod CopiedTrack
 pub mod Formatted
 pub mod Formatting
 pub mod Looks
