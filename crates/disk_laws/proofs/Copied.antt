@@ -42,7 +42,7 @@ keeps-append (asked ∷ one) two e f =
     let both = and_both (keeps_drives asked) (list_all keeps_drives one) e in
     all_and (keeps_drives asked) (list_all keeps_drives (one ++ two)) both.0 (keeps-append one two both.1 f)
 
-copies_keep : (rate : Rate) (tracks : List Track) (marks : List Bool) → list_all keeps_drives (copy_each rate tracks marks) ≡ true
+pub copies_keep : (rate : Rate) (tracks : List Track) (marks : List Bool) → list_all keeps_drives (copy_each rate tracks marks) ≡ true
 copies_keep rate [] marks = refl
 copies_keep rate (track ∷ tracks) marks =
     let keys = track_keys (sectors_at rate) track.0 track.1 in

@@ -27,9 +27,9 @@ use Rattle.disk_laws.proofs.Steps.{Begins, begins, ends_there, splits, NeverFell
 use Rattle.disk_laws.proofs.Formatting.{FormatsTracks, each_format}
 use Rattle.disk_laws.proofs.Prepared.{blanks, acks, rates}
 
-blank_keeps : (rate : Rate) (name : List ℕ) (cylinders : ℕ) → keeps_drives (blank_request rate 0 name cylinders) ≡ true
-blank_keeps R500 name cylinders = refl
-blank_keeps R250 name cylinders = refl
+pub blank_keeps : (bay : ℕ) (rate : Rate) (name : List ℕ) (cylinders : ℕ) → keeps_drives (blank_request rate bay name cylinders) ≡ true
+blank_keeps bay R500 name cylinders = refl
+blank_keeps bay R250 name cylinders = refl
 
 -- the disk after all formats
 is_formatted : (rate : Rate) (cylinders : ℕ) (old new : State) (told after : Option Files) → FormatsTracks rate (tracks_of cylinders 2) (blank_of cylinders rate) old told new after
@@ -61,7 +61,7 @@ formats_disk rate name cylinders old new told after course all faultless =
     let two = begins one.mid new one.files after (request.Ack 0) (rate_requests rate 0 ++ formats) one.later one.behind in
     let acked = acks 0 blank one.mid two.mid one.files two.files two.answer two.does two.done put.medium in
     let rated = rates 0 rate blank formats two.mid new two.files after two.later two.behind refl acked.medium acked.high in
-    let first = step_never_fell old one.mid told one.files (blank_request rate 0 name cylinders) one.answer one.step (blank_keeps rate name cylinders) in
+    let first = step_never_fell old one.mid told one.files (blank_request rate 0 name cylinders) one.answer one.step (blank_keeps 0 rate name cylinders) in
     let second = step_never_fell one.mid two.mid one.files two.files (request.Ack 0) two.answer two.step refl in
     let third = rated.fell in
     let laid = each_format rate tracks blank rated.mid new rated.files after rated.course rated.behind (omega arith, omega arith) rated.medium rated.rate put.valid in

@@ -1,4 +1,5 @@
 pub mod Copied
+pub mod CopiedDisk
 pub mod CopiedTrack
 pub mod Formatted
 pub mod Formatting

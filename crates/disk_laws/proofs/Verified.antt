@@ -50,7 +50,7 @@ standard_all disk =
 -- ---- the disk of a name
 
 -- the file of a name is the image of one disk
-one_image : (files : Files) (name : List ℕ) (a b : Disk) → IsImageOf (Some files) name a → IsImageOf (Some files) name b → a ≡ b
+pub one_image : (files : Files) (name : List ℕ) (a b : Disk) → IsImageOf (Some files) name a → IsImageOf (Some files) name b → a ≡ b
 one_image files name a b one two = go (file_at files name) one two
   where
     same : (r : Result Disk ImageError) → r ≡ Ok a → r ≡ Ok b → a ≡ b
@@ -61,7 +61,7 @@ one_image files name a b one two = go (file_at files name) one two
     go (Some bytes) x y = same (image_of bytes) x.1 y.1
 
 -- such a disk has ranges
-image_ranges : (files : Files) (name : List ℕ) (disk : Disk) → IsImageOf (Some files) name disk → (disk.cylinders ≤ 80) × (disk.heads ≤ 2)
+pub image_ranges : (files : Files) (name : List ℕ) (disk : Disk) → IsImageOf (Some files) name disk → (disk.cylinders ≤ 80) × (disk.heads ≤ 2)
 image_ranges files name disk is = go (file_at files name) is
   where
     go : (o : Option (List ℕ)) → IsSomeAnd o (λ bytes. (length bytes ≤ most_image_bytes) × (image_of bytes ≡ Ok disk)) → (disk.cylinders ≤ 80) × (disk.heads ≤ 2)

@@ -1,5 +1,5 @@
 -- Disks that were copied.
-use Rattle.std.specs.Prelude.{◌≡◌, ◌≤◌, ◌⊎◌, ℕ, Bool, List, [], ◌∷◌, Option, Some}
+use Rattle.std.specs.Prelude.{◌≡◌, ◌≤◌, ◌⊎◌, ℕ, Bool, false, List, [], ◌∷◌, Option, Some}
 use Rattle.flop_base.specs.Shelf.{Files, stored}
 use Rattle.flop_base.specs.Standard.{words_at, sectors_at}
 use Rattle.flop_base.specs.declared.key.Chrn.{Chrn}
@@ -12,7 +12,10 @@ use Rattle.floppy_jobs.specs.declared.request.Request.TheVariants as request
 use Rattle.sector_map.specs.Disks.{Entry, IsOnMap, IsRegularDisk}
 use Rattle.sector_map.specs.Standard.{key_of}
 use Rattle.sector_model.specs.Runs.{Taken}
-use Rattle.disk_laws.specs.Requests.{mark_of}
+use Rattle.sector_model.specs.States.{State}
+use Rattle.sector_model.specs.Steps.{IsImageOf}
+use Rattle.disk_laws.specs.Done.{DoesAll}
+use Rattle.disk_laws.specs.Requests.{mark_of, marks_read, copy_requests}
 
 -- some step of a course
 abbrev pub SomeStep : (Taken → Type 0) → List Taken → Type 0
@@ -42,3 +45,24 @@ abbrev pub HasAsGiven : List Taken → Disk → ℕ → ℕ → ℕ → Type 0
 HasAsGiven course copied c h r =
     (place : ℕ) × (deleted : Bool) × (content : List ℕ) × SomeStep (Gave (key_of c h r) deleted content) course
     × IsOnMap copied (copied_entry c h r place deleted content)
+
+-- the copy of a disk was stored under this name, and no other file changed: a regular disk of the same cylinders and rate,
+-- with two heads, that has each standard key of the other disk with the mark and the content that the read gave; its tracks
+-- are Laid
+pub record StoresCopy (course : List Taken) (disk : Disk) (to : List ℕ) (told after : Option Files) : Type 0 where
+  pub copied : Disk
+  pub valid : IsDisk copied
+  pub protected : copied.protected ≡ false
+  pub cylinders : copied.cylinders ≡ disk.cylinders
+  pub heads : copied.heads ≡ 2
+  pub rate : copied.rate ≡ disk.rate
+  pub words_per_track : copied.words_per_track ≡ words_at disk.rate
+  pub regular : IsRegularDisk copied
+  pub laid : (c h : ℕ) → HasTrack disk c h → IsLaid (track_of copied c h)
+  pub sectors : (c h r : ℕ) → HasTrack disk c h → 1 ≤ r → r ≤ sectors_at disk.rate → HasAsGiven course copied c h r
+  pub files : after ≡ stored told to (file_of copied)
+
+-- the command that copies was run on the disk of a name, with these answers, and none was a refusal
+pub record CopiesDisk (old : State) (files : Files) (from to : List ℕ) (disk : Disk) (course : List Taken) (new : State) (after : Option Files) : Type 0 where
+  pub image : IsImageOf (Some files) from disk
+  pub all : DoesAll old (Some files) (copy_requests from to disk (marks_read course)) course new after

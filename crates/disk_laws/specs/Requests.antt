@@ -90,12 +90,17 @@ copy_each rate [] marks = []
 copy_each rate (track ∷ tracks) marks =
     copy_track rate track (take (sectors_at rate) marks) ++ copy_each rate tracks (drop (sectors_at rate) marks)
 
+-- the disk of one name is put into bay 0 and a blank one for another name into bay 1, and both bays are made ready
+abbrev pub copy_opening : List ℕ → List ℕ → Disk → List Request
+copy_opening from to disk =
+    request.Insert 0 from ∷ blank_request disk.rate 1 to disk.cylinders ∷ request.Ack 0
+    ∷ (rate_requests disk.rate 0 ++ (request.Ack 1 ∷ rate_requests disk.rate 1))
+
 -- the command that copies the disk of one name to another, where the reads give these marks
 abbrev pub copy_requests : List ℕ → List ℕ → Disk → List Bool → List Request
 copy_requests from to disk marks =
-    request.Insert 0 from ∷ blank_request disk.rate 1 to disk.cylinders ∷ request.Ack 0
-    ∷ (rate_requests disk.rate 0 ++ (request.Ack 1 ∷ (rate_requests disk.rate 1
-    ++ (copy_each disk.rate (tracks_of disk.cylinders disk.heads) marks ++ request.Eject 1 ∷ []))))
+    copy_opening from to disk
+    ++ (copy_each disk.rate (tracks_of disk.cylinders disk.heads) marks ++ request.Eject 1 ∷ [])
 
 -- the mark that a read told
 abbrev pub mark_of : Request → Reply → List Bool
