@@ -24,8 +24,9 @@ use Rattle.sector_model.specs.States.{State}
 use Rattle.sector_model.specs.Runs.{Taken, requests_of}
 use Rattle.disk_laws.specs.Done.{DoesAll}
 use Rattle.disk_laws.specs.Requests.{Track, tracks_of, copy_track, copy_each, copy_requests, rate_requests, blank_request, marks_read, write_records, read_records}
-use Rattle.disk_laws.specs.Copied.{SomeStep, Gave, HasAsGiven, copied_entry}
-use Rattle.disk_laws.proofs.CopiedTrack.{IsReady, CopiesTrack, copies_track, reads_keep, given_in}
+use Rattle.disk_laws.specs.Copied.{SomeStep, Gave, HasAsGiven, IsSure, copied_entry}
+use Rattle.disk_laws.proofs.CopiedTrack.{IsReady, CopiesTrack, copies_track, given_in}
+use Rattle.disk_laws.proofs.Records.{reads_keep, sure_parts}
 use Rattle.disk_laws.proofs.Marks.{marks-append, some_first, some_second}
 use Rattle.disk_laws.proofs.Steps.{and_both, splits, begins, ends_there, never_fell, keeps_drives}
 use Rattle.disk_laws.proofs.Tracks.{Among}
@@ -52,12 +53,12 @@ copies_keep rate (track ∷ tracks) marks =
 
 -- what the copies of tracks made of the disk in bay 1: each of them is Laid, with its sectors as they were given; so stays
 -- what was so before
-pub record CopiesTracks (at : Rate) (tracks : List Track) (whole : List Taken) (disk : Disk) (old : State) (told : Option Files) (new : State) (after : Option Files) : Type 0 where
+pub record CopiesTracks (sure : Type 0) (source : Disk) (at : Rate) (tracks : List Track) (whole : List Taken) (disk : Disk) (old : State) (told : Option Files) (new : State) (after : Option Files) : Type 0 where
   pub final : Disk
-  pub ready : IsReady at final new
+  pub ready : IsReady at source final new
   pub alike : AreAlike disk final
   pub laid : (c h : ℕ) → HasTrack disk c h → (Among tracks c h ⊎ IsLaid (track_of disk c h)) → IsLaid (track_of final c h)
-  pub sectors : (c h r : ℕ) → HasTrack disk c h → 1 ≤ r → r ≤ sectors_at at → (Among tracks c h ⊎ HasAsGiven whole disk c h r) → HasAsGiven whole final c h r
+  pub sectors : (c h r : ℕ) → HasTrack disk c h → 1 ≤ r → r ≤ sectors_at at → (Among tracks c h ⊎ HasAsGiven sure whole source disk c h r) → HasAsGiven sure whole source final c h r
   pub names : new.names ≡ old.names
   pub files : after ≡ told
 
@@ -66,9 +67,9 @@ abbrev IsPart : List Taken → List Taken → Type 0
 IsPart course whole = (c h r : ℕ) (deleted : Bool) (content : List ℕ) → SomeStep (Gave (key_of c h r) deleted content) course → SomeStep (Gave (key_of c h r) deleted content) whole
 
 -- a sector of another track stays as it was given
-given_elsewhere : (whole : List Taken) (disk : Disk) (b g : ℕ) (next : Disk) (c h r : ℕ) → KeepsTracks disk b g next → (c ≡ b → h ≡ g → ⊥) → HasAsGiven whole disk c h r → HasAsGiven whole next c h r
-given_elsewhere whole disk b g next c h r keeps other (place, deleted, content, step, on) =
-    (place, deleted, content, step, (elsewhere_on_map disk b g next keeps (copied_entry c h r place deleted content) other).0 on)
+given_elsewhere : (sure : Type 0) (source : Disk) (whole : List Taken) (disk : Disk) (b g : ℕ) (next : Disk) (c h r : ℕ) → KeepsTracks disk b g next → (c ≡ b → h ≡ g → ⊥) → HasAsGiven sure whole source disk c h r → HasAsGiven sure whole source next c h r
+given_elsewhere sure source whole disk b g next c h r keeps other (place, deleted, content, step, on, sector) =
+    (place, deleted, content, step, (elsewhere_on_map disk b g next keeps (copied_entry c h r place deleted content) other).0 on, sector)
 
 module _ (rate : Rate) (b g : ℕ) (later : List Track) (disk next : Disk) (keeps : KeepsTracks disk b g next) where
   -- after the first track
@@ -83,30 +84,30 @@ module _ (rate : Rate) (b g : ℕ) (later : List Track) (disk next : Disk) (keep
     | inr other ↦ inr (subst IsLaid (sym (keeps.others c h has (λ e _. other e))) laid)
   ]
 
-  given_still : (whole : List Taken) (r : ℕ) → HasAsGiven whole next b g r → (c h : ℕ) → (Among ((b, g) ∷ later) c h ⊎ HasAsGiven whole disk c h r) → (Among later c h ⊎ HasAsGiven whole next c h r)
-  given_still whole r first c h (inl (inr among)) = inl among
-  given_still whole r first c h (inl (inl here)) = inr (subst (λ k. HasAsGiven whole next k h r) here.0 (subst (λ k. HasAsGiven whole next b k r) here.1 first))
-  given_still whole r first c h (inr given) = elim (cases_eq c b) [
+  given_still : (sure : Type 0) (source : Disk) (whole : List Taken) (r : ℕ) → HasAsGiven sure whole source next b g r → (c h : ℕ) → (Among ((b, g) ∷ later) c h ⊎ HasAsGiven sure whole source disk c h r) → (Among later c h ⊎ HasAsGiven sure whole source next c h r)
+  given_still sure source whole r first c h (inl (inr among)) = inl among
+  given_still sure source whole r first c h (inl (inl here)) = inr (subst (λ k. HasAsGiven sure whole source next k h r) here.0 (subst (λ k. HasAsGiven sure whole source next b k r) here.1 first))
+  given_still sure source whole r first c h (inr given) = elim (cases_eq c b) [
     | inl same_c ↦ elim (cases_eq h g) [
-      | inl same_h ↦ inr (subst (λ k. HasAsGiven whole next k h r) (sym same_c) (subst (λ k. HasAsGiven whole next b k r) (sym same_h) first))
-      | inr other ↦ inr (given_elsewhere whole disk b g next c h r keeps (λ _ e. other e) given)
+      | inl same_h ↦ inr (subst (λ k. HasAsGiven sure whole source next k h r) (sym same_c) (subst (λ k. HasAsGiven sure whole source next b k r) (sym same_h) first))
+      | inr other ↦ inr (given_elsewhere sure source whole disk b g next c h r keeps (λ _ e. other e) given)
     ]
-    | inr other ↦ inr (given_elsewhere whole disk b g next c h r keeps (λ e _. other e) given)
+    | inr other ↦ inr (given_elsewhere sure source whole disk b g next c h r keeps (λ e _. other e) given)
   ]
 
-pub copies_each : (tidy : AllTidy) (rate : Rate) (tracks : List Track) (marks : List Bool) (whole : List Taken) (disk : Disk) (old new : State) (told after : Option Files) (course : List Taken) → DoesAll old told (copy_each rate tracks marks) course new after → marks ≡ marks_read course → IsPart course whole → ((c h : ℕ) → Among tracks c h → HasTrack disk c h) → IsReady rate disk old → IsFaultless 1 old.station.counters new.station.counters → CopiesTracks rate tracks whole disk old told new after
-copies_each tidy rate [] marks whole disk old new told after course all asked part has ready faultless =
+pub copies_each : (tidy : AllTidy) (sure : Type 0) (source : Disk) (rate : Rate) (tracks : List Track) (marks : List Bool) (whole : List Taken) (disk : Disk) (old new : State) (told after : Option Files) (course : List Taken) → DoesAll old told (copy_each rate tracks marks) course new after → marks ≡ marks_read course → IsPart course whole → ((c h : ℕ) → Among tracks c h → HasTrack disk c h) → IsReady rate source disk old → IsFaultless 1 old.station.counters new.station.counters → (sure → IsSure source old.station.counters new.station.counters) → CopiesTracks sure source rate tracks whole disk old told new after
+copies_each tidy sure source rate [] marks whole disk old new told after course all asked part has ready faultless calm =
     let same = ends_there old new told after course all in
     record {
       final = disk;
-      ready = subst (λ (s : State). IsReady rate disk s) (sym same.0) ready;
+      ready = subst (λ (s : State). IsReady rate source disk s) (sym same.0) ready;
       alike = alike_itself disk ready.valid;
       laid = λ c h has which. elim which [ inl among ↦ absurd among | inr laid ↦ laid ];
       sectors = λ c h r has least most which. elim which [ inl among ↦ absurd among | inr given ↦ given ];
       names = ap (λ (s : State). s.names) same.0;
       files = same.1;
     }
-copies_each tidy rate (track ∷ later) marks whole disk old new told after course all asked part has ready faultless =
+copies_each tidy sure source rate (track ∷ later) marks whole disk old new told after course all asked part has ready faultless calm =
     let b = track.0 in
     let g = track.1 in
     let sectors = sectors_at rate in
@@ -116,21 +117,22 @@ copies_each tidy rate (track ∷ later) marks whole disk old new told after cour
     let fell_later = never_fell parts.mid new parts.files after (copy_each rate later (drop sectors marks)) parts.two parts.behind (copies_keep rate later (drop sectors marks)) in
     let told_marks : marks ≡ marks_read parts.one ++ marks_read parts.two = asked ∙ ap marks_read parts.is ∙ marks-append parts.one parts.two in
     let here = has b g (inl (refl, refl)) in
-    let one = copies_track tidy rate b g (take sectors marks) (marks_read parts.two) disk old parts.mid told parts.files parts.one parts.before (ap (take sectors) told_marks) ready here (omega (arith, fell_later.second, faultless.0), omega (arith, fell_later.second, faultless.1)) in
+    let calms = λ (s : sure). sure_parts source old.station.counters parts.mid.station.counters new.station.counters fell_first fell_later (calm s) in
+    let one = copies_track tidy sure source rate b g (take sectors marks) (marks_read parts.two) disk old parts.mid told parts.files parts.one parts.before (ap (take sectors) told_marks) ready here (omega (arith, fell_later.second, faultless.0), omega (arith, fell_later.second, faultless.1)) (λ s. (calms s).0) in
     let later_marks : drop sectors marks ≡ marks_read parts.two = ap (drop sectors) told_marks ∙ drop_at (marks_read parts.one) (marks_read parts.two) sectors one.count in
     let part_one : IsPart parts.one whole = λ c h r deleted content step. part c h r deleted content (subst (SomeStep (Gave (key_of c h r) deleted content)) (sym parts.is) (some_first _ parts.one parts.two step)) in
     let part_two : IsPart parts.two whole = λ c h r deleted content step. part c h r deleted content (subst (SomeStep (Gave (key_of c h r) deleted content)) (sym parts.is) (some_second _ parts.one parts.two step)) in
     let alike = one.keeps.alike in
     let has_later = λ (c h : ℕ) (among : Among later c h). (alike_tracks disk one.final c h alike).0 (has c h (inr among)) in
-    let rest = copies_each tidy rate later (drop sectors marks) whole one.final parts.mid new parts.files after parts.two parts.behind later_marks part_two has_later one.ready (omega (arith, fell_first.second, faultless.0), faultless.1) in
+    let rest = copies_each tidy sure source rate later (drop sectors marks) whole one.final parts.mid new parts.files after parts.two parts.behind later_marks part_two has_later one.ready (omega (arith, fell_first.second, faultless.0), faultless.1) (λ s. (calms s).1) in
     record {
       final = rest.final;
       ready = rest.ready;
       alike = alike_both disk one.final rest.final alike rest.alike;
       laid = λ c h had which. rest.laid c h ((alike_tracks disk one.final c h alike).0 had) (laid_still rate b g later disk one.final one.keeps one.laid c h had which);
       sectors = λ c h r had least most which.
-          let given = given_in parts.one whole one.final b g r (part_one b g r) (one.sectors r least most) in
-          rest.sectors c h r ((alike_tracks disk one.final c h alike).0 had) least most (given_still rate b g later disk one.final one.keeps whole r given c h which);
+          let given = given_in sure source parts.one whole one.final b g r (part_one b g r) (one.sectors r least most) in
+          rest.sectors c h r ((alike_tracks disk one.final c h alike).0 had) least most (given_still rate b g later disk one.final one.keeps sure source whole r given c h which);
       names = rest.names ∙ one.names;
       files = rest.files ∙ one.files;
     }

@@ -30,9 +30,10 @@ use Rattle.sector_model.specs.Steps.{IsImageOf, blank_of}
 use Rattle.sector_model.specs.Runs.{Taken, requests_of}
 use Rattle.disk_laws.specs.Done.{DoesAll}
 use Rattle.disk_laws.specs.Requests.{tracks_of, blank_request, rate_requests, copy_opening, copy_each, copy_requests, marks_read}
-use Rattle.disk_laws.specs.Copied.{SomeStep, Gave, HasAsGiven, StoresCopy, CopiesDisk}
+use Rattle.disk_laws.specs.Copied.{SomeStep, Gave, HasAsGiven, IsSure, StoresCopy, CopiesDisk}
 use Rattle.disk_laws.proofs.Copied.{CopiesTracks, copies_each, copies_keep}
-use Rattle.disk_laws.proofs.CopiedTrack.{IsReady}
+use Rattle.disk_laws.proofs.CopiedTrack.{IsReady, both_fell}
+use Rattle.disk_laws.proofs.Records.{sure_parts}
 use Rattle.disk_laws.proofs.Formatted.{blank_keeps}
 use Rattle.disk_laws.proofs.Marks.{marks-append, is_no_read, no_marks, some_first, some_second}
 use Rattle.disk_laws.proofs.Prepared.{blanks, acks, rates}
@@ -77,17 +78,18 @@ are_in from to disk files rest old new after course image all size =
     }
 
 -- bay 0 is ready, and bay 1 as it was
-record IsFirstReady (old : State) (told : Option Files) (rest : List Request) (new : State) (after : Option Files) : Type 0 where
+record IsFirstReady (disk : Disk) (old : State) (told : Option Files) (rest : List Request) (new : State) (after : Option Files) : Type 0 where
   pub mid : State
   pub files : Option Files
   pub course : List Taken
+  pub first : (bay_of mid.station 0).medium ≡ Some disk
   pub second : bay_of mid.station 1 ≡ bay_of old.station 1
   pub memory : mid.station.memory ≡ old.station.memory
   pub names : mid.names ≡ old.names
   pub same_files : files ≡ told
   pub behind : DoesAll mid files rest course new after
 
-first_ready : (disk : Disk) (rest : List Request) (old new : State) (told after : Option Files) (course : List Taken) → DoesAll old told (request.Ack 0 ∷ (rate_requests disk.rate 0 ++ rest)) course new after → (bay_of old.station 0).medium ≡ Some disk → IsFirstReady old told rest new after
+first_ready : (disk : Disk) (rest : List Request) (old new : State) (told after : Option Files) (course : List Taken) → DoesAll old told (request.Ack 0 ∷ (rate_requests disk.rate 0 ++ rest)) course new after → (bay_of old.station 0).medium ≡ Some disk → IsFirstReady disk old told rest new after
 first_ready disk rest old new told after course all medium =
     let one = begins old new told after (request.Ack 0) (rate_requests disk.rate 0 ++ rest) course all in
     let acked = acks 0 disk old one.mid told one.files one.answer one.does one.done medium in
@@ -96,6 +98,7 @@ first_ready disk rest old new told after course all medium =
       mid = rated.mid;
       files = rated.files;
       course = rated.course;
+      first = rated.medium;
       second = ap (λ (b : Two Bay). in_bay b 1) rated.bays ∙ ap (λ (s : StationState). bay_of s 1) acked.becomes;
       memory = rated.memory ∙ ap (λ (s : StationState). s.memory) acked.becomes;
       names = rated.names ∙ acked.names;
@@ -107,6 +110,7 @@ first_ready disk rest old new told after course all medium =
 record IsSecondReady (disk : Disk) (old : State) (told : Option Files) (new : State) (after : Option Files) : Type 0 where
   pub medium : (bay_of new.station 1).medium ≡ Some disk
   pub rate : (bay_of new.station 1).rate ≡ disk.rate
+  pub first : bay_of new.station 0 ≡ bay_of old.station 0
   pub memory : new.station.memory ≡ old.station.memory
   pub names : new.names ≡ old.names
   pub files : after ≡ told
@@ -121,6 +125,7 @@ second_ready disk old new told after course all medium =
     record {
       medium = ap (λ (s : State). (bay_of s.station 1).medium) end.0 ∙ rated.medium;
       rate = ap (λ (s : State). (bay_of s.station 1).rate) end.0 ∙ rated.rate;
+      first = ap (λ (s : State). bay_of s.station 0) end.0 ∙ ap (λ (b : Two Bay). in_bay b 0) rated.bays ∙ ap (λ (s : StationState). bay_of s 0) acked.becomes;
       memory = ap (λ (s : State). s.station.memory) end.0 ∙ rated.memory ∙ ap (λ (s : StationState). s.memory) acked.becomes;
       names = ap (λ (s : State). s.names) end.0 ∙ rated.names ∙ acked.names;
       files = end.1 ∙ rated.same_files ∙ acked.files;
@@ -129,6 +134,7 @@ second_ready disk old new told after course all medium =
 -- bay 1 after the opening
 record IsCopyOpened (disk : Disk) (to : List ℕ) (files : Files) (new : State) (after : Option Files) : Type 0 where
   pub valid : IsDisk (blank_of disk.cylinders disk.rate)
+  pub first : (bay_of new.station 0).medium ≡ Some disk
   pub medium : (bay_of new.station 1).medium ≡ Some (blank_of disk.cylinders disk.rate)
   pub rate : (bay_of new.station 1).rate ≡ disk.rate
   pub size : length new.station.memory ≡ user_bytes
@@ -144,6 +150,7 @@ opens_copy from to disk files old new after course image all size =
     let ready = second_ready (blank_of disk.cylinders disk.rate) first.mid new first.files after first.course first.behind medium in
     record {
       valid = put.valid;
+      first = ap (λ (b : Bay). b.medium) ready.first ∙ first.first;
       medium = ready.medium;
       rate = ready.rate;
       size = ap (λ (m : List ℕ). length m) (ready.memory ∙ first.memory) ∙ put.size;
@@ -201,7 +208,7 @@ blank_regular count rate c h has =
 
 -- ---- the whole command
 
-pub copies_disk : (tidy : AllTidy) (from to : List ℕ) (disk : Disk) (files : Files) (old new : State) (after : Option Files) (course : List Taken) → CopiesDisk old files from to disk course new after → length old.station.memory ≡ user_bytes → IsFaultless 1 old.station.counters new.station.counters → StoresCopy course disk to (Some files) after
+pub copies_disk : (tidy : AllTidy) (from to : List ℕ) (disk : Disk) (files : Files) (old new : State) (after : Option Files) (course : List Taken) → CopiesDisk old files from to disk course new after → length old.station.memory ≡ user_bytes → IsFaultless 1 old.station.counters new.station.counters → StoresCopy old.station.counters new.station.counters course disk to (Some files) after
 copies_disk tidy from to disk files old new after course all size faultless =
     let rate = disk.rate in
     let tracks = tracks_of disk.cylinders disk.heads in
@@ -221,7 +228,13 @@ copies_disk tidy from to disk files old new after course all size faultless =
     ap marks_read top.is ∙ marks-append top.one top.two ∙ ap (λ (row : List Bool). row ++ marks_read top.two) no_top
     ∙ ap marks_read body.is ∙ marks-append body.one body.two ∙ ap (λ (row : List Bool). marks_read body.one ++ row) no_end
     ∙ append-nil (marks_read body.one) in
-    let ready : IsReady rate blank top.mid = record {
+    let sure = IsSure disk old.station.counters new.station.counters in
+    let fell_rest = both_fell top.mid.station.counters body.mid.station.counters new.station.counters fell_body fell_end in
+    let calm = λ (s : sure).
+    (sure_parts disk top.mid.station.counters body.mid.station.counters new.station.counters fell_body fell_end
+    (sure_parts disk old.station.counters top.mid.station.counters new.station.counters fell_top fell_rest s).1).0 in
+    let ready : IsReady rate disk blank top.mid = record {
+      first = opened.first;
       medium = opened.medium;
       bay_rate = opened.rate;
       valid = opened.valid;
@@ -237,7 +250,7 @@ copies_disk tidy from to disk files old new after course all size faultless =
     let part = λ (c h r : ℕ) (deleted : Bool) (content : List ℕ) (step : SomeStep (Gave (key_of c h r) deleted content) body.one).
     let inner = subst (SomeStep (Gave (key_of c h r) deleted content)) (sym body.is) (some_first _ body.one body.two step) in
     subst (SomeStep (Gave (key_of c h r) deleted content)) (sym top.is) (some_second _ top.one top.two inner) in
-    let copies = copies_each tidy rate tracks marks course blank top.mid body.mid top.files body.files body.one body.before told_marks part has ready (omega (arith, fell_top.second, fell_end.second, faultless.0), omega (arith, fell_end.second, faultless.1)) in
+    let copies = copies_each tidy sure disk rate tracks marks course blank top.mid body.mid top.files body.files body.one body.before told_marks part has ready (omega (arith, fell_top.second, fell_end.second, faultless.0), omega (arith, fell_end.second, faultless.1)) calm in
     let last = begins body.mid new body.files after (request.Eject 1) [] body.two body.behind in
     let stores = last.does.1 in
     let named : in_bay body.mid.names 1 ≡ Some to = ap (λ (n : Two (Option (List ℕ))). in_bay n 1) copies.names ∙ opened.named in

@@ -122,6 +122,7 @@ pub record WritesOne (disk : Disk) (c h r : ℕ) (deleted : Bool) (old : State) 
   pub others : (entry : Entry) → entry.key ≢ key_of c h r → IsOnMap disk entry ↔ IsOnMap next entry
   pub place : ℕ
   pub entry : IsOnMap next (copied_entry c h r place deleted (bytes_from old.station.memory (record_address r) 512))
+  pub first : bay_of new.station 0 ≡ bay_of old.station 0
   pub memory : new.station.memory ≡ old.station.memory
   pub names : new.names ≡ old.names
   pub files : after ≡ told
@@ -204,6 +205,7 @@ one_write tidy disk c h r p deleted old new told after answer valid regular has 
       others = it.others;
       place = p;
       entry = entry tidy c h r deleted disk valid regular has laid p address old.station new.station size few call.1.0 drive ok faultless medium rate;
+      first = ap (λ (s : StationState). bay_of s 0) drive.becomes;
       memory = ap (λ (s : StationState). s.memory) drive.becomes;
       names = call.0.names;
       files = call.0.files;
@@ -232,6 +234,7 @@ pub record WritesAll (disk : Disk) (c h a : ℕ) (marks : List Bool) (old : Stat
   pub laid : IsLaid (track_of final c h)
   pub kept : (entry : Entry) → ((r : ℕ) → a ≤ r → entry.key ≢ key_of c h r) → IsOnMap disk entry → IsOnMap final entry
   pub copied : AreCopied final old.station.memory c h a marks
+  pub first : bay_of new.station 0 ≡ bay_of old.station 0
   pub memory : new.station.memory ≡ old.station.memory
   pub names : new.names ≡ old.names
   pub files : after ≡ told
@@ -260,6 +263,7 @@ all_writes tidy disk c h a zero [] old new told after course all count least mos
       laid = laid;
       kept = λ entry other on. on;
       copied = tt;
+      first = ap (λ (s : State). bay_of s.station 0) same.0;
       memory = ap (λ (s : State). s.station.memory) same.0;
       names = ap (λ (s : State). s.names) same.0;
       files = same.1;
@@ -291,6 +295,7 @@ all_writes tidy disk c h a (suc n) (deleted ∷ marks) old new told after course
       laid = rest.laid;
       kept = λ entry other on. rest.kept entry (λ r from. other r (omega arith)) ((one.others entry (other a (omega arith))).0 on);
       copied = ((one.place, copied), subst (λ (m : List ℕ). AreCopied rest.final m c h (a + 1) marks) one.memory rest.copied);
+      first = rest.first ∙ one.first;
       memory = rest.memory ∙ one.memory;
       names = rest.names ∙ one.names;
       files = rest.files ∙ one.files;

@@ -5,7 +5,9 @@ use Rattle.flop_base.specs.Standard.{words_at, sectors_at}
 use Rattle.flop_base.specs.declared.key.Chrn.{Chrn}
 use Rattle.raw_image.specs.Disk.{Disk, IsDisk, HasTrack, track_of}
 use Rattle.raw_image.specs.Image.{file_of}
-use Rattle.track_model.specs.Fields.{content_size}
+use Rattle.track_model.specs.Fields.{IsAddressAt, content_size}
+use Rattle.track_model.specs.Sectors.{IsSector, IsLone}
+use Rattle.bay_model.specs.Counters.{Counters, IsFaultless}
 use Rattle.track_model.specs.Laid.{IsLaid}
 use Rattle.bay_model.specs.Memory.{bytes_from}
 use Rattle.floppy_jobs.specs.declared.request.Request.TheVariants as request
@@ -40,16 +42,26 @@ copied_entry c h r place deleted content = record {
   content = content;
 }
 
--- a disk has the sector of a key as a read of it in the course gave it
-abbrev pub HasAsGiven : List Taken → Disk → ℕ → ℕ → ℕ → Type 0
-HasAsGiven course copied c h r =
+-- no address field of the disk has two data marks
+abbrev pub AllLone : Disk → Type 0
+AllLone disk =
+    (c h p : ℕ) (key : Chrn) → HasTrack disk c h → IsAddressAt (track_of disk c h) p key → IsLone (track_of disk c h) p
+
+-- what is read of the disk is its sectors: it is regular, and the drive of bay 0 had no fault, or no field has two data marks
+abbrev pub IsSure : Disk → Counters → Counters → Type 0
+IsSure disk old new = IsRegularDisk disk × (IsFaultless 0 old new ⊎ AllLone disk)
+
+-- a copy has the sector of a key as a read of it in the course gave it; that is the sector of the source, where that is sure
+abbrev pub HasAsGiven : Type 0 → List Taken → Disk → Disk → ℕ → ℕ → ℕ → Type 0
+HasAsGiven sure course source copied c h r =
     (place : ℕ) × (deleted : Bool) × (content : List ℕ) × SomeStep (Gave (key_of c h r) deleted content) course
     × IsOnMap copied (copied_entry c h r place deleted content)
+    × (sure → IsSector (track_of source c h) (key_of c h r) deleted content)
 
 -- the copy of a disk was stored under this name, and no other file changed: a regular disk of the same cylinders and rate,
 -- with two heads, that has each standard key of the other disk with the mark and the content that the read gave; its tracks
 -- are Laid
-pub record StoresCopy (course : List Taken) (disk : Disk) (to : List ℕ) (told after : Option Files) : Type 0 where
+pub record StoresCopy (old new : Counters) (course : List Taken) (disk : Disk) (to : List ℕ) (told after : Option Files) : Type 0 where
   pub copied : Disk
   pub valid : IsDisk copied
   pub protected : copied.protected ≡ false
@@ -59,7 +71,8 @@ pub record StoresCopy (course : List Taken) (disk : Disk) (to : List ℕ) (told 
   pub words_per_track : copied.words_per_track ≡ words_at disk.rate
   pub regular : IsRegularDisk copied
   pub laid : (c h : ℕ) → HasTrack disk c h → IsLaid (track_of copied c h)
-  pub sectors : (c h r : ℕ) → HasTrack disk c h → 1 ≤ r → r ≤ sectors_at disk.rate → HasAsGiven course copied c h r
+  pub sectors : (c h r : ℕ) → HasTrack disk c h → 1 ≤ r → r ≤ sectors_at disk.rate
+      → HasAsGiven (IsSure disk old new) course disk copied c h r
   pub files : after ≡ stored told to (file_of copied)
 
 -- the command that copies was run on the disk of a name, with these answers, and none was a refusal
