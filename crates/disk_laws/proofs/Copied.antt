@@ -1,34 +1,28 @@
 -- The run that copies a disk.
-use Rattle.std.proofs.Common.{arith, ◌≡◌, ◌∙◌, ◌+◌, ◌-◌, ◌*◌, ◌<◌, ◌≤◌, ℕ, zero, suc, Bool, true, false, List, [], ◌∷◌, ◌++◌, take, drop, length, refl, sym, ap, subst, inl, inr, Option, Some, None}
+use Rattle.std.proofs.Common.{arith, ◌≡◌, ◌∙◌, ◌≤◌, ℕ, Bool, true, false, List, [], ◌∷◌, ◌++◌, take, drop, refl, sym, ap, subst, inl, inr, Option}
 use Rattle.std.specs.Prelude.{◌⊎◌, ◌&&◌}
 use Rattle.std.specs.List.{list_all}
 use Rattle.std.proofs.lemmas.Bool.{cases_eq}
-use Rattle.std.proofs.lemmas.List.{append-nil, drop_at}
-use Rattle.flop_base.specs.Shelf.{Files, stored}
-use Rattle.flop_base.specs.Standard.{words_at, sectors_at}
+use Rattle.std.proofs.lemmas.List.{drop_at}
+use Rattle.flop_base.specs.Shelf.{Files}
+use Rattle.flop_base.specs.Standard.{sectors_at}
 use Rattle.flop_base.specs.declared.answers.Rate.{Rate}
-use Rattle.flop_base.specs.declared.answers.Rate.TheVariants.{R500, R250}
-use Rattle.raw_image.specs.Disk.{Disk, IsDisk, HasTrack, track_of}
-use Rattle.raw_image.specs.Image.{file_of}
-use Rattle.bay_model.specs.Memory.{user_bytes}
-use Rattle.bay_model.specs.Counters.{Counters, IsFaultless}
+use Rattle.raw_image.specs.Disk.{Disk, HasTrack, track_of}
+use Rattle.bay_model.specs.Counters.{IsFaultless}
 use Rattle.track_model.specs.Laid.{IsLaid}
 use Rattle.floppy_jobs.specs.declared.request.Request.{Request}
-use Rattle.floppy_jobs.specs.declared.request.Request.TheVariants as request
-use Rattle.sector_map.specs.Disks.{Entry, IsOnMap, IsRegularDisk}
 use Rattle.sector_map.specs.KeptDisks.{AreAlike, KeepsTracks}
 use Rattle.sector_map.specs.Standard.{key_of}
 use Rattle.sector_map.proofs.KeptTracks.{alike_itself, alike_both, alike_tracks, elsewhere_on_map}
-use Rattle.sector_model.specs.Stations.{bay_of}
 use Rattle.sector_model.specs.States.{State}
-use Rattle.sector_model.specs.Runs.{Taken, requests_of}
+use Rattle.sector_model.specs.Runs.{Taken}
 use Rattle.disk_laws.specs.Done.{DoesAll}
-use Rattle.disk_laws.specs.Requests.{Track, tracks_of, copy_track, copy_each, copy_requests, rate_requests, blank_request, marks_read, write_records, read_records}
+use Rattle.disk_laws.specs.Requests.{Track, copy_track, copy_each, marks_read, write_records, read_records}
 use Rattle.disk_laws.specs.Copied.{SomeStep, Gave, HasAsGiven, IsSure, copied_entry}
-use Rattle.disk_laws.proofs.CopiedTrack.{IsReady, CopiesTrack, copies_track, given_in}
+use Rattle.disk_laws.proofs.CopiedTrack.{IsReady, copies_track, given_in}
 use Rattle.disk_laws.proofs.Records.{reads_keep, sure_parts}
 use Rattle.disk_laws.proofs.Marks.{marks-append, some_first, some_second}
-use Rattle.disk_laws.proofs.Steps.{and_both, splits, begins, ends_there, never_fell, keeps_drives}
+use Rattle.disk_laws.proofs.Steps.{and_both, splits, ends_there, never_fell, keeps_drives}
 use Rattle.disk_laws.proofs.Tracks.{Among}
 use Rattle.disk_laws.proofs.Written.{AllTidy, writes_keep}
 use Rattle.sector_map.specs.Standard.{track_keys}

@@ -1,22 +1,18 @@
 -- The run of the command that copies, from its opening to its last request.
-use Rattle.std.proofs.Common.{arith, ◌≡◌, ◌∙◌, ◌+◌, ◌-◌, ◌*◌, ◌<◌, ◌≤◌, ◌&&◌, take, drop, replicate, ℕ, Bool, true, false, List, [], ◌∷◌, ◌++◌, length, refl, sym, ap, subst, inl, inr, Option, Some, None}
-use Rattle.std.specs.Prelude.{◌⊎◌}
+use Rattle.std.proofs.Common.{arith, ◌≡◌, ◌∙◌, ◌+◌, ◌-◌, ◌*◌, take, replicate, ℕ, Bool, true, List, [], ◌∷◌, ◌++◌, length, refl, sym, ap, subst, inl, inr, Option, Some}
 use Rattle.std.specs.List.{list_all}
 use Rattle.std.proofs.lemmas.Bool.{cases_lt}
 use Rattle.std.proofs.lemmas.List.{append-nil, take_all, take-replicate, drop-replicate, length-replicate}
 use Rattle.flop_base.specs.Shelf.{Files, stored}
-use Rattle.flop_base.specs.Standard.{words_at, sectors_at}
-use Rattle.flop_base.specs.declared.key.Chrn.{Chrn}
+use Rattle.flop_base.specs.Standard.{words_at}
 use Rattle.flop_base.specs.declared.answers.Rate.{Rate}
 use Rattle.flop_base.specs.declared.answers.Rate.TheVariants.{R500, R250}
 use Rattle.raw_image.specs.Disk.{Disk, IsDisk, HasTrack, track_of}
 use Rattle.raw_image.specs.Image.{file_of}
-use Rattle.track_model.specs.Fields.{IsAddressAt}
-use Rattle.track_model.specs.Looks.{HasAddressMark}
 use Rattle.track_model.specs.Regular.{IsRegular}
-use Rattle.bay_model.specs.Bays.{Two, in_bay, with_bay}
+use Rattle.bay_model.specs.Bays.{Two, in_bay}
 use Rattle.bay_model.specs.Memory.{user_bytes}
-use Rattle.bay_model.specs.Counters.{Counters, IsFaultless}
+use Rattle.bay_model.specs.Counters.{IsFaultless}
 use Rattle.floppy_jobs.specs.declared.request.Request.{Request}
 use Rattle.floppy_jobs.specs.declared.request.Request.TheVariants as request
 use Rattle.sector_map.specs.Disks.{IsRegularDisk}
@@ -27,17 +23,16 @@ use Rattle.sector_map.specs.Standard.{key_of}
 use Rattle.sector_model.specs.Stations.{StationState, Bay, bay_of}
 use Rattle.sector_model.specs.States.{State}
 use Rattle.sector_model.specs.Steps.{IsImageOf, blank_of}
-use Rattle.sector_model.specs.Runs.{Taken, requests_of}
+use Rattle.sector_model.specs.Runs.{Taken}
 use Rattle.disk_laws.specs.Done.{DoesAll}
-use Rattle.disk_laws.specs.Requests.{tracks_of, blank_request, rate_requests, copy_opening, copy_each, copy_requests, marks_read}
-use Rattle.disk_laws.specs.Copied.{SomeStep, Gave, HasAsGiven, IsSure, StoresCopy, CopiesDisk}
-use Rattle.disk_laws.proofs.Copied.{CopiesTracks, copies_each, copies_keep}
+use Rattle.disk_laws.specs.Requests.{tracks_of, blank_request, rate_requests, copy_opening, copy_each, marks_read}
+use Rattle.disk_laws.specs.Copied.{SomeStep, Gave, IsSure, StoresCopy, CopiesDisk}
+use Rattle.disk_laws.proofs.Copied.{copies_each, copies_keep}
 use Rattle.disk_laws.proofs.CopiedTrack.{IsReady, both_fell}
 use Rattle.disk_laws.proofs.Records.{sure_parts}
-use Rattle.disk_laws.proofs.Formatted.{blank_keeps}
 use Rattle.disk_laws.proofs.Marks.{marks-append, is_no_read, no_marks, some_first, some_second}
 use Rattle.disk_laws.proofs.Prepared.{blanks, acks, rates}
-use Rattle.disk_laws.proofs.Steps.{begins, ends_there, splits, NeverFell, never_fell, step_never_fell, keeps_drives}
+use Rattle.disk_laws.proofs.Steps.{begins, ends_there, splits, never_fell, keeps_drives}
 use Rattle.disk_laws.proofs.Tracks.{Among, among_all, among_only}
 use Rattle.disk_laws.proofs.Verified.{one_image, image_ranges}
 use Rattle.disk_laws.proofs.Written.{AllTidy}

@@ -1,6 +1,5 @@
 -- One track of a copy: formatted, its records read, and written.
-use Rattle.std.proofs.Common.{arith, ◌≡◌, ◌∙◌, ◌+◌, ◌-◌, ◌*◌, ◌<◌, ◌≤◌, ℕ, zero, suc, Bool, true, false, All, List, [], ◌∷◌, ◌++◌, map, take, drop, length, refl, sym, ap, subst, inl, inr, Option, Some, None, Result, IsOk}
-use Rattle.std.specs.List.{list_all}
+use Rattle.std.proofs.Common.{arith, ◌≡◌, ◌∙◌, ◌+◌, ◌<◌, ◌≤◌, ℕ, Bool, false, List, [], ◌∷◌, ◌++◌, take, length, refl, sym, ap, subst, inl, inr, Option, Some}
 use Rattle.std.proofs.lemmas.Bool.{cases_eq}
 use Rattle.std.proofs.lemmas.List.{append-nil, take_at}
 use Rattle.flop_base.specs.Shelf.{Files}
@@ -13,7 +12,6 @@ use Rattle.bay_model.specs.Counters.{Counters, IsFaultless}
 use Rattle.bay_model.specs.Bays.{Two, in_bay}
 use Rattle.track_model.specs.Laid.{IsLaid}
 use Rattle.track_model.specs.Regular.{IsRegular}
-use Rattle.floppy_jobs.specs.declared.request.Request.{Request}
 use Rattle.floppy_jobs.specs.declared.request.Request.TheVariants as request
 use Rattle.sector_map.specs.Layings.{formatted}
 use Rattle.sector_map.specs.LaidDisks.{format_at}
@@ -25,17 +23,17 @@ use Rattle.sector_model.specs.Formats.{FormatsDrive}
 use Rattle.sector_model.specs.Orders.{format_refusal}
 use Rattle.sector_model.specs.Stations.{StationState, Bay, bay_of}
 use Rattle.sector_model.specs.States.{State}
-use Rattle.sector_model.specs.Runs.{Taken, requests_of}
+use Rattle.sector_model.specs.Runs.{Taken}
 use Rattle.disk_laws.specs.Done.{DoesAll}
 use Rattle.disk_laws.specs.Requests.{read_records, write_records, copy_track, marks_read}
 use Rattle.disk_laws.specs.Formatted.{standard_track, standard_content}
 use Rattle.disk_laws.specs.Copied.{SomeStep, Gave, HasAsGiven, IsSure}
 use Rattle.disk_laws.proofs.Formatting.{drive_formats}
-use Rattle.disk_laws.proofs.Marks.{marks-append, is_no_read, no_marks, writes_are_none, some_first, some_second}
-use Rattle.disk_laws.proofs.Records.{AreGiven, ReadsAll, all_records, keys_from, reads_keep, sure_parts}
+use Rattle.disk_laws.proofs.Marks.{marks-append, no_marks, writes_are_none, some_first, some_second}
+use Rattle.disk_laws.proofs.Records.{AreGiven, all_records, keys_from, reads_keep, sure_parts}
 use Rattle.disk_laws.proofs.Sectors.{few_sectors, track_regular, track_laid, track_sector, HasContent}
-use Rattle.disk_laws.proofs.Steps.{NeverFell, Splits, splits, begins, ends_there, never_fell, step_never_fell, keeps_drives, ok_called, reached}
-use Rattle.disk_laws.proofs.Written.{AllTidy, AreCopied, HasSome, WritesAll, all_writes, writes_keep}
+use Rattle.disk_laws.proofs.Steps.{NeverFell, splits, begins, ends_there, never_fell, ok_called, reached}
+use Rattle.disk_laws.proofs.Written.{AllTidy, AreCopied, HasSome, all_writes, writes_keep}
 
 -- bay 0 has the source, bay 1 a disk of this rate that can be written, and memory has its size
 pub record IsReady (at : Rate) (source disk : Disk) (state : State) : Type 0 where

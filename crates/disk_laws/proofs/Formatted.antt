@@ -1,29 +1,23 @@
 -- The run that formats a disk.
-use Rattle.std.proofs.Common.{arith, ◌≡◌, ◌∙◌, ◌+◌, ◌<◌, ◌≤◌, ◌&&◌, ℕ, Bool, true, false, List, [], ◌∷◌, ◌++◌, refl, sym, ap, subst, inl, inr, Option, Some, None}
-use Rattle.std.specs.Prelude.{◌⊎◌}
-use Rattle.std.specs.List.{list_all}
+use Rattle.std.proofs.Common.{arith, ◌≡◌, ◌∙◌, ℕ, true, List, [], ◌∷◌, ◌++◌, refl, ap, inl, Option, Some}
 use Rattle.flop_base.specs.Shelf.{Files, stored}
-use Rattle.flop_base.specs.Standard.{words_at, gap_at, standard_fill}
 use Rattle.flop_base.specs.declared.answers.Rate.{Rate}
 use Rattle.flop_base.specs.declared.answers.Rate.TheVariants.{R500, R250}
-use Rattle.raw_image.specs.Disk.{Disk, IsDisk, HasTrack, track_of}
+use Rattle.raw_image.specs.Disk.{Disk}
 use Rattle.raw_image.specs.Image.{file_of}
 use Rattle.bay_model.specs.Bays.{Two, in_bay}
 use Rattle.bay_model.specs.Counters.{IsFaultless}
-use Rattle.floppy_jobs.specs.declared.request.Request.{Request}
 use Rattle.floppy_jobs.specs.declared.request.Request.TheVariants as request
-use Rattle.sector_map.specs.Layings.{formatted}
-use Rattle.sector_map.specs.LaidDisks.{format_at}
 use Rattle.sector_map.proofs.KeptTracks.{alike_tracks}
 use Rattle.sector_model.specs.Stations.{bay_of}
 use Rattle.sector_model.specs.States.{State}
 use Rattle.sector_model.specs.Steps.{blank_of}
 use Rattle.sector_model.specs.Runs.{Taken}
 use Rattle.disk_laws.specs.Done.{DoesAll}
-use Rattle.disk_laws.specs.Formatted.{standard_track, IsFormattedDisk, IsInBay, LeavesFormatted, StoresFormatted}
-use Rattle.disk_laws.specs.Requests.{Track, tracks_of, blank_request, rate_requests, format_each, formatting, format_requests}
-use Rattle.disk_laws.proofs.Tracks.{Among, among_all}
-use Rattle.disk_laws.proofs.Steps.{Begins, begins, ends_there, splits, NeverFell, never_fell, step_never_fell, keeps_drives}
+use Rattle.disk_laws.specs.Formatted.{IsFormattedDisk, LeavesFormatted, StoresFormatted}
+use Rattle.disk_laws.specs.Requests.{tracks_of, blank_request, rate_requests, format_each, formatting, format_requests}
+use Rattle.disk_laws.proofs.Tracks.{among_all}
+use Rattle.disk_laws.proofs.Steps.{begins, ends_there, splits, never_fell, step_never_fell, keeps_drives}
 use Rattle.disk_laws.proofs.Formatting.{FormatsTracks, each_format}
 use Rattle.disk_laws.proofs.Prepared.{blanks, acks, rates}
 

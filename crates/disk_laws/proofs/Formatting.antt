@@ -1,5 +1,5 @@
 -- Formats of tracks one after the other.
-use Rattle.std.proofs.Common.{arith, ◌≡◌, ◌∙◌, ◌+◌, ◌<◌, ◌≤◌, ℕ, zero, suc, Bool, true, false, All, List, [], ◌∷◌, map, length, refl, sym, ap, subst, inl, inr, Option, Some, None, Result, IsOk}
+use Rattle.std.proofs.Common.{arith, ◌≡◌, ◌∙◌, ℕ, suc, true, false, All, List, [], ◌∷◌, refl, sym, ap, subst, inl, inr, Option, Some, Result, IsOk}
 use Rattle.std.specs.Prelude.{◌⊎◌}
 use Rattle.std.specs.List.{list_all}
 use Rattle.std.proofs.lemmas.Bool.{cases_eq}
@@ -8,10 +8,9 @@ use Rattle.flop_base.specs.Standard.{gap_at, standard_fill}
 use Rattle.flop_base.specs.declared.answers.Rate.{Rate}
 use Rattle.flop_base.specs.declared.answers.Code.{Code}
 use Rattle.raw_image.specs.Disk.{Disk, IsDisk, HasTrack, track_of}
-use Rattle.bay_model.specs.Counters.{Counters, IsFaultless}
-use Rattle.floppy_jobs.specs.declared.request.Request.{Request}
+use Rattle.bay_model.specs.Counters.{IsFaultless}
 use Rattle.floppy_jobs.specs.declared.request.Request.TheVariants as request
-use Rattle.sector_map.specs.Layings.{Format, Laying, formatted, IsFormattable}
+use Rattle.sector_map.specs.Layings.{Format, Laying, formatted}
 use Rattle.sector_map.specs.LaidDisks.{format_at}
 use Rattle.sector_map.specs.KeptDisks.{AreAlike, KeepsTracks}
 use Rattle.sector_map.proofs.Laid.{laying_keeps_tracks}

@@ -1,6 +1,5 @@
 -- What a read tells of a track where no address field can be mistaken.
-use Rattle.std.proofs.Common.{arith, ◌≡◌, ◌∙◌, ◌+◌, ◌<◌, ◌≤◌, ℕ, Bool, List, [], ◌∷◌, refl, sym, ap, subst, inl, inr}
-use Rattle.std.specs.Prelude.{◌⊎◌}
+use Rattle.std.proofs.Common.{arith, ◌≡◌, ◌+◌, ◌<◌, ◌≤◌, ℕ, Bool, List, [], ◌∷◌, refl, inl, inr}
 use Rattle.flop_base.specs.Counts.{RoseBy, last_count}
 use Rattle.flop_base.specs.declared.key.Chrn.{Chrn}
 use Rattle.flop_base.specs.declared.answers.Code.{Code}
@@ -8,11 +7,11 @@ use Rattle.flop_base.specs.declared.answers.Code.TheVariants as code
 use Rattle.track_model.specs.declared.Look.{Look}
 use Rattle.track_model.specs.declared.Look.TheVariants.{Found, NoMark, NoSector, NoData, BadCrc}
 use Rattle.track_model.specs.Fields.{IsAddressAt}
-use Rattle.track_model.specs.Looks.{LookAt, LookFor, IsFirstAddress, HasAddressMark}
+use Rattle.track_model.specs.Looks.{LookFor, IsFirstAddress, HasAddressMark}
 use Rattle.track_model.specs.Sectors.{IsPlain, IsSector}
 use Rattle.track_model.proofs.Sectored.{plain_clear}
-use Rattle.bay_model.specs.Counters.{Counters, IsUndisturbed, faults_of}
-use Rattle.sector_map.specs.Met.{HasNoClearMark, HasClearAddress, HasLook}
+use Rattle.bay_model.specs.Counters.{IsUndisturbed, faults_of}
+use Rattle.sector_map.specs.Met.{HasNoClearMark, HasClearAddress}
 use Rattle.sector_model.specs.Stations.{StationState}
 use Rattle.sector_model.specs.Reads.{IsReadCause}
 use Rattle.disk_laws.specs.Verified.{told_of}

@@ -1,15 +1,13 @@
 -- Reads of the standard keys of a disk, one after the other, where nothing disturbs them.
-use Rattle.std.proofs.Common.{arith, ◌≡◌, ◌∙◌, ◌+◌, ◌-◌, ◌<◌, ◌≤◌, ◌&&◌, ℕ, zero, suc, Bool, true, false, All, List, [], ◌∷◌, ◌++◌, map, length, refl, sym, ap, subst, inl, inr, Option, Some, None, Result, Ok, Err, le-leb, nat_le}
-use Rattle.std.specs.Prelude.{◌⊎◌, MatchOption, is_some}
-use Rattle.std.specs.List.{list_all, flat_map}
+use Rattle.std.proofs.Common.{arith, ◌≡◌, ◌∙◌, ◌≤◌, ℕ, suc, Bool, true, false, All, List, [], ◌∷◌, ◌++◌, refl, sym, ap, subst, inl, Option, Some, None, Result, Ok, Err, le-leb, nat_le}
+use Rattle.std.specs.Prelude.{MatchOption}
+use Rattle.std.specs.List.{list_all}
 use Rattle.std.proofs.lemmas.Grind.{flat_map-append}
 use Rattle.flop_base.specs.Shelf.{Files}
-use Rattle.flop_base.specs.Counts.{last_count}
-use Rattle.flop_base.specs.Standard.{sectors_at, standard_code}
+use Rattle.flop_base.specs.Standard.{standard_code}
 use Rattle.flop_base.specs.declared.key.Chrn.{Chrn}
-use Rattle.flop_base.specs.declared.answers.Rate.{Rate}
 use Rattle.flop_base.specs.declared.answers.Code.{Code}
-use Rattle.raw_image.specs.Disk.{Disk, HasTrack, track_of}
+use Rattle.raw_image.specs.Disk.{Disk, track_of}
 use Rattle.track_model.specs.declared.Look.{Look}
 use Rattle.track_model.specs.declared.Look.TheVariants.{Found, NoMark, NoSector, NoData, BadCrc}
 use Rattle.track_model.specs.Fields.{IsAddressAt}
@@ -17,7 +15,6 @@ use Rattle.track_model.specs.Looks.{LookFor}
 use Rattle.track_model.specs.Sectors.{IsSector, IsPlain}
 use Rattle.track_model.proofs.Unique.{one_look_for}
 use Rattle.bay_model.specs.Counters.{Counters, IsUndisturbed, faults_of}
-use Rattle.sector_map.specs.Disks.{LookOn}
 use Rattle.sector_map.specs.Failing.{unless_found, AreFailing}
 use Rattle.sector_map.specs.Standard.{key_of}
 use Rattle.sector_map.proofs.MetTracks.{met_track}
@@ -25,8 +22,8 @@ use Rattle.floppy_jobs.specs.declared.request.Request.{Request}
 use Rattle.floppy_jobs.specs.declared.request.Request.TheVariants as request
 use Rattle.sector_model.specs.declared.reply.Reply.{Reply}
 use Rattle.sector_model.specs.Stations.{StationState, Bay, bay_of}
-use Rattle.sector_model.specs.Orders.{read_refusal, IsRefusedAtOnce}
-use Rattle.sector_model.specs.Reads.{IsRead, IsReadRefused, IsReadCause, ReadsDrive}
+use Rattle.sector_model.specs.Orders.{read_refusal}
+use Rattle.sector_model.specs.Reads.{IsRead, IsReadCause, ReadsDrive}
 use Rattle.sector_model.specs.States.{State}
 use Rattle.sector_model.specs.Steps.{Step, Does, read_reply}
 use Rattle.sector_model.specs.Runs.{Taken, Run, requests_of}

@@ -1,17 +1,16 @@
 -- The sectors of a formatted disk.
-use Rattle.std.proofs.Common.{arith, ◌≡◌, ◌≢◌, ◌∙◌, ◌+◌, ◌-◌, ◌*◌, ◌<◌, ◌≤◌, ℕ, zero, suc, false, All, List, length, get_or, replicate, refl, sym, ap, subst, lit≤, lit<}
-use Rattle.std.specs.List.{AllPairs, Contains}
+use Rattle.std.proofs.Common.{arith, ◌≡◌, ◌≢◌, ◌∙◌, ◌+◌, ◌-◌, ◌*◌, ◌<◌, ◌≤◌, ℕ, false, All, List, length, get_or, replicate, refl, sym, ap, subst, lit≤, lit<}
+use Rattle.std.specs.List.{AllPairs}
 use Rattle.std.proofs.lemmas.List.Elements.{All-contains}
 use Rattle.flop_base.specs.Standard.{words_at, gap_at, standard_fill, standard_code, sectors_at}
 use Rattle.flop_base.specs.declared.key.Chrn.{Chrn}
 use Rattle.flop_base.specs.declared.answers.Rate.{Rate}
 use Rattle.flop_base.specs.declared.answers.Rate.TheVariants.{R500, R250}
-use Rattle.raw_image.specs.Disk.{Disk, HasTrack, track_of}
-use Rattle.track_model.specs.declared.Look.{Look}
+use Rattle.raw_image.specs.Disk.{Disk, HasTrack}
 use Rattle.track_model.specs.declared.Look.TheVariants.{Found}
 use Rattle.track_model.specs.Fields.{IsAddressAt, IsSizeCode, content_size, content_at}
 use Rattle.track_model.specs.Looks.{LookAt}
-use Rattle.track_model.specs.Layouts.{lay, Fits}
+use Rattle.track_model.specs.Layouts.{Fits}
 use Rattle.track_model.specs.LaidFields.{HasLaidFields, IsKey, HasEndRoom, sector_place, content_place}
 use Rattle.track_model.specs.Regular.{IsRegular}
 use Rattle.track_model.specs.Laid.{IsLaid}

@@ -1,5 +1,5 @@
 -- What the requests of a run did, one by one.
-use Rattle.std.proofs.Common.{arith, ◌≡◌, ◌∙◌, take, length, ℕ, ◌≤◌, ◌&&◌, Bool, true, false, true≢false, List, [], ◌∷◌, ◌++◌, refl, sym, ap, subst, Option, Some, None, Result, Ok, Err, IsOk}
+use Rattle.std.proofs.Common.{arith, ◌≡◌, ◌∙◌, take, length, ◌≤◌, ◌&&◌, Bool, true, false, true≢false, List, [], ◌∷◌, ◌++◌, refl, sym, ap, subst, Option, Some, None, Result, Ok, Err, IsOk}
 use Rattle.std.specs.Prelude.{◌||◌, MatchOption}
 use Rattle.std.specs.List.{list_all}
 use Rattle.flop_base.specs.Shelf.{Files}
@@ -8,7 +8,6 @@ use Rattle.bay_model.specs.Counters.{Counters, GoesOn}
 use Rattle.floppy_jobs.specs.declared.request.Request.{Request}
 use Rattle.floppy_jobs.specs.declared.request.Request.TheVariants as request
 use Rattle.sector_model.specs.declared.reply.Reply.{Reply}
-use Rattle.sector_model.specs.declared.reply.Reply.TheVariants as reply
 use Rattle.sector_model.specs.Stations.{StationState}
 use Rattle.sector_model.specs.Orders.{IsRefusedAtOnce}
 use Rattle.sector_model.specs.States.{State}

@@ -1,6 +1,6 @@
 -- The run that reads a whole disk.
-use Rattle.std.proofs.Common.{arith, ◌≡◌, ◌∙◌, ◌+◌, ◌<◌, ◌≤◌, ◌&&◌, ℕ, zero, suc, Bool, true, false, All, List, [], ◌∷◌, ◌++◌, refl, sym, ap, subst, inl, inr, Option, Some, None, Result, Ok, Err, length}
-use Rattle.std.specs.Prelude.{IsSomeAnd, ◌⊎◌}
+use Rattle.std.proofs.Common.{arith, ◌≡◌, ◌∙◌, ◌+◌, ◌<◌, ◌≤◌, ℕ, zero, suc, true, false, All, List, [], ◌∷◌, ◌++◌, refl, sym, ap, subst, Option, Some, None, Result, Ok, length}
+use Rattle.std.specs.Prelude.{IsSomeAnd}
 use Rattle.std.specs.List.{list_all, flat_map, range_with_len}
 use Rattle.std.proofs.lemmas.Grind.{flat_map-append}
 use Rattle.std.proofs.lemmas.List.{append-nil}
@@ -11,7 +11,7 @@ use Rattle.flop_base.specs.declared.key.Chrn.{Chrn}
 use Rattle.flop_base.specs.declared.answers.Code.{Code}
 use Rattle.flop_base.specs.declared.answers.Rate.{Rate}
 use Rattle.flop_base.specs.declared.answers.Rate.TheVariants.{R500, R250}
-use Rattle.raw_image.specs.Disk.{Disk, IsDisk}
+use Rattle.raw_image.specs.Disk.{Disk}
 use Rattle.raw_image.specs.Image.{image_of}
 use Rattle.raw_image.specs.declared.error.ImageError.{ImageError}
 use Rattle.track_model.specs.declared.Look.{Look}
@@ -24,14 +24,14 @@ use Rattle.floppy_jobs.specs.declared.request.Request.TheVariants as request
 use Rattle.sector_model.specs.Stations.{StationState, bay_of}
 use Rattle.sector_model.specs.States.{State}
 use Rattle.sector_model.specs.Steps.{IsImageOf, most_image_bytes}
-use Rattle.sector_model.specs.Runs.{Taken, Run, requests_of, has_refusal}
+use Rattle.sector_model.specs.Runs.{Taken, requests_of, has_refusal}
 use Rattle.disk_laws.specs.Done.{DoesAll}
 use Rattle.disk_laws.specs.Requests.{verify_opening, rate_requests, read_each}
 use Rattle.disk_laws.specs.Verified.{IsStandardKey, IsUnmistaken, all_told_of, refused_read, refused_reads, ReadsDisk}
-use Rattle.disk_laws.proofs.Steps.{begins, ends_there, splits_run, NeverFell, step_never_fell, never_fell, run_never_fell, keeps_drives}
+use Rattle.disk_laws.proofs.Steps.{begins, ends_there, splits_run, NeverFell, step_never_fell, run_never_fell, keeps_drives}
 use Rattle.disk_laws.proofs.Prepared.{acks, rates}
 use Rattle.disk_laws.proofs.Ranges.{image_range}
-use Rattle.disk_laws.proofs.Reading.{Holds, quiet_parts, reads_keep, reads_tell}
+use Rattle.disk_laws.proofs.Reading.{Holds, reads_keep, reads_tell}
 
 -- ---- the standard keys
 

@@ -1,23 +1,19 @@
 -- Writes of the records of a formatted track in bay 1.
-use Rattle.std.proofs.Common.{arith, ◌≡◌, ◌≢◌, ◌↔◌, ◌∙◌, ◌+◌, ◌-◌, ◌*◌, ◌<◌, ◌≤◌, ℕ, zero, suc, Bool, true, false, true≢false, All, List, [], ◌∷◌, ◌++◌, map, take, drop, length, get_or, refl, sym, ap, subst, inl, inr, Option, Some, None, Result, Ok, Err, IsOk}
-use Rattle.std.specs.Prelude.{◌⊎◌}
-use Rattle.std.specs.List.{range_with_len, list_all}
+use Rattle.std.proofs.Common.{arith, ◌≡◌, ◌≢◌, ◌↔◌, ◌∙◌, ◌+◌, ◌-◌, ◌<◌, ◌≤◌, ℕ, zero, suc, Bool, true, false, List, [], ◌∷◌, ◌++◌, take, length, get_or, refl, sym, ap, subst, inl, inr, Option, Some, Result, IsOk}
+use Rattle.std.specs.List.{list_all}
 use Rattle.std.proofs.lemmas.Bool.{cases_lt}
-use Rattle.std.proofs.lemmas.List.{ext_get_or, get_or-take, length-take}
+use Rattle.std.proofs.lemmas.List.{ext_get_or, length-take}
 use Rattle.flop_base.specs.Shelf.{Files}
 use Rattle.flop_base.specs.declared.key.Chrn.{Chrn}
 use Rattle.flop_base.specs.declared.answers.Code.{Code}
 use Rattle.raw_image.specs.Disk.{Disk, IsDisk, HasTrack, track_of}
 use Rattle.bay_model.specs.Memory.{user_bytes, bytes_from}
 use Rattle.bay_model.specs.Counters.{IsFaultless}
-use Rattle.track_model.specs.Fields.{IsAddressAt, content_size}
+use Rattle.track_model.specs.Fields.{IsAddressAt}
 use Rattle.track_model.specs.Laid.{IsLaid, with_window}
-use Rattle.track_model.specs.Writing.{window}
 use Rattle.track_model.specs.Windows.{with_words, window_word, cut_of, HasFieldFor, IsTidy}
 use Rattle.track_model.proofs.Splices.{length-with_words, with_words_before, with_words_at, with_words_behind}
 use Rattle.track_model.proofs.Laid.{written_laid}
-use Rattle.floppy_jobs.specs.declared.request.Request.{Request}
-use Rattle.floppy_jobs.specs.declared.request.Request.TheVariants as request
 use Rattle.sector_map.specs.Changes.{Change, Written, window_of, IsChange}
 use Rattle.sector_map.specs.Disks.{Entry, IsOnMap, IsRegularDisk}
 use Rattle.sector_map.specs.KeptDisks.{KeepsTracks}
@@ -25,15 +21,15 @@ use Rattle.sector_map.specs.Standard.{key_of}
 use Rattle.sector_map.proofs.Changed.{change_keeps_tracks, change_keeps_address}
 use Rattle.sector_map.proofs.KeptTracks.{with_track_keeps, alike_tracks, keeps_itself, keeps_both}
 use Rattle.sector_map.proofs.MetTracks.{met_track}
-use Rattle.sector_map.proofs.RegularTracks.{length-track_of, key_cylinder, one_address}
+use Rattle.sector_map.proofs.RegularTracks.{key_cylinder, one_address}
 use Rattle.sector_model.specs.declared.reply.Reply.{Reply}
 use Rattle.sector_model.specs.Orders.{write_refusal}
-use Rattle.sector_model.specs.Stations.{StationState, Bay, bay_of, met}
+use Rattle.sector_model.specs.Stations.{StationState, bay_of, met}
 use Rattle.sector_model.specs.States.{State}
-use Rattle.sector_model.specs.Steps.{Step, Does, IsDriverCall, reply_of}
+use Rattle.sector_model.specs.Steps.{Does, IsDriverCall, reply_of}
 use Rattle.sector_model.specs.Texts.{is_refusal}
-use Rattle.sector_model.specs.Writes.{ChangesDisk, Reaches, WritesDrive, WritesTo, ChangesAlone, IsLastRead, written_from}
-use Rattle.sector_model.specs.Runs.{Taken, requests_of, has_refusal}
+use Rattle.sector_model.specs.Writes.{ChangesDisk, Reaches, WritesDrive, WritesTo, ChangesAlone, written_from}
+use Rattle.sector_model.specs.Runs.{Taken}
 use Rattle.disk_laws.specs.Done.{DoesAll}
 use Rattle.disk_laws.specs.Requests.{record_address, write_record, write_records}
 use Rattle.disk_laws.specs.Copied.{copied_entry}
