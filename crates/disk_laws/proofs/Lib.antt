@@ -5,6 +5,7 @@ pub mod Formatted
 pub mod Formatting
 pub mod Looks
 pub mod Marks
+pub mod Nested
 pub mod Prepared
 pub mod Ranges
 pub mod Reading
