@@ -1,6 +1,7 @@
 pub mod Copied
 pub mod CopiedDisk
 pub mod CopiedTrack
+pub mod CopyOpened
 pub mod Formatted
 pub mod Formatting
 pub mod Looks
@@ -11,7 +12,9 @@ pub mod Ranges
 pub mod Reading
 pub mod Records
 pub mod Sectors
-pub mod Tracks
 pub mod Steps
+pub mod Tracks
+pub mod UserMemory
 pub mod Verified
+pub mod WholeWindow
 pub mod Written

@@ -1,7 +1,6 @@
 -- The records of a track in memory: reads of each to its own place.
-use Rattle.std.proofs.Common.{arith, ◌≡◌, ◌∙◌, ◌+◌, ◌*◌, ◌<◌, ◌≤◌, ℕ, zero, suc, Bool, true, false, true≢false, List, [], ◌∷◌, ◌++◌, map, drop, length, get_or, refl, sym, ap, subst, inl, inr, Option, Some, Result, Ok, Err, IsOk}
+use Rattle.std.proofs.Common.{arith, ◌≡◌, ◌∙◌, ◌+◌, ◌*◌, ◌≤◌, ℕ, zero, suc, Bool, true, false, true≢false, List, [], ◌∷◌, ◌++◌, map, length, refl, sym, ap, subst, inl, inr, Option, Some, Result, Ok, Err, IsOk}
 use Rattle.std.specs.List.{range_with_len, list_all}
-use Rattle.std.proofs.lemmas.List.{ext_get_or, get_or-take, get_or-drop, length-take, length-drop}
 use Rattle.std.proofs.lemmas.List.FromFn.{length-map-range_with_len}
 use Rattle.flop_base.specs.Shelf.{Files}
 use Rattle.flop_base.specs.declared.key.Chrn.{Chrn}
@@ -14,8 +13,6 @@ use Rattle.track_model.specs.Sectors.{IsSector, IsLone}
 use Rattle.sector_map.proofs.RegularTracks.{key_cylinder}
 use Rattle.bay_model.specs.Memory.{user_bytes, bytes_from, with_bytes}
 use Rattle.track_model.specs.Bytes.{byte_at, bytes_at}
-use Rattle.track_model.specs.Windows.{with_words}
-use Rattle.track_model.proofs.Splices.{length-with_words, with_words_before, with_words_at}
 use Rattle.floppy_jobs.specs.declared.request.Request.{Request}
 use Rattle.floppy_jobs.specs.declared.request.Request.TheVariants as request
 use Rattle.sector_map.specs.Standard.{key_of}
@@ -31,51 +28,7 @@ use Rattle.disk_laws.specs.Done.{DoesAll}
 use Rattle.disk_laws.specs.Requests.{record_address, read_records, mark_of, marks_read}
 use Rattle.disk_laws.specs.Copied.{SomeStep, Gave, IsSure}
 use Rattle.disk_laws.proofs.Steps.{NeverFell, step_never_fell, never_fell, keeps_drives, reached, or_false, done_does}
-
--- ---- memory
-
-length-with : (memory : List ℕ) (address : ℕ) (bytes : List ℕ) → address + length bytes ≤ length memory → length (with_bytes memory address bytes) ≡ length memory
-unfolding with_bytes with_words
-length-with memory address bytes fits = length-with_words memory address bytes fits
-
-with_before : (memory : List ℕ) (address : ℕ) (bytes : List ℕ) → address + length bytes ≤ length memory → (k : ℕ) → k < address → get_or (with_bytes memory address bytes) k 0 ≡ get_or memory k 0
-unfolding with_bytes with_words
-with_before memory address bytes fits k before = with_words_before memory address bytes fits k before
-
-with_at : (memory : List ℕ) (address : ℕ) (bytes : List ℕ) → address + length bytes ≤ length memory → (k : ℕ) → k < length bytes → get_or (with_bytes memory address bytes) (address + k) 0 ≡ get_or bytes k 0
-unfolding with_bytes with_words
-with_at memory address bytes fits k at = with_words_at memory address bytes fits (address + k) k refl at
-
--- the bytes of a range, one by one
-byte_from : (memory : List ℕ) (place count k : ℕ) → k < count → get_or (bytes_from memory place count) k 0 ≡ get_or memory (place + k) 0
-byte_from memory place count k below = get_or-take count (drop place memory) k 0 below ∙ get_or-drop place memory k 0
-
-pub length-bytes_from : (memory : List ℕ) (place count : ℕ) → place + count ≤ length memory → length (bytes_from memory place count) ≡ count
-length-bytes_from memory place count inside = omega (arith, length-take count (drop place memory), length-drop place memory)
-
--- what is before a range stays
-below_stays : (memory : List ℕ) (address : ℕ) (bytes : List ℕ) (place count : ℕ) → address + length bytes ≤ length memory → place + count ≤ address → bytes_from (with_bytes memory address bytes) place count ≡ bytes_from memory place count
-below_stays memory address bytes place count fits below =
-    let long = length-with memory address bytes fits in
-    let one : length (bytes_from (with_bytes memory address bytes) place count) ≡ count = length-bytes_from (with_bytes memory address bytes) place count (omega arith) in
-    let two : length (bytes_from memory place count) ≡ count = length-bytes_from memory place count (omega arith) in
-    ext_get_or 0 (bytes_from (with_bytes memory address bytes) place count) (bytes_from memory place count) (one ∙ sym two)
-    (λ k within.
-    let inside : k < count = omega arith in
-    byte_from (with_bytes memory address bytes) place count k inside
-    ∙ with_before memory address bytes fits (place + k) (omega arith)
-    ∙ sym (byte_from memory place count k inside))
-
--- what is put at a range stands there
-at_stands : (memory : List ℕ) (address : ℕ) (bytes : List ℕ) (count : ℕ) → length bytes ≡ count → address + length bytes ≤ length memory → bytes_from (with_bytes memory address bytes) address count ≡ bytes
-at_stands memory address bytes count sized fits =
-    let long = length-with memory address bytes fits in
-    let one : length (bytes_from (with_bytes memory address bytes) address count) ≡ count = length-bytes_from (with_bytes memory address bytes) address count (omega arith) in
-    ext_get_or 0 (bytes_from (with_bytes memory address bytes) address count) bytes (one ∙ sym sized)
-    (λ k within.
-    let inside : k < count = omega arith in
-    let at : k < length bytes = omega arith in
-    byte_from (with_bytes memory address bytes) address count k inside ∙ with_at memory address bytes fits k at)
+use Rattle.disk_laws.proofs.UserMemory.{length-with, below_stays, at_stands}
 
 -- ---- one read
 

@@ -1,8 +1,6 @@
 -- Writes of the records of a formatted track in bay 1.
-use Rattle.std.proofs.Common.{arith, ◌≡◌, ◌≢◌, ◌↔◌, ◌∙◌, ◌+◌, ◌-◌, ◌<◌, ◌≤◌, ℕ, zero, suc, Bool, true, false, List, [], ◌∷◌, ◌++◌, take, length, get_or, refl, sym, ap, subst, inl, inr, Option, Some, Result, IsOk}
+use Rattle.std.proofs.Common.{arith, ◌≡◌, ◌≢◌, ◌↔◌, ◌∙◌, ◌+◌, ◌<◌, ◌≤◌, ℕ, zero, suc, Bool, true, false, List, [], ◌∷◌, ◌++◌, length, refl, sym, ap, subst, inl, Option, Some, Result, IsOk}
 use Rattle.std.specs.List.{list_all}
-use Rattle.std.proofs.lemmas.Bool.{cases_lt}
-use Rattle.std.proofs.lemmas.List.{ext_get_or, length-take}
 use Rattle.flop_base.specs.Shelf.{Files}
 use Rattle.flop_base.specs.declared.key.Chrn.{Chrn}
 use Rattle.flop_base.specs.declared.answers.Code.{Code}
@@ -11,8 +9,7 @@ use Rattle.bay_model.specs.Memory.{user_bytes, bytes_from}
 use Rattle.bay_model.specs.Counters.{IsFaultless}
 use Rattle.track_model.specs.Fields.{IsAddressAt}
 use Rattle.track_model.specs.Laid.{IsLaid, with_window}
-use Rattle.track_model.specs.Windows.{with_words, window_word, cut_of, HasFieldFor, IsTidy}
-use Rattle.track_model.proofs.Splices.{length-with_words, with_words_before, with_words_at, with_words_behind}
+use Rattle.track_model.specs.Windows.{window_word, cut_of, HasFieldFor, IsTidy}
 use Rattle.track_model.proofs.Laid.{written_laid}
 use Rattle.sector_map.specs.Changes.{Change, Written, window_of, IsChange}
 use Rattle.sector_map.specs.Disks.{Entry, IsOnMap, IsRegularDisk}
@@ -33,60 +30,14 @@ use Rattle.sector_model.specs.Runs.{Taken}
 use Rattle.disk_laws.specs.Done.{DoesAll}
 use Rattle.disk_laws.specs.Requests.{record_address, write_record, write_records}
 use Rattle.disk_laws.specs.Copied.{copied_entry}
-use Rattle.disk_laws.proofs.Records.{length-bytes_from, keys_from}
+use Rattle.disk_laws.proofs.Records.{keys_from}
+use Rattle.disk_laws.proofs.UserMemory.{length-bytes_from}
 use Rattle.disk_laws.proofs.Steps.{begins, ends_there, step_never_fell, never_fell, keeps_drives, ok_called, reached}
+use Rattle.disk_laws.proofs.WholeWindow.{whole_is}
 
 -- on Laid tracks no write brings up an address mark, however short it stops
 abbrev pub AllTidy : Type 0
 AllTidy = (track : List ℕ) (p : ℕ) (deleted : Bool) (content : List ℕ) → IsLaid track → HasFieldFor track p content → IsTidy track p deleted content
-
--- ---- a whole window over a track
-
--- a track with some first words of a window, which has the whole window too
-module _ (track mid words after : List ℕ) (start k : ℕ) (some : after ≡ with_words track start (take k words)) (most : k ≤ length words) (inside : start + k ≤ length track) (all : after ≡ with_words mid start (take (length words) words)) (fits : start + length words ≤ length mid) where
-  long_k : length (take k words) ≡ k
-  long_k = omega (arith, length-take k words)
-
-  long_all : length (take (length words) words) ≡ length words
-  long_all = omega (arith, length-take (length words) words)
-
-  long_after : length after ≡ length track
-  long_after = ap length some ∙ length-with_words track start (take k words) (omega (arith, long_k))
-
-  long_mid : length after ≡ length mid
-  long_mid = ap length all ∙ length-with_words mid start (take (length words) words) (omega (arith, long_all))
-
-  fits_track : start + length (take (length words) words) ≤ length track
-  fits_track = omega (arith, long_all, long_after, long_mid)
-
-  fits_k : start + length (take k words) ≤ length track
-  fits_k = omega (arith, long_k)
-
-  fits_mid : start + length (take (length words) words) ≤ length mid
-  fits_mid = omega (arith, long_all)
-
-  word_is : (i : ℕ) → get_or after i 0 ≡ get_or (with_words track start (take (length words) words)) i 0
-  word_is i = elim (cases_lt i start) [
-    | inl before ↦
-        ap (λ (row : List ℕ). get_or row i 0) some
-        ∙ with_words_before track start (take k words) fits_k i before
-        ∙ sym (with_words_before track start (take (length words) words) fits_track i before)
-    | inr from ↦ elim (cases_lt i (start + length words)) [
-      | inl within ↦
-          let place : i ≡ start + (i - start) = omega arith in
-          let index : i - start < length (take (length words) words) = omega (arith, long_all) in
-          ap (λ (row : List ℕ). get_or row i 0) all
-          ∙ with_words_at mid start (take (length words) words) fits_mid i (i - start) place index
-          ∙ sym (with_words_at track start (take (length words) words) fits_track i (i - start) place index)
-      | inr behind ↦
-          ap (λ (row : List ℕ). get_or row i 0) some
-          ∙ with_words_behind track start (take k words) fits_k i (omega (arith, long_k))
-          ∙ sym (with_words_behind track start (take (length words) words) fits_track i (omega (arith, long_all)))
-    ]
-  ]
-
-  whole_is : after ≡ with_words track start (take (length words) words)
-  whole_is = ext_get_or 0 after (with_words track start (take (length words) words)) (long_after ∙ sym (length-with_words track start (take (length words) words) fits_track)) (λ i below. word_is i)
 
 -- ---- the last change
 
