@@ -1,44 +1,29 @@
 -- The run that formats a disk.
-use Rattle.std.proofs.Common.{arith, ◌≡◌, ◌∙◌, ◌+◌, ◌<◌, ◌≤◌, ◌&&◌, ℕ, Bool, true, false, List, [], ◌∷◌, ◌++◌, refl, sym, ap, subst, inl, inr, Option, Some, None}
-use Rattle.std.specs.Prelude.{◌⊎◌}
-use Rattle.std.specs.List.{list_all}
+use Rattle.std.proofs.Common.{arith, ◌≡◌, ◌∙◌, ℕ, true, List, [], ◌∷◌, ◌++◌, refl, ap, inl, Option, Some}
 use Rattle.flop_base.specs.Shelf.{Files, stored}
-use Rattle.flop_base.specs.Standard.{words_at, gap_at, standard_fill}
 use Rattle.flop_base.specs.declared.answers.Rate.{Rate}
 use Rattle.flop_base.specs.declared.answers.Rate.TheVariants.{R500, R250}
-use Rattle.raw_image.specs.Disk.{Disk, IsDisk, HasTrack, track_of}
+use Rattle.raw_image.specs.Disk.{Disk}
 use Rattle.raw_image.specs.Image.{file_of}
 use Rattle.bay_model.specs.Bays.{Two, in_bay}
 use Rattle.bay_model.specs.Counters.{IsFaultless}
-use Rattle.floppy_jobs.specs.declared.request.Request.{Request}
 use Rattle.floppy_jobs.specs.declared.request.Request.TheVariants as request
-use Rattle.sector_map.specs.Layings.{formatted}
-use Rattle.sector_map.specs.LaidDisks.{format_at}
 use Rattle.sector_map.proofs.KeptTracks.{alike_tracks}
 use Rattle.sector_model.specs.Stations.{bay_of}
 use Rattle.sector_model.specs.States.{State}
 use Rattle.sector_model.specs.Steps.{blank_of}
 use Rattle.sector_model.specs.Runs.{Taken}
 use Rattle.disk_laws.specs.Done.{DoesAll}
-use Rattle.disk_laws.specs.Formatted.{standard_track, IsFormattedDisk, IsInBay}
-use Rattle.disk_laws.specs.Requests.{Track, tracks_of, blank_request, rate_requests, format_each, formatting, format_requests}
-use Rattle.disk_laws.proofs.Tracks.{Among, among_all}
-use Rattle.disk_laws.proofs.Steps.{Begins, begins, ends_there, NeverFell, never_fell, step_never_fell, keeps_drives}
-use Rattle.disk_laws.proofs.Formatting.{FormatsTracks, each_format, formats_keep}
+use Rattle.disk_laws.specs.Formatted.{IsFormattedDisk, LeavesFormatted, StoresFormatted}
+use Rattle.disk_laws.specs.Requests.{tracks_of, blank_request, rate_requests, format_each, formatting, format_requests}
+use Rattle.disk_laws.proofs.Tracks.{among_all}
+use Rattle.disk_laws.proofs.Steps.{begins, ends_there, splits, never_fell, step_never_fell, keeps_drives}
+use Rattle.disk_laws.proofs.Formatting.{FormatsTracks, each_format}
 use Rattle.disk_laws.proofs.Prepared.{blanks, acks, rates}
 
-blank_keeps : (rate : Rate) (name : List ℕ) (cylinders : ℕ) → keeps_drives (blank_request rate 0 name cylinders) ≡ true
-blank_keeps R500 name cylinders = refl
-blank_keeps R250 name cylinders = refl
-
--- what is left of the requests keeps the drives
-rest_keeps : (rate : Rate) (rest : List Request) → list_all keeps_drives rest ≡ true → list_all keeps_drives (rate_requests rate 0 ++ rest) ≡ true
-rest_keeps R500 rest keeps = keeps
-rest_keeps R250 rest keeps = keeps
-
-eject_keeps : (tracks : List Track) → list_all keeps_drives (format_each 0 tracks ++ request.Eject 0 ∷ []) ≡ true
-eject_keeps [] = refl
-eject_keeps (track ∷ later) = eject_keeps later
+pub blank_keeps : (bay : ℕ) (rate : Rate) (name : List ℕ) (cylinders : ℕ) → keeps_drives (blank_request rate bay name cylinders) ≡ true
+blank_keeps bay R500 name cylinders = refl
+blank_keeps bay R250 name cylinders = refl
 
 -- the disk after all formats
 is_formatted : (rate : Rate) (cylinders : ℕ) (old new : State) (told after : Option Files) → FormatsTracks rate (tracks_of cylinders 2) (blank_of cylinders rate) old told new after
@@ -60,25 +45,17 @@ is_formatted rate cylinders old new told after formats =
       },
     )
 
--- a disk that was formatted in bay 0
-pub record FormatsDisk (rate : Rate) (name : List ℕ) (count : ℕ) (told : Option Files) (new : State) (after : Option Files) : Type 0 where
-  pub disk : Disk
-  pub there : IsInBay new 0 name disk
-  pub is : IsFormattedDisk rate count disk
-  pub files : after ≡ told
-
-pub formats_disk : (rate : Rate) (name : List ℕ) (cylinders : ℕ) (old new : State) (told after : Option Files) (course : List Taken) → DoesAll old told (formatting rate name cylinders) course new after → IsFaultless 0 old.station.counters new.station.counters → FormatsDisk rate name cylinders told new after
+pub formats_disk : (rate : Rate) (name : List ℕ) (cylinders : ℕ) (old new : State) (told after : Option Files) (course : List Taken) → DoesAll old told (formatting rate name cylinders) course new after → IsFaultless 0 old.station.counters new.station.counters → LeavesFormatted rate name cylinders told new after
 formats_disk rate name cylinders old new told after course all faultless =
     let blank = blank_of cylinders rate in
     let tracks = tracks_of cylinders 2 in
     let formats = format_each 0 tracks in
-    let keeps = formats_keep tracks in
     let one = begins old new told after (blank_request rate 0 name cylinders) (request.Ack 0 ∷ (rate_requests rate 0 ++ formats)) course all in
-    let put = blanks rate name cylinders old one.mid told one.files one.answer one.step one.done in
+    let put = blanks 0 rate name cylinders old one.mid told one.files one.answer one.step one.done in
     let two = begins one.mid new one.files after (request.Ack 0) (rate_requests rate 0 ++ formats) one.later one.behind in
-    let acked = acks blank one.mid two.mid one.files two.files two.answer two.does two.done put.medium in
-    let rated = rates rate blank formats two.mid new two.files after two.later two.behind refl acked.medium acked.high in
-    let first = step_never_fell old one.mid told one.files (blank_request rate 0 name cylinders) one.answer one.step (blank_keeps rate name cylinders) in
+    let acked = acks 0 blank one.mid two.mid one.files two.files two.answer two.does two.done put.medium in
+    let rated = rates 0 rate blank formats two.mid new two.files after two.later two.behind refl acked.medium acked.high in
+    let first = step_never_fell old one.mid told one.files (blank_request rate 0 name cylinders) one.answer one.step (blank_keeps 0 rate name cylinders) in
     let second = step_never_fell one.mid two.mid one.files two.files (request.Ack 0) two.answer two.step refl in
     let third = rated.fell in
     let laid = each_format rate tracks blank rated.mid new rated.files after rated.course rated.behind (omega arith, omega arith) rated.medium rated.rate put.valid in
@@ -87,8 +64,26 @@ formats_disk rate name cylinders old new told after course all faultless =
       disk = disk.0;
       there = record {
         medium = disk.1;
-        named = ap (λ (n : Two (Option (List ℕ))). in_bay n 0) (laid.names ∙ rated.names ∙ acked.names) ∙ put.named;
+        named = ap (λ (n : Two (Option (List ℕ))). in_bay n 0) (laid.names ∙ rated.names ∙ acked.names) ∙ ap (λ (n : Two (Option (List ℕ))). in_bay n 0) put.named;
       };
       is = disk.2;
       files = laid.files ∙ rated.same_files ∙ acked.files ∙ put.files;
+    }
+
+-- and stored
+pub stores_disk : (rate : Rate) (name : List ℕ) (cylinders : ℕ) (old new : State) (told after : Option Files) (course : List Taken) → DoesAll old told (format_requests rate name cylinders) course new after → IsFaultless 0 old.station.counters new.station.counters → StoresFormatted rate name cylinders told after
+stores_disk rate name cylinders old new told after course all faultless =
+    let parts = splits old new told after (formatting rate name cylinders) (request.Eject 0 ∷ []) course all in
+    let fell = never_fell parts.mid new parts.files after (request.Eject 0 ∷ []) parts.two parts.behind refl in
+    let leaves = formats_disk rate name cylinders old parts.mid told parts.files parts.one parts.before (omega arith, omega arith) in
+    let last = begins parts.mid new parts.files after (request.Eject 0) [] parts.two parts.behind in
+    let stores = last.does.1 in
+    let same_disk : stores.0 ≡ leaves.disk = cc (stores.2, leaves.there.medium) in
+    let same_name : stores.1 ≡ name = cc (stores.3, leaves.there.named) in
+    let end = ends_there last.mid new last.files after last.later last.behind in
+    record {
+      disk = leaves.disk;
+      is = leaves.is;
+      files = end.1 ∙ stores.5 ∙ ap (λ (n : List ℕ). stored parts.files n (file_of stores.0)) same_name
+          ∙ ap (λ (d : Disk). stored parts.files name (file_of d)) same_disk ∙ ap (λ (f : Option Files). stored f name (file_of leaves.disk)) leaves.files;
     }

@@ -1,5 +1,5 @@
 -- Formats of tracks one after the other.
-use Rattle.std.proofs.Common.{arith, ◌≡◌, ◌∙◌, ◌+◌, ◌<◌, ◌≤◌, ℕ, zero, suc, Bool, true, false, All, List, [], ◌∷◌, map, length, refl, sym, ap, subst, inl, inr, Option, Some, None, Result, IsOk}
+use Rattle.std.proofs.Common.{arith, ◌≡◌, ◌∙◌, ℕ, suc, true, false, All, List, [], ◌∷◌, refl, sym, ap, subst, inl, inr, Option, Some, Result, IsOk}
 use Rattle.std.specs.Prelude.{◌⊎◌}
 use Rattle.std.specs.List.{list_all}
 use Rattle.std.proofs.lemmas.Bool.{cases_eq}
@@ -8,10 +8,9 @@ use Rattle.flop_base.specs.Standard.{gap_at, standard_fill}
 use Rattle.flop_base.specs.declared.answers.Rate.{Rate}
 use Rattle.flop_base.specs.declared.answers.Code.{Code}
 use Rattle.raw_image.specs.Disk.{Disk, IsDisk, HasTrack, track_of}
-use Rattle.bay_model.specs.Counters.{Counters, IsFaultless}
-use Rattle.floppy_jobs.specs.declared.request.Request.{Request}
+use Rattle.bay_model.specs.Counters.{IsFaultless}
 use Rattle.floppy_jobs.specs.declared.request.Request.TheVariants as request
-use Rattle.sector_map.specs.Layings.{Format, Laying, formatted, IsFormattable}
+use Rattle.sector_map.specs.Layings.{Format, Laying, formatted}
 use Rattle.sector_map.specs.LaidDisks.{format_at}
 use Rattle.sector_map.specs.KeptDisks.{AreAlike, KeepsTracks}
 use Rattle.sector_map.proofs.Laid.{laying_keeps_tracks}
@@ -61,10 +60,10 @@ lays_in format before after disk next layings e f lays =
     let here = subst (λ (o : Option Disk). Lays format o layings after) e lays in
     subst (λ (o : Option Disk). Lays format (Some disk) layings o) f here
 
-drive_formats : (rate : Rate) (c h : ℕ) (disk : Disk) (old new : StationState) (called : Result (Unit {0}) Code) → FormatsDrive (format_at c h rate (gap_at rate) standard_fill) 0 called old new → IsOk called → IsFaultless 0 old.counters new.counters → (bay_of old 0).medium ≡ Some disk → IsDisk disk
-    → (next : Disk) × ((bay_of new 0).medium ≡ Some next) × KeepsTracks disk c h next
+pub drive_formats : (bay : ℕ) (rate : Rate) (c h : ℕ) (disk : Disk) (old new : StationState) (called : Result (Unit {0}) Code) → FormatsDrive (format_at c h rate (gap_at rate) standard_fill) bay called old new → IsOk called → IsFaultless bay old.counters new.counters → (bay_of old bay).medium ≡ Some disk → IsDisk disk
+    → (next : Disk) × ((bay_of new bay).medium ≡ Some next) × KeepsTracks disk c h next
     × (track_of next c h ≡ formatted (format_at c h rate (gap_at rate) standard_fill) disk.words_per_track)
-drive_formats rate c h disk old new called drive ok faultless medium valid =
+drive_formats bay rate c h disk old new called drive ok faultless medium valid =
     let done = drive.formatted_track ok faultless in
     let can = done.0 in
     let is : can.0 ≡ disk = same_some _ _ _ can.1 medium in
@@ -80,7 +79,7 @@ one_format rate c h disk old new told after answer does done faultless medium ba
     let ok = ok_called called answer does.1.1 done in
     let drive = reached (format_refusal old.station 0 c h (gap_at (bay_of old.station 0).rate)) called old.station new.station does.1.2 ok in
     let at = subst (λ (r : Rate). FormatsDrive (format_at c h r (gap_at r) standard_fill) 0 called old.station new.station) bay_rate drive in
-    let formats = drive_formats rate c h disk old.station new.station called at ok faultless medium valid in
+    let formats = drive_formats 0 rate c h disk old.station new.station called at ok faultless medium valid in
     record {
       next = formats.0;
       medium = formats.1;

@@ -1,6 +1,8 @@
--- A bay made ready for whole-disk requests: a medium is put in, acknowledged, and read at its rate.
-use Rattle.std.proofs.Common.{arith, ◌≡◌, ◌∙◌, ◌+◌, ◌*◌, ◌<◌, ◌≤◌, ◌^◌, ◌&&◌, ℕ, Bool, true, false, true≢false, List, [], ◌∷◌, ◌++◌, length, get_or, replicate, refl, sym, ap, subst, inl, inr, Option, Some, None, Result, IsOk, lit<, lit≤}
-use Rattle.std.specs.Prelude.{MatchOption}
+-- A bay made ready for the requests of a whole disk: a medium is put in, acknowledged, and met at its rate.
+use Rattle.std.proofs.Common.{arith, ◌≡◌, ◌∙◌, ◌*◌, ◌<◌, ◌≤◌, ◌^◌, ℕ, Bool, true, false, true≢false, List, ◌++◌, length, get_or, replicate, refl, sym, ap, subst, inl, inr, Option, Some, Result, IsOk, lit≤}
+use Rattle.std.specs.Prelude.{MatchOption, MatchBool, ◌==◌, if◌then◌else◌}
+use Rattle.flop_base.specs.declared.answers.Code.{Code}
+use Rattle.flop_base.specs.declared.answers.Code.TheVariants.{BadRequest}
 use Rattle.std.proofs.lemmas.Bool.{leb-true, cases_lt}
 use Rattle.std.proofs.lemmas.List.{length-replicate, get_or-replicate, get_or_past}
 use Rattle.flop_base.specs.Shelf.{Files}
@@ -8,23 +10,22 @@ use Rattle.flop_base.specs.Standard.{words_at}
 use Rattle.flop_base.specs.declared.answers.Rate.{Rate}
 use Rattle.flop_base.specs.declared.answers.Rate.TheVariants.{R500, R250}
 use Rattle.raw_image.specs.Disk.{Disk, IsDisk}
-use Rattle.bay_model.specs.Bays.{Two, in_bay}
+use Rattle.bay_model.specs.Bays.{Two, in_bay, with_bay}
+use Rattle.bay_model.specs.Counters.{faults_of}
 use Rattle.floppy_jobs.specs.declared.request.Request.{Request}
 use Rattle.floppy_jobs.specs.declared.request.Request.TheVariants as request
 use Rattle.sector_model.specs.declared.reply.Reply.{Reply}
-use Rattle.sector_model.specs.declared.reply.Reply.TheVariants as reply
 use Rattle.sector_model.specs.declared.reply.Reason.{Reason}
-use Rattle.sector_model.specs.Stations.{StationState, bay_of}
+use Rattle.sector_model.specs.Stations.{StationState, Bay, Becomes, bay_of, set_bay, fresh_bay}
 use Rattle.sector_model.specs.Calls.{IsAcknowledged}
-use Rattle.sector_model.specs.Orders.{rate_refusal}
+use Rattle.sector_model.specs.Orders.{rate_refusal, is_bay, IsRefusedAtOnce}
 use Rattle.sector_model.specs.States.{State, ChangesMedium}
 use Rattle.sector_model.specs.Steps.{Step, Does, IsRefused, unless_bad, blank_of, is_blank_request}
 use Rattle.sector_model.specs.Texts.{is_refusal}
 use Rattle.sector_model.specs.Runs.{Taken}
 use Rattle.disk_laws.specs.Done.{DoesAll}
-use Rattle.disk_laws.specs.Formatted.{IsInBay}
 use Rattle.disk_laws.specs.Requests.{blank_request, rate_requests}
-use Rattle.disk_laws.proofs.Steps.{Begins, begins, NeverFell, step_never_fell, done_does, ok_called, reached, and_both}
+use Rattle.disk_laws.proofs.Steps.{begins, NeverFell, step_never_fell, done_does, ok_called, reached, and_both}
 
 -- ---- blank media
 
@@ -61,37 +62,52 @@ good_request old new told after true next answer P holds done = refl
 good_request old new told after false next answer P holds done =
     absurd (true≢false (subst (λ (r : Reply). is_refusal r ≡ false) holds.answered done))
 
--- a blank medium was put into bay 0
-pub record IsBlank (rate : Rate) (name : List ℕ) (count : ℕ) (told : Option Files) (new : State) (after : Option Files) : Type 0 where
+-- the value that a bay was given
+pub in_with : {T : Type 0} (two : Two T) (bay : ℕ) (value : T) → in_bay (with_bay two bay value) bay ≡ value
+in_with {T} two bay value = go (bay == 0)
+  where
+    go : (b : Bool) → (if b then (if b then record two { first = value } else record two { second = value }).first else (if b then record two { first = value } else record two { second = value }).second) ≡ value
+    go true = refl
+    go false = refl
+
+-- a blank medium was put into a bay
+pub record IsBlank (bay : ℕ) (rate : Rate) (name : List ℕ) (count : ℕ) (old : State) (told : Option Files) (new : State) (after : Option Files) : Type 0 where
   pub valid : IsDisk (blank_of count rate)
-  pub medium : (bay_of new.station 0).medium ≡ Some (blank_of count rate)
-  pub named : in_bay new.names 0 ≡ Some name
+  pub medium : (bay_of new.station bay).medium ≡ Some (blank_of count rate)
+  pub named : new.names ≡ with_bay old.names bay (Some name)
+  pub becomes : Becomes (set_bay old.station bay (fresh_bay (Some (blank_of count rate)))) new.station
   pub files : after ≡ told
 
-is_blank : (rate : Rate) (name : List ℕ) (cylinders : ℕ) (old new : State) (told after : Option Files) → is_blank_request 0 cylinders ≡ true → ChangesMedium old 0 (Some name) (Some (blank_of cylinders rate)) new → after ≡ told → IsBlank rate name cylinders told new after
-is_blank rate name cylinders old new told after good changes files =
-    let range = and_both _ _ good in
+is_blank : (bay : ℕ) (rate : Rate) (name : List ℕ) (cylinders : ℕ) (old new : State) (told after : Option Files) → is_blank_request bay cylinders ≡ true → ChangesMedium old bay (Some name) (Some (blank_of cylinders rate)) new → after ≡ told → IsBlank bay rate name cylinders old told new after
+is_blank bay rate name cylinders old new told after good changes files =
+    let most = and_both _ _ good in
+    let least = and_both _ _ most.0 in
+    let becomes = changes.exchanged.becomes in
     record {
-      valid = blank_valid cylinders rate (leb-true 1 cylinders range.0) (leb-true cylinders 80 range.1);
-      medium = ap (λ (s : StationState). (bay_of s 0).medium) changes.exchanged.becomes;
-      named = ap (λ (n : Two (Option (List ℕ))). in_bay n 0) changes.names;
+      valid = blank_valid cylinders rate (leb-true 1 cylinders least.1) (leb-true cylinders 80 most.1);
+      medium = ap (λ (s : StationState). (bay_of s bay).medium) becomes ∙ ap (λ (b : Bay). b.medium) (in_with old.station.bays bay (fresh_bay (Some (blank_of cylinders rate))));
+      named = changes.names;
+      becomes = becomes;
       files = files;
     }
 
-pub blanks : (rate : Rate) (name : List ℕ) (cylinders : ℕ) (old new : State) (told after : Option Files) (answer : Reply) → Step old told (blank_request rate 0 name cylinders) answer new after → is_refusal answer ≡ false → IsBlank rate name cylinders told new after
-blanks R500 name cylinders old new told after answer step done =
-    let does = done_does old new told after (request.Blank 0 name cylinders) answer step done in
-    is_blank R500 name cylinders old new told after (good_request old new told after _ _ answer _ step done) does.2 does.1
-blanks R250 name cylinders old new told after answer step done =
-    let does = done_does old new told after (request.BlankDd 0 name cylinders) answer step done in
-    is_blank R250 name cylinders old new told after (good_request old new told after _ _ answer _ step done) does.2 does.1
+pub blanks : (bay : ℕ) (rate : Rate) (name : List ℕ) (cylinders : ℕ) (old new : State) (told after : Option Files) (answer : Reply) → Step old told (blank_request rate bay name cylinders) answer new after → is_refusal answer ≡ false → IsBlank bay rate name cylinders old told new after
+blanks bay R500 name cylinders old new told after answer step done =
+    let does = done_does old new told after (request.Blank bay name cylinders) answer step done in
+    is_blank bay R500 name cylinders old new told after (good_request old new told after _ _ answer _ step done) does.2 does.1
+blanks bay R250 name cylinders old new told after answer step done =
+    let does = done_does old new told after (request.BlankDd bay name cylinders) answer step done in
+    is_blank bay R250 name cylinders old new told after (good_request old new told after _ _ answer _ step done) does.2 does.1
 
 -- ---- acknowledged
 
--- bay 0 was acknowledged with this disk in it
-pub record IsAcked (disk : Disk) (old : State) (told : Option Files) (new : State) (after : Option Files) : Type 0 where
-  pub medium : (bay_of new.station 0).medium ≡ Some disk
-  pub high : disk.rate ≡ R500 → (bay_of new.station 0).rate ≡ R500
+-- a bay was acknowledged with this disk in it
+pub record IsAcked (bay : ℕ) (disk : Disk) (old : State) (told : Option Files) (new : State) (after : Option Files) : Type 0 where
+  pub medium : (bay_of new.station bay).medium ≡ Some disk
+  pub high : disk.rate ≡ R500 → (bay_of new.station bay).rate ≡ R500
+  pub kept : (bay_of new.station bay).acknowledged ≡ Some (faults_of new.station.counters bay)
+  pub value : Bay
+  pub becomes : Becomes (set_bay old.station bay value) new.station
   pub names : new.names ≡ old.names
   pub files : after ≡ told
 
@@ -99,60 +115,96 @@ only_high : (rate of_disk : Rate) → (rate ≡ R250 → of_disk ≡ R250) → o
 only_high R500 of_disk double high = refl
 only_high R250 of_disk double high = let low = double refl in absurd (cc (low, high))
 
-acked_bay : (disk : Disk) (old new : StationState) → IsAcknowledged old 0 new → (bay_of old 0).medium ≡ Some disk
-    → ((bay_of new 0).medium ≡ Some disk) × (disk.rate ≡ R500 → (bay_of new 0).rate ≡ R500)
-acked_bay disk old new acked medium =
-    let same : acked.disk ≡ disk = cc (acked.medium, medium) in (
-      ap (λ (s : StationState). (bay_of s 0).medium) acked.becomes ∙ ap (λ (d : Disk). Some d) same,
-      λ high. ap (λ (s : StationState). (bay_of s 0).rate) acked.becomes
-          ∙ only_high acked.rate acked.disk.rate acked.double (ap (λ (d : Disk). d.rate) same ∙ high),
-    )
+drive_acks : {P : Type 0} (good : Bool) (code : Code) (called : Result (Unit {0}) Code) (old new : StationState) → MatchBool good P (IsRefusedAtOnce old code called new) → IsOk called → P
+drive_acks true code called old new holds ok = holds
+drive_acks false code called old new holds ok = absurd (true≢false (sym (subst IsOk holds.refused ok)))
 
-pub acks : (disk : Disk) (old new : State) (told after : Option Files) (answer : Reply) → Does old told (request.Ack 0) answer new after → is_refusal answer ≡ false → (bay_of old.station 0).medium ≡ Some disk → IsAcked disk old told new after
-acks disk old new told after answer does done medium =
+acked_bay : (bay : ℕ) (disk : Disk) (old new : StationState) (acked : IsAcknowledged old bay new) → (bay_of old bay).medium ≡ Some disk
+    → bay_of new bay ≡ record { medium = Some disk; acknowledged = Some (faults_of new.counters bay); rate = acked.rate }
+acked_bay bay disk old new acked medium =
+    let same : acked.disk ≡ disk = cc (acked.medium, medium) in
+    let count = faults_of new.counters bay in
+    ap (λ (s : StationState). bay_of s bay) acked.becomes
+    ∙ in_with old.bays bay (record { medium = Some acked.disk; acknowledged = Some count; rate = acked.rate })
+    ∙ ap (λ (d : Disk). record { medium = Some d; acknowledged = Some count; rate = acked.rate }) same
+
+pub acks : (bay : ℕ) (disk : Disk) (old new : State) (told after : Option Files) (answer : Reply) → Does old told (request.Ack bay) answer new after → is_refusal answer ≡ false → (bay_of old.station bay).medium ≡ Some disk → IsAcked bay disk old told new after
+acks bay disk old new told after answer does done medium =
     let ok = ok_called does.1.0 answer does.1.1 done in
-    let bay = acked_bay disk old.station new.station (does.1.2.done ok) medium in
-    record { medium = bay.0; high = bay.1; names = does.0.names; files = does.0.files }
+    let drive = drive_acks (is_bay bay) BadRequest does.1.0 old.station new.station does.1.2 ok in
+    let acked = drive.done ok in
+    let same : acked.disk ≡ disk = cc (acked.medium, medium) in
+    let at = acked_bay bay disk old.station new.station acked medium in
+    record {
+      medium = ap (λ (b : Bay). b.medium) at;
+      high = λ high. ap (λ (b : Bay). b.rate) at ∙ only_high acked.rate acked.disk.rate acked.double (ap (λ (d : Disk). d.rate) same ∙ high);
+      kept = ap (λ (b : Bay). b.acknowledged) at;
+      value = record { medium = Some acked.disk; acknowledged = Some (faults_of new.station.counters bay); rate = acked.rate };
+      becomes = acked.becomes;
+      names = does.0.names;
+      files = does.0.files;
+    }
 
 -- ---- at its rate
 
--- what is left to do once bay 0 has the rate of its disk
-pub record IsRated (disk : Disk) (old : State) (told : Option Files) (rest : List Request) (new : State) (after : Option Files) : Type 0 where
+-- what is left to do once a bay has the rate of its disk
+pub record IsRated (bay : ℕ) (disk : Disk) (old : State) (told : Option Files) (rest : List Request) (new : State) (after : Option Files) : Type 0 where
   pub mid : State
   pub files : Option Files
   pub course : List Taken
-  pub medium : (bay_of mid.station 0).medium ≡ Some disk
-  pub rate : (bay_of mid.station 0).rate ≡ disk.rate
+  pub medium : (bay_of mid.station bay).medium ≡ Some disk
+  pub rate : (bay_of mid.station bay).rate ≡ disk.rate
+  pub kept : (bay_of mid.station bay).acknowledged ≡ (bay_of old.station bay).acknowledged
+  pub value : Bay
+  pub bays : mid.station.bays ≡ with_bay old.station.bays bay value
+  pub memory : mid.station.memory ≡ old.station.memory
   pub names : mid.names ≡ old.names
   pub same_files : files ≡ told
   pub fell : NeverFell old.station.counters mid.station.counters
   pub behind : DoesAll mid files rest course new after
 
-pub rates : (rate : Rate) (disk : Disk) (rest : List Request) (old new : State) (told after : Option Files) (course : List Taken) → DoesAll old told (rate_requests rate 0 ++ rest) course new after → disk.rate ≡ rate → (bay_of old.station 0).medium ≡ Some disk → (disk.rate ≡ R500 → (bay_of old.station 0).rate ≡ R500) → IsRated disk old told rest new after
-rates R500 disk rest old new told after course all is medium high = record {
+with_itself : (two : Two Bay) (bay : ℕ) → two ≡ with_bay two bay (in_bay two bay)
+with_itself two bay = go (bay == 0)
+  where
+    go : (b : Bool) → two ≡ (if b then record two { first = (if b then two.first else two.second) } else record two { second = (if b then two.first else two.second) })
+    go true = refl
+    go false = refl
+
+pub rates : (bay : ℕ) (rate : Rate) (disk : Disk) (rest : List Request) (old new : State) (told after : Option Files) (course : List Taken) → DoesAll old told (rate_requests rate bay ++ rest) course new after → disk.rate ≡ rate → (bay_of old.station bay).medium ≡ Some disk → (disk.rate ≡ R500 → (bay_of old.station bay).rate ≡ R500) → IsRated bay disk old told rest new after
+rates bay R500 disk rest old new told after course all is medium high = record {
   mid = old;
   files = told;
   course = course;
   medium = medium;
   rate = high is ∙ sym is;
+  kept = refl;
+  value = bay_of old.station bay;
+  bays = with_itself old.station.bays bay;
+  memory = refl;
   names = refl;
   same_files = refl;
   fell = record { first = omega arith; second = omega arith; stalls = omega arith };
   behind = all;
 }
-rates R250 disk rest old new told after course all is medium high =
-    let first = begins old new told after (request.SetRate 0 R250) rest course all in
+rates bay R250 disk rest old new told after course all is medium high =
+    let first = begins old new told after (request.SetRate bay R250) rest course all in
     let does = first.does in
     let ok = ok_called does.1.0 first.answer does.1.1 first.done in
-    let sets = reached (rate_refusal old.station 0) does.1.0 old.station first.mid.station does.1.2 ok in
+    let sets = reached (rate_refusal old.station bay) does.1.0 old.station first.mid.station does.1.2 ok in
+    let value : Bay = record (bay_of old.station bay) { rate = R250 } in
+    let at = ap (λ (s : StationState). bay_of s bay) sets.becomes ∙ in_with old.station.bays bay value in
     record {
       mid = first.mid;
       files = first.files;
       course = first.later;
-      medium = ap (λ (s : StationState). (bay_of s 0).medium) sets.becomes ∙ medium;
-      rate = ap (λ (s : StationState). (bay_of s 0).rate) sets.becomes ∙ sym is;
+      medium = ap (λ (b : Bay). b.medium) at ∙ medium;
+      rate = ap (λ (b : Bay). b.rate) at ∙ sym is;
+      kept = ap (λ (b : Bay). b.acknowledged) at;
+      value = value;
+      bays = ap (λ (s : StationState). s.bays) sets.becomes;
+      memory = ap (λ (s : StationState). s.memory) sets.becomes;
       names = does.0.names;
       same_files = does.0.files;
-      fell = step_never_fell old first.mid told first.files (request.SetRate 0 R250) first.answer first.step refl;
+      fell = step_never_fell old first.mid told first.files (request.SetRate bay R250) first.answer first.step refl;
       behind = first.behind;
     }

@@ -1,5 +1,5 @@
 -- What the requests of a run did, one by one.
-use Rattle.std.proofs.Common.{arith, ◌≡◌, ℕ, ◌≤◌, ◌&&◌, Bool, true, false, true≢false, List, [], ◌∷◌, ◌++◌, refl, sym, ap, subst, Option, Some, None, Result, Ok, Err, IsOk}
+use Rattle.std.proofs.Common.{arith, ◌≡◌, ◌∙◌, take, length, ◌≤◌, ◌&&◌, Bool, true, false, true≢false, List, [], ◌∷◌, ◌++◌, refl, sym, ap, subst, Option, Some, None, Result, Ok, Err, IsOk}
 use Rattle.std.specs.Prelude.{◌||◌, MatchOption}
 use Rattle.std.specs.List.{list_all}
 use Rattle.flop_base.specs.Shelf.{Files}
@@ -8,7 +8,6 @@ use Rattle.bay_model.specs.Counters.{Counters, GoesOn}
 use Rattle.floppy_jobs.specs.declared.request.Request.{Request}
 use Rattle.floppy_jobs.specs.declared.request.Request.TheVariants as request
 use Rattle.sector_model.specs.declared.reply.Reply.{Reply}
-use Rattle.sector_model.specs.declared.reply.Reply.TheVariants as reply
 use Rattle.sector_model.specs.Stations.{StationState}
 use Rattle.sector_model.specs.Orders.{IsRefusedAtOnce}
 use Rattle.sector_model.specs.States.{State}
@@ -22,7 +21,7 @@ pub either : {A : Type 0} {P R : Type 0} {Q : A → Type 0} (value : Option A) �
 either None holds none some = none holds
 either (Some x) holds none some = some x holds
 
-or_false : (a b : Bool) → (a || b) ≡ false → (a ≡ false) × (b ≡ false)
+pub or_false : (a b : Bool) → (a || b) ≡ false → (a ≡ false) × (b ≡ false)
 or_false true b e = absurd (true≢false e)
 or_false false b e = (refl, e)
 
@@ -127,3 +126,91 @@ never_fell old new told after (asked ∷ rest) course all keeps =
     let here = step_never_fell old first.mid told first.files asked first.answer first.step both.0 in
     let there = never_fell first.mid new first.files after rest first.later first.behind both.1 in
     record { first = omega arith; second = omega arith; stalls = omega arith }
+
+-- the same of a run in which some may be refused
+pub run_never_fell : (old new : State) (told after : Option Files) (course : List Taken) → Run old told course new after → list_all keeps_drives (requests_of course) ≡ true → NeverFell old.station.counters new.station.counters
+run_never_fell old new told after [] run keeps =
+    subst (λ (s : State). NeverFell old.station.counters s.station.counters) (sym run.0) (record { first = omega arith; second = omega arith; stalls = omega arith })
+run_never_fell old new told after (taken ∷ later) run keeps =
+    let both = and_both (keeps_drives taken.asked) (list_all keeps_drives (requests_of later)) keeps in
+    let here = step_never_fell old taken.after told run.0 taken.asked taken.answer run.1 both.0 in
+    let there = run_never_fell taken.after new run.0 after later run.2 both.1 in
+    record { first = omega arith; second = omega arith; stalls = omega arith }
+
+-- ---- one list of requests behind another
+
+-- a run of two lists of requests is two runs
+pub record SplitsRun (old : State) (told : Option Files) (first second : List Request) (course : List Taken) (new : State) (after : Option Files) : Type 0 where
+  pub mid : State
+  pub files : Option Files
+  pub one : List Taken
+  pub two : List Taken
+  pub is : course ≡ one ++ two
+  pub begun : take (length first) course ≡ one
+  pub run_one : Run old told one mid files
+  pub run_two : Run mid files two new after
+  pub all_one : requests_of one ≡ first
+  pub all_two : requests_of two ≡ second
+
+pub splits_run : (old new : State) (told after : Option Files) (first second : List Request) (course : List Taken) → Run old told course new after → requests_of course ≡ first ++ second → SplitsRun old told first second course new after
+splits_run old new told after [] second course run all = record {
+  mid = old;
+  files = told;
+  one = [];
+  two = course;
+  is = refl;
+  begun = refl;
+  run_one = (refl, refl);
+  run_two = run;
+  all_one = refl;
+  all_two = all;
+}
+splits_run old new told after (asked ∷ first) second [] run all = absurd (cc all)
+splits_run old new told after (asked ∷ first) second (taken ∷ later) run all =
+    let here : taken.asked ≡ asked = cc all in
+    let there : requests_of later ≡ first ++ second = cc all in
+    let rest = splits_run taken.after new run.0 after first second later run.2 there in
+    record {
+      mid = rest.mid;
+      files = rest.files;
+      one = taken ∷ rest.one;
+      two = rest.two;
+      is = ap (λ (row : List Taken). taken ∷ row) rest.is;
+      begun = ap (λ (row : List Taken). taken ∷ row) rest.begun;
+      run_one = (run.0, run.1, rest.run_one);
+      run_two = rest.run_two;
+      all_one = ap (λ (q : Request). q ∷ requests_of rest.one) here ∙ ap (λ (row : List Request). asked ∷ row) rest.all_one;
+      all_two = rest.all_two;
+    }
+
+-- so it is where all are done
+pub record Splits (old : State) (told : Option Files) (first second : List Request) (course : List Taken) (new : State) (after : Option Files) : Type 0 where
+  pub mid : State
+  pub files : Option Files
+  pub one : List Taken
+  pub two : List Taken
+  pub is : course ≡ one ++ two
+  pub before : DoesAll old told first one mid files
+  pub behind : DoesAll mid files second two new after
+
+refusals_apart : (one two : List Taken) → has_refusal (one ++ two) ≡ false → (has_refusal one ≡ false) × (has_refusal two ≡ false)
+refusals_apart [] two done = (refl, done)
+refusals_apart (taken ∷ one) two done =
+    let parts = or_false (is_refusal taken.answer) (has_refusal (one ++ two)) done in
+    let rest = refusals_apart one two parts.1 in
+    let first = parts.0 in
+    (rw first rest.0, rest.1)
+
+pub splits : (old new : State) (told after : Option Files) (first second : List Request) (course : List Taken) → DoesAll old told (first ++ second) course new after → Splits old told first second course new after
+splits old new told after first second course all =
+    let parts = splits_run old new told after first second course all.run all.all in
+    let done = refusals_apart parts.one parts.two (subst (λ (row : List Taken). has_refusal row ≡ false) parts.is all.done) in
+    record {
+      mid = parts.mid;
+      files = parts.files;
+      one = parts.one;
+      two = parts.two;
+      is = parts.is;
+      before = record { run = parts.run_one; all = parts.all_one; done = done.0 };
+      behind = record { run = parts.run_two; all = parts.all_two; done = done.1 };
+    }

@@ -1,9 +1,14 @@
 -- Formatted disks.
-use Rattle.std.specs.Prelude.{◌≡◌, ℕ, false, List, Some}
-use Rattle.flop_base.specs.Standard.{words_at, gap_at, standard_fill}
+use Rattle.std.specs.Prelude.{◌≡◌, ◌≤◌, ℕ, false, List, Option, Some, replicate}
+use Rattle.flop_base.specs.Shelf.{Files, stored}
+use Rattle.flop_base.specs.Standard.{words_at, gap_at, standard_fill, standard_code, sectors_at}
 use Rattle.flop_base.specs.declared.answers.Rate.{Rate}
 use Rattle.raw_image.specs.Disk.{Disk, IsDisk, HasTrack, track_of}
+use Rattle.raw_image.specs.Image.{file_of}
+use Rattle.track_model.specs.Fields.{content_size}
 use Rattle.bay_model.specs.Bays.{in_bay}
+use Rattle.sector_map.specs.Disks.{Entry}
+use Rattle.sector_map.specs.Standard.{key_of}
 use Rattle.sector_map.specs.Layings.{formatted}
 use Rattle.sector_map.specs.LaidDisks.{format_at}
 use Rattle.sector_model.specs.Stations.{bay_of}
@@ -27,3 +32,40 @@ pub record IsFormattedDisk (at : Rate) (count : ℕ) (disk : Disk) : Type 0 wher
 pub record IsInBay (state : State) (bay : ℕ) (name : List ℕ) (disk : Disk) : Type 0 where
   pub medium : (bay_of state.station bay).medium ≡ Some disk
   pub named : in_bay state.names bay ≡ Some name
+
+-- a disk that was formatted is in bay 0, and no file changed
+pub record LeavesFormatted (at : Rate) (name : List ℕ) (count : ℕ) (told : Option Files) (new : State) (after : Option Files) : Type 0 where
+  pub disk : Disk
+  pub there : IsInBay new 0 name disk
+  pub is : IsFormattedDisk at count disk
+  pub files : after ≡ told
+
+-- a disk that was formatted is stored, and no other file changed
+pub record StoresFormatted (at : Rate) (name : List ℕ) (count : ℕ) (told after : Option Files) : Type 0 where
+  pub disk : Disk
+  pub is : IsFormattedDisk at count disk
+  pub files : after ≡ stored told name (file_of disk)
+
+-- so many bytes F6
+unfoldable pub standard_content : List ℕ
+standard_content = replicate (content_size standard_code) standard_fill
+
+-- a sector of a formatted disk, where its address field is at this place
+abbrev pub formatted_entry : ℕ → ℕ → ℕ → ℕ → Entry
+formatted_entry c h r place = record {
+  cylinder = c;
+  head = h;
+  place = place;
+  key = key_of c h r;
+  deleted = false;
+  content = standard_content;
+}
+
+-- a sector of the map is one of a standard format, as it was formatted
+pub record IsFormattedEntry (disk : Disk) (entry : Entry) : Type 0 where
+  pub cylinder : entry.key.c ≡ entry.cylinder
+  pub head : entry.key.h ≡ entry.head
+  pub sector : (1 ≤ entry.key.r) × (entry.key.r ≤ sectors_at disk.rate)
+  pub size : entry.key.n ≡ standard_code
+  pub marked : entry.deleted ≡ false
+  pub filled : entry.content ≡ standard_content

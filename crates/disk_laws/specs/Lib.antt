@@ -1,3 +1,5 @@
 pub mod Requests
 pub mod Done
 pub mod Formatted
+pub mod Verified
+pub mod Copied

@@ -52,10 +52,13 @@ format_requests rate name cylinders = formatting rate name cylinders ++ request.
 abbrev pub read_each : ℕ → List Chrn → List Request
 read_each bay keys = map (λ key. request.Read bay key 0x10000) keys
 
+-- the disk of this name is put into bay 0 and acknowledged, and the bay gets its rate
+abbrev pub verify_opening : List ℕ → Disk → List Request
+verify_opening name disk = request.Insert 0 name ∷ request.Ack 0 ∷ rate_requests disk.rate 0
+
 -- the command that reads every sector of the disk of this name
 abbrev pub verify_requests : List ℕ → Disk → List Request
-verify_requests name disk =
-    request.Insert 0 name ∷ request.Ack 0 ∷ (rate_requests disk.rate 0 ++ read_each 0 (standard_keys disk))
+verify_requests name disk = verify_opening name disk ++ read_each 0 (standard_keys disk)
 
 -- where a record lies in memory while its track is copied
 abbrev pub record_address : ℕ → ℕ
@@ -87,12 +90,17 @@ copy_each rate [] marks = []
 copy_each rate (track ∷ tracks) marks =
     copy_track rate track (take (sectors_at rate) marks) ++ copy_each rate tracks (drop (sectors_at rate) marks)
 
+-- the disk of one name is put into bay 0 and a blank one for another name into bay 1, and both bays are made ready
+abbrev pub copy_opening : List ℕ → List ℕ → Disk → List Request
+copy_opening from to disk =
+    request.Insert 0 from ∷ blank_request disk.rate 1 to disk.cylinders ∷ request.Ack 0
+    ∷ (rate_requests disk.rate 0 ++ (request.Ack 1 ∷ rate_requests disk.rate 1))
+
 -- the command that copies the disk of one name to another, where the reads give these marks
 abbrev pub copy_requests : List ℕ → List ℕ → Disk → List Bool → List Request
 copy_requests from to disk marks =
-    request.Insert 0 from ∷ blank_request disk.rate 1 to disk.cylinders ∷ request.Ack 0
-    ∷ (rate_requests disk.rate 0 ++ (request.Ack 1 ∷ (rate_requests disk.rate 1
-    ++ (copy_each disk.rate (tracks_of disk.cylinders disk.heads) marks ++ request.Eject 1 ∷ []))))
+    copy_opening from to disk
+    ++ (copy_each disk.rate (tracks_of disk.cylinders disk.heads) marks ++ request.Eject 1 ∷ [])
 
 -- the mark that a read told
 abbrev pub mark_of : Request → Reply → List Bool

@@ -1,2 +1,11 @@
-//! Laws over runs of requests for whole disks: what a disk that was formatted, copied or verified is.
+//! Laws over runs of requests for whole disks: what a disk that was formatted is, and what the reads of a whole disk tell of it.
+//!
+//! The run that copies a disk is proved in `proofs/CopiedDisk.antt` over one premise, that no write to a Laid track brings up an
+//! address mark (`AllTidy`), which `track_format` proves and doesn't export; so no function states that law yet.
 #![tactic(auto)]
+
+mod formats;
+mod reads;
+
+pub use formats::{formats_disk, formatted_disk_has_sectors};
+pub use reads::reads_tell_of_disk;

@@ -1,10 +1,8 @@
 -- No form has a word that begins with a dash.
-use Rattle.std.proofs.Common.{true≢false, ◌≡◌, ◌∙◌, ◌==◌, ◌&&◌, ◌||◌, ℕ, Bool, true, false, not, List, [], ◌∷◌, Option, Some, None, Result, Ok, Err, IsSome, refl, sym, ap, subst, rules, arith, codes, inl, inr, if◌then◌else◌}
+use Rattle.std.proofs.Common.{true≢false, ◌≡◌, ◌∙◌, ◌&&◌, ◌||◌, ℕ, Bool, true, false, not, List, [], ◌∷◌, Option, Some, None, Result, Ok, Err, refl, sym, ap, inl, inr, if◌then◌else◌}
 use Rattle.std.specs.Prelude.{◌⊎◌}
 use Rattle.std.specs.List.{list_any}
-use Rattle.std.specs.Str.{bytes_eq}
 use Rattle.std.proofs.lemmas.Bool.{eqb-true}
-use Rattle.std.proofs.lemmas.Slice.Eq.{bytes_eq-Decides}
 use Rattle.flop_base.specs.declared.answers.NoMemory.{NoMemory}
 use Rattle.floppy_jobs.specs.Names.{is_name_text, name_of}
 use Rattle.floppy_jobs.specs.Numbers.{number_of}

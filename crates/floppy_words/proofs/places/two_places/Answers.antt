@@ -1,6 +1,6 @@
 -- What was read is what was handed in.
-use Rattle.std.proofs.Common.{◌≡◌, ◌∙◌, [], ◌∷◌, Some, rules, ap₂, codes, map}
-use Rattle.clap.specs.Words.{app_of, first_value, found_of, rule_of, with_rule}
+use Rattle.std.proofs.Common.{◌≡◌, ◌∙◌, [], ◌∷◌, rules, ap₂, codes, map}
+use Rattle.clap.specs.Words.{app_of, rule_of, with_rule}
 use Rattle.floppy_words.proofs.PlaceLemmas.{place, two_places, behind, two_values, is_there, is_text}
 use Rattle.floppy_words.proofs.places.two_places.Goals as goal
 
