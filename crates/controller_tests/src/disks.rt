@@ -1,7 +1,7 @@
 // Disks of one formatted track, and of words that a test puts into it.
 ghost use Rattle.std.specs.Prelude.{◌<◌};
 
-use flop_base::Chrn;
+use flop_base::{Chrn, Rate};
 use raw_image::{Medium, read_image};
 use std::alloc::Global;
 use std::test::Fail;
@@ -10,18 +10,23 @@ use track_format::layout;
 /// The words of a track of a 1.44 MB disk.
 const WORDS: usize = 12_500;
 
-/// The words of the first track of a formatted 1.44 MB disk, whose sectors hold bytes F6.
-pub(crate) fn formatted(alloc: Global) -> Result<Vec<u16>, Fail> {
+/// The keys of the first track of a disk with so many sectors.
+pub(crate) fn keys(alloc: Global, sectors: u8) -> Result<Vec<Chrn>, Fail> {
     let mut keys = Vec::new(alloc);
-    for i in 0u8..18 {
+    for i in 0..sectors {
         keys.push(Chrn {
             c: 0,
             h: 0,
-            r: i + 1,
+            r: i.wrapping_add(1),
             n: 2,
         })?;
     }
-    Ok(layout(alloc, &keys, 2, 0x6C, 0xF6, WORDS)?)
+    Ok(keys)
+}
+
+/// The words of the first track of a formatted 1.44 MB disk, whose sectors hold bytes F6.
+pub(crate) fn formatted(alloc: Global) -> Result<Vec<u16>, Fail> {
+    Ok(layout(alloc, &keys(alloc, 18)?, 2, 0x6C, 0xF6, WORDS)?)
 }
 
 /// The same words, those from a place on replaced by these.
@@ -44,6 +49,11 @@ pub(crate) fn shifted(alloc: Global, words: &[u16], cells: u32) -> Result<Vec<u1
         before = *word;
     }
     Ok(track)
+}
+
+/// A blank disk of one cylinder and one head with 6,250 words a track, at 250 kbit/s.
+pub(crate) fn blank_at_250(alloc: Global) -> Result<Medium, Fail> {
+    Ok(Medium::blank_at(alloc, 1, 1, 6_250, Rate::R250)?)
 }
 
 /// A disk of one cylinder and one head with this track of 12,500 words.

@@ -20,8 +20,14 @@ pub(crate) struct Host {
     drive: PlainDrive,
     /// What went to memory.
     pub(crate) memory: Vec<u8>,
-    /// How many transfers are left until the terminal count.
-    left: usize,
+    /// What comes from memory.
+    source: Vec<u8>,
+    /// How many transfers were served.
+    served: usize,
+    /// How many are served before no more is.
+    most: usize,
+    /// With which of them the terminal count comes.
+    counted: usize,
 }
 
 impl Host {
@@ -31,7 +37,10 @@ impl Host {
             fdc: Fdc::new(alloc)?,
             drive: PlainDrive::new(),
             memory: Vec::new(alloc),
-            left: 0,
+            source: Vec::new(alloc),
+            served: 0,
+            most: 0,
+            counted: 0,
         })
     }
 
@@ -78,14 +87,30 @@ impl Host {
         }
     }
 
-    /// READ DATA of the sector of size code 2 with this record, on cylinder 0 and head 0.
+    /// A command of nine bytes for the sector of size code 2 with this record, on cylinder 0 and head 0.
+    pub(crate) fn begin(&mut self, code: u8, record: u8) {
+        self.send(&[code, 0x00, 0x00, 0x00, record, 0x02, 0x12, 0x1B, 0xFF]);
+    }
+
+    /// READ DATA of a record.
     pub(crate) fn read_record(&mut self, record: u8) {
-        self.send(&[0x46, 0x00, 0x00, 0x00, record, 0x02, 0x12, 0x1B, 0xFF]);
+        self.begin(0x46, record);
     }
 
     /// The next so many requests are served; the last of them has the terminal count.
     pub(crate) fn allow(&mut self, transfers: usize) {
-        self.left = transfers;
+        self.served = 0;
+        self.most = transfers;
+        self.counted = transfers;
+    }
+
+    /// The next so many requests are served with these bytes, the last with the terminal count, unless they end before.
+    pub(crate) fn give(&mut self, bytes: &[u8], most: usize) -> Result<(), Fail> {
+        self.source.clear();
+        self.source.extend_from_slice(bytes)?;
+        self.allow(bytes.len());
+        self.most = most;
+        Ok(())
     }
 
     /// So many device steps.
@@ -115,17 +140,36 @@ impl Host {
     /// Moves bytes while the controller asks for it.
     fn serve(&mut self) -> Result<(), Fail> {
         for _ in 0..16 {
-            if self.left == 0 || !self.fdc.drq() || !self.fdc.to_memory() {
+            if self.served >= self.most || !self.fdc.drq() {
                 return Ok(());
             }
-            let byte = self.fdc.dma_out();
-            self.memory.push(byte)?;
-            self.left -= 1;
-            if self.left == 0 {
+            self.transfer()?;
+            self.served = self.served.wrapping_add(1);
+            if self.served == self.counted {
                 self.fdc.tc();
             }
         }
         Ok(())
+    }
+
+    /// Moves one byte, where the controller asks for it.
+    fn transfer(&mut self) -> Result<(), Fail> {
+        if !self.fdc.drq() {
+            return Ok(());
+        }
+        if self.fdc.to_memory() {
+            let byte = self.fdc.dma_out();
+            self.memory.push(byte)?;
+        } else {
+            let byte = self.source.get(self.served).copied().unwrap_or(0xFF);
+            self.fdc.dma_in(byte);
+        }
+        Ok(())
+    }
+
+    /// Takes the disk out.
+    pub(crate) fn eject(&mut self) -> Option<Medium> {
+        self.drive.eject()
     }
 
     /// The seven result bytes of a data command.

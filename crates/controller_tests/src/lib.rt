@@ -8,6 +8,10 @@ mod disks;
 #[cfg(test)]
 mod failures;
 #[cfg(test)]
+mod formats;
+#[cfg(test)]
 mod host;
 #[cfg(test)]
 mod reads;
+#[cfg(test)]
+mod writes;

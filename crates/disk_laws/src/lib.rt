@@ -4,8 +4,10 @@
 //! address mark (`AllTidy`), which `track_format` proves and doesn't export; so no function states that law yet.
 #![tactic(auto)]
 
+mod copies;
 mod formats;
 mod reads;
 
+pub use copies::copies_disk;
 pub use formats::{formats_disk, formatted_disk_has_sectors};
 pub use reads::reads_tell_of_disk;

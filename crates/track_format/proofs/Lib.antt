@@ -1,6 +1,6 @@
 pub mod Asked
 mod Found
-mod Laid
+pub mod Laid
 mod Parts
 mod Placed
 pub mod Read
