@@ -2,25 +2,27 @@
 use drive_model::{Drive, PlainDrive};
 use flop_base::Rate;
 use irq_events::Pace;
-use pc_bus::Machine;
+use pc_bus::{Machine, MachineOf};
 use raw_image::Medium;
 use std::alloc::Global;
 use std::test::Fail;
 
-fn empty(alloc: Global) -> Result<Machine, Fail> {
-    let first: Box<dyn Drive> = Box::new(alloc, PlainDrive::new())?;
-    let second: Box<dyn Drive> = Box::new(alloc, PlainDrive::new())?;
-    let pace = Pace {
+fn steady(alloc: Global) -> Pace {
+    Pace {
         gaps: Vec::new(alloc),
         holds: Vec::new(alloc),
         strays: Vec::new(alloc),
-    };
-    Ok(Machine::new(alloc, first, second, pace)?)
+    }
 }
 
 #[test]
 fn a_search_without_a_disk_ends_after_65536_steps(rt: HostRuntime) -> Result<(), Fail> {
-    let mut machine = empty(rt.alloc())?;
+    let mut machine = MachineOf::new(
+        rt.alloc(),
+        PlainDrive::new(),
+        PlainDrive::new(),
+        steady(rt.alloc()),
+    )?;
     assert!(rt; machine.is_fresh());
     machine.outb(0x3F2, 0x1C);
     assert!(rt; !machine.is_fresh());
@@ -41,7 +43,9 @@ fn a_search_without_a_disk_ends_after_65536_steps(rt: HostRuntime) -> Result<(),
 
 #[test]
 fn drives_and_media_are_exchanged(rt: HostRuntime) -> Result<(), Fail> {
-    let mut machine = empty(rt.alloc())?;
+    let first: Box<dyn Drive> = Box::new(rt.alloc(), PlainDrive::new())?;
+    let second: Box<dyn Drive> = Box::new(rt.alloc(), PlainDrive::new())?;
+    let mut machine = Machine::new(rt.alloc(), first, second, steady(rt.alloc()))?;
     machine.outb(0x3F2, 0x24);
     let medium = Medium::blank_at(rt.alloc(), 40, 1, 64, Rate::R250)?;
     assert!(rt; machine.insert(1, medium).is_ok());

@@ -1,8 +1,8 @@
 // READ ID and READ DATA through the ports, channel 2 and line 6.
-use drive_model::{Drive, PlainDrive};
+use drive_model::PlainDrive;
 use flop_base::{Chrn, Rate};
 use irq_events::Pace;
-use pc_bus::Machine;
+use pc_bus::MachineOf;
 use raw_image::Medium;
 use std::alloc::Global;
 use std::process::Abort;
@@ -36,10 +36,8 @@ fn medium(alloc: Global) -> Result<Medium, Fail> {
 }
 
 /// The machine with that diskette in bay 0.
-fn machine(alloc: Global, pace: Pace) -> Result<Machine, Fail> {
-    let first: Box<dyn Drive> = Box::new(alloc, PlainDrive::new())?;
-    let second: Box<dyn Drive> = Box::new(alloc, PlainDrive::new())?;
-    let mut machine = Machine::new(alloc, first, second, pace)?;
+fn machine(alloc: Global, pace: Pace) -> Result<MachineOf<PlainDrive>, Fail> {
+    let mut machine = MachineOf::new(alloc, PlainDrive::new(), PlainDrive::new(), pace)?;
     let medium = medium(alloc)?;
     if machine.insert(0, medium).is_err() {
         return Err(Fail::from("in"));
@@ -48,7 +46,7 @@ fn machine(alloc: Global, pace: Pace) -> Result<Machine, Fail> {
 }
 
 /// Motor 0 on, out of reset, the four results of the reset taken, SPECIFY AF 02, CONFIGURE 00 07 00, rate 00.
-fn start(machine: &mut Machine) {
+fn start(machine: &mut MachineOf<PlainDrive>) {
     machine.outb(0x3F2, 0x1C);
     machine.wait(6260);
     let _ = machine.take_irq();
@@ -64,7 +62,7 @@ fn start(machine: &mut Machine) {
 }
 
 /// Channel 2 to memory, 512 bytes from 21234 on.
-fn set_dma(machine: &mut Machine) {
+fn set_dma(machine: &mut MachineOf<PlainDrive>) {
     for (port, value) in [
         (0x0A, 0x06),
         (0x0C, 0),
@@ -81,14 +79,14 @@ fn set_dma(machine: &mut Machine) {
 }
 
 /// READ DATA of cylinder 0, head 0, record 1, size 2.
-fn read(machine: &mut Machine) {
+fn read(machine: &mut MachineOf<PlainDrive>) {
     for byte in [0x46, 0x00, 0x00, 0x00, 0x01, 0x02, 0x12, 0x1B, 0xFF] {
         machine.outb(0x3F5, byte);
     }
 }
 
 /// The seven result bytes.
-fn results(machine: &mut Machine) -> [u8; 7] {
+fn results(machine: &mut MachineOf<PlainDrive>) -> [u8; 7] {
     let mut all = [0u8; 7];
     for slot in all.iter_mut() {
         *slot = machine.inb(0x3F5);
