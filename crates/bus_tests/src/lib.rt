@@ -1,0 +1,7 @@
+//! Tests of the machine, at its ports.
+#![tactic(auto)]
+
+#[cfg(test)]
+mod ports;
+#[cfg(test)]
+mod reads;
