@@ -1,7 +1,6 @@
 // Requests that a command asks, one after the other, up to the first that is refused or stops the run.
-ghost use Rattle.std.specs.Prelude.{◌≡◌, ◌≢◌, [], ◌∷◌, IfOk, IfErr, OnOk, IsErrOf};
+ghost use Rattle.std.specs.Prelude.{◌≡◌, ◌≢◌, [], ◌∷◌, IfOk, IfErr, IsErrOf};
 ghost use Rattle.flop_base.specs.declared.answers.Rate.{Rate};
-ghost use Rattle.sector_model.specs.Texts.{is_refusal};
 ghost use Rattle.sector_model.specs.Faults.{Blames};
 ghost use Rattle.floppy_session.specs.Session.{IsRunning};
 ghost use Rattle.floppy_session.specs.Tries.{HasTries};

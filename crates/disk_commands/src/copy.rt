@@ -1,12 +1,9 @@
 // The copy of a whole disk.
-ghost use Rattle.std.specs.Prelude.{◌≡◌, ◌≢◌, ◌+◌, ◌-◌, ◌*◌, ◌≤◌, ◌<◌, ◌∷◌, [], Some, List, OnOk, IfOk, IfErr, IsErrOf, string_bytes, set, get_or, length, false};
-ghost use Rattle.flop_base.specs.Standard.{sectors_at};
+ghost use Rattle.std.specs.Prelude.{◌≡◌, ◌≢◌, ◌+◌, ◌-◌, ◌*◌, ◌≤◌, ◌<◌, IfOk, IfErr, IsErrOf, string_bytes, set, get_or, length, false};
 ghost use Rattle.sector_model.specs.Faults.{Blames};
-ghost use Rattle.sector_model.specs.Stations.{bay_of};
-ghost use Rattle.floppy_session.specs.Session.{state_of, IsRunning};
-ghost use Rattle.floppy_session.specs.Shapes.{shape_in};
+ghost use Rattle.floppy_session.specs.Session.{IsRunning};
 ghost use Rattle.disk_commands.specs.Plans.{Asks, each, by_track, record_address, write_request, tells_deleted, read_track, write_track, copy_track, prepare_plan, copy_rest};
-ghost use Rattle.disk_commands.specs.Carried.{Any, stage_of, Carries, IsHalted, Goes};
+ghost use Rattle.disk_commands.specs.Carried.{Any, stage_of, IsHalted, Goes};
 ghost use Rattle.disk_commands.specs.Marks.{ReadsMarks, HasMarks};
 ghost use Rattle.disk_commands.specs.Commands.{Copies, copy_text, sectors_of, Runs};
 ghost use Rattle.disk_commands.specs.Worlds.{world_of};

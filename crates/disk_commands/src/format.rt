@@ -1,7 +1,6 @@
 // The format of a whole disk.
-ghost use Rattle.std.specs.Prelude.{◌≡◌, ◌≢◌, ◌*◌, ◌≤◌, ◌∷◌, List, OnOk, IfOk, IfErr, IsErrOf, string_bytes};
+ghost use Rattle.std.specs.Prelude.{◌≡◌, ◌≢◌, ◌*◌, IfOk, IsErrOf, string_bytes};
 ghost use Rattle.sector_model.specs.Faults.{Blames};
-ghost use Rattle.sector_model.specs.Plays.{IsPutFault};
 ghost use Rattle.floppy_session.specs.Session.{IsRunning};
 ghost use Rattle.floppy_session.specs.Blanks.{blank_request};
 ghost use Rattle.disk_commands.specs.Plans.{each, by_track, format_track, format_plan};

@@ -1,9 +1,7 @@
 // A disk that is put in.
-ghost use Rattle.std.specs.Prelude.{◌≡◌, [], ◌∷◌, Some, IfOk, IfErr, IsErrOf};
+ghost use Rattle.std.specs.Prelude.{[], ◌∷◌, Some, IfOk, IfErr, IsErrOf};
 ghost use Rattle.sector_model.specs.Faults.{Blames};
-ghost use Rattle.sector_model.specs.Stations.{bay_of};
-ghost use Rattle.floppy_session.specs.Session.{state_of, IsRunning};
-ghost use Rattle.floppy_session.specs.Shapes.{shape_in};
+ghost use Rattle.floppy_session.specs.Session.{IsRunning};
 ghost use Rattle.disk_commands.specs.Plans.{Asks};
 ghost use Rattle.disk_commands.specs.Carried.{Any, stage_of, IsHalted};
 ghost use Rattle.disk_commands.specs.Marks.{Opens};

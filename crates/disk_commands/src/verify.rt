@@ -1,12 +1,11 @@
 // The verify of a whole disk.
-ghost use Rattle.std.specs.Prelude.{◌≡◌, ◌≢◌, ◌+◌, ◌-◌, ◌*◌, ◌≤◌, ◌∷◌, ◌++◌, [], List, ℕ, Err, IfOk, IfErr, OnOk, OnErr, IsErrOf, string_bytes, codes};
-ghost use Rattle.flop_base.specs.Standard.{sectors_at};
+ghost use Rattle.std.specs.Prelude.{◌≡◌, ◌≢◌, ◌+◌, ◌-◌, ◌*◌, ◌≤◌, ◌∷◌, [], Err, IfOk, IfErr, OnOk, OnErr, IsErrOf, string_bytes};
 ghost use Rattle.flop_base.specs.Sink.{grown, GrowsByPart};
 ghost use Rattle.sector_model.specs.Faults.{Blames};
-ghost use Rattle.sector_model.specs.Texts.{reason_text, line_end, is_refusal};
+ghost use Rattle.sector_model.specs.Texts.{is_refusal};
 ghost use Rattle.sector_model.specs.Plays.{IsPutFault, whole_status};
 ghost use Rattle.floppy_session.specs.Session.{IsRunning};
-ghost use Rattle.disk_commands.specs.Plans.{Asks, each, by_track, track_address, verify_track, verify_plan};
+ghost use Rattle.disk_commands.specs.Plans.{Asks, each, track_address, verify_track, verify_plan};
 ghost use Rattle.disk_commands.specs.Commands.{sectors_of, Runs};
 ghost use Rattle.disk_commands.specs.Verifies.{failure_line, failure_text, VerifyGoes, VerifiesShape, Verifies, verify_text};
 ghost use Rattle.disk_commands.specs.Worlds.{world_of};

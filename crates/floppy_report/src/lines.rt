@@ -1,5 +1,5 @@
 // The lines of a report. Each ends with a line feed and is put by one call.
-ghost use Rattle.std.specs.Prelude.{◌≡◌, ◌≤◌, ◌++◌, ℕ, List, codes, IfErr, MatchResult, ◌≢◌, OnOk, OnErr, IfOk, IsErrOf, string_bytes, map};
+ghost use Rattle.std.specs.Prelude.{◌≡◌, ◌++◌, ℕ, List, codes, IfErr, MatchResult, ◌≢◌, OnOk, OnErr, IfOk, IsErrOf, string_bytes};
 ghost use Rattle.std.specs.Fmt.{decimal};
 ghost use Rattle.flop_base.specs.Sink.{grown, GrowsByPart};
 ghost use Rattle.sector_model.specs.Texts.{reply_text, stop_text, stop_status, bad_line_text, absent_text, image_text, image_error_text, reason_text, dump_text, dump_line, dump_byte, line_end};
@@ -289,11 +289,19 @@ pub fn put_last_stopped<K: Sink>(
     ensures only { result ≢ Status.SomeRefused → IsPutFault result }
     ensures faults { Blames (result ≡ Status.SinkFault) (K.fault_count out.old) (K.fault_count out.new) }
 {
-    put_last_line(out, stopped_line(alloc, request, reason), Status::SomeRefused)
+    put_last_line(
+        out,
+        stopped_line(alloc, request, reason),
+        Status::SomeRefused,
+    )
 }
 
 /// Puts the last line of a command, and gives the status.
-pub fn put_last_line<K: Sink>(out: &mut K, line: Result<String, AllocError>, status: Status) -> Status
+pub fn put_last_line<K: Sink>(
+    out: &mut K,
+    line: Result<String, AllocError>,
+    status: Status,
+) -> Status
     ensures prints { (text : List ℕ) → IfOk line (λ made. string_bytes made ≡ text)
         → Prints (K.told out.old) text status (K.told out.new) result }
     ensures only { result ≢ status → IsPutFault result }

@@ -1,5 +1,5 @@
 // Image files, from a shelf and back to it.
-ghost use Rattle.std.specs.Prelude.{◌≡◌, ◌≤◌, ℕ, IfOk, IfErr, OnOk, OnErr, IsErrOf};
+ghost use Rattle.std.specs.Prelude.{◌≡◌, ℕ, IfOk, IfErr, OnOk, OnErr, IsErrOf};
 ghost use Rattle.flop_base.specs.Shelf.{stored};
 ghost use Rattle.raw_image.specs.Image.{image_of, file_of, Reads};
 ghost use Rattle.sector_model.specs.Steps.{IsImageOf, StopCause};

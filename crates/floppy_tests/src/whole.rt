@@ -53,7 +53,8 @@ fn a_copy_keeps_contents_and_deleted_marks(rt: HostRuntime) -> Result<(), Fail> 
     let alloc = rt.alloc();
     let mut shelf = MemShelf::new(alloc, Vec::new(alloc));
     shelf.put_file("a.rt", &formatted(alloc, Rate::R500)?)?;
-    let job = b"insert 0 a.rt\nack 0\nfill 10000 512 11\nwritedel 0 1 1 5 2 10000\nwrite 0 0 1 18 2 10000\n";
+    let job =
+        b"insert 0 a.rt\nack 0\nfill 10000 512 11\nwritedel 0 1 1 5 2 10000\nwrite 0 0 1 18 2 10000\n";
     shelf.put_file("job", job)?;
     let told = "insert ok;ack ok;fill ok;writedel ok;write ok";
     answers(&rt, alloc, &mut shelf, "play job", (told, Status::AllOk))?;
@@ -96,7 +97,10 @@ fn a_refusal_stops_a_copy_and_is_listed_by_a_verify(rt: HostRuntime) -> Result<(
     shelf.put_file("x.rt", &damaged)?;
     let stopped = ("stopped at read 0 0 0 1 2 10000: 10", Status::SomeRefused);
     answers(&rt, alloc, &mut shelf, "copy x.rt c.rt", stopped)?;
-    assert!(rt; shelf.file("c.rt").is_none(), "a copy that stopped isn't stored");
+    assert!(rt;
+        shelf.file("c.rt").is_none(),
+        "a copy that stopped isn't stored"
+    );
     let listed = ("0 0 1 10;verify 71 of 72", Status::SomeRefused);
     answers(&rt, alloc, &mut shelf, "verify x.rt", listed)?;
     let absent = ("none.rt absent", Status::Absent);
