@@ -1,2 +1,4 @@
 pub mod Held
 pub mod Places
+pub mod Windowed
+pub mod OnMedium

@@ -6,10 +6,14 @@
 
 mod error;
 mod fields;
+mod making;
 mod taking;
+mod tracks;
+mod windows;
 
 pub use error::ImdError;
 pub use imd_files::{
     ImdImage, ImdKind, ImdSector, ImdSectors, ImdTrack, ImdTracks, read_imd, write_imd,
 };
+pub use making::to_medium;
 pub use taking::from_medium;
