@@ -2,3 +2,5 @@ pub mod Held
 pub mod Places
 pub mod Windowed
 pub mod OnMedium
+pub mod FoundAgain
+pub mod Imaged

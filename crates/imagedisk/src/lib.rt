@@ -6,6 +6,7 @@
 
 mod error;
 mod fields;
+mod laws;
 mod making;
 mod taking;
 mod tracks;
@@ -15,5 +16,6 @@ pub use error::ImdError;
 pub use imd_files::{
     ImdImage, ImdKind, ImdSector, ImdSectors, ImdTrack, ImdTracks, read_imd, write_imd,
 };
+pub use laws::{image_has_medium, made_is_found, medium_has_image};
 pub use making::to_medium;
 pub use taking::from_medium;
