@@ -4,3 +4,4 @@ pub mod Windowed
 pub mod OnMedium
 pub mod FoundAgain
 pub mod Imaged
+pub mod Mapped

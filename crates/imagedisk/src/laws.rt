@@ -2,6 +2,7 @@
 ghost use Rattle.std.specs.Prelude.{All};
 ghost use Rattle.imd_files.specs.Images.{IsImdTrack, IsImdImage};
 ghost use Rattle.imagedisk.specs.Made.{IsMadeTrack, IsMediumOf};
+ghost use Rattle.imagedisk.specs.Maps.{HasMapOf};
 ghost use Rattle.imagedisk.specs.Found.{HasBytes, HasSectors, AreBytes, HasImage};
 ghost use Rattle.imagedisk.specs.Taken.{IsImageOf};
 
@@ -32,4 +33,11 @@ pub fn medium_has_image(_image: &ImdImage, _medium: &Medium)
 pub fn image_has_medium(_image: &ImdImage, _medium: &Medium)
     requires { IsImageOf _medium.now _image.now }
     ensures { HasImage _medium.now _image.now }
+{}
+
+/// A law: the map of a diskette that has the sectors of an image is the list of the image's good and deleted sectors, by
+/// cylinder, head and place. So two diskettes that have the sectors of one image have one map.
+pub fn image_is_map(_image: &ImdImage, _medium: &Medium)
+    requires { HasImage _medium.now _image.now }
+    ensures { HasMapOf _medium.now _image.now }
 {}
