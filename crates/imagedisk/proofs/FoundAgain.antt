@@ -1,0 +1,194 @@
+-- The sectors of an image on the track that it makes.
+use Rattle.std.proofs.Common.{◌≡◌, ◌≢◌, ◌↔◌, ℕ, zero, suc, ◌+◌, ◌-◌, ◌/◌, ◌^◌, ◌≤◌, ◌<◌, Bool, true, false, List, [], ◌∷◌, length, get_or, replicate, refl, sym, ap, subst, ◌∙◌, arith, All, inl, inr}
+use Rattle.std.proofs.lemmas.Bool.{cases_lt}
+use Rattle.std.proofs.lemmas.List.{get_or-map, get_or-replicate, get_or_past, length-replicate}
+use Rattle.flop_base.specs.declared.answers.Rate.{Rate}
+use Rattle.flop_base.specs.declared.key.Chrn.{Chrn}
+use Rattle.flop_base.specs.Standard.{standard_fill, words_at}
+use Rattle.track_model.specs.declared.Look.TheVariants.{Found, NoData, BadCrc}
+use Rattle.track_model.specs.Fields.{IsAddressAt, content_at, content_size}
+use Rattle.track_model.specs.Looks.{LookAt}
+use Rattle.track_model.specs.Writing.{window}
+use Rattle.track_model.specs.Windows.{window_place, window_words, damaged_window, cut_of, IsFieldFor}
+use Rattle.track_model.specs.Regular.{IsSpaced}
+use Rattle.track_model.specs.Kept.{KeepsOthers}
+use Rattle.track_model.specs.Layouts.{lay, laid_words, Fits}
+use Rattle.track_model.specs.LaidFields.{sector_place, IsKey}
+use Rattle.track_model.proofs.Written.{length-window}
+use Rattle.track_model.proofs.Kept.{cut_kept, cut_found, cut_content, damaged_all, damaged_kept, damaged_bad, empty_kept, empty_none}
+use Rattle.track_format.specs.Gaps.{IsLargestGap}
+use Rattle.track_format.proofs.Read.{read_fields, read_spaced}
+use Rattle.imd_files.specs.declared.sector.ImdKind.{ImdKind}
+use Rattle.imd_files.specs.declared.sector.ImdKind.TheVariants.{Absent, Good, Deleted, Bad, BadDeleted}
+use Rattle.imd_files.specs.declared.sector.ImdSector.{ImdSector}
+use Rattle.imd_files.specs.declared.track.ImdTrack.{ImdTrack}
+use Rattle.imd_files.specs.Images.{kept_size, IsImdSector, IsImdTrack}
+use Rattle.imagedisk.specs.Made.{keys_of, window_of, with_sectors, laid_track, empty_words, IsMadeTrack}
+use Rattle.imagedisk.specs.Found.{IsFoundAs, HasBytes, HasSectors}
+use Rattle.imagedisk.proofs.Windowed.{laid_before}
+
+-- ---- one window
+
+abbrev put_at : List ℕ → ℕ → ℕ → ImdKind → List ℕ → List ℕ
+put_at track p n kind content = cut_of track p (window_words n) (window_of n kind content)
+
+abbrev IsPutWell : List ℕ → ℕ → ℕ → ImdKind → List ℕ → Type 0
+IsPutWell track p n kind content = KeepsOthers track (put_at track p n kind content) p × IsFoundAs (put_at track p n kind content) p n kind content
+
+intact_put : (track : List ℕ) (p : ℕ) (key : Chrn) (deleted : Bool) (content : List ℕ) → IsSpaced track → IsAddressAt track p key → length content ≡ content_size key.n → ((j : ℕ) → get_or content j 0 < 2 ^ 8)
+    → KeepsOthers track (cut_of track p (window_words key.n) (window deleted content)) p
+    × LookAt (cut_of track p (window_words key.n) (window deleted content)) p key.n (Found deleted (window_place p + 256))
+    × (content ≡ content_at (cut_of track p (window_words key.n) (window deleted content)) (window_place p + 256) key.n)
+intact_put track p key deleted content spaced here size bytes =
+    let field : IsFieldFor track p key content = record { address = here; size = size } in
+    let k = window_words key.n in
+    let long = length-window deleted content in
+    let all : k ≡ length (window deleted content) = omega (arith, long, size) in (
+      cut_kept track p key deleted content k spaced field (omega arith) (inr all),
+      cut_found track p key deleted content k spaced field bytes all,
+      cut_content track p key deleted content k spaced field bytes all,
+    )
+
+damaged_put : (track : List ℕ) (p : ℕ) (key : Chrn) (deleted : Bool) (content : List ℕ) → IsSpaced track → IsAddressAt track p key → length content ≡ content_size key.n → ((j : ℕ) → get_or content j 0 < 2 ^ 8)
+    → KeepsOthers track (cut_of track p (window_words key.n) (damaged_window deleted content)) p
+    × LookAt (cut_of track p (window_words key.n) (damaged_window deleted content)) p key.n BadCrc
+damaged_put track p key deleted content spaced here size bytes =
+    let field : IsFieldFor track p key content = record { address = here; size = size } in
+    let k = window_words key.n in
+    let long = damaged_all deleted content in
+    let all : k ≡ length (damaged_window deleted content) = omega (arith, long, size) in
+    (damaged_kept track p key deleted content k spaced field all, damaged_bad track p key deleted content k spaced field bytes all)
+
+put_well : (track : List ℕ) (p : ℕ) (key : Chrn) (kind : ImdKind) (content : List ℕ) → IsSpaced track → IsAddressAt track p key → length content ≡ kept_size kind key.n → ((j : ℕ) → get_or content j 0 < 2 ^ 8)
+    → IsPutWell track p key.n kind content
+put_well track p key Absent content spaced here size bytes = (empty_kept track p key (window_words key.n) spaced here refl, empty_none track p key (window_words key.n) spaced here refl)
+put_well track p key Good content spaced here size bytes = let put = intact_put track p key false content spaced here size bytes in (put.0, (window_place p + 256, put.1, put.2))
+put_well track p key Deleted content spaced here size bytes = let put = intact_put track p key true content spaced here size bytes in (put.0, (window_place p + 256, put.1, put.2))
+put_well track p key Bad content spaced here size bytes = damaged_put track p key false content spaced here size bytes
+put_well track p key BadDeleted content spaced here size bytes = damaged_put track p key true content spaced here size bytes
+
+-- another sector's data stay
+kept_found : (track after : List ℕ) (p q : ℕ) (key : Chrn) (kind : ImdKind) (content : List ℕ) → KeepsOthers track after p → q ≢ p → IsAddressAt track q key
+    → IsFoundAs track q key.n kind content → IsFoundAs after q key.n kind content
+kept_found track after p q key Absent content kept other here found = (kept.looks q key NoData other here).0 found
+kept_found track after p q key Good content kept other here found =
+    (found.0, (kept.looks q key (Found false found.0) other here).0 found.1, found.2 ∙ kept.contents q key false found.0 other here found.1)
+kept_found track after p q key Deleted content kept other here found =
+    (found.0, (kept.looks q key (Found true found.0) other here).0 found.1, found.2 ∙ kept.contents q key true found.0 other here found.1)
+kept_found track after p q key Bad content kept other here found = (kept.looks q key BadCrc other here).0 found
+kept_found track after p q key BadDeleted content kept other here found = (kept.looks q key BadCrc other here).0 found
+
+-- ---- windows one after the other
+
+place_before : (n gap3 i j : ℕ) → i < j → sector_place n gap3 i < sector_place n gap3 j
+place_before n gap3 i j lt = let before = laid_before j i n gap3 lt in omega (arith, before)
+
+-- `after` is the track with the windows of these sectors, from number `first` on
+record IsPutOver (before after : List ℕ) (n gap3 first : ℕ) (sectors : List ImdSector) : Type 0 where
+  addresses : (q : ℕ) (key : Chrn) → IsAddressAt before q key ↔ IsAddressAt after q key
+  found : (i : ℕ) (d : ImdSector) → i < length sectors
+      → IsFoundAs after (sector_place n gap3 (first + i)) (get_or sectors i d).key.n (get_or sectors i d).kind (get_or sectors i d).content
+  others : (q : ℕ) (key : Chrn) (kind : ImdKind) (content : List ℕ) → ((i : ℕ) → i < length sectors → q ≢ sector_place n gap3 (first + i))
+      → IsAddressAt before q key → IsFoundAs before q key.n kind content → IsFoundAs after q key.n kind content
+
+put_over : (n gap3 first : ℕ) (sectors : List ImdSector) (track : List ℕ) → IsSpaced track → All (IsImdSector n) sectors → All HasBytes sectors
+    → ((i : ℕ) (d : ImdSector) → i < length sectors → IsAddressAt track (sector_place n gap3 (first + i)) (get_or sectors i d).key)
+    → IsPutOver track (with_sectors n gap3 first sectors track) n gap3 first sectors
+unfolding with_sectors
+put_over n gap3 first [] track spaced valid bytes here = record {
+  addresses = λ q key. (λ x. x, λ x. x);
+  found = λ i d lt. absurd (omega arith);
+  others = λ q key kind content apart address found. found;
+}
+put_over n gap3 first (sector ∷ sectors) track spaced valid bytes here =
+    let p = sector_place n gap3 first in
+    let put = put_at track p n sector.kind sector.content in
+    let coded = (valid 0 sector (omega arith)).coded in
+    let at : IsAddressAt track p sector.key = subst (λ (k : ℕ). IsAddressAt track (sector_place n gap3 k) sector.key) (omega arith) (here 0 sector (omega arith)) in
+    let well : IsPutWell track p n sector.kind sector.content =
+    subst (λ (m : ℕ). IsPutWell track p m sector.kind sector.content) coded
+    (put_well track p sector.key sector.kind sector.content spaced at (subst (λ (m : ℕ). length sector.content ≡ kept_size sector.kind m) (sym coded) (valid 0 sector (omega arith)).size) (bytes 0 sector (omega arith)).content) in
+    let next : (i : ℕ) → first + suc i ≡ suc first + i = λ i. omega arith in
+    let ih = put_over n gap3 (suc first) sectors put well.0.spaced (λ i d lt. valid (suc i) d (omega arith)) (λ i d lt. bytes (suc i) d (omega arith))
+    (λ i d lt. (well.0.addresses (sector_place n gap3 (suc first + i)) (get_or sectors i d).key).0
+    (subst (λ (k : ℕ). IsAddressAt track (sector_place n gap3 k) (get_or sectors i d).key) (next i) (here (suc i) d (omega arith)))) in
+    let own : IsFoundAs put p sector.key.n sector.kind sector.content = subst (λ (m : ℕ). IsFoundAs put p m sector.kind sector.content) (sym coded) well.1 in
+    let after = with_sectors n gap3 (suc first) sectors put in
+    let last : IsFoundAs after p sector.key.n sector.kind sector.content =
+    ih.others p sector.key sector.kind sector.content (λ i lt e. let before = place_before n gap3 first (suc first + i) (omega arith) in omega (arith, before, e)) ((well.0.addresses p sector.key).0 at) own in
+    record {
+      addresses = λ q key. (λ x. (ih.addresses q key).0 ((well.0.addresses q key).0 x), λ x. (well.0.addresses q key).1 ((ih.addresses q key).1 x));
+      found = λ i d. elim i as (λ i. i < suc (length sectors) → IsFoundAs after (sector_place n gap3 (first + i)) (get_or (sector ∷ sectors) i d).key.n (get_or (sector ∷ sectors) i d).kind (get_or (sector ∷ sectors) i d).content) [
+        | zero ↦ (λ lt. subst (λ (k : ℕ). IsFoundAs after (sector_place n gap3 k) sector.key.n sector.kind sector.content) (omega arith) last)
+        | suc i ↦ (λ lt. subst (λ (k : ℕ). IsFoundAs after (sector_place n gap3 k) (get_or sectors i d).key.n (get_or sectors i d).kind (get_or sectors i d).content) (sym (next i)) (ih.found i d (omega arith)))
+      ];
+      others = λ q key kind content apart address found.
+          let differs : q ≢ p = λ e. apart 0 (omega arith) (e ∙ ap (sector_place n gap3) (omega arith)) in
+          ih.others q key kind content (λ i lt e. apart (suc i) (omega arith) (e ∙ ap (sector_place n gap3) (sym (next i)))) ((well.0.addresses q key).0 address)
+          (kept_found track put p q key kind content well.0 differs address found);
+    }
+
+-- ---- the track of an image
+
+no_sector : ImdSector
+no_sector = record { key = record { c = 0; h = 0; r = 0; n = 0 }; kind = Absent; content = [] }
+
+key_of : (sectors : List ImdSector) (i : ℕ) (d : ImdSector) (e : Chrn) → i < length sectors → get_or (keys_of sectors) i e ≡ (get_or sectors i d).key
+key_of sectors i d e lt = get_or-map (λ (sector : ImdSector). sector.key) sectors i d e lt
+
+key_count : (sectors : List ImdSector) → length (keys_of sectors) ≡ length sectors
+key_count [] = refl
+key_count (sector ∷ sectors) = ap suc (key_count sectors)
+
+laid_has : (rate : Rate) (track : ImdTrack) (gap3 : ℕ) → IsImdTrack track → All HasBytes track.sectors → IsLargestGap track.n (length track.sectors) rate gap3 → HasSectors (laid_track rate track gap3) track.sectors
+laid_has rate track gap3 valid bytes largest =
+    let sectors = track.sectors in
+    let keys = keys_of sectors in
+    let n = track.n in
+    let words = words_at rate in
+    let count = key_count sectors in
+    let fits : Fits keys n gap3 words = subst (λ (k : ℕ). laid_words k n gap3 ≤ words) (sym count) largest.suits.fits in
+    let are_keys : All IsKey keys = λ i e lt. subst IsKey (sym (key_of sectors i no_sector e (omega (arith, count)))) (bytes i no_sector (omega (arith, count))).key in
+    let asked : All (λ key. key.n ≡ n) keys = λ i e lt. subst (λ (key : Chrn). key.n ≡ n) (sym (key_of sectors i no_sector e (omega (arith, count)))) (valid.sectors i no_sector (omega (arith, count))).coded in
+    let small : standard_fill < 256 = omega arith in
+    let fields = read_fields keys n gap3 standard_fill words fits valid.coded small are_keys in
+    let spaced = read_spaced keys n gap3 standard_fill words fits valid.coded are_keys asked largest.least
+    (subst (λ (k : ℕ). 27 ≤ gap3 + (words - laid_words k n gap3)) (sym count) largest.suits.room) in
+    let laid = lay keys n gap3 standard_fill words in
+    let over = put_over n gap3 0 sectors laid spaced valid.sectors bytes
+    (λ i d lt. subst (λ (k : ℕ). IsAddressAt laid (sector_place n gap3 k) (get_or sectors i d).key) (omega arith)
+    (subst (λ (key : Chrn). IsAddressAt laid (sector_place n gap3 i) key) (key_of sectors i d d.key lt) (fields.each i d.key (omega (arith, count))))) in
+    record {
+      place = sector_place n gap3;
+      ordered = λ i j lt within. place_before n gap3 i j lt;
+      address = λ i d lt. (over.addresses (sector_place n gap3 i) (get_or sectors i d).key).0
+          (subst (λ (key : Chrn). IsAddressAt laid (sector_place n gap3 i) key) (key_of sectors i d d.key lt) (fields.each i d.key (omega (arith, count))));
+      data_are = λ i d lt. subst (λ (k : ℕ). IsFoundAs (laid_track rate track gap3) (sector_place n gap3 k) (get_or sectors i d).key.n (get_or sectors i d).kind (get_or sectors i d).content) (omega arith) (over.found i d lt);
+      only = λ p key at. let one = fields.only p key ((over.addresses p key).1 at) in (one.0, (let within = one.1 in omega (arith, within, count)), one.2);
+    }
+
+abbrev silence : ℕ → List ℕ
+silence count = replicate count 0
+
+zero_word : (count i : ℕ) → get_or (silence count) i 0 ≡ 0
+zero_word count i =
+    elim (cases_lt i count) [
+      | inl lt ↦ get_or-replicate {A = ℕ} count i 0 0 lt
+      | inr le ↦ get_or_past (silence count) i 0 (omega (arith, length-replicate {A = ℕ} count 0))
+    ]
+
+nothing_there : (count p : ℕ) (key : Chrn) → IsAddressAt (silence count) p key → ⊥
+nothing_there count p key at = at.sound.no_zero p (omega arith) (omega arith) (zero_word count (p / 16))
+
+pub empty_has : (rate : Rate) → HasSectors (empty_words rate) []
+empty_has rate = record {
+  place = λ i. i;
+  ordered = λ i j lt within. lt;
+  address = λ i d lt. absurd (omega arith);
+  data_are = λ i d lt. absurd (omega arith);
+  only = λ p key at. absurd (nothing_there (words_at rate) p key at);
+}
+
+pub made_has : (rate : Rate) (track : ImdTrack) (words : List ℕ) → IsImdTrack track → All HasBytes track.sectors → IsMadeTrack rate track words → HasSectors words track.sectors
+made_has rate track words valid bytes (inl none) = subst (λ (sectors : List ImdSector). HasSectors words sectors) (sym none.0) (subst (λ (ws : List ℕ). HasSectors ws []) (sym none.1) (empty_has rate))
+made_has rate track words valid bytes (inr some) = subst (λ (ws : List ℕ). HasSectors ws track.sectors) (sym some.2) (laid_has rate track some.0 valid bytes some.1)

@@ -1,0 +1,104 @@
+-- Diskettes that have the sectors of an image.
+use Rattle.std.proofs.Common.{◌≡◌, ℕ, zero, suc, ◌<◌, ◌⊎◌, true, false, eqb, List, [], ◌∷◌, length, get_or, refl, sym, ap, subst, ◌∙◌, arith, eq-eqb, inl, inr}
+use Rattle.std.proofs.lemmas.Bool.{eqb-true}
+use Rattle.std.proofs.lemmas.List.{get_or_default}
+use Rattle.flop_base.specs.declared.key.Chrn.{Chrn}
+use Rattle.raw_image.specs.Disk.{Disk, track_of}
+use Rattle.track_model.specs.declared.Field.{Field}
+use Rattle.track_model.specs.Fields.{IsAddressAt}
+use Rattle.imd_files.specs.declared.sector.ImdKind.{ImdKind}
+use Rattle.imd_files.specs.declared.sector.ImdKind.TheVariants.{Absent, Good, Deleted, Bad, BadDeleted}
+use Rattle.imd_files.specs.declared.track.ImdTrack.{ImdTrack}
+use Rattle.imd_files.specs.declared.image.ImdImage.{ImdImage}
+use Rattle.imd_files.specs.Images.{IsImdImage}
+use Rattle.imagedisk.specs.Taken.{Holds, IsTrackOf, HasTrackAt, IsImageOf}
+use Rattle.imagedisk.specs.Made.{IsMediumOf}
+use Rattle.imagedisk.specs.Found.{IsFoundAs, HasSectors, AreBytes, HasImage}
+use Rattle.imagedisk.proofs.FoundAgain.{made_has, empty_has}
+
+held_found : (track : List ℕ) (p n : ℕ) (kind : ImdKind) (content : List ℕ) → Holds track p n kind content → IsFoundAs track p n kind content
+held_found track p n Absent content held = held.0
+held_found track p n Good content held = held
+held_found track p n Deleted content held = held
+held_found track p n Bad content held = held.0
+held_found track p n BadDeleted content held = held.0
+
+no_field : Field
+no_field = record { place = 0; key = record { c = 0; h = 0; r = 0; n = 0 } }
+
+pub taken_has : (words : List ℕ) (c h : ℕ) (track : ImdTrack) → IsTrackOf words c h track → HasSectors words track.sectors
+taken_has words c h track is =
+    let fields = is.fields in
+    let count = is.sectors.count in
+    record {
+      place = λ i. (get_or fields i no_field).place;
+      ordered = λ i j lt within. is.addresses.ordered i j no_field lt (omega (arith, count));
+      address = λ i d lt.
+          subst (λ (key : Chrn). IsAddressAt words (get_or fields i no_field).place key) (sym (is.sectors.each i no_field d (omega (arith, count))).key) (is.addresses.each i no_field (omega (arith, count)));
+      data_are = λ i d lt.
+          let one = is.sectors.each i no_field d (omega (arith, count)) in
+          let sector = get_or track.sectors i d in
+          subst (λ (key : Chrn). IsFoundAs words (get_or fields i no_field).place key.n sector.kind sector.content) (sym one.key)
+          (held_found words (get_or fields i no_field).place (get_or fields i no_field).key.n sector.kind sector.content one.data_are);
+      only = λ p key at.
+          let found = is.addresses.all (record { place = p; key = key }) at in (
+            found.0,
+            (let within = found.1 in omega (arith, within, count)),
+            ap (λ (f : Field). f.place) (sym found.2 ∙ get_or_default fields found.0 (record { place = p; key = key }) no_field found.1),
+          );
+    }
+
+pub image_has : (disk : Disk) (image : ImdImage) → IsImageOf disk image → HasImage disk image
+image_has disk image is = record {
+  tracks = λ i d lt.
+      let one = is.each i d lt in
+      let track = get_or image.tracks i d in
+      taken_has (track_of disk track.c track.h) track.c track.h track one.holds;
+  others = is.all;
+}
+
+-- a track of this cylinder and head is among these, or none is
+abbrev NoneAt : List ImdTrack → ℕ → ℕ → Type 0
+NoneAt tracks c h = (i : ℕ) (d : ImdTrack) → i < length tracks → (get_or tracks i d).c ≡ c → (get_or tracks i d).h ≡ h → ⊥
+
+at_next : (track : ImdTrack) (tracks : List ImdTrack) (c h : ℕ) → HasTrackAt tracks c h → HasTrackAt (track ∷ tracks) c h
+at_next track tracks c h at = (suc at.0, (let within = at.1 in omega (arith, within)), at.2)
+
+none_next : (track : ImdTrack) (tracks : List ImdTrack) (c h : ℕ) → (track.c ≡ c → track.h ≡ h → ⊥) → NoneAt tracks c h → NoneAt (track ∷ tracks) c h
+none_next track tracks c h other none zero d lt = other
+none_next track tracks c h other none (suc i) d lt = none i d (omega arith)
+
+same_or_not : (a b : ℕ) → (a ≡ b) ⊎ (a ≡ b → ⊥)
+same_or_not a b =
+    elim (eqb a b) as (λ t. eqb a b ≡ t → (a ≡ b) ⊎ (a ≡ b → ⊥)) [
+      | true ↦ (λ e. inl (eqb-true a b e))
+      | false ↦ (λ e. inr (λ same. let met = eq-eqb a b same in absurd cc))
+    ] refl
+
+at_or_not : (tracks : List ImdTrack) (c h : ℕ) → HasTrackAt tracks c h ⊎ NoneAt tracks c h
+at_or_not [] c h = inr (λ i d lt. absurd (omega arith))
+at_or_not (track ∷ tracks) c h =
+    elim (at_or_not tracks c h) [
+      | inl at ↦ inl (at_next track tracks c h at)
+      | inr none ↦ elim (same_or_not track.c c) [
+        | inr other ↦ inr (none_next track tracks c h (λ same_c same_h. other same_c) none)
+        | inl same_c ↦ elim (same_or_not track.h h) [
+          | inl same_h ↦ inl (0, omega arith, λ d. (same_c, same_h))
+          | inr other ↦ inr (none_next track tracks c h (λ e same_h. other same_h) none)
+        ]
+      ]
+    ]
+
+pub medium_has : (image : ImdImage) (disk : Disk) → IsImdImage image → AreBytes image → IsMediumOf image disk → HasImage disk image
+medium_has image disk valid bytes is = record {
+  tracks = λ i d lt.
+      let track = get_or image.tracks i d in
+      made_has image.rate track (track_of disk track.c track.h) (valid.tracks i d lt) (bytes i d lt) (is.made i d lt);
+  others = λ c h has. elim (at_or_not image.tracks c h) [
+    | inl at ↦ inl at
+    | inr none ↦ (
+        let empty = is.others c h has (λ i d lt at. none i d lt at.0 at.1) in
+        let nowhere = subst (λ (ws : List ℕ). HasSectors ws []) (sym empty) (empty_has image.rate) in
+        inr (λ p key at. let one = nowhere.only p key at in let within = one.1 in omega (arith, within)))
+  ];
+}

@@ -1,0 +1,7 @@
+pub mod Held
+pub mod Places
+pub mod Windowed
+pub mod OnMedium
+pub mod FoundAgain
+pub mod Imaged
+pub mod Mapped

@@ -1,0 +1,5 @@
+use Rattle.imagedisk.specs.Made.{HasFirst}
+use Rattle.imagedisk.proofs.making.to_medium.Given as goal
+
+abbrev pub invariant-loop-i : goal.invariant-loop-i
+invariant-loop-i l = HasFirst l.image l.medium l.i

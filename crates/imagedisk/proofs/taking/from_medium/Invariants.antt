@@ -1,0 +1,5 @@
+use Rattle.imagedisk.specs.Taken.{AreTakenBelow}
+use Rattle.imagedisk.proofs.taking.from_medium.Given as goal
+
+abbrev pub invariant-loop-place : goal.invariant-loop-place
+invariant-loop-place l = AreTakenBelow l.medium l.place l.tracks

@@ -1,0 +1,7 @@
+use Rattle.std.proofs.Common.{◌≡◌, ◌++◌, drop}
+use Rattle.track_model.specs.Bytes.{legal}
+use Rattle.imagedisk.proofs.windows.push_cells.Given as goal
+
+-- the bytes that are left go on from the words so far
+abbrev pub invariant-loop-byte : goal.invariant-loop-byte
+invariant-loop-byte l = l.words.items ++ legal l.after (drop l.byte-index l.bytes) ≡ l.initial.words.items ++ legal l.last l.bytes

@@ -1,0 +1,47 @@
+-- What is found on a track that an ImageDisk image made.
+use Rattle.std.specs.Prelude.{◌≡◌, ℕ, ◌<◌, ◌^◌, true, false, List, length, slice_index, slice_index_or, All, ◌⊎◌}
+use Rattle.flop_base.specs.declared.key.Chrn.{Chrn}
+use Rattle.track_model.specs.declared.Look.TheVariants.{Found, NoData, BadCrc}
+use Rattle.track_model.specs.Fields.{IsAddressAt, content_at}
+use Rattle.track_model.specs.Looks.{LookAt}
+use Rattle.track_model.specs.LaidFields.{IsKey}
+use Rattle.imd_files.specs.declared.sector.ImdKind.{ImdKind}
+use Rattle.imd_files.specs.declared.sector.ImdKind.TheVariants.{Absent, Good, Deleted, Bad, BadDeleted}
+use Rattle.imd_files.specs.declared.sector.ImdSector.{ImdSector}
+use Rattle.imd_files.specs.declared.track.ImdTrack.{ImdTrack}
+use Rattle.imd_files.specs.declared.image.ImdImage.{ImdImage}
+use Rattle.raw_image.specs.Disk.{Disk, HasTrack, track_of}
+use Rattle.imagedisk.specs.Taken.{HasTrackAt, HasNoAddress}
+
+-- the look at the address field at p for data of this kind: good and deleted ones are found, bad ones are damaged, absent
+-- ones aren't there
+abbrev pub IsFoundAs : List ℕ → ℕ → ℕ → ImdKind → List ℕ → Type 0
+IsFoundAs track p n Absent content = LookAt track p n NoData
+IsFoundAs track p n Good content = (place : ℕ) × LookAt track p n (Found false place) × (content ≡ content_at track place n)
+IsFoundAs track p n Deleted content = (place : ℕ) × LookAt track p n (Found true place) × (content ≡ content_at track place n)
+IsFoundAs track p n Bad content = LookAt track p n BadCrc
+IsFoundAs track p n BadDeleted content = LookAt track p n BadCrc
+
+-- key and content are bytes
+pub record HasBytes (sector : ImdSector) : Type 0 where
+  pub key : IsKey sector.key
+  pub content : (j : ℕ) → slice_index sector.content j < 2 ^ 8
+
+-- the address fields of the track are those of the sectors, in their order, each with its data
+pub record HasSectors (track : List ℕ) (sectors : List ImdSector) : Type 0 where
+  pub place : ℕ → ℕ
+  pub ordered : (i j : ℕ) → i < j → j < length sectors → place i < place j
+  pub address : (i : ℕ) (d : ImdSector) → i < length sectors → IsAddressAt track (place i) (slice_index_or sectors i d).key
+  pub data_are : (i : ℕ) (d : ImdSector) → i < length sectors
+      → IsFoundAs track (place i) (slice_index_or sectors i d).key.n (slice_index_or sectors i d).kind (slice_index_or sectors i d).content
+  pub only : (p : ℕ) (key : Chrn) → IsAddressAt track p key → (i : ℕ) × (i < length sectors) × (p ≡ place i)
+
+-- the tracks of the diskette are those of the image, each with its sectors, and elsewhere is no address field
+pub record HasImage (disk : Disk) (image : ImdImage) : Type 0 where
+  pub tracks : (i : ℕ) (d : ImdTrack) → i < length image.tracks
+      → HasSectors (track_of disk (slice_index_or image.tracks i d).c (slice_index_or image.tracks i d).h) (slice_index_or image.tracks i d).sectors
+  pub others : (c h : ℕ) → HasTrack disk c h → HasTrackAt image.tracks c h ⊎ HasNoAddress (track_of disk c h)
+
+-- all keys and contents of an image are bytes
+abbrev pub AreBytes : ImdImage → Type 0
+AreBytes image = All (λ (track : ImdTrack). All HasBytes track.sectors) image.tracks

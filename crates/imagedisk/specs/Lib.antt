@@ -1,0 +1,4 @@
+pub mod Taken
+pub mod Made
+pub mod Found
+pub mod Maps

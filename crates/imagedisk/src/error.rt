@@ -1,0 +1,41 @@
+// Why a diskette is no image, or an image no diskette.
+ghost use Rattle.std.specs.Prelude.{◌≡◌};
+ghost use Rattle.imagedisk.specs.declared.error.ImdError.TheVariants as cause;
+
+use flop_base::NoMemory;
+use std::alloc::{AllocError, AllocFailed};
+use thiserror::Error;
+
+#[derive(Clone, Copy, Debug, PartialEq, Eq, Error)]
+pub enum ImdError {
+    /// The first track that the other form can't have.
+    #[error("track {c} {h} unfit")]
+    Unfit { c: u8, h: u8 },
+    /// Memory couldn't be had.
+    #[error("no memory")]
+    NoMemory,
+}
+
+impl From<NoMemory> for ImdError {
+    ghost from_gives = { λ _ e. e ≡ cause.NoMemory };
+
+    fn from(_: NoMemory) -> ImdError {
+        ImdError::NoMemory
+    }
+}
+
+impl From<AllocError> for ImdError {
+    ghost from_gives = { λ _ e. e ≡ cause.NoMemory };
+
+    fn from(_: AllocError) -> ImdError {
+        ImdError::NoMemory
+    }
+}
+
+impl<T: Drop> From<AllocFailed<T>> for ImdError {
+    ghost from_gives = { λ _ e. e ≡ cause.NoMemory };
+
+    fn from(_: AllocFailed<T>) -> ImdError {
+        ImdError::NoMemory
+    }
+}

@@ -1,0 +1,43 @@
+// What is found on the tracks that an image makes.
+ghost use Rattle.std.specs.Prelude.{All};
+ghost use Rattle.imd_files.specs.Images.{IsImdTrack, IsImdImage};
+ghost use Rattle.imagedisk.specs.Made.{IsMadeTrack, IsMediumOf};
+ghost use Rattle.imagedisk.specs.Maps.{HasMapOf};
+ghost use Rattle.imagedisk.specs.Found.{HasBytes, HasSectors, AreBytes, HasImage};
+ghost use Rattle.imagedisk.specs.Taken.{IsImageOf};
+
+use flop_base::Rate;
+use imd_files::{ImdImage, ImdTrack};
+use raw_image::Medium;
+
+/// A law: on a track that an image makes are the address fields of its sectors and no others, in their order. Good and
+/// deleted data are found, with their content; bad data fail their check; absent data aren't there. The premise on bytes
+/// stands here since a law sees no ranges behind a reference.
+pub fn made_is_found(_rate: Rate, _track: &ImdTrack, _words: &[u16])
+    requires valid { IsImdTrack _track.now }
+    requires bytes { All HasBytes _track.now.sectors }
+    requires made { IsMadeTrack _rate _track.now _words.now }
+    ensures { HasSectors _words.now _track.now.sectors }
+{}
+
+/// A law: the diskette of an image has the image's tracks, each with its sectors, and no other address field.
+pub fn medium_has_image(_image: &ImdImage, _medium: &Medium)
+    requires valid { IsImdImage _image.now }
+    requires bytes { AreBytes _image.now }
+    requires made { IsMediumOf _image.now _medium.now }
+    ensures { HasImage _medium.now _image.now }
+{}
+
+/// A law: so has the diskette of which an image was taken. A diskette that is made of that image thus has the same
+/// sectors in the same order.
+pub fn image_has_medium(_image: &ImdImage, _medium: &Medium)
+    requires { IsImageOf _medium.now _image.now }
+    ensures { HasImage _medium.now _image.now }
+{}
+
+/// A law: the map of a diskette that has the sectors of an image is the list of the image's good and deleted sectors, by
+/// cylinder, head and place. So two diskettes that have the sectors of one image have one map.
+pub fn image_is_map(_image: &ImdImage, _medium: &Medium)
+    requires { HasImage _medium.now _image.now }
+    ensures { HasMapOf _medium.now _image.now }
+{}

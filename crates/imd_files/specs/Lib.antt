@@ -1,0 +1,5 @@
+pub mod Images
+pub mod Left
+pub mod Headers
+pub mod Reading
+pub mod Writing
