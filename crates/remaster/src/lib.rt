@@ -1,8 +1,14 @@
 //! A medium listed field by field, and laid out anew.
 #![tactic(auto)]
 
+mod error;
+mod fit;
 mod lines;
 mod looked;
+mod relaid;
+mod sectors;
 
+pub use error::RemasterError;
 pub use lines::{SurveyEnd, SurveyLine, survey};
 pub use looked::{LookedField, list_looked};
+pub use sectors::{Sector, list_sectors};
