@@ -26,13 +26,13 @@ pub record IsFit (rate : Rate) (c h : ℕ) (sectors : List Sector) : Type 0 wher
   pub few : length sectors ≤ 255
   pub gap : All (λ sector. HasGap rate sector.key.n (length sectors)) sectors
 
--- the track is fit
-abbrev pub IsFitTrack : Disk → ℕ → ℕ → Type 0
-IsFitTrack disk c h = (sectors : List Sector) × AreSectors (track_of disk c h) sectors × IsFit disk.rate c h sectors
+-- the sectors of the track of a cylinder and a head are fit
+abbrev pub IsFitTrack : Rate → ℕ → ℕ → List ℕ → Type 0
+IsFitTrack rate c h track = (sectors : List Sector) × AreSectors track sectors × IsFit rate c h sectors
 
--- the track isn't
-abbrev pub IsUnfitTrack : Disk → ℕ → ℕ → Type 0
-IsUnfitTrack disk c h = (sectors : List Sector) × AreSectors (track_of disk c h) sectors × (IsFit disk.rate c h sectors → ⊥)
+-- they aren't
+abbrev pub IsUnfitTrack : Rate → ℕ → ℕ → List ℕ → Type 0
+IsUnfitTrack rate c h track = (sectors : List Sector) × AreSectors track sectors × (IsFit rate c h sectors → ⊥)
 
 -- one track comes before another: by cylinder, then head
 abbrev pub IsBefore : ℕ → ℕ → ℕ → ℕ → Type 0
@@ -41,8 +41,8 @@ IsBefore b g c h = (b < c) ⊎ ((b ≡ c) × (g < h))
 -- the first track that isn't fit
 pub record IsFirstUnfit (disk : Disk) (c h : ℕ) : Type 0 where
   pub track : HasTrack disk c h
-  pub unfit : IsUnfitTrack disk c h
-  pub before : (b g : ℕ) → HasTrack disk b g → IsBefore b g c h → IsFitTrack disk b g
+  pub unfit : IsUnfitTrack disk.rate c h (track_of disk c h)
+  pub before : (b g : ℕ) → HasTrack disk b g → IsBefore b g c h → IsFitTrack disk.rate b g (track_of disk b g)
 
 -- the sector's content has the size that its key names
 pub record HasSize (sector : Sector) : Type 0 where

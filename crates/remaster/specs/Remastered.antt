@@ -1,5 +1,5 @@
 -- What a medium becomes that is laid out anew.
-use Rattle.std.specs.Prelude.{◌≡◌, ℕ, List, Result, Ok, Err}
+use Rattle.std.specs.Prelude.{◌≡◌, ℕ, ◌<◌, List, Result, Ok, Err}
 use Rattle.flop_base.specs.Standard.{words_at}
 use Rattle.flop_base.specs.declared.answers.Rate.{Rate}
 use Rattle.raw_image.specs.Disk.{Disk, HasTrack, track_of}
@@ -9,7 +9,7 @@ use Rattle.remaster.specs.declared.sectors.Sector.{Sector}
 use Rattle.remaster.specs.declared.error.RemasterError.{RemasterError}
 use Rattle.remaster.specs.declared.error.RemasterError.TheVariants.{Unfit, NoMemory}
 use Rattle.remaster.specs.Sectors.{AreSectors}
-use Rattle.remaster.specs.Fit.{IsFit, IsFirstUnfit}
+use Rattle.remaster.specs.Fit.{IsFit, IsFitTrack, IsUnfitTrack, IsFirstUnfit}
 use Rattle.remaster.specs.Relaid.{IsRelaid}
 
 -- the disk `after` has the protection, cylinders, heads and rate of this one, and as many words a track as pass in a turn
@@ -41,9 +41,18 @@ Remasters disk (Ok after) = IsRemaster disk after
 Remasters disk (Err (Unfit c h)) = IsFirstUnfit disk c h
 Remasters disk (Err NoMemory) = Unit {0}
 
--- the answer on a track
-abbrev pub RemastersTrack : Rate → ℕ → ℕ → List ℕ → Result (List ℕ) RemasterError → Type 0
-RemastersTrack rate c h track (Ok after) = IsTrackRemaster rate c h track after
-RemastersTrack rate c h track (Err (Unfit b g)) =
-    (b ≡ c) × (g ≡ h) × ((sectors : List Sector) × AreSectors track sectors × (IsFit rate c h sectors → ⊥))
-RemastersTrack rate c h track (Err NoMemory) = Unit {0}
+-- why a track wasn't laid out anew
+abbrev pub IsTrackError : Rate → ℕ → ℕ → List ℕ → RemasterError → Type 0
+IsTrackError rate c h track (Unfit b g) =
+    (b ≡ c) × (g ≡ h) × IsUnfitTrack rate c h track
+IsTrackError rate c h track NoMemory = Unit {0}
+
+-- the track of this cylinder and head is laid out anew on the disk `after`
+abbrev pub IsDone : Disk → Disk → ℕ → ℕ → Type 0
+IsDone disk after c h = IsTrackRemaster disk.rate c h (track_of disk c h) (track_of after c h)
+
+-- why the tracks of a cylinder weren't: one is the first of them that isn't fit
+abbrev pub IsUnfitIn : Disk → ℕ → RemasterError → Type 0
+IsUnfitIn disk c (Unfit b g) = (b ≡ c) × (g < disk.heads) × IsUnfitTrack disk.rate c g (track_of disk c g)
+    × ((k : ℕ) → k < g → IsFitTrack disk.rate c k (track_of disk c k))
+IsUnfitIn disk c NoMemory = Unit {0}

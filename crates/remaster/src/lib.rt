@@ -1,6 +1,7 @@
 //! A medium listed field by field, and laid out anew.
 #![tactic(auto)]
 
+mod disk;
 mod error;
 mod fit;
 mod lines;
@@ -8,6 +9,7 @@ mod looked;
 mod relaid;
 mod sectors;
 
+pub use disk::remaster;
 pub use error::RemasterError;
 pub use lines::{SurveyEnd, SurveyLine, survey};
 pub use looked::{LookedField, list_looked};
