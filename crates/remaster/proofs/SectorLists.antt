@@ -1,0 +1,73 @@
+-- The sectors behind address fields, and their sizes.
+use Rattle.std.proofs.Common.{◌≡◌, ℕ, suc, ◌+◌, ◌*◌, ◌<◌, ◌≤◌, Bool, List, [], ◌∷◌, ◌++◌, length, take, get_or, All, sym, ap, subst, ◌∙◌, arith}
+use Rattle.std.specs.List.{flat_map}
+use Rattle.std.proofs.lemmas.List.{append-nil, take_more, take_all}
+use Rattle.std.proofs.lemmas.List.Concat.{flat_map-append}
+use Rattle.std.proofs.lemmas.List.Elements.{All-append, All-push}
+use Rattle.std.proofs.lemmas.List.FromFn.{length-map-range_with_len}
+use Rattle.flop_base.specs.declared.key.Chrn.{Chrn}
+use Rattle.track_model.specs.declared.Look.{Look}
+use Rattle.track_model.specs.declared.Look.TheVariants.{Found, NoMark, NoSector, NoData, BadCrc}
+use Rattle.track_model.specs.Cells.{IsInside}
+use Rattle.track_model.specs.Bytes.{byte_at, bytes_at}
+use Rattle.track_model.specs.Fields.{IsSizeCode, content_size, content_at}
+use Rattle.track_model.specs.Looks.{LookAt}
+use Rattle.track_model.proofs.Places.{bytes_at-more}
+use Rattle.remaster.specs.declared.looked.LookedField.{LookedField}
+use Rattle.remaster.specs.declared.sectors.Sector.{Sector}
+use Rattle.remaster.specs.Looked.{HasLook}
+use Rattle.remaster.specs.Sectors.{sector_of, found_by, found_at}
+use Rattle.remaster.specs.Fit.{HasSize}
+
+-- what is found has a size and is inside the track, with its check
+pub found_coded : (track : List ℕ) (p n : ℕ) (deleted : Bool) (place : ℕ) → LookAt track p n (Found deleted place) → IsSizeCode n
+found_coded track p n deleted place look = look.1.coded
+
+pub found_inside : (track : List ℕ) (p n : ℕ) (deleted : Bool) (place : ℕ) → LookAt track p n (Found deleted place) → IsInside track place (16 * (content_size n + 2))
+found_inside track p n deleted place look =
+    let inside = look.1.inside in
+    let there : place ≡ look.0 + 64 = look.2 in
+    omega (arith, inside, there)
+
+-- one byte more of a content
+pub content_more : (track : List ℕ) (place i : ℕ) (bytes after : List ℕ) (byte : ℕ) → after ≡ bytes ++ byte ∷ [] → bytes ≡ bytes_at track place i → byte ≡ byte_at track (place + 16 * i) → after ≡ bytes_at track place (i + 1)
+content_more track place i bytes after byte e so_far is =
+    e ∙ ap (λ bs. bs ++ byte ∷ []) so_far ∙ ap (λ (b : ℕ). bytes_at track place i ++ b ∷ []) is ∙ sym (bytes_at-more track place i)
+
+-- one field more
+pub sectors_more : (track : List ℕ) (looked : List LookedField) (i : ℕ) (sectors after : List Sector) (one d : LookedField) → after ≡ sectors ++ found_at track one → sectors ≡ flat_map (found_at track) (take i looked) → i < length looked → one ≡ get_or looked i d → after ≡ flat_map (found_at track) (take (i + 1) looked)
+sectors_more track looked i sectors after one d e so_far within is =
+    let last : flat_map (found_at track) (get_or looked i d ∷ []) ≡ found_at track (get_or looked i d) = append-nil (found_at track (get_or looked i d)) in
+    e ∙ ap (λ ss. ss ++ found_at track one) so_far
+    ∙ ap (λ (o : LookedField). flat_map (found_at track) (take i looked) ++ found_at track o) is
+    ∙ ap (λ ss. flat_map (found_at track) (take i looked) ++ ss) (sym last)
+    ∙ sym (flat_map-append (found_at track) (take i looked) (get_or looked i d ∷ []))
+    ∙ ap (flat_map (found_at track)) (sym (take_more looked i d within))
+
+-- ---- sizes
+
+none_sized : All HasSize []
+none_sized = λ k d lt. absurd (omega arith)
+
+sized_by : (track : List ℕ) (p : ℕ) (key : Chrn) (look : Look) → LookAt track p key.n look → All HasSize (found_by track key look)
+sized_by track p key (Found deleted place) look =
+    All-push HasSize [] (sector_of key deleted (content_at track place key.n)) none_sized
+    (record {
+      coded = found_coded track p key.n deleted place look;
+      size = length-map-range_with_len (λ i. byte_at track (place + 16 * i)) 0 (content_size key.n);
+    })
+sized_by track p key NoMark look = none_sized
+sized_by track p key NoSector look = none_sized
+sized_by track p key NoData look = none_sized
+sized_by track p key BadCrc look = none_sized
+
+pub all_sized : (track : List ℕ) (looked : List LookedField) → All (HasLook track) looked → All HasSize (flat_map (found_at track) looked)
+all_sized track [] looks = none_sized
+all_sized track (one ∷ rest) looks =
+    All-append HasSize (found_at track one) (flat_map (found_at track) rest)
+    (sized_by track one.field.place one.field.key one.look (looks 0 one (omega arith)))
+    (all_sized track rest (λ k d lt. looks (suc k) d (omega arith)))
+
+pub sized_of : (track : List ℕ) (looked : List LookedField) (i : ℕ) (sectors : List Sector) → sectors ≡ flat_map (found_at track) (take i looked) → length looked ≤ i → All (HasLook track) looked → All HasSize sectors
+sized_of track looked i sectors is past looks =
+    subst (All HasSize) (sym (is ∙ ap (flat_map (found_at track)) (take_all i looked past))) (all_sized track looked looks)

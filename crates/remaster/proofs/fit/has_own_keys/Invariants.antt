@@ -1,0 +1,8 @@
+use Rattle.std.proofs.Common.{take, All}
+use Rattle.remaster.specs.declared.sectors.Sector.{Sector}
+use Rattle.remaster.specs.Fit.{IsOwnKey}
+use Rattle.remaster.proofs.fit.has_own_keys.Given as goal
+
+-- so the keys of the sectors so far
+abbrev pub invariant-loop-sector : goal.invariant-loop-sector
+invariant-loop-sector l = All (λ (sector : Sector). IsOwnKey l.c l.h sector.key) (take l.sector-index l.sectors)

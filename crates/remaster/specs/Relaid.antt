@@ -1,0 +1,43 @@
+-- A track laid out anew.
+use Rattle.std.specs.Prelude.{◌≡◌, ℕ, ◌+◌, List, [], ◌∷◌, length, map}
+use Rattle.flop_base.specs.Standard.{words_at, standard_fill}
+use Rattle.flop_base.specs.declared.key.Chrn.{Chrn}
+use Rattle.flop_base.specs.declared.answers.Rate.{Rate}
+use Rattle.sector_map.specs.Met.{unrecorded}
+use Rattle.track_model.specs.declared.Look.TheVariants.{Found}
+use Rattle.track_model.specs.Fields.{IsAddressAt, content_at}
+use Rattle.track_model.specs.Looks.{LookAt}
+use Rattle.track_model.specs.Windows.{window_place}
+use Rattle.track_model.specs.Layouts.{lay}
+use Rattle.track_model.specs.LaidFields.{sector_place}
+use Rattle.track_model.specs.Laid.{with_window}
+use Rattle.track_format.specs.Gaps.{IsLargestGap}
+use Rattle.remaster.specs.declared.sectors.Sector.{Sector}
+
+-- a sector's key
+abbrev pub key_of : Sector → Chrn
+key_of sector = sector.key
+
+-- the track with these sectors written one after the other, from the i-th place of the layout on
+abbrev pub with_sectors : ℕ → ℕ → ℕ → List Sector → List ℕ → List ℕ
+with_sectors n gap3 i [] track = track
+with_sectors n gap3 i (sector ∷ rest) track =
+    with_sectors n gap3 (i + 1) rest (with_window track (sector_place n gap3 i) sector.deleted sector.content)
+
+-- a formatted track with these sectors written
+abbrev pub laid_with : Rate → ℕ → ℕ → List Sector → List ℕ
+laid_with rate n gap3 sectors =
+    with_sectors n gap3 0 sectors (lay (map key_of sectors) n gap3 standard_fill (words_at rate))
+
+-- the track of these sectors: words 0000 where there are none; else formatted with their keys, in this order, with the largest
+-- gap that suits them, and each written
+abbrev pub IsRelaid : Rate → List Sector → List ℕ → Type 0
+IsRelaid rate [] track = track ≡ unrecorded (words_at rate)
+IsRelaid rate (first ∷ rest) track =
+    (gap3 : ℕ) × IsLargestGap first.key.n (length (first ∷ rest)) rate gap3 × (track ≡ laid_with rate first.key.n gap3 (first ∷ rest))
+
+-- the sector is found at the address field at p, where its window stands
+pub record HoldsSector (track : List ℕ) (p : ℕ) (sector : Sector) : Type 0 where
+  pub address : IsAddressAt track p sector.key
+  pub look : LookAt track p sector.key.n (Found sector.deleted (window_place p + 256))
+  pub content : sector.content ≡ content_at track (window_place p + 256) sector.key.n

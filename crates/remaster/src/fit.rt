@@ -1,0 +1,85 @@
+// Whether the sectors of a track can be laid out anew.
+ghost use Rattle.std.specs.Prelude.{◌≡◌, ◌≢◌, ◌<◌, ◌↔◌, IsTrue, MatchOption, length, slice_index_or, All, AllPairs};
+ghost use Rattle.track_model.specs.Fields.{IsSizeCode};
+ghost use Rattle.remaster.specs.declared.sectors.Sector.{Sector};
+ghost use Rattle.remaster.specs.Fit.{IsOwnKey, HasSizeCode, MayShare, IsFit, IsPlanned};
+
+use crate::sectors::Sector;
+use flop_base::{Chrn, Rate};
+use track_format::choose_gap;
+
+/// The most sectors of a track.
+const MOST_SECTORS: usize = 255;
+
+/// Whether none of the sectors has the key.
+fn is_new_key(sectors: &[Sector], key: Chrn) -> bool
+    ensures { IsTrue result ↔ All (λ sector. sector.key ≢ key) sectors.now }
+{
+    for sector in sectors {
+        if sector.key == key {
+            return false;
+        }
+    }
+    true
+}
+
+/// Whether each sector has a key of its own.
+fn has_distinct_keys(sectors: &[Sector]) -> bool
+    ensures { IsTrue result ↔ AllPairs (λ a b. a.key ≢ b.key) sectors.now }
+{
+    for i in 0..sectors.len() {
+        if !is_new_key(&sectors[..i], sectors[i].key) {
+            return false;
+        }
+    }
+    true
+}
+
+/// Whether all keys name this cylinder and head.
+fn has_own_keys(sectors: &[Sector], c: u8, h: u8) -> bool
+    ensures { IsTrue result ↔ All (λ sector. IsOwnKey c h sector.key) sectors.now }
+{
+    for sector in sectors {
+        if sector.key.c != c || sector.key.h != h {
+            return false;
+        }
+    }
+    true
+}
+
+/// Whether all keys have this size code.
+fn has_one_size(sectors: &[Sector], n: u8) -> bool
+    ensures { IsTrue result ↔ All (HasSizeCode n) sectors.now }
+{
+    for sector in sectors {
+        if sector.key.n != n {
+            return false;
+        }
+    }
+    true
+}
+
+/// Whether the sectors can stand on one track, apart from the room: at most 255 with keys of their own that name the track,
+/// and with this size code.
+fn may_share(sectors: &[Sector], n: u8, c: u8, h: u8) -> bool
+    ensures { IsTrue result ↔ MayShare n c h sectors.now }
+{
+    sectors.len() <= MOST_SECTORS
+        && has_own_keys(sectors, c, h)
+        && has_one_size(sectors, n)
+        && has_distinct_keys(sectors)
+}
+
+/// The largest gap 3 for the sectors of a track, where they can be laid out anew. `n` is the size code of the first.
+pub(crate) fn fitting_gap(sectors: &[Sector], n: u8, rate: Rate, c: u8, h: u8) -> Option<u8>
+    requires some { 0 < length sectors.now }
+    requires first { (d : Sector) → HasSizeCode n (slice_index_or sectors.now 0 d) }
+    requires coded { IsSizeCode n }
+    ensures { MatchOption result (IsFit rate c h sectors.now → ⊥)
+        (λ gap3. IsPlanned rate c h sectors.now n gap3) }
+{
+    if !may_share(sectors, n, c, h) {
+        return None;
+    }
+    choose_gap(n, sectors.len() as u8, rate)
+}

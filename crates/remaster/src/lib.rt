@@ -1,0 +1,18 @@
+//! A medium listed field by field, and laid out anew.
+#![tactic(auto)]
+
+mod disk;
+mod error;
+mod fit;
+mod laws;
+mod lines;
+mod looked;
+mod relaid;
+mod sectors;
+
+pub use disk::remaster;
+pub use error::RemasterError;
+pub use laws::sectors_are_one;
+pub use lines::{SurveyEnd, SurveyLine, survey};
+pub use looked::{LookedField, list_looked};
+pub use sectors::{Sector, list_sectors};
