@@ -12,6 +12,8 @@ mod plans;
 #[cfg(test)]
 mod regular;
 #[cfg(test)]
+mod rescues;
+#[cfg(test)]
 mod separators;
 #[cfg(test)]
 mod texts;
