@@ -2,3 +2,4 @@ pub mod WordLemmas
 pub mod TextLemmas
 pub mod LogLemmas
 pub mod LawLemmas
+pub mod KeyLemmas

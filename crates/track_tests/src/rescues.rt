@@ -1,6 +1,10 @@
-// The log of a rescue.
-use flop_base::{Chrn, Code};
-use rescue::{LogError, LogLine, read_log, write_log};
+// The log of a rescue, the records that it asks for, and its course.
+use flop_base::{Chrn, Code, Rate, Status};
+use floppy_jobs::Request;
+use rescue::{
+    AfterRead, LogError, LogLine, Outcome, after_read, logged_keys, read_log, read_request,
+    standard_keys, write_log,
+};
 use std::test::Fail;
 
 fn missed(c: u8, h: u8, r: u8, code: Code) -> LogLine {
@@ -76,5 +80,83 @@ fn first_bad_lines_are_told(rt: HostRuntime) -> Result<(), Fail> {
     assert_eq!(rt; read.err(), Some(LogError::BadLine { line: 2 }));
     let text = LogError::BadLine { line: 2 }.to_string(rt.alloc())?;
     assert_eq!(rt; text.as_str(), "log line 2 not understood");
+    Ok(())
+}
+
+#[test]
+fn records_are_asked_for_in_order(rt: HostRuntime) -> Result<(), Fail> {
+    let all = standard_keys(rt.alloc(), Rate::R500, 2, 2)?;
+    assert_eq!(rt; all.len(), 72);
+    let key = |c, h, r| Chrn { c, h, r, n: 2 };
+    assert_eq!(rt; all[0], key(0, 0, 1));
+    assert_eq!(rt; all[18], key(0, 1, 1));
+    assert_eq!(rt; all[71], key(1, 1, 18));
+    let log = [
+        missed(0, 0, 1, Code::BadCrc),
+        missed(7, 1, 18, Code::NotFound),
+    ];
+    let some = logged_keys(rt.alloc(), &log)?;
+    assert_eq!(rt; some.as_slice(), [key(0, 0, 1), key(7, 1, 18)].as_slice());
+    Ok(())
+}
+
+#[test]
+fn reads_lead_on(rt: HostRuntime) {
+    let key = Chrn {
+        c: 7,
+        h: 1,
+        r: 18,
+        n: 2,
+    };
+    let asked = read_request(key);
+    assert!(rt;
+        matches!(
+            &asked,
+            Request::Read {
+                bay: 0,
+                address: 0x10000,
+                ..
+            }
+        )
+    );
+    let copied = after_read(key, Ok(true));
+    assert!(rt;
+        matches!(
+            &copied,
+            AfterRead::Write(Request::WriteDeleted {
+                bay: 1,
+                address: 0x10000,
+                ..
+            })
+        )
+    );
+    let kept = after_read(key, Err(Code::NotFound));
+    assert!(rt;
+        matches!(
+            &kept,
+            AfterRead::Log(LogLine {
+                code: Code::NotFound,
+                ..
+            })
+        )
+    );
+    let stopped = after_read(key, Err(Code::Changed));
+    assert!(rt; matches!(&stopped, AfterRead::Stop(Code::Changed)));
+}
+
+#[test]
+fn outcomes_are_told(rt: HostRuntime) -> Result<(), Fail> {
+    let part = Outcome {
+        written: 71,
+        asked: 72,
+    };
+    assert_eq!(rt; part.to_string(rt.alloc())?.as_str(), "rescue 71 of 72");
+    assert_eq!(rt; part.status(), Status::SomeRefused);
+    let none = Outcome {
+        written: 0,
+        asked: 0,
+    };
+    assert_eq!(rt; none.to_string(rt.alloc())?.as_str(), "rescue 0 of 0");
+    assert_eq!(rt; none.status(), Status::AllOk);
     Ok(())
 }

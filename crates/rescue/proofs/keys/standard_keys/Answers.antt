@@ -1,0 +1,10 @@
+use Rattle.std.proofs.Common.{sym, ◌∙◌}
+use Rattle.rescue.proofs.KeyLemmas.{standard-more, standard-none}
+use Rattle.rescue.proofs.keys.standard_keys.Goals as goal
+
+pub loop-c-init : goal.loop-c-init
+loop-c-init c = c.new-keys.ensures.items ∙ sym (standard-none c.args.rate c.args.heads)
+
+pub loop-c-preserved : goal.loop-c-preserved
+loop-c-preserved c =
+    cc (standard-more c.args.rate c.loop-c.c c.args.heads, c.in_ok-push_cylinder.ensures, c.loop-c.invariant, c.sectors-sectors.ensures.value)
