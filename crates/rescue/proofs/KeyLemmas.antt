@@ -19,7 +19,7 @@ pub track-none : (c h : ℕ) → track_keys (1 - 1) c h ≡ []
 unfolding track_keys
 track-none c h = refl
 
-range_suc : (a n : ℕ) → range_with_len a (suc n) ≡ range_with_len a n ++ (a + n) ∷ []
+pub range_suc : (a n : ℕ) → range_with_len a (suc n) ≡ range_with_len a n ++ (a + n) ∷ []
 range_suc a zero = let e : a ≡ a + 0 = omega arith in ap (λ k. k ∷ []) e
 range_suc a (suc n) =
     let e : a + 1 + n ≡ a + suc n = omega arith in

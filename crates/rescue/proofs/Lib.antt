@@ -3,3 +3,4 @@ pub mod TextLemmas
 pub mod LogLemmas
 pub mod LawLemmas
 pub mod KeyLemmas
+pub mod OrderLemmas

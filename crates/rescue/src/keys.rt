@@ -1,13 +1,15 @@
 // The records that a rescue asks for.
-ghost use Rattle.std.specs.Prelude.{◌≡◌, ◌++◌, ◌≤◌, IfOk, OnOk};
+ghost use Rattle.std.specs.Prelude.{◌≡◌, ◌++◌, ◌≤◌, ℕ, IfOk, OnOk};
+ghost use Rattle.std.specs.List.{AllPairs};
 ghost use Rattle.flop_base.specs.Standard.{sectors_at};
 ghost use Rattle.sector_map.specs.Standard.{track_keys, cylinder_keys};
 ghost use Rattle.rescue.specs.Course.{standard_keys as keys_of_rate, logged_keys as keys_of_log};
+ghost use Rattle.rescue.specs.Log.{IsBefore, IsLog};
 
 use crate::LogLine;
 use flop_base::standard::SIZE_CODE;
 use flop_base::{Chrn, NoMemory, Rate};
-use std::alloc::Global;
+use std::alloc::{AllocError, Global};
 
 /// Adds the records of a track.
 fn push_track(keys: &mut Vec<Chrn>, sectors: u8, c: u8, h: u8) -> Result<(), NoMemory>
@@ -45,7 +47,8 @@ pub fn standard_keys(
     cylinders: u8,
     heads: u8,
 ) -> Result<Vec<Chrn>, NoMemory>
-    ensures { IfOk result (λ keys. keys.items ≡ keys_of_rate rate cylinders heads) }
+    ensures keys { IfOk result (λ keys. keys.items ≡ keys_of_rate rate cylinders heads) }
+    ensures rising { IfOk result (λ keys. AllPairs IsBefore keys.items) }
 {
     let mut keys = Vec::new(alloc);
     let sectors = rate.sectors();
@@ -55,9 +58,19 @@ pub fn standard_keys(
     Ok(keys)
 }
 
-/// The records of a log: those that are asked for where there is one.
-pub fn logged_keys(alloc: Global, log: &[LogLine]) -> Result<Vec<Chrn>, NoMemory>
+/// The records of a log, in its order.
+fn listed_keys(alloc: Global, log: &[LogLine]) -> Result<Vec<Chrn>, AllocError>
     ensures { IfOk result (λ keys. keys.items ≡ keys_of_log log.now) }
 {
-    Ok(log.iter().map(|line| line.key).collect(alloc)?)
+    log.iter().map(|line| line.key).collect(alloc)
+}
+
+/// The records of a log: those that are asked for where there is one.
+pub fn logged_keys(alloc: Global, log: &[LogLine]) -> Result<Vec<Chrn>, NoMemory>
+    ensures keys { IfOk result (λ keys. keys.items ≡ keys_of_log log.now) }
+    ensures rising { (sectors : ℕ) → IsLog sectors log.now
+        → IfOk result (λ keys. AllPairs IsBefore keys.items) }
+{
+    let keys = listed_keys(alloc, log)?;
+    Ok(keys)
 }

@@ -4,6 +4,7 @@
 
 mod course;
 mod keys;
+mod laws;
 mod line;
 mod outcome;
 mod read;
@@ -11,7 +12,8 @@ mod write;
 
 pub use course::{AfterRead, after_read, read_request};
 pub use keys::{logged_keys, standard_keys};
+pub use laws::{log_grows, log_reads_back};
 pub use line::LogLine;
 pub use outcome::Outcome;
 pub use read::{LogError, read_log};
-pub use write::{log_reads_back, write_log};
+pub use write::write_log;
