@@ -81,9 +81,8 @@ fn behind_an_early_terminal_count_zeros_are_written(rt: HostRuntime) -> Result<(
         read_back(&mut host, 1)?,
         [0x00, 0x00, 0x00, 0x00, 0x00, 0x02, 0x02]
     );
-    let (first, rest) = host.memory.split_at(100);
-    assert!(rt; first.iter().all(|byte| *byte == 0xA1));
-    assert!(rt; rest.iter().all(|byte| *byte == 0x00));
+    assert!(rt; host.memory.iter().take(100).all(|byte| *byte == 0xA1));
+    assert!(rt; host.memory.iter().skip(100).all(|byte| *byte == 0x00));
     Ok(())
 }
 

@@ -4,6 +4,8 @@
 #[cfg(test)]
 mod attempts;
 #[cfg(test)]
+mod bios;
+#[cfg(test)]
 mod chips;
 #[cfg(test)]
 mod commands;

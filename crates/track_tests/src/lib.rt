@@ -12,8 +12,6 @@ mod plans;
 #[cfg(test)]
 mod regular;
 #[cfg(test)]
-mod remasters;
-#[cfg(test)]
 mod separators;
 #[cfg(test)]
 mod texts;

@@ -1,0 +1,19 @@
+//! A rescue of a diskette that is read in several runs: the log of the records that were not read, as a text that is read and
+//! written exactly, the records that a run asks for, what follows each read, and how a run ends.
+#![tactic(auto)]
+
+mod course;
+mod keys;
+mod laws;
+mod line;
+mod outcome;
+mod read;
+mod write;
+
+pub use course::{AfterRead, after_read, read_request};
+pub use keys::{logged_keys, standard_keys};
+pub use laws::{log_grows, log_reads_back};
+pub use line::LogLine;
+pub use outcome::Outcome;
+pub use read::{LogError, read_log};
+pub use write::write_log;
