@@ -1,7 +1,10 @@
+pub mod Asked
 pub mod Copied
 pub mod CopiedDisk
 pub mod CopiedTrack
 pub mod CopyOpened
+pub mod Ended
+pub mod FormatRun
 pub mod Formatted
 pub mod Formatting
 pub mod Looks

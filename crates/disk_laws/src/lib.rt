@@ -5,9 +5,11 @@
 #![tactic(auto)]
 
 mod copies;
+mod format_runs;
 mod formats;
 mod reads;
 
 pub use copies::copies_disk;
+pub use format_runs::format_stores_a_formatted_disk;
 pub use formats::{formats_disk, formatted_disk_has_sectors};
 pub use reads::reads_tell_of_disk;
