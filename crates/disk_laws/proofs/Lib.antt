@@ -10,8 +10,11 @@ pub mod Formatting
 pub mod Looks
 pub mod Marks
 pub mod Nested
+pub mod Opening
 pub mod Prepared
+pub mod PutIn
 pub mod Ranges
+pub mod ReadTold
 pub mod Reading
 pub mod Records
 pub mod Sectors
@@ -19,5 +22,7 @@ pub mod Steps
 pub mod Tracks
 pub mod UserMemory
 pub mod Verified
+pub mod VerifyPlan
+pub mod VerifyRun
 pub mod WholeWindow
 pub mod Written
