@@ -15,7 +15,8 @@ use Rattle.sector_model.specs.States.{State}
 use Rattle.sector_model.specs.Steps.{IsImageOf, blank_of}
 use Rattle.sector_model.specs.Runs.{Taken}
 use Rattle.disk_laws.specs.Done.{DoesAll}
-use Rattle.disk_laws.specs.Requests.{blank_request, rate_requests, copy_opening}
+use Rattle.floppy_session.specs.Blanks.{blank_request}
+use Rattle.disk_laws.specs.Requests.{rate_requests, copy_opening}
 use Rattle.disk_laws.proofs.Marks.{is_no_read}
 use Rattle.disk_laws.proofs.Prepared.{blanks, acks, rates}
 use Rattle.disk_laws.proofs.Steps.{begins, ends_there, keeps_drives}
@@ -34,14 +35,14 @@ record AreIn (disk : Disk) (to : List ℕ) (files : Files) (rest : List Request)
   pub same_files : mid_files ≡ Some files
   pub behind : DoesAll mid mid_files rest course new after
 
-are_in : (from to : List ℕ) (disk : Disk) (files : Files) (rest : List Request) (old new : State) (after : Option Files) (course : List Taken) → IsImageOf (Some files) from disk → DoesAll old (Some files) (request.Insert 0 from ∷ blank_request disk.rate 1 to disk.cylinders ∷ rest) course new after → length old.station.memory ≡ user_bytes → AreIn disk to files rest new after
+are_in : (from to : List ℕ) (disk : Disk) (files : Files) (rest : List Request) (old new : State) (after : Option Files) (course : List Taken) → IsImageOf (Some files) from disk → DoesAll old (Some files) (request.Insert 0 from ∷ blank_request 1 to disk.cylinders disk.rate ∷ rest) course new after → length old.station.memory ≡ user_bytes → AreIn disk to files rest new after
 are_in from to disk files rest old new after course image all size =
     let rate = disk.rate in
-    let one = begins old new (Some files) after (request.Insert 0 from) (blank_request rate 1 to disk.cylinders ∷ rest) course all in
+    let one = begins old new (Some files) after (request.Insert 0 from) (blank_request 1 to disk.cylinders rate ∷ rest) course all in
     let put = one.does.2 in
     let same : put.0 ≡ disk = one_image files from put.0 disk put.1 image in
     let inserted : (bay_of one.mid.station 0).medium ≡ Some disk = ap (λ (s : StationState). (bay_of s 0).medium) put.2.exchanged.becomes ∙ ap (λ (d : Disk). Some d) same in
-    let two = begins one.mid new one.files after (blank_request rate 1 to disk.cylinders) rest one.later one.behind in
+    let two = begins one.mid new one.files after (blank_request 1 to disk.cylinders rate) rest one.later one.behind in
     let fresh = blanks 1 rate to disk.cylinders one.mid two.mid one.files two.files two.answer two.step two.done in
     record {
       mid = two.mid;
@@ -137,10 +138,10 @@ opens_copy from to disk files old new after course image all size =
       same_files = ready.files ∙ first.same_files ∙ put.same_files;
     }
 
-pub opening_keeps : (rate : Rate) (to : List ℕ) (cylinders : ℕ) (from : List ℕ) → list_all keeps_drives (request.Insert 0 from ∷ blank_request rate 1 to cylinders ∷ request.Ack 0 ∷ (rate_requests rate 0 ++ (request.Ack 1 ∷ rate_requests rate 1))) ≡ true
+pub opening_keeps : (rate : Rate) (to : List ℕ) (cylinders : ℕ) (from : List ℕ) → list_all keeps_drives (request.Insert 0 from ∷ blank_request 1 to cylinders rate ∷ request.Ack 0 ∷ (rate_requests rate 0 ++ (request.Ack 1 ∷ rate_requests rate 1))) ≡ true
 opening_keeps R500 to cylinders from = refl
 opening_keeps R250 to cylinders from = refl
 
-pub opening_reads_none : (rate : Rate) (to : List ℕ) (cylinders : ℕ) (from : List ℕ) → list_all is_no_read (request.Insert 0 from ∷ blank_request rate 1 to cylinders ∷ request.Ack 0 ∷ (rate_requests rate 0 ++ (request.Ack 1 ∷ rate_requests rate 1))) ≡ true
+pub opening_reads_none : (rate : Rate) (to : List ℕ) (cylinders : ℕ) (from : List ℕ) → list_all is_no_read (request.Insert 0 from ∷ blank_request 1 to cylinders rate ∷ request.Ack 0 ∷ (rate_requests rate 0 ++ (request.Ack 1 ∷ rate_requests rate 1))) ≡ true
 opening_reads_none R500 to cylinders from = refl
 opening_reads_none R250 to cylinders from = refl

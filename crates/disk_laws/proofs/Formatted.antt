@@ -15,13 +15,14 @@ use Rattle.sector_model.specs.Steps.{blank_of}
 use Rattle.sector_model.specs.Runs.{Taken}
 use Rattle.disk_laws.specs.Done.{DoesAll}
 use Rattle.disk_laws.specs.Formatted.{IsFormattedDisk, LeavesFormatted, StoresFormatted}
-use Rattle.disk_laws.specs.Requests.{tracks_of, blank_request, rate_requests, format_each, formatting, format_requests}
+use Rattle.floppy_session.specs.Blanks.{blank_request}
+use Rattle.disk_laws.specs.Requests.{tracks_of, rate_requests, format_each, formatting, format_requests}
 use Rattle.disk_laws.proofs.Tracks.{among_all}
 use Rattle.disk_laws.proofs.Steps.{begins, ends_there, splits, never_fell, step_never_fell, keeps_drives}
 use Rattle.disk_laws.proofs.Formatting.{FormatsTracks, each_format}
 use Rattle.disk_laws.proofs.Prepared.{blanks, acks, rates}
 
-pub blank_keeps : (bay : ℕ) (rate : Rate) (name : List ℕ) (cylinders : ℕ) → keeps_drives (blank_request rate bay name cylinders) ≡ true
+pub blank_keeps : (bay : ℕ) (rate : Rate) (name : List ℕ) (cylinders : ℕ) → keeps_drives (blank_request bay name cylinders rate) ≡ true
 blank_keeps bay R500 name cylinders = refl
 blank_keeps bay R250 name cylinders = refl
 
@@ -50,12 +51,12 @@ formats_disk rate name cylinders old new told after course all faultless =
     let blank = blank_of cylinders rate in
     let tracks = tracks_of cylinders 2 in
     let formats = format_each 0 tracks in
-    let one = begins old new told after (blank_request rate 0 name cylinders) (request.Ack 0 ∷ (rate_requests rate 0 ++ formats)) course all in
+    let one = begins old new told after (blank_request 0 name cylinders rate) (request.Ack 0 ∷ (rate_requests rate 0 ++ formats)) course all in
     let put = blanks 0 rate name cylinders old one.mid told one.files one.answer one.step one.done in
     let two = begins one.mid new one.files after (request.Ack 0) (rate_requests rate 0 ++ formats) one.later one.behind in
     let acked = acks 0 blank one.mid two.mid one.files two.files two.answer two.does two.done put.medium in
     let rated = rates 0 rate blank formats two.mid new two.files after two.later two.behind refl acked.medium acked.high in
-    let first = step_never_fell old one.mid told one.files (blank_request rate 0 name cylinders) one.answer one.step (blank_keeps 0 rate name cylinders) in
+    let first = step_never_fell old one.mid told one.files (blank_request 0 name cylinders rate) one.answer one.step (blank_keeps 0 rate name cylinders) in
     let second = step_never_fell one.mid two.mid one.files two.files (request.Ack 0) two.answer two.step refl in
     let third = rated.fell in
     let laid = each_format rate tracks blank rated.mid new rated.files after rated.course rated.behind (omega arith, omega arith) rated.medium rated.rate put.valid in

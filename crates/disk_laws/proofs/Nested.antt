@@ -10,15 +10,15 @@ use Rattle.floppy_jobs.specs.declared.request.Request.TheVariants as request
 use Rattle.sector_map.specs.Standard.{key_of, track_keys, cylinder_keys, standard_keys}
 use Rattle.disk_laws.specs.Requests.{Track, heads_of, tracks_of, format_each, read_each}
 
-map-flat_map : {X Y Z : Type 0} (f : Y → Z) (g : X → List Y) (xs : List X) → map f (flat_map g xs) ≡ flat_map (λ x. map f (g x)) xs
+pub map-flat_map : {X Y Z : Type 0} (f : Y → Z) (g : X → List Y) (xs : List X) → map f (flat_map g xs) ≡ flat_map (λ x. map f (g x)) xs
 map-flat_map f g [] = refl
 map-flat_map f g (x ∷ xs) = map-append f (g x) (flat_map g xs) ∙ ap (λ rest. map f (g x) ++ rest) (map-flat_map f g xs)
 
-map-map_single : {X Y Z : Type 0} (f : Y → Z) (g : X → Y) (xs : List X) → map f (map g xs) ≡ flat_map (λ x. f (g x) ∷ []) xs
+pub map-map_single : {X Y Z : Type 0} (f : Y → Z) (g : X → Y) (xs : List X) → map f (map g xs) ≡ flat_map (λ x. f (g x) ∷ []) xs
 map-map_single f g [] = refl
 map-map_single f g (x ∷ xs) = ap (λ rest. f (g x) ∷ rest) (map-map_single f g xs)
 
-flat_map-same : {X Y : Type 0} (f g : X → List Y) (xs : List X) → ((x : X) → f x ≡ g x) → flat_map f xs ≡ flat_map g xs
+pub flat_map-same : {X Y : Type 0} (f g : X → List Y) (xs : List X) → ((x : X) → f x ≡ g x) → flat_map f xs ≡ flat_map g xs
 flat_map-same f g [] same = refl
 flat_map-same f g (x ∷ xs) same = ap (λ row. row ++ flat_map f xs) (same x) ∙ ap (λ rest. g x ++ rest) (flat_map-same f g xs same)
 

@@ -24,7 +24,8 @@ use Rattle.sector_model.specs.Steps.{Step, Does, IsRefused, unless_bad, blank_of
 use Rattle.sector_model.specs.Texts.{is_refusal}
 use Rattle.sector_model.specs.Runs.{Taken}
 use Rattle.disk_laws.specs.Done.{DoesAll}
-use Rattle.disk_laws.specs.Requests.{blank_request, rate_requests}
+use Rattle.floppy_session.specs.Blanks.{blank_request}
+use Rattle.disk_laws.specs.Requests.{rate_requests}
 use Rattle.disk_laws.proofs.Steps.{begins, NeverFell, step_never_fell, done_does, ok_called, reached, and_both}
 
 -- ---- blank media
@@ -91,7 +92,7 @@ is_blank bay rate name cylinders old new told after good changes files =
       files = files;
     }
 
-pub blanks : (bay : ℕ) (rate : Rate) (name : List ℕ) (cylinders : ℕ) (old new : State) (told after : Option Files) (answer : Reply) → Step old told (blank_request rate bay name cylinders) answer new after → is_refusal answer ≡ false → IsBlank bay rate name cylinders old told new after
+pub blanks : (bay : ℕ) (rate : Rate) (name : List ℕ) (cylinders : ℕ) (old new : State) (told after : Option Files) (answer : Reply) → Step old told (blank_request bay name cylinders rate) answer new after → is_refusal answer ≡ false → IsBlank bay rate name cylinders old told new after
 blanks bay R500 name cylinders old new told after answer step done =
     let does = done_does old new told after (request.Blank bay name cylinders) answer step done in
     is_blank bay R500 name cylinders old new told after (good_request old new told after _ _ answer _ step done) does.2 does.1

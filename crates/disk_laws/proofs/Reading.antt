@@ -47,7 +47,7 @@ not_refused station c h r count cylinder head sector acknowledged =
     let three : nat_le 1 r ≡ true = le-leb 1 r sector in
     rw (one, two, three, acknowledged) refl
 
-reaches : {P : Type 0} (Q : Code → Type 0) (refusal : Option Code) → refusal ≡ None → MatchOption refusal P Q → P
+pub reaches : {C P : Type 0} (Q : C → Type 0) (refusal : Option C) → refusal ≡ None → MatchOption refusal P Q → P
 reaches Q None e p = p
 reaches Q (Some code) e q = absurd (cc e)
 

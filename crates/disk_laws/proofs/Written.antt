@@ -28,7 +28,8 @@ use Rattle.sector_model.specs.Texts.{is_refusal}
 use Rattle.sector_model.specs.Writes.{ChangesDisk, Reaches, WritesDrive, WritesTo, ChangesAlone, written_from}
 use Rattle.sector_model.specs.Runs.{Taken}
 use Rattle.disk_laws.specs.Done.{DoesAll}
-use Rattle.disk_laws.specs.Requests.{record_address, write_record, write_records}
+use Rattle.disk_commands.specs.Plans.{record_address}
+use Rattle.disk_laws.specs.Requests.{write_record, write_records}
 use Rattle.disk_laws.specs.Copied.{copied_entry}
 use Rattle.disk_laws.proofs.Records.{keys_from}
 use Rattle.disk_laws.proofs.UserMemory.{length-bytes_from}

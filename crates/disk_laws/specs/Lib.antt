@@ -3,3 +3,4 @@ pub mod Done
 pub mod Formatted
 pub mod Verified
 pub mod Copied
+pub mod VerifyRuns

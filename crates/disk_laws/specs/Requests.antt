@@ -1,5 +1,5 @@
 -- The requests of the commands on whole disks, one list each. Tracks go by cylinder, then head.
-use Rattle.std.specs.Prelude.{ℕ, ◌+◌, ◌-◌, ◌*◌, Bool, true, false, List, [], ◌∷◌, ◌++◌, map, take, drop}
+use Rattle.std.specs.Prelude.{ℕ, Bool, true, false, List, [], ◌∷◌, ◌++◌, map, take, drop}
 use Rattle.std.specs.List.{flat_map, range_with_len}
 use Rattle.flop_base.specs.Standard.{sectors_at}
 use Rattle.flop_base.specs.declared.key.Chrn.{Chrn}
@@ -12,6 +12,8 @@ use Rattle.floppy_jobs.specs.declared.request.Request.TheVariants as request
 use Rattle.sector_model.specs.declared.reply.Reply.{Reply}
 use Rattle.sector_model.specs.declared.reply.Reply.TheVariants as reply
 use Rattle.sector_model.specs.Runs.{Taken}
+use Rattle.floppy_session.specs.Blanks.{blank_request}
+use Rattle.disk_commands.specs.Plans.{record_address}
 
 -- a track: its cylinder, and its head
 abbrev pub Track : Type 0
@@ -25,11 +27,6 @@ heads_of heads c = map (λ h. (c, h)) (range_with_len 0 heads)
 unfoldable pub tracks_of : ℕ → ℕ → List Track
 tracks_of cylinders heads = flat_map (heads_of heads) (range_with_len 0 cylinders)
 
--- a blank medium of a rate is put in, to be stored under this name
-abbrev pub blank_request : Rate → ℕ → List ℕ → ℕ → Request
-blank_request R500 bay name cylinders = request.Blank bay name cylinders
-blank_request R250 bay name cylinders = request.BlankDd bay name cylinders
-
 -- a bay that was acknowledged gets the rate 250 kbit/s, where that is asked for
 abbrev pub rate_requests : Rate → ℕ → List Request
 rate_requests R500 bay = []
@@ -42,7 +39,7 @@ format_each bay tracks = map (λ (track : Track). request.Format bay track.0 tra
 -- what a formatted disk of a rate, with these cylinders and two heads, is made by in bay 0
 abbrev pub formatting : Rate → List ℕ → ℕ → List Request
 formatting rate name cylinders =
-    blank_request rate 0 name cylinders ∷ request.Ack 0 ∷ (rate_requests rate 0 ++ format_each 0 (tracks_of cylinders 2))
+    blank_request 0 name cylinders rate ∷ request.Ack 0 ∷ (rate_requests rate 0 ++ format_each 0 (tracks_of cylinders 2))
 
 -- the command that formats: 1.44 MB at 500 kbit/s, 720 KB at 250 kbit/s
 abbrev pub format_requests : Rate → List ℕ → ℕ → List Request
@@ -59,10 +56,6 @@ verify_opening name disk = request.Insert 0 name ∷ request.Ack 0 ∷ rate_requ
 -- the command that reads every sector of the disk of this name
 abbrev pub verify_requests : List ℕ → Disk → List Request
 verify_requests name disk = verify_opening name disk ++ read_each 0 (standard_keys disk)
-
--- where a record lies in memory while its track is copied
-abbrev pub record_address : ℕ → ℕ
-record_address r = 0x10000 + 0x200 * (r - 1)
 
 -- a read of each record of a track, to its own place
 abbrev pub read_records : ℕ → List Chrn → List Request
@@ -93,7 +86,7 @@ copy_each rate (track ∷ tracks) marks =
 -- the disk of one name is put into bay 0 and a blank one for another name into bay 1, and both bays are made ready
 abbrev pub copy_opening : List ℕ → List ℕ → Disk → List Request
 copy_opening from to disk =
-    request.Insert 0 from ∷ blank_request disk.rate 1 to disk.cylinders ∷ request.Ack 0
+    request.Insert 0 from ∷ blank_request 1 to disk.cylinders disk.rate ∷ request.Ack 0
     ∷ (rate_requests disk.rate 0 ++ (request.Ack 1 ∷ rate_requests disk.rate 1))
 
 -- the command that copies the disk of one name to another, where the reads give these marks

@@ -5,9 +5,13 @@
 #![tactic(auto)]
 
 mod copies;
+mod format_runs;
 mod formats;
 mod reads;
+mod verify_runs;
 
 pub use copies::copies_disk;
+pub use format_runs::format_stores_a_formatted_disk;
 pub use formats::{formats_disk, formatted_disk_has_sectors};
 pub use reads::reads_tell_of_disk;
+pub use verify_runs::verify_tells_failing_keys;

@@ -1,0 +1,33 @@
+-- What a verify prints.
+use Rattle.std.specs.Prelude.{◌≡◌, ℕ, ◌-◌, nat_le, List, ◌++◌, length}
+use Rattle.std.specs.List.{flat_map}
+use Rattle.flop_base.specs.Sink.{grown}
+use Rattle.flop_base.specs.declared.key.Chrn.{Chrn}
+use Rattle.flop_base.specs.declared.answers.Code.{Code}
+use Rattle.flop_base.specs.declared.answers.Status.{Status}
+use Rattle.flop_base.specs.declared.answers.Status.TheVariants as status
+use Rattle.raw_image.specs.Disk.{Disk}
+use Rattle.sector_model.specs.declared.reply.Reason.TheVariants as reason
+use Rattle.sector_model.specs.Plays.{World, whole_status}
+use Rattle.floppy_session.specs.Shapes.{shape_of}
+use Rattle.disk_commands.specs.Commands.{sectors_of}
+use Rattle.disk_commands.specs.Verifies.{failure_line, verify_text}
+
+-- the line of a key that can't be read, with its code
+abbrev pub failing_line : Chrn × Code → List ℕ
+failing_line failed = failure_line failed.0 (reason.Driver failed.1)
+
+-- a line for each key that can't be read, and how many of all sectors can
+abbrev pub verify_report : ℕ → List (Chrn × Code) → List ℕ
+verify_report all failed = flat_map failing_line failed ++ verify_text (all - length failed) all
+
+-- a verify of a disk printed these failing keys and no others, and its status says whether there are any
+pub record TellsFailing (disk : Disk) (failed : List (Chrn × Code)) (old new : World) (ended : Status) : Type 0 where
+  pub report : new.report ≡ grown old.report (verify_report (sectors_of (shape_of disk)) failed)
+  pub status : ended ≡ whole_status (nat_le 1 (length failed))
+
+-- the status of a command that went on to its end
+abbrev pub IsEndStatus : Status → Type 0
+IsEndStatus status.AllOk = Unit {0}
+IsEndStatus status.SomeRefused = Unit {0}
+IsEndStatus _ = ⊥
