@@ -1,8 +1,12 @@
 pub mod Asked
+pub mod AskedParts
 pub mod Copied
 pub mod CopiedDisk
 pub mod CopiedTrack
+pub mod CopyAsked
 pub mod CopyOpened
+pub mod CopyPlan
+pub mod CopyRun
 pub mod Ended
 pub mod FormatRun
 pub mod Formatted
