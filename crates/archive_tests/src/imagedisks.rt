@@ -1,4 +1,5 @@
 // ImageDisk files written down by hand, and diskettes as ImageDisk images and back.
+use crate::remasters::formatted;
 use flop_base::{Chrn, Rate};
 use imagedisk::{ImdError, from_medium, read_imd, to_medium, write_imd};
 use raw_image::{ImageError, Medium, write_image};
@@ -9,25 +10,7 @@ use track_format::layout;
 // The text with which each file is written, 32 bytes.
 const TEXT: &[u8] = b"IMD 1.18: 01/01/2000 00:00:00\r\n\x1A";
 
-// A diskette of two cylinders and two heads as it is formatted at 500 kbit/s.
-fn formatted(alloc: Global) -> Result<Medium, Fail> {
-    let mut medium = Medium::blank_at(alloc, 2, 2, 12_500, Rate::R500)?;
-    for c in 0..2 {
-        for h in 0..2 {
-            let mut keys = Vec::new(alloc);
-            for r in 1..19 {
-                keys.push(Chrn { c, h, r, n: 2 })?;
-            }
-            let words = layout(alloc, &keys, 2, 0x6C, 0xF6, 12_500)?;
-            if words.len() == 12_500 {
-                medium.set_words(c, h, 0, &words);
-            }
-        }
-    }
-    Ok(medium)
-}
-
-// The file of that diskette: each sector is filled by one byte.
+// The file of a formatted diskette of two cylinders and two heads: each sector is filled by one byte.
 fn formatted_file(alloc: Global) -> Result<Vec<u8>, AllocError> {
     let mut file = Vec::from_slice(alloc, TEXT)?;
     for c in 0..2 {
@@ -46,7 +29,7 @@ fn formatted_file(alloc: Global) -> Result<Vec<u8>, AllocError> {
 
 #[test]
 fn a_formatted_diskette(rt: HostRuntime) -> Result<(), Fail> {
-    let medium = formatted(rt.alloc())?;
+    let medium = formatted(rt.alloc(), 2, Rate::R500)?;
     let image = from_medium(rt.alloc(), &medium)?;
     let written = write_imd(rt.alloc(), &image)?;
     let file = formatted_file(rt.alloc())?;
@@ -65,8 +48,11 @@ fn a_formatted_diskette(rt: HostRuntime) -> Result<(), Fail> {
 fn faults_of_a_file(rt: HostRuntime) -> Result<(), Fail> {
     let mut file = formatted_file(rt.alloc())?;
     assert_eq!(rt; file.len(), 268);
+    let Some((_, short)) = file.split_last() else {
+        return Err("an empty file")?;
+    };
     assert_eq!(rt;
-        read_imd(rt.alloc(), &file[..267]).err(),
+        read_imd(rt.alloc(), short).err(),
         Some(ImageError::TooShort {
             need: 268,
             have: 267

@@ -25,7 +25,7 @@ fn patch(medium: &mut Medium, place: u16, words: &[u16]) {
 }
 
 // A disk of two heads, each track formatted as usual at its rate.
-fn formatted(alloc: Global, cylinders: u8, rate: Rate) -> Result<Medium, Fail> {
+pub(crate) fn formatted(alloc: Global, cylinders: u8, rate: Rate) -> Result<Medium, Fail> {
     if cylinders == 0 || cylinders > 80 {
         return Err("cylinders")?;
     }
