@@ -185,7 +185,7 @@ begun_by : (scene : Scene) (chips : Chips) (byte : ℕ) (old : Fdc) (controller 
 begun_by scene chips byte old controller lines dor rate moved last writes =
     let bytes = old.command ++ byte ∷ [] in
     let takes = subst (λ accepted. TakesAs accepted lines (record old { command = kept accepted bytes }) controller) last.whole ((writes.bytes refl).0 last.taking) in
-    let (task, is, after) = (takes.0 last.no_seek).1 last.dma in
+    let (task, is, waits, after) = (takes.0 last.no_seek).1 last.dma in
     record {
       reads = subst (MayRead new_past scene.sent) (sym after) is;
       dor = ap (λ fdc. fdc.dor.0) after ∙ dor;
