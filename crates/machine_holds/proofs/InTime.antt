@@ -163,7 +163,7 @@ begins_in_time scene byte old new access can on threshold gated =
     let bytes = fdc.command ++ byte ∷ [] in
     let whole : Accepted = Ready (ReadData scene.sent.head_drive scene.sent.key scene.sent.last_sector can.last.gap can.last.length_code) in
     let takes = subst (λ accepted. TakesAs accepted (lines_of old) (record fdc { command = kept accepted bytes }) controller) can.last.whole ((writes.bytes refl).0 can.last.taking) in
-    let (task, is, after) = (takes.0 can.last.no_seek).1 can.last.dma in
+    let (task, is, waits, after) = (takes.0 can.last.no_seek).1 can.last.dma in
     let at : access.between.bus.chips ≡ shown_again (record old.bus.chips { controller = controller }) = ap (λ bus. bus.chips) access.writes.bus ∙ chips_are in
     let punctual : IsPunctual access.between.bus.chips = subst IsPunctual (sym at)
     (subst (λ c. IsPunctual (shown_again (record old.bus.chips { controller = c }))) (sym after) (begun_punctual old.bus.chips scene.sent task (record fdc { command = kept whole bytes }) is on threshold gated)) in
