@@ -1,5 +1,5 @@
 // Calls past the controller: memory, media and drives, and the latch.
-ghost use Rattle.std.specs.Prelude.{◌≡◌, ◌≤◌, ◌<◌, ◌↔◌, IsErr, IsSome, OnOk, IfErr, slice_index, true};
+ghost use Rattle.std.specs.Prelude.{◌≡◌, ◌≤◌, ◌<◌, ◌^◌, ◌↔◌, ℕ, IsErr, IsSome, OnOk, IfErr, length, slice_index, true};
 ghost use Rattle.drive_model.specs.Drive.{Becomes, loaded, unloaded};
 ghost use Rattle.pc_bus.specs.Boards.{board, drive_in, controller_of, memory_of, latch_of, IsEmpty};
 ghost use Rattle.pc_bus.specs.Handling.{Touches, byte_set, irq_taken};
@@ -23,7 +23,9 @@ impl<D: Drive> MachineOf<D> {
     /// A byte of memory.
     pub fn ram(&self, address: u32) -> u8
         requires { address < 1048576 }
-        ensures { result ≡ slice_index (memory_of (board D.state self.now)) address }
+        ensures byte { result ≡ slice_index (memory_of (board D.state self.now)) address }
+        ensures length { length (memory_of (board D.state self.now)) ≡ 1048576 }
+        ensures bytes { (k : ℕ) → slice_index (memory_of (board D.state self.now)) k < 2 ^ 8 }
     {
         self.bus.chips.memory.byte(address)
     }

@@ -1,5 +1,5 @@
 // The memory of the machine.
-ghost use Rattle.std.specs.Prelude.{◌≡◌, ◌==◌, ◌<◌, IfOk, IsTrue, length, slice_index, slice_set};
+ghost use Rattle.std.specs.Prelude.{◌≡◌, ◌==◌, ◌<◌, ◌^◌, ℕ, IfOk, IsTrue, length, slice_index, slice_set};
 ghost use Rattle.bay_model.specs.Memory.{zeroes};
 ghost use Rattle.dma_8237.specs.Channel.{grants, after_transfer};
 ghost use Rattle.pc_bus.specs.Transfers.{byte_read, memory_after};
@@ -37,8 +37,11 @@ impl Memory {
 
     pub fn byte(&self, address: u32) -> u8
         requires { address < MEMORY_SIZE }
-        ensures { result ≡ slice_index self.now address }
+        ensures byte { result ≡ slice_index self.now address }
+        ensures length { length self.now ≡ 1048576 }
+        ensures bytes { (k : ℕ) → slice_index self.now k < 2 ^ 8 }
     {
+        keep_bytes(&self.bytes);
         self.bytes[address as usize]
     }
 
@@ -69,6 +72,11 @@ impl Memory {
         channel.move_out(&self.bytes)
     }
 }
+
+/// The range of bytes; it does nothing.
+fn keep_bytes(_bytes: &[u8])
+    ensures { (k : ℕ) → slice_index _bytes.now k < 2 ^ 8 }
+{}
 
 /// So many bytes 00.
 #[tactic(auto, unfolding(bay_model::specs::Memory::zeroes))]
