@@ -1,0 +1,9 @@
+pub mod Kept
+pub mod Guards
+mod Bytes
+pub mod Transfers
+pub mod Words
+pub mod Steps
+mod Resting
+pub mod Accesses
+mod Results

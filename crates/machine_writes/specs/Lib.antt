@@ -1,0 +1,4 @@
+pub mod Guards
+pub mod Underway
+pub mod Begins
+pub mod Results
