@@ -7,3 +7,6 @@ pub mod Steps
 mod Resting
 pub mod Accesses
 mod Results
+mod Filling
+pub mod OnTime
+mod Beginning
