@@ -37,7 +37,7 @@ use Rattle.machine_writes.proofs.Resting.{runs_command}
 
 -- ---- the channel
 
-set_read : (port : ℕ) (channel : Channel) (address left : ℕ) → IsReadSet channel address left → IsReadSet (after_read port channel) address left
+pub set_read : (port : ℕ) (channel : Channel) (address left : ℕ) → IsReadSet channel address left → IsReadSet (after_read port channel) address left
 unfolding after_read grants
 set_read port channel address left set = by_port (port == 4 || port == 5) (port == 8)
   where
@@ -46,7 +46,7 @@ set_read port channel address left set = by_port (port == 4 || port == 5) (port 
     by_port false true = record { granting = set.granting; reading = set.reading; place = set.place; count = set.count; room = set.room }
     by_port false false = set
 
-grants_read : (port : ℕ) (channel : Channel) → grants (after_read port channel) ≡ grants channel
+pub grants_read : (port : ℕ) (channel : Channel) → grants (after_read port channel) ≡ grants channel
 unfolding after_read grants
 grants_read port channel = by_port (port == 4 || port == 5) (port == 8)
   where
@@ -55,7 +55,7 @@ grants_read port channel = by_port (port == 4 || port == 5) (port == 8)
     by_port false true = refl
     by_port false false = refl
 
-taken_read : (scene : Scene) (taken : List ℕ) (counted : Bool) (memory : List ℕ) (port : ℕ) (channel : Channel) → IsTaken scene taken counted memory channel
+pub taken_read : (scene : Scene) (taken : List ℕ) (counted : Bool) (memory : List ℕ) (port : ℕ) (channel : Channel) → IsTaken scene taken counted memory channel
     → IsTaken scene taken counted memory (after_read port channel)
 taken_read scene taken counted memory port channel was = record {
   same = was.same;
@@ -66,7 +66,7 @@ taken_read scene taken counted memory port channel was = record {
 
 -- ---- the controller
 
-idle_after : (answer : Answer) → is_executing (after_byte answer) ≡ false
+pub idle_after : (answer : Answer) → is_executing (after_byte answer) ≡ false
 idle_after (Short next None) = refl
 idle_after (Short next (Some last)) = refl
 idle_after (Long ending results taken) = by_last (nat_le 6 taken)
@@ -75,7 +75,7 @@ idle_after (Long ending results taken) = by_last (nat_le 6 taken)
     by_last true = refl
     by_last false = refl
 
-busy_before : (phase : Phase) → is_executing (phase_after phase) ≡ true → is_executing phase ≡ true
+pub busy_before : (phase : Phase) → is_executing (phase_after phase) ≡ true → is_executing phase ≡ true
 busy_before Command busy = busy
 busy_before (Execute execution) busy = refl
 busy_before (Result answer) busy = absurd (false≢true (sym (idle_after answer) ∙ busy))
@@ -161,7 +161,7 @@ inputs_keep port value old new access scene deleted (past, was) =
 
 -- ---- the write that begins it
 
-none_taken : (scene : Scene) (memory : List ℕ) (channel : Channel) (left : ℕ) → memory ≡ scene.memory → left + 1 ≡ scene.size → IsReadSet channel scene.address left
+pub none_taken : (scene : Scene) (memory : List ℕ) (channel : Channel) (left : ℕ) → memory ≡ scene.memory → left + 1 ≡ scene.size → IsReadSet channel scene.address left
     → IsTaken scene [] false memory channel
 none_taken scene memory channel left same size set = record {
   same = same;
@@ -216,7 +216,7 @@ begun_by scene deleted chips byte old controller lines dor rate taken last write
       taken = taken;
     }
 
-same_drive : (first second first_now second_now : DriveState) → first_now ≡ first → second_now ≡ second → (b : Bool)
+pub same_drive : (first second first_now second_now : DriveState) → first_now ≡ first → second_now ≡ second → (b : Bool)
     → (if b then first_now else second_now) ≡ (if b then first else second)
 same_drive first second first_now second_now one two true = one
 same_drive first second first_now second_now one two false = two

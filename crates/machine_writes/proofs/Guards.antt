@@ -46,11 +46,11 @@ writes_guard before after head word (inl wrote) =
     subst (IsGuarded before.medium) (sym (ap (λ s. s.medium) wrote.becomes)) (can_guard before.medium before.cylinder head before.place word (can_write before))
 writes_guard before after head word (inr (can, becomes, rose)) = inl (ap (λ s. s.medium) becomes.becomes)
 
-opens_same : (opened : Bool) (old new : DriveState) → Opens opened old new → new.medium ≡ old.medium
+pub opens_same : (opened : Bool) (old new : DriveState) → Opens opened old new → new.medium ≡ old.medium
 opens_same true old new becomes = ap (λ s. s.medium) becomes.becomes
 opens_same false old new same = ap (λ s. s.medium) same
 
-closes_same : (closed : Bool) (old new : DriveState) → Closes closed old new → new.medium ≡ old.medium
+pub closes_same : (closed : Bool) (old new : DriveState) → Closes closed old new → new.medium ≡ old.medium
 closes_same true old new becomes = ap (λ s. s.medium) becomes.becomes
 closes_same false old new same = ap (λ s. s.medium) same
 

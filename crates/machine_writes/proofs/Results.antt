@@ -1,8 +1,8 @@
 -- From the words that were written to the medium.
-use Rattle.std.proofs.Common.{◌≡◌, ◌⊎◌, inl, inr, ℕ, ◌+◌, ◌*◌, ◌<◌, ◌≤◌, Bool, false, List, [], ◌∷◌, ◌++◌, Some, length, get_or, take, drop, replicate, refl, sym, ◌∙◌, ap, subst, arith, length-append}
+use Rattle.std.proofs.Common.{◌≡◌, ◌⊎◌, inl, inr, ℕ, ◌+◌, ◌*◌, ◌≤◌, Bool, List, [], ◌∷◌, ◌++◌, Some, length, get_or, take, drop, refl, sym, ◌∙◌, ap, subst, arith, length-append}
 use Rattle.std.proofs.Math.ListN.{get_or-append}
 use Rattle.std.proofs.lemmas.Bool.{false≢true}
-use Rattle.std.proofs.lemmas.List.{append-nil, ext_get_or, get_or-take, length-take, length-drop, take_all, take-append-drop}
+use Rattle.std.proofs.lemmas.List.{append-nil, ext_get_or, get_or-take, length-take}
 use Rattle.raw_image.specs.Disk.{Disk, HasTrack, IsWithTrack, track_of}
 use Rattle.track_model.specs.Fields.{IsAddressAt, content_size}
 use Rattle.track_model.specs.Looks.{HasAddressMark}
@@ -36,68 +36,8 @@ use Rattle.machine_reads.specs.Scenes.{Scene, IsScene, head_sent, track_met}
 use Rattle.machine_reads.proofs.Words.{length-met}
 use Rattle.machine_writes.specs.Results.{ChangesTo, ChangesWhole, EndedIn, EndsAs, HasChanged, IsUnchanged, window_in, written_in}
 use Rattle.machine_writes.specs.Underway.{IsAtDrive, IsTaken, range_of}
+use Rattle.machine_writes.proofs.Content.{handed_all, handed_rest, not_all}
 use Rattle.machine_writes.proofs.Words.{heard_met}
-
--- ---- the content
-
-module _ (scene : Scene) (taken : List ℕ) (counted : Bool) (memory : List ℕ) (channel : Channel) (whole : IsScene scene) (was : IsTaken scene taken counted memory channel)
-    (size : scene.size ≡ content_size scene.sent.key.n) where
-  abbrev rest_of_memory : List ℕ
-  rest_of_memory = drop scene.address scene.memory
-
-  enough : scene.size ≤ length rest_of_memory
-  enough = let long = length-drop scene.address scene.memory in let fits = whole.fits in omega arith
-
-  -- each byte taken is that of the range
-  each_taken : (k : ℕ) → k < length taken → get_or taken k 0 ≡ get_or rest_of_memory k 0
-  each_taken k below = ap (λ bytes. get_or bytes k 0) was.first ∙ get_or-take (length taken) rest_of_memory k 0 below
-
-  -- and so is each byte handed in
-  each_handed : (handed : List ℕ) → IsContent counted taken handed → length handed ≤ scene.size → (k : ℕ) → k < length handed → get_or handed k 0 ≡ get_or rest_of_memory k 0
-  each_handed handed (inl (rest, is)) few k below =
-      let long = length-append handed rest in
-      let lengths = ap length is in
-      sym (get_or-append handed rest 0 k below) ∙ (sym (ap (λ bytes. get_or bytes k 0) is) ∙ each_taken k (omega arith))
-  each_handed handed (inr (over, (zeros, is))) few k below =
-      let all = (was.over over).1 in
-      ap (λ bytes. get_or bytes k 0) is ∙ (get_or-append taken (replicate zeros 0) 0 k (omega arith) ∙ each_taken k (omega arith))
-
-  range_long : length (range_of scene) ≡ scene.size
-  range_long = let long = length-take scene.size rest_of_memory in let some = enough in omega arith
-
-  -- so what was handed in is the first part of the range
-  handed_is : (handed : List ℕ) → IsContent counted taken handed → length handed ≤ scene.size → handed ≡ take (length handed) (range_of scene)
-  handed_is handed content few =
-      let long = length-take (length handed) (range_of scene) in
-      let range = range_long in
-      ext_get_or 0 handed (take (length handed) (range_of scene)) (omega arith)
-      (λ k below.
-      each_handed handed content few k below
-      ∙ (sym (get_or-take scene.size rest_of_memory k 0 (omega arith)) ∙ sym (get_or-take (length handed) (range_of scene) k 0 below)))
-
-  -- and the rest of the range makes it whole
-  pub handed_rest : (handed : List ℕ) → IsContent counted taken handed → length handed ≤ scene.size
-      → (handed ++ drop (length handed) (range_of scene) ≡ range_of scene) × (length handed + length (drop (length handed) (range_of scene)) ≡ scene.size)
-  handed_rest handed content few =
-      let long = length-drop (length handed) (range_of scene) in
-      let range = range_long in (
-        ap (λ bytes. bytes ++ drop (length handed) (range_of scene)) (handed_is handed content few) ∙ take-append-drop (length handed) (range_of scene),
-        omega arith,
-      )
-
-  pub handed_all : (handed : List ℕ) → IsContent counted taken handed → length handed ≡ scene.size → handed ≡ range_of scene
-  handed_all handed content all =
-      let range = range_long in
-      handed_is handed content (omega arith) ∙ take_all (length handed) (range_of scene) (omega arith)
-
-  -- the whole content isn't handed in before the terminal count
-  pub not_all : (handed : List ℕ) → IsContent counted taken handed → length handed ≡ scene.size → counted ≡ false → ⊥
-  not_all handed (inl (rest, is)) all uncounted =
-      let (left, more, set) = was.goes_on uncounted in
-      let long = length-append handed rest in
-      let lengths = ap length is in
-      omega arith
-  not_all handed (inr (over, padded)) all uncounted = false≢true (sym uncounted ∙ over)
 
 -- ---- the words
 
@@ -118,7 +58,7 @@ begun_of scene deleted past memory channel handed whole taken size content (inl 
 begun_of scene deleted past memory channel handed whole taken size content (inr (p, begun)) =
     let few = begun.few in
     let rest = drop (length handed) (range_of scene) in
-    let (all, long) = handed_rest scene past.taken past.counted memory channel whole taken size handed content (omega arith) in
+    let (all, long) = handed_rest scene past.taken past.counted memory channel whole taken handed content (omega arith) in
     inr (record {
       p = p;
       address = begun.address;
@@ -135,7 +75,7 @@ stage_of scene deleted past memory channel handed whole taken size content (stag
 stage_of scene deleted past memory channel handed whole taken size content (stage.Window window) (at, ((p, within), some)) =
     let bytes = within.bytes in
     let rest = drop (length handed) (range_of scene) in
-    let (all, long) = handed_rest scene past.taken past.counted memory channel whole taken size handed content (omega arith) in
+    let (all, long) = handed_rest scene past.taken past.counted memory channel whole taken handed content (omega arith) in
     inr (record {
       p = p;
       address = within.address;
@@ -170,7 +110,7 @@ pub record MakesChange (scene : Scene) (deleted : Bool) (past : Past) (drive : D
   pub whole : IsCalm scene.faults drive.faults → changed.change.words ≡ length past.words
   pub place : changed.change.place ≡ p + 16 * start_of scene.from past.turns
 
-take_less : (words whole others : List ℕ) (count : ℕ) → whole ≡ words ++ others → count ≤ length words → take count words ≡ take count whole
+pub take_less : (words whole others : List ℕ) (count : ℕ) → whole ≡ words ++ others → count ≤ length words → take count words ≡ take count whole
 take_less words whole others count is few =
     let long = ap length is in
     let joined = length-append words others in
@@ -240,7 +180,7 @@ turn_heard track from turns seen turn heard among = elim among [
 ]
 
 -- between two indexes, heard whole, it is the track
-between_is : (track : List ℕ) (from : ℕ) (past : Past) (between : List ℕ) → IsHeardFrom track from past.turns past.seen → IsWholeFrom track from past.turns past.seen → IsBetween past between
+pub between_is : (track : List ℕ) (from : ℕ) (past : Past) (between : List ℕ) → IsHeardFrom track from past.turns past.seen → IsWholeFrom track from past.turns past.seen → IsBetween past between
     → between ≡ track
 between_is track from past between heard whole is =
     let over : AreHeard track from (between ∷ is.first ∷ []) = subst (AreHeard track from) is.turns heard.over in
@@ -258,7 +198,7 @@ module _ (scene : Scene) (deleted executes : Bool) (past : Past) (drive : DriveS
   done_ends : (handed : List ℕ) → IsContent past.counted past.taken handed → (p : ℕ) → IsWhole past.seen past.words scene.sent.key deleted handed p → ChangesWhole scene deleted drive
   done_ends handed content p is =
       let long = is.size in
-      let all : handed ≡ range_of scene = handed_all scene past.taken past.counted memory channel whole taken size handed content (omega arith) in
+      let all : handed ≡ range_of scene = handed_all scene past.taken past.counted memory channel whole taken handed content (omega arith) in
       let words : past.words ≡ window_in scene deleted = is.whole ∙ ap (window deleted) all in
       let lengths = ap length words in
       let wide = length-window deleted (range_of scene) in
@@ -326,7 +266,7 @@ module _ (scene : Scene) (deleted executes : Bool) (past : Past) (drive : DriveS
   ends handed content NoCount has =
       let (uncounted, (p, is)) = has.cause in
       let long = is.size in
-      not_all scene past.taken past.counted memory channel whole taken size handed content (omega arith) uncounted
+      not_all scene past.taken past.counted memory channel whole taken handed content (omega arith) uncounted
   ends handed content Protected has = was.medium.quiet has.cause
   ends handed content Late has = late_ends has.cause
 

@@ -114,7 +114,7 @@ no_index false word past is = refl
 
 -- ---- the word time
 
-abbrev is_stopped : WordTime → Bool
+abbrev pub is_stopped : WordTime → Bool
 is_stopped Stopped = true
 is_stopped _ = false
 
@@ -194,7 +194,7 @@ in_task scene deleted past chips drive after polls between whole known works rat
     same_taken Stopped = known.taken
 in_task scene deleted past chips drive after polls between whole known works rate was _ head_drive steps may writes = absurd may
 
-moves_faults : (pulse : Option Bool) (before after : DriveState) → Moves pulse before after → before.faults ≤ after.faults
+pub moves_faults : (pulse : Option Bool) (before after : DriveState) → Moves pulse before after → before.faults ≤ after.faults
 moves_faults None before after becomes = becomes.never_falls
 moves_faults (Some inward) before after (between, pulses, becomes) =
     let falls = becomes.never_falls in elim pulses [

@@ -32,20 +32,20 @@ le_true a b h = grind (arith, nat_tests)
 lt_of : (a b : ℕ) → nat_lt a b ≡ true → a < b
 lt_of a b h = grind (arith, nat_tests)
 
-different : (a b : ℕ) → (a == b) ≡ false → a ≡ b → ⊥
+pub different : (a b : ℕ) → (a == b) ≡ false → a ≡ b → ⊥
 different a b h same = grind (arith, nat_tests)
 
-same_number : (a b : ℕ) → (a == b) ≡ true → a ≡ b
+pub same_number : (a b : ℕ) → (a == b) ≡ true → a ≡ b
 same_number a b h = grind (arith, nat_tests)
 
-length_more : (words : List ℕ) (word : ℕ) → length (words ++ word ∷ []) ≡ length words + 1
+pub length_more : (words : List ℕ) (word : ℕ) → length (words ++ word ∷ []) ≡ length words + 1
 length_more words word = length-append words (word ∷ [])
 
-none_or_some : (words : List ℕ) → (words ≡ []) ⊎ (1 ≤ length words)
+pub none_or_some : (words : List ℕ) → (words ≡ []) ⊎ (1 ≤ length words)
 none_or_some [] = inl refl
 none_or_some (word ∷ words) = inr (omega arith)
 
-none_long : (words : List ℕ) → words ≡ [] → length words ≡ 0
+pub none_long : (words : List ℕ) → words ≡ [] → length words ≡ 0
 none_long words none = ap length none
 
 -- ---- the track
@@ -102,13 +102,13 @@ spun c place drive over = by_turn (turns drive && nat_lt drive.spin 6250)
     by_turn true = let fast = over.speed in omega arith
     by_turn false = over.speed
 
-place_is : (now : Disk) (c place : ℕ) (drive : DriveState) → drive.medium ≡ Some now → IsOver c place drive → (passed drive).place ≡ (if place + 1 == now.words_per_track then 0 else place + 1)
+pub place_is : (now : Disk) (c place : ℕ) (drive : DriveState) → drive.medium ≡ Some now → IsOver c place drive → (passed drive).place ≡ (if place + 1 == now.words_per_track then 0 else place + 1)
 place_is now c place drive medium over = rw (medium, over.motor, le_true 6250 drive.spin over.speed, over.place) refl
 
-index_is : (now : Disk) (c place : ℕ) (drive : DriveState) → drive.medium ≡ Some now → IsOver c place drive → at_index drive ≡ (place + 1 == now.words_per_track)
+pub index_is : (now : Disk) (c place : ℕ) (drive : DriveState) → drive.medium ≡ Some now → IsOver c place drive → at_index drive ≡ (place + 1 == now.words_per_track)
 index_is now c place drive medium over = rw (medium, over.motor, le_true 6250 drive.spin over.speed, over.place) refl
 
-over_opened : (opened : Bool) (c place : ℕ) (old new : DriveState) → IsOver c place old → Opens opened old new → IsOver c place new
+pub over_opened : (opened : Bool) (c place : ℕ) (old new : DriveState) → IsOver c place old → Opens opened old new → IsOver c place new
 over_opened true c place old new over becomes = record {
   cylinder = ap (λ s. s.cylinder) becomes.becomes ∙ over.cylinder;
   place = ap (λ s. s.place) becomes.becomes ∙ over.place;
@@ -117,7 +117,7 @@ over_opened true c place old new over becomes = record {
 }
 over_opened false c place old new over same = subst (IsOver c place) (sym same) over
 
-over_closed : (closed : Bool) (c place : ℕ) (old new : DriveState) → IsOver c place old → Closes closed old new → IsOver c place new
+pub over_closed : (closed : Bool) (c place : ℕ) (old new : DriveState) → IsOver c place old → Closes closed old new → IsOver c place new
 over_closed true c place old new over becomes = record {
   cylinder = ap (λ s. s.cylinder) becomes.becomes ∙ over.cylinder;
   place = ap (λ s. s.place) becomes.becomes ∙ over.place;
@@ -126,20 +126,20 @@ over_closed true c place old new over becomes = record {
 }
 over_closed false c place old new over same = subst (IsOver c place) (sym same) over
 
-falls_opened : (opened : Bool) (old new : DriveState) → Opens opened old new → old.faults ≤ new.faults
+pub falls_opened : (opened : Bool) (old new : DriveState) → Opens opened old new → old.faults ≤ new.faults
 falls_opened true old new becomes = becomes.never_falls
 falls_opened false old new same = let is = ap (λ s. s.faults) same in omega arith
 
-falls_closed : (closed : Bool) (old new : DriveState) → Closes closed old new → old.faults ≤ new.faults
+pub falls_closed : (closed : Bool) (old new : DriveState) → Closes closed old new → old.faults ≤ new.faults
 falls_closed true old new becomes = becomes.never_falls
 falls_closed false old new same = let is = ap (λ s. s.faults) same in omega arith
 
-falls_written : (old new : DriveState) (head word : ℕ) → Writes old head word new → old.faults ≤ new.faults
+pub falls_written : (old new : DriveState) (head word : ℕ) → Writes old head word new → old.faults ≤ new.faults
 falls_written old new head word (inl wrote) = wrote.never_falls
 falls_written old new head word (inr (can, becomes, rose)) = becomes.never_falls
 
 -- behind a word that isn't the track's last
-over_written : (now : Disk) (c place : ℕ) (old new : DriveState) (head word : ℕ) → old.medium ≡ Some now → IsOver c place old → (place + 1 == now.words_per_track) ≡ false → Writes old head word new
+pub over_written : (now : Disk) (c place : ℕ) (old new : DriveState) (head word : ℕ) → old.medium ≡ Some now → IsOver c place old → (place + 1 == now.words_per_track) ≡ false → Writes old head word new
     → IsOver c (place + 1) new
 over_written now c place old new head word medium over inner writes =
     let at : (passed old).place ≡ place + 1 = place_is now c place old medium over ∙ ap (λ b. if b then 0 else place + 1) inner in
@@ -161,7 +161,7 @@ over_written now c place old new head word medium over inner writes =
 
 -- ---- what was heard
 
-hears_on : (scene : Scene) (turns : List (List ℕ)) (seen : List ℕ) (before after : ℕ) → before ≤ after → HearsTrack scene turns seen before → HearsTrack scene turns seen after
+pub hears_on : (scene : Scene) (turns : List (List ℕ)) (seen : List ℕ) (before after : ℕ) → before ≤ after → HearsTrack scene turns seen before → HearsTrack scene turns seen after
 hears_on scene turns seen before after falls was = record {
   heard = was.heard;
   never_falls = let first = was.never_falls in omega arith;
@@ -169,12 +169,12 @@ hears_on scene turns seen before after falls was = record {
 }
 
 -- the words of a turn and a part are few
-few_words : (track : List ℕ) (from : ℕ) (turns : List (List ℕ)) (seen : List ℕ) → AreHeard track from turns → length turns ≤ 1 → words_in turns seen ≤ length track + length seen
+pub few_words : (track : List ℕ) (from : ℕ) (turns : List (List ℕ)) (seen : List ℕ) → AreHeard track from turns → length turns ≤ 1 → words_in turns seen ≤ length track + length seen
 few_words track from [] seen over few = omega arith
 few_words track from (turn ∷ []) seen (heard, end, others) few = let room = heard.inside in omega arith
 few_words track from (turn ∷ other ∷ turns) seen over few = absurd (omega arith)
 
-early_on : (scene : Scene) (past : Past) (faults : ℕ) (drive : DriveState) → IsDisk scene.disk → HearsTrack scene past.turns past.seen faults
+pub early_on : (scene : Scene) (past : Past) (faults : ℕ) (drive : DriveState) → IsDisk scene.disk → HearsTrack scene past.turns past.seen faults
     → IsAtWork scene (start_in scene past) past.turns (words_heard past) past.words past.steps drive → past.steps + 1 ≤ 2 * scene.disk.words_per_track
 early_on scene past faults drive valid hears works =
     let long = length-met scene valid in
@@ -183,7 +183,7 @@ early_on scene past faults drive valid hears works =
     let inside = works.inside in
     omega arith
 
-words_more : (index : Bool) (turns : List (List ℕ)) (seen : List ℕ) (word : ℕ) → words_in (turns_after index turns (with_word seen word)) (turn_after index seen word) ≡ words_in turns seen + 1
+pub words_more : (index : Bool) (turns : List (List ℕ)) (seen : List ℕ) (word : ℕ) → words_in (turns_after index turns (with_word seen word)) (turn_after index seen word) ≡ words_in turns seen + 1
 words_more true turns seen word = grow turns
   where
     grow : (turns : List (List ℕ)) → words_in (with_word seen word ∷ turns) [] ≡ words_in turns seen + 1
@@ -245,16 +245,16 @@ saw_on scene past drive after index executes word valid was none unprotected is 
 
 -- ---- a word was written
 
-by_index : (scene : Scene) (past : Past) (index : Bool) → (index ≡ true → start_in scene past + length past.words + 1 ≡ scene.disk.words_per_track)
+pub by_index : (scene : Scene) (past : Past) (index : Bool) → (index ≡ true → start_in scene past + length past.words + 1 ≡ scene.disk.words_per_track)
     → place_after index past.place ≡ 0 → start_in scene past + (length past.words + 1) ≡ scene.disk.words_per_track
 by_index scene past true last zero_place = let is = last refl in omega arith
 by_index scene past false last zero_place = absurd (omega arith)
 
-close_put : (closed : Bool) (scene : Scene) (start : ℕ) (words : List ℕ) (mid after : DriveState) → ArePutOpen scene start words mid → Closes closed mid after → ArePut scene start words after
+pub close_put : (closed : Bool) (scene : Scene) (start : ℕ) (words : List ℕ) (mid after : DriveState) → ArePutOpen scene start words mid → Closes closed mid after → ArePut scene start words after
 close_put true scene start words mid after put closes = gate_closes scene.disk scene.cylinder (head_sent scene.sent) start words scene.faults mid after put.put closes
 close_put false scene start words mid after put closes = subst (ArePut scene start words) (sym closes) put.put
 
-still_open : (closed : Bool) (scene : Scene) (start : ℕ) (words : List ℕ) (mid after : DriveState) → ArePutOpen scene start words mid → Closes closed mid after → closed ≡ false → ArePutOpen scene start words after
+pub still_open : (closed : Bool) (scene : Scene) (start : ℕ) (words : List ℕ) (mid after : DriveState) → ArePutOpen scene start words mid → Closes closed mid after → closed ≡ false → ArePutOpen scene start words after
 still_open true scene start words mid after put closes is = absurd (false≢true (sym is))
 still_open false scene start words mid after put closes is = subst (ArePutOpen scene start words) (sym closes) put
 
