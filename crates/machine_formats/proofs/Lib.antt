@@ -1,0 +1,5 @@
+mod Transfers
+mod Words
+mod Steps
+mod Accesses
+mod Results

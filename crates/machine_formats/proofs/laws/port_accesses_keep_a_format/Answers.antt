@@ -1,0 +1,8 @@
+use Rattle.machine_formats.proofs.Accesses.{outputs_begin, inputs_keep}
+use Rattle.machine_formats.proofs.laws.port_accesses_keep_a_format.Goals as goal
+
+pub returns-clause-begins : goal.returns-clause-begins
+returns-clause-begins c = outputs_begin
+
+pub returns-clause-keeps : goal.returns-clause-keeps
+returns-clause-keeps c = inputs_keep

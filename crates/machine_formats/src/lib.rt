@@ -1,0 +1,9 @@
+//! A FORMAT TRACK on the machine, from the port write that begins it to its results: what it leaves of memory and of the
+//! medium. Definitions and laws, no code.
+#![tactic(auto)]
+
+mod laws;
+
+pub use laws::{
+    a_format_tells_of_the_medium, device_steps_keep_a_format, port_accesses_keep_a_format,
+};

@@ -1,0 +1,5 @@
+pub mod Guards
+pub mod Underway
+pub mod Begins
+pub mod Results
+pub mod Timely
