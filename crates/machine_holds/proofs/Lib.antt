@@ -2,4 +2,5 @@ mod Served
 mod Kept
 mod Timely
 mod InTime
+mod Calls
 mod Ends

@@ -35,7 +35,8 @@ use Rattle.machine_reads.proofs.Steps.{polled_phase, IsBetween}
 use Rattle.machine_reads.proofs.Transfers.{reads_there}
 use Rattle.machine_holds.specs.Served.{GoesByRule, moves_left, IsRuled}
 use Rattle.machine_holds.specs.Timely.{slack_of, IsTimely, IsPunctual}
-use Rattle.machine_holds.proofs.Kept.{HasMode, mode_held, mode_moved, up_to_keeps, dma_keeps, dma_overrun, dma_executing, dma_stalls, up_to_reading, up_to_holding}
+use Rattle.machine_quiet.proofs.Transfers.{up_to_keeps, dma_keeps}
+use Rattle.machine_holds.proofs.Kept.{HasMode, mode_held, mode_moved, dma_overrun, dma_executing, dma_stalls, up_to_reading, up_to_holding}
 use Rattle.machine_holds.proofs.Served.{phase_again, served, left_reading, IsServed}
 
 -- ---- tests
@@ -113,7 +114,7 @@ worth_is : (fifo : Fifo) → fifo.on ≡ true → fifo.threshold ≡ 8 → worth
 worth_is fifo on eight = rw (on, eight) refl
 
 -- with its line low
-slack_low : (chips : Chips) → HasMode chips → chips.controller.asking ≡ phase_asks chips.controller.phase chips.controller.asking chips.controller.fifo
+pub slack_low : (chips : Chips) → HasMode chips → chips.controller.asking ≡ phase_asks chips.controller.phase chips.controller.asking chips.controller.fifo
     → is_reading chips.controller.phase ≡ true → asks chips.controller ≡ false → 9 ≤ slack_of chips.controller
 slack_low chips mode rule reading low =
     let quiet : chips.controller.asking ≡ false = gated_low (is_gated chips.controller) chips.controller.asking mode.gated low in
@@ -126,7 +127,7 @@ slack_low chips mode rule reading low =
 
 -- ---- the request
 
-ready_low : (line : Bool) (holding : Holds) (slack : ℕ) → line ≡ false → 9 ≤ slack → IsReady (shown line holding).request slack
+pub ready_low : (line : Bool) (holding : Holds) (slack : ℕ) → line ≡ false → 9 ≤ slack → IsReady (shown line holding).request slack
 ready_low true holding slack low enough = absurd (false≢true (sym low))
 ready_low false holding slack low enough = enough
 

@@ -30,7 +30,7 @@ use Rattle.track_heard.specs.Heard.{IsHeard, IsHeardWhole}
 use Rattle.machine_reads.specs.Scenes.{Scene, IsScene, track_met}
 use Rattle.machine_reads.specs.Underway.{IsUnder, IsHearing, HasBytes, IsSet, IsMoved, IsReadBy, IsReadOf, ReadUnderway}
 use Rattle.machine_reads.specs.Begins.{IsDriveOf, IsLastByte, CanBegin}
-use Rattle.machine_reads.proofs.Steps.{runs_keep}
+use Rattle.machine_reads.proofs.Steps.{runs_keep, same_drive}
 use Rattle.machine_reads.proofs.Words.{length-met}
 use Rattle.machine_reads.proofs.Commands.{runs_command}
 
@@ -45,7 +45,7 @@ set_read port channel address left set = by_port (port == 4 || port == 5) (port 
     by_port false true = record { granting = set.granting; writing = set.writing; place = set.place; count = set.count; room = set.room }
     by_port false false = set
 
-grants_read : (port : ℕ) (channel : Channel) → grants (after_read port channel) ≡ grants channel
+pub grants_read : (port : ℕ) (channel : Channel) → grants (after_read port channel) ≡ grants channel
 unfolding after_read grants
 grants_read port channel = by_port (port == 4 || port == 5) (port == 8)
   where
@@ -73,7 +73,7 @@ idle_after (Long ending results taken) = by_last (nat_le 6 taken)
     by_last true = refl
     by_last false = refl
 
-busy_before : (phase : Phase) → is_executing (phase_after phase) ≡ true → is_executing phase ≡ true
+pub busy_before : (phase : Phase) → is_executing (phase_after phase) ≡ true → is_executing phase ≡ true
 busy_before Command busy = busy
 busy_before (Execute execution) busy = refl
 busy_before (Result answer) busy = absurd (false≢true (sym (idle_after answer) ∙ busy))
@@ -131,23 +131,33 @@ hearing_less : (scene : Scene) (past : Past) (before now : Bool) (drive : DriveS
 hearing_less scene past before now drive less hears =
     record { heard = hears.heard; never_falls = hears.never_falls; whole = hears.whole; under = λ busy. hears.under (less busy) }
 
-pub inputs_keep : (port value : ℕ) (old new : Board) → Inputs port value old new → (scene : Scene) → ReadUnderway scene old
-    → ReadUnderway scene new ⊎ ((controller_of new).phase ≡ Command)
-inputs_keep port value old new access scene (past, was) =
+-- a port was read, and its gap is to run
+abbrev pub read_board : ℕ → Board → Board
+read_board port old = record old { bus = record old.bus { chips = port_read port old.bus.chips; gaps = rest_of old.bus.gaps; fresh = false } }
+
+-- before the gap; or the controller takes commands behind it
+pub read_between : (port value : ℕ) (old new : Board) → Inputs port value old new → (scene : Scene) → ReadUnderway scene old
+    → ReadUnderway scene (read_board port old) ⊎ ((controller_of new).phase ≡ Command)
+read_between port value old new access scene (past, was) =
     let chips = port_read port old.bus.chips in
-    let gapped : Board = record old { bus = record old.bus { chips = chips; gaps = rest_of old.bus.gaps; fresh = false } } in
-    let gap = next_entry old.bus.gaps in
     elim (by_port scene past old.bus.chips port was.chips (is_controllers port)) [
-      | inl on ↦ inl (runs_keep gap gapped new access.gap.runs scene (
+      | inl on ↦ inl (
         past,
         record {
           scene_is = was.scene_is;
           chips = on.known;
           hears = hearing_less scene past (is_executing (controller_of old).phase) (is_executing chips.controller.phase) (drive_in old scene.bay) on.busy was.hears;
         },
-      ))
-      | inr over ↦ inr (runs_command gap gapped new access.gap.runs over)
+      )
+      | inr over ↦ inr (runs_command (next_entry old.bus.gaps) (read_board port old) new access.gap.runs over)
     ]
+
+pub inputs_keep : (port value : ℕ) (old new : Board) → Inputs port value old new → (scene : Scene) → ReadUnderway scene old
+    → ReadUnderway scene new ⊎ ((controller_of new).phase ≡ Command)
+inputs_keep port value old new access scene was = elim (read_between port value old new access scene was) [
+  | inl on ↦ inl (runs_keep (next_entry old.bus.gaps) (read_board port old) new access.gap.runs scene on)
+  | inr over ↦ inr over
+]
 
 -- ---- the write that begins it
 
@@ -193,11 +203,6 @@ begun_by scene chips byte old controller lines dor rate moved last writes =
       quiet = λ up. absurd (false≢true (sym (ap (λ fdc. fdc.asking) after) ∙ up));
       moved = moved;
     }
-
-same_drive : (first second first_now second_now : DriveState) → first_now ≡ first → second_now ≡ second → (b : Bool)
-    → (if b then first_now else second_now) ≡ (if b then first else second)
-same_drive first second first_now second_now one two true = one
-same_drive first second first_now second_now one two false = two
 
 -- the gap is taken
 abbrev pub gapped : Board → Board

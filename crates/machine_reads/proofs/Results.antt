@@ -11,7 +11,7 @@ use Rattle.fdc_stages.specs.Searches.{HasNoClear, HasMarkIn, IsBetween}
 use Rattle.fdc_stages.specs.Findings.{IsFoundAt, HasAddressIn, FindsSector, FindsBadCheck, FindsNoField, FindsNoMark, FindsNoSector, IsWithoutData}
 use Rattle.fdc_stages.specs.declared.ending.Ending.{Ending}
 use Rattle.fdc_stages.specs.declared.ending.Ending.TheVariants.{Done, NoMark, NoSector, NoField, BadCheck, Overrun, NoCount, Protected, Late}
-use Rattle.fdc_core.specs.Meaning.{ReadMeans, ReadMeansIn}
+use Rattle.fdc_core.specs.Meaning.{ReadMeans, ReadMeansIn, FindsUncounted}
 use Rattle.fdc_core.specs.declared.answers.Answer.TheVariants.{Short, Long}
 use Rattle.fdc_core.specs.declared.phases.Phase.{Phase}
 use Rattle.fdc_core.specs.declared.phases.Phase.TheVariants.{Command, Execute, Result}
@@ -131,24 +131,28 @@ module _ (scene : Scene) (past : Past) (faults : ℕ) (memory : List ℕ)
             )
       ]
 
+  -- until the terminal count comes, bytes are missing
+  count_ends : (past.counted ≡ false → length past.given < content_size scene.sent.key.n) → FindsUncounted past scene.sent.key past.given → ⊥
+  count_ends few (uncounted, all, found) = let missing = few uncounted in omega arith
+
   pub ends : (ending : Ending) → IsSizeCode scene.sent.key.n → HasBytes scene.memory scene.address past.given memory
-      → (past.counted ≡ true → length past.given ≡ content_size scene.sent.key.n) → ReadMeans past scene.sent ending → EndsAs scene faults memory ending
-  ends (Done deleted) coded bytes all (counted, (turn, p, q, found)) = done_ends past.given deleted coded bytes (all counted) turn p q found
-  ends NoMark coded bytes all means = mark_ends means
-  ends NoSector coded bytes all means = sector_ends means
-  ends NoField coded bytes all means = field_ends means
-  ends BadCheck coded bytes all means = bad_ends means
-  ends Overrun coded bytes all means = tt
-  ends NoCount coded bytes all means = tt
-  ends Protected coded bytes all means = means
-  ends Late coded bytes all means = tt
+      → (past.counted ≡ true → length past.given ≡ content_size scene.sent.key.n) → (past.counted ≡ false → length past.given < content_size scene.sent.key.n) → ReadMeans past scene.sent ending → EndsAs scene faults memory ending
+  ends (Done deleted) coded bytes all few (counted, (turn, p, q, found)) = done_ends past.given deleted coded bytes (all counted) turn p q found
+  ends NoMark coded bytes all few means = mark_ends means
+  ends NoSector coded bytes all few means = sector_ends means
+  ends NoField coded bytes all few means = field_ends means
+  ends BadCheck coded bytes all few means = bad_ends means
+  ends Overrun coded bytes all few means = tt
+  ends NoCount coded bytes all few means = count_ends few means
+  ends Protected coded bytes all few means = means
+  ends Late coded bytes all few means = tt
 
   pub ended : (phase : Phase) → IsSizeCode scene.sent.key.n → HasBytes scene.memory scene.address past.given memory
-      → (past.counted ≡ true → length past.given ≡ content_size scene.sent.key.n) → ReadMeansIn past scene.sent phase → EndedIn scene faults memory phase
-  ended Command coded bytes all means = tt
-  ended (Execute execution) coded bytes all means = tt
-  ended (Result (Short next last)) coded bytes all means = tt
-  ended (Result (Long ending results taken)) coded bytes all (is, means) = (is, ends ending coded bytes all means)
+      → (past.counted ≡ true → length past.given ≡ content_size scene.sent.key.n) → (past.counted ≡ false → length past.given < content_size scene.sent.key.n) → ReadMeansIn past scene.sent phase → EndedIn scene faults memory phase
+  ended Command coded bytes all few means = tt
+  ended (Execute execution) coded bytes all few means = tt
+  ended (Result (Short next last)) coded bytes all few means = tt
+  ended (Result (Long ending results taken)) coded bytes all few (is, means) = (is, ends ending coded bytes all few means)
 
 -- ---- memory
 

@@ -18,7 +18,9 @@ use Rattle.fdc_core.specs.declared.phases.Phase.TheVariants.{Command, Execute, R
 use Rattle.fdc_core.specs.declared.phases.Task.{Task}
 use Rattle.fdc_core.specs.declared.phases.Task.TheVariants.{Read}
 use Rattle.pc_bus.specs.Boards.{Board, controller_of, drive_in, selected_of}
-use Rattle.pc_bus.specs.Steps.{Works, Turns, Step, Runs, RunsUnset, step_begun, with_controller, step_ended}
+use Rattle.pc_bus.specs.Steps.{Works, Turns, Step, Runs, RunsUnset, Waits, stirred, step_begun, with_controller, step_ended}
+use Rattle.machine_quiet.specs.Quiet.{StandsStill}
+use Rattle.machine_quiet.proofs.Steps.{stirred_still}
 use Rattle.pc_bus.specs.Transfers.{dma_stepped}
 use Rattle.pc_bus.specs.declared.chips.Chips.{Chips}
 use Rattle.track_heard.specs.Heard.{start_of, place_in, IsHeardFrom, IsWholeFrom}
@@ -213,3 +215,26 @@ pub unset_keep : (n : ℕ) (old new : Board) → RunsUnset n old new → (scene 
 unfolding RunsUnset
 unset_keep zero old new same scene was = subst (ReadUnderway scene) (sym same) was
 unset_keep (suc n) old new (between, runs, unset, step) scene was = step_keeps between new step scene (unset_keep n old between runs scene was)
+
+-- ---- a call that leaves chips and drives
+
+pub same_drive : (first second first_now second_now : DriveState) → first_now ≡ first → second_now ≡ second → (b : Bool)
+    → (if b then first_now else second_now) ≡ (if b then first else second)
+same_drive first second first_now second_now one two true = one
+same_drive first second first_now second_now one two false = two
+
+pub still_keeps : (old new : Board) → StandsStill old new → (scene : Scene) → ReadUnderway scene old → ReadUnderway scene new
+still_keeps old new still scene (past, was) = (
+  past,
+  record {
+    scene_is = was.scene_is;
+    chips = subst (IsReadBy scene past) (sym still.chips) was.chips;
+    hears = subst (λ chips. IsHearing scene past (is_executing chips.controller.phase) (drive_in new scene.bay)) (sym still.chips)
+        (subst (IsHearing scene past (is_executing (controller_of old).phase))
+        (sym (same_drive old.first old.second new.first new.second still.first still.second (scene.bay == 0))) was.hears);
+  },
+)
+
+pub waits_keep : (most : ℕ) (set : Bool) (old new : Board) → Waits most old set new → (scene : Scene) → ReadUnderway scene old → ReadUnderway scene new
+waits_keep most set old new waits scene was =
+    unset_keep waits.steps (stirred old) new waits.runs scene (still_keeps old (stirred old) (stirred_still old) scene was)

@@ -36,6 +36,7 @@ EndsAs scene faults memory NoSector =
     HasAddressMark (track_met scene) × (IsCalm scene.faults faults → HasNoClear (Some scene.sent.key) (track_met scene))
 EndsAs scene faults memory NoField = IsCalm scene.faults faults → HasLook (track_met scene) scene.sent.key NoData
 EndsAs scene faults memory BadCheck = IsCalm scene.faults faults → HasLook (track_met scene) scene.sent.key BadCrc
+EndsAs scene faults memory NoCount = ⊥
 EndsAs scene faults memory Protected = ⊥
 EndsAs scene faults memory _ = Unit {0}
 

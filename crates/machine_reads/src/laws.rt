@@ -1,10 +1,11 @@
 // What follows of the machine's steps. The bodies are empty.
-ghost use Rattle.std.specs.Prelude.{◌≡◌, ◌⊎◌, ℕ};
+ghost use Rattle.std.specs.Prelude.{◌≡◌, ◌⊎◌, ℕ, Bool};
 ghost use Rattle.track_model.specs.Fields.{IsSizeCode, content_size};
 ghost use Rattle.pc_bus.specs.Boards.{Board, controller_of, memory_of};
 ghost use Rattle.pc_bus.specs.Ports.{Inputs, Outputs};
-ghost use Rattle.pc_bus.specs.Steps.{Step, Runs, RunsUnset};
+ghost use Rattle.pc_bus.specs.Steps.{Step, Runs, RunsUnset, Waits};
 ghost use Rattle.fdc_core.specs.declared.phases.Phase.TheVariants.{Command};
+ghost use Rattle.machine_quiet.specs.Quiet.{StandsStill};
 ghost use Rattle.machine_reads.specs.Begins.{CanBegin};
 ghost use Rattle.machine_reads.specs.Results.{ReadEnded, StaysOutside};
 ghost use Rattle.machine_reads.specs.Scenes.{Scene};
@@ -12,11 +13,14 @@ ghost use Rattle.machine_reads.specs.Underway.{KeepsRead, ReadUnderway};
 
 use fdc_core::read_data_tells;
 
-/// Each device step keeps what is known of a READ DATA, whatever holds, strays and gaps there are.
+/// Each device step keeps what is known of a READ DATA, whatever holds, strays and gaps there are; and so does each call that
+/// leaves the chips and the drives, as one that takes the latch.
 pub fn device_steps_keep_a_read()
     ensures step { (old new : Board) → Step old new → KeepsRead old new }
     ensures runs { (n : ℕ) (old new : Board) → Runs n old new → KeepsRead old new }
     ensures unset { (n : ℕ) (old new : Board) → RunsUnset n old new → KeepsRead old new }
+    ensures still { (old new : Board) → StandsStill old new → KeepsRead old new }
+    ensures waits { (most : ℕ) (set : Bool) (old new : Board) → Waits most old set new → KeepsRead old new }
 {}
 
 /// The port write that completes the bytes of a READ DATA begins it, and a read of a port keeps what is known of it until the
