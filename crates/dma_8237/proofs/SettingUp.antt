@@ -1,5 +1,5 @@
 -- The channel once it is set up.
-use Rattle.std.proofs.Common.{◌≡◌, ◌⊎◌, inl, inr, ℕ, ◌<◌, Bool, true, false, refl, sym, subst, arith}
+use Rattle.std.proofs.Common.{◌≡◌, ◌⊎◌, inl, inr, ℕ, ◌<◌, false, refl, sym, subst, arith}
 use Rattle.dma_8237.specs.Channel.{Channel, after_write, grants, has_bit}
 use Rattle.dma_8237.specs.SetUp.{set_up, IsSetUp}
 

@@ -1,11 +1,10 @@
 -- A READ DATA in time, through waits and port reads.
-use Rattle.std.proofs.Common.{◌≡◌, ◌⊎◌, inl, inr, ℕ, ◌+◌, ◌-◌, ◌≤◌, ◌==◌, ◌&&◌, nat_le, Bool, true, false, Some, None, length, if◌then◌else◌, refl, sym, ◌∙◌, ap, subst}
+use Rattle.std.proofs.Common.{◌≡◌, ◌⊎◌, inl, inr, ℕ, ◌+◌, ◌-◌, ◌≤◌, ◌==◌, nat_le, Bool, true, false, Some, None, length, if◌then◌else◌, refl, sym, ◌∙◌, ap, subst}
 use Rattle.std.proofs.lemmas.Bool.{false≢true}
 use Rattle.flop_base.specs.Counts.{Rose}
-use Rattle.dma_8237.specs.Channel.{grants, after_read}
+use Rattle.dma_8237.specs.Channel.{after_read}
 use Rattle.fdc_core.specs.Answers.{after_byte}
 use Rattle.fdc_core.specs.Dma.{phase_asks}
-use Rattle.fdc_core.specs.Heard.{Sent, MayReadIn}
 use Rattle.fdc_core.specs.Listening.{is_executing}
 use Rattle.fdc_core.specs.Phases.{is_overrun, is_reading}
 use Rattle.fdc_core.specs.Ports.{given, phase_after, after_read as controller_after}
@@ -25,13 +24,12 @@ use Rattle.pc_bus.specs.declared.chips.Chips.{Chips}
 use Rattle.machine_quiet.specs.Quiet.{StandsStill}
 use Rattle.machine_quiet.proofs.Steps.{stirred_still}
 use Rattle.machine_reads.specs.Scenes.{Scene}
-use Rattle.machine_reads.specs.Underway.{ReadUnderway}
-use Rattle.machine_reads.proofs.Accesses.{gapped, read_between, grants_read, busy_before}
+use Rattle.machine_reads.proofs.Accesses.{read_between, grants_read, busy_before}
 use Rattle.machine_reads.proofs.Steps.{still_keeps}
 use Rattle.machine_reads.proofs.Transfers.{reads_there}
 use Rattle.machine_holds.specs.Timely.{slack_of, IsTimely, IsPunctual, Stalled, ReadInTime}
 use Rattle.machine_holds.proofs.InTime.{unset_in_time, runs_in_time}
-use Rattle.machine_holds.proofs.Timely.{slack_low, ready_low}
+use Rattle.machine_holds.proofs.Timely.{slack_low}
 
 -- ---- waits
 

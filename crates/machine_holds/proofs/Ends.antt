@@ -1,5 +1,5 @@
 -- A data command has fewer device steps left with each of them.
-use Rattle.std.proofs.Common.{◌≡◌, ◌⊎◌, inl, inr, ℕ, zero, suc, ◌-◌, ◌<◌, ◌≤◌, ◌==◌, Bool, true, false, if◌then◌else◌, refl, sym, ◌∙◌, ap, subst, arith}
+use Rattle.std.proofs.Common.{◌≡◌, ◌⊎◌, inl, inr, ℕ, zero, suc, ◌-◌, ◌≤◌, ◌==◌, Bool, true, false, if◌then◌else◌, refl, ◌∙◌, ap, subst, arith}
 use Rattle.fdc_core.specs.Dma.{phase_told, taken_out, taken_in, to_memory_of}
 use Rattle.fdc_core.specs.Steps.{polled, steps_left, EndsIn, RestsIn}
 use Rattle.fdc_core.specs.declared.controller.Fdc.{Fdc}

@@ -1,24 +1,22 @@
 -- A READ DATA in time, through device steps.
-use Rattle.std.proofs.Common.{◌≡◌, ◌⊎◌, inl, inr, ℕ, zero, suc, ◌+◌, ◌-◌, ◌%◌, ◌<◌, ◌≤◌, min, ◌&&◌, nat_lt, Bool, true, false, List, [], ◌∷◌, ◌++◌, length, if◌then◌else◌, refl, sym, ◌∙◌, ap, subst, arith}
+use Rattle.std.proofs.Common.{◌≡◌, ◌⊎◌, inl, inr, ℕ, zero, suc, ◌%◌, ◌≤◌, min, ◌&&◌, nat_lt, Bool, true, false, [], ◌∷◌, ◌++◌, if◌then◌else◌, refl, sym, ◌∙◌, ap, subst, arith}
 use Rattle.std.proofs.lemmas.Bool.{false≢true}
 use Rattle.flop_base.specs.Counts.{last_count, Rose}
-use Rattle.dma_8237.specs.Channel.{grants}
 use Rattle.fdc_fifo.specs.Fifo.{Fifo, emptied}
 use Rattle.fdc_commands.specs.Table.{kept}
 use Rattle.fdc_commands.specs.declared.bytes.Accepted.{Accepted}
 use Rattle.fdc_commands.specs.declared.bytes.Accepted.TheVariants.{Ready}
 use Rattle.fdc_commands.specs.declared.command.Command.TheVariants.{ReadData}
 use Rattle.fdc_core.specs.Commands.{TakesAs, IsReadingData, begun}
-use Rattle.fdc_core.specs.Dma.{task_asks, phase_asks}
+use Rattle.fdc_core.specs.Dma.{task_asks}
 use Rattle.fdc_core.specs.Heard.{Sent}
 use Rattle.fdc_core.specs.Listening.{is_executing}
-use Rattle.fdc_core.specs.Ports.{Writes}
 use Rattle.fdc_core.specs.State.{is_gated}
 use Rattle.fdc_core.specs.declared.controller.Fdc.{Fdc}
 use Rattle.fdc_core.specs.declared.phases.Task.{Task}
 use Rattle.fdc_core.specs.declared.phases.Task.TheVariants.{Read}
 use Rattle.machine_pace.specs.Entries.{next_entry}
-use Rattle.machine_pace.specs.Holds.{Holds, IsReady, looked, waited, stalls_with, counted, shown}
+use Rattle.machine_pace.specs.Holds.{Holds, IsReady, looked, waited, counted, shown}
 use Rattle.machine_pace.specs.declared.holding.Request.{Request}
 use Rattle.machine_pace.specs.declared.holding.Request.TheVariants.{Low, High}
 use Rattle.pc_bus.specs.Boards.{Board, controller_of, drive_in, holds_of, selected_of, lines_of}
@@ -28,10 +26,10 @@ use Rattle.pc_bus.specs.Transfers.{dma_stepped, looked_at, shown_again}
 use Rattle.pc_bus.specs.declared.chips.Chips.{Chips}
 use Rattle.machine_reads.specs.Begins.{CanBegin}
 use Rattle.machine_reads.specs.Scenes.{Scene}
-use Rattle.machine_reads.specs.Underway.{IsHearing, ReadUnderway}
+use Rattle.machine_reads.specs.Underway.{IsHearing}
 use Rattle.machine_reads.proofs.Accesses.{gapped, begun_underway}
 use Rattle.machine_reads.proofs.Steps.{word_time, step_keeps, first_or_second}
-use Rattle.machine_holds.specs.Timely.{slack_of, IsTimely, IsPunctual, Stalled, ReadInTime}
+use Rattle.machine_holds.specs.Timely.{IsPunctual, Stalled, ReadInTime}
 use Rattle.machine_holds.proofs.Kept.{dma_stalls}
 use Rattle.machine_holds.proofs.Timely.{in_step}
 

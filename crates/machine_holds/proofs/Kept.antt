@@ -1,8 +1,8 @@
 -- What transfers keep.
-use Rattle.std.proofs.Common.{◌≡◌, ◌⊎◌, inl, inr, ℕ, zero, suc, ◌==◌, ◌&&◌, ◌||◌, not, Bool, true, false, List, length, if◌then◌else◌, refl, sym, ◌∙◌, ap, subst}
+use Rattle.std.proofs.Common.{◌≡◌, ℕ, ◌==◌, Bool, true, false, List, length, if◌then◌else◌, refl, ◌∙◌, ap}
 use Rattle.dma_8237.specs.Channel.{grants}
 use Rattle.fdc_fifo.specs.Fifo.{Fifo, room_of}
-use Rattle.fdc_core.specs.Dma.{taken_out, taken_in, with_byte, phase_told, fifo_told, task_told, to_memory_of}
+use Rattle.fdc_core.specs.Dma.{taken_out, taken_in, phase_told, fifo_told, task_told, to_memory_of}
 use Rattle.fdc_core.specs.Listening.{is_executing}
 use Rattle.fdc_core.specs.Phases.{is_reading, is_read, is_overrun}
 use Rattle.fdc_core.specs.State.{is_gated}
@@ -11,8 +11,8 @@ use Rattle.fdc_core.specs.declared.phases.Phase.{Phase}
 use Rattle.fdc_core.specs.declared.phases.Phase.TheVariants.{Command, Execute, Result}
 use Rattle.fdc_core.specs.declared.phases.Task.{Task}
 use Rattle.fdc_core.specs.declared.phases.Task.TheVariants.{ReadId, Read, Write, Format}
-use Rattle.machine_pace.specs.Holds.{Holds, is_due, looked, shown}
-use Rattle.pc_bus.specs.Transfers.{can_move, moved, moved_to_memory, moved_from_memory, moved_up_to, byte_read, told_if, looked_at, shown_again, granted, dma_stepped}
+use Rattle.machine_pace.specs.Holds.{Holds, is_due, shown}
+use Rattle.pc_bus.specs.Transfers.{moved, moved_to_memory, moved_from_memory, moved_up_to, byte_read, told_if, looked_at, shown_again, granted, dma_stepped}
 use Rattle.pc_bus.specs.declared.chips.Chips.{Chips}
 use Rattle.machine_quiet.proofs.Transfers.{up_to_keeps, dma_keeps}
 

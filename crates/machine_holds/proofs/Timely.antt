@@ -1,8 +1,8 @@
 -- A READ DATA in time, step by step.
-use Rattle.std.proofs.Common.{◌≡◌, ◌⊎◌, inl, inr, ℕ, zero, suc, ◌+◌, ◌-◌, ◌%◌, ◌<◌, ◌≤◌, min, max, ◌==◌, ◌&&◌, ◌||◌, not, nat_le, bit_and, Bool, true, false, List, length, if◌then◌else◌, refl, sym, ◌∙◌, ap, subst, arith}
+use Rattle.std.proofs.Common.{◌≡◌, ◌⊎◌, inl, inr, ℕ, ◌+◌, ◌<◌, ◌≤◌, ◌==◌, ◌&&◌, ◌||◌, not, nat_le, bit_and, Bool, true, false, List, length, if◌then◌else◌, refl, sym, ◌∙◌, ap, subst, arith}
 use Rattle.std.proofs.lemmas.Bool.{false≢true}
 use Rattle.std.proofs.lemmas.Bool.Decides.{nat_tests}
-use Rattle.flop_base.specs.Counts.{last_count, Rose}
+use Rattle.flop_base.specs.Counts.{Rose}
 use Rattle.drive_model.specs.Drive.{DriveState}
 use Rattle.dma_8237.specs.Channel.{grants}
 use Rattle.fdc_fifo.specs.Fifo.{Fifo, room_of, worth_fetching}
@@ -15,28 +15,28 @@ use Rattle.fdc_core.specs.Heard.{Sent, MayReadIn, MayReadTask}
 use Rattle.fdc_core.specs.Listening.{is_executing, OverrunsIn, OverrunsTask}
 use Rattle.fdc_core.specs.Phases.{is_reading, is_read, is_overrun, is_over}
 use Rattle.fdc_core.specs.Reading.{is_full}
-use Rattle.fdc_core.specs.State.{asks, is_gated, is_held, dor_of}
+use Rattle.fdc_core.specs.State.{asks, is_gated, is_held}
 use Rattle.fdc_core.specs.Steps.{polled, RestsIn, FlowsIn}
 use Rattle.fdc_core.specs.declared.controller.Fdc.{Fdc}
 use Rattle.fdc_core.specs.declared.phases.Phase.{Phase}
 use Rattle.fdc_core.specs.declared.phases.Phase.TheVariants.{Command, Execute, Result}
 use Rattle.fdc_core.specs.declared.phases.Task.{Task}
 use Rattle.fdc_core.specs.declared.phases.Task.TheVariants.{Read}
-use Rattle.machine_pace.specs.Holds.{Holds, IsReady, IsInTime, is_due, looked, shown}
+use Rattle.machine_pace.specs.Holds.{Holds, IsReady, IsInTime, is_due, shown}
 use Rattle.machine_pace.specs.declared.holding.Request.{Request}
 use Rattle.machine_pace.specs.declared.holding.Request.TheVariants.{Low, High}
 use Rattle.machine_pace.proofs.InTime.{in_time}
 use Rattle.pc_bus.specs.Steps.{Works}
-use Rattle.pc_bus.specs.Transfers.{can_move, moved_up_to, looked_at, shown_again, granted, dma_stepped}
+use Rattle.pc_bus.specs.Transfers.{moved_up_to, looked_at, shown_again, granted, dma_stepped}
 use Rattle.pc_bus.specs.declared.chips.Chips.{Chips}
 use Rattle.machine_reads.specs.Scenes.{Scene}
-use Rattle.machine_reads.specs.Underway.{IsMoved, IsReadBy}
+use Rattle.machine_reads.specs.Underway.{IsReadBy}
 use Rattle.machine_reads.proofs.Steps.{polled_phase, IsBetween}
 use Rattle.machine_reads.proofs.Transfers.{reads_there}
-use Rattle.machine_holds.specs.Served.{GoesByRule, moves_left, IsRuled}
+use Rattle.machine_holds.specs.Served.{IsRuled}
 use Rattle.machine_holds.specs.Timely.{slack_of, IsTimely, IsPunctual}
-use Rattle.machine_quiet.proofs.Transfers.{up_to_keeps, dma_keeps}
-use Rattle.machine_holds.proofs.Kept.{HasMode, mode_held, mode_moved, dma_overrun, dma_executing, dma_stalls, up_to_reading, up_to_holding}
+use Rattle.machine_quiet.proofs.Transfers.{up_to_keeps}
+use Rattle.machine_holds.proofs.Kept.{HasMode, mode_held, mode_moved, dma_overrun, dma_executing, dma_stalls, up_to_reading}
 use Rattle.machine_holds.proofs.Served.{phase_again, served, left_reading, IsServed}
 
 -- ---- tests

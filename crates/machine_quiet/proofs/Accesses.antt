@@ -1,32 +1,29 @@
 -- Between two data commands: what port accesses set.
-use Rattle.std.proofs.Common.{◌≡◌, ◌⊎◌, inl, inr, ℕ, ◌+◌, ◌≤◌, ◌==◌, ◌&&◌, nat_le, not, Some, None, Bool, true, false, List, [], ◌∷◌, ◌++◌, if◌then◌else◌, refl, sym, ◌∙◌, ap, subst, arith}
+use Rattle.std.proofs.Common.{◌≡◌, ℕ, ◌+◌, ◌==◌, nat_le, not, Some, None, Bool, true, false, [], ◌∷◌, ◌++◌, if◌then◌else◌, refl, sym, ◌∙◌, ap, subst, arith}
 use Rattle.std.proofs.lemmas.Bool.{false≢true}
 use Rattle.std.proofs.lemmas.Bool.Decides.{nat_tests}
-use Rattle.dma_8237.specs.Channel.{Channel, after_write, after_read}
+use Rattle.dma_8237.specs.Channel.{after_write, after_read}
 use Rattle.fdc_commands.specs.Table.{answer, kept}
-use Rattle.fdc_commands.specs.declared.bytes.Accepted.{Accepted}
 use Rattle.fdc_commands.specs.declared.bytes.Accepted.TheVariants.{More}
 use Rattle.fdc_core.specs.Answers.{after_byte}
 use Rattle.fdc_core.specs.Commands.{TakesAs}
 use Rattle.fdc_core.specs.Listening.{is_executing}
-use Rattle.fdc_core.specs.Ports.{given, after_read as controller_after, phase_after, takes_in, is_taking, ccr_written, Writes, result_byte}
+use Rattle.fdc_core.specs.Ports.{given, phase_after, takes_in, is_taking, ccr_written, result_byte}
 use Rattle.fdc_core.specs.State.{is_held}
 use Rattle.fdc_core.specs.declared.answers.Answer.{Answer}
 use Rattle.fdc_core.specs.declared.answers.Answer.TheVariants.{Short, Long}
 use Rattle.fdc_core.specs.declared.controller.Fdc.{Fdc}
 use Rattle.fdc_core.specs.declared.phases.Phase.{Phase}
 use Rattle.fdc_core.specs.declared.phases.Phase.TheVariants.{Command, Execute, Result}
-use Rattle.fdc_registers.specs.Dor.{not_reset}
 use Rattle.machine_pace.specs.Entries.{next_entry, rest_of}
 use Rattle.machine_pace.specs.Holds.{Holds, shown}
 use Rattle.pc_bus.specs.Boards.{Board, controller_of, lines_of}
-use Rattle.pc_bus.specs.Ports.{is_controllers, port_read, port_value, WritesPort, SetsMotors, RunsGap, Inputs, Outputs}
+use Rattle.pc_bus.specs.Ports.{is_controllers, port_read, WritesPort, RunsGap, Inputs, Outputs}
 use Rattle.pc_bus.specs.Transfers.{shown_again}
-use Rattle.pc_bus.specs.declared.bus.Bus.{Bus}
 use Rattle.pc_bus.specs.declared.chips.Chips.{Chips}
-use Rattle.machine_quiet.specs.Quiet.{only_listens, IsQuiet, HoldsOn, StandsStill, HaveTurned}
+use Rattle.machine_quiet.specs.Quiet.{only_listens, HoldsOn, HaveTurned}
 use Rattle.machine_quiet.specs.Settings.{Setting, ChipsStand, Stands, with_byte, with_rate, with_write, with_read}
-use Rattle.machine_quiet.proofs.Steps.{drives_on, drives_still}
+use Rattle.machine_quiet.proofs.Steps.{drives_on}
 use Rattle.machine_quiet.proofs.Standing.{still_stands, runs_stand}
 use Rattle.machine_quiet.proofs.Turning.{turned_still}
 
@@ -127,8 +124,8 @@ like_holds begun start old new was like listens = record {
 }
 
 -- the data port takes bytes
-takes : (start : Board) (set : Setting) (old : Board) → Stands start set old → set.phase ≡ Command → is_held (controller_of start) ≡ false → is_taking (controller_of old) ≡ true
-takes start set old was command free =
+pub port_takes : (start : Board) (set : Setting) (old : Board) → Stands start set old → set.phase ≡ Command → is_held (controller_of start) ≡ false → is_taking (controller_of old) ≡ true
+port_takes start set old was command free =
     let same : is_held (controller_of old) ≡ false = ap (λ dor. is_held (record (controller_of start) { dor = dor })) was.chips.controller.dor ∙ free in
     ap (λ phase. takes_in phase (is_held (controller_of old))) (was.chips.phase ∙ command) ∙ ap not same
 
@@ -140,7 +137,7 @@ byte_stands start set byte old new command free more access was =
     let whole : answer (fdc.command ++ byte ∷ []) ≡ More = ap (λ bytes. answer (bytes ++ byte ∷ [])) was.chips.command ∙ more in
     let after : controller ≡ record fdc { command = fdc.command ++ byte ∷ [] } =
     subst (λ accepted. TakesAs accepted (lines_of old) (record fdc { command = kept accepted (fdc.command ++ byte ∷ []) }) controller) whole
-    ((writes.bytes refl).0 (takes start set old was command free)) in
+    ((writes.bytes refl).0 (port_takes start set old was command free)) in
     let phase : controller.phase ≡ set.phase = ap (λ c. c.phase) after ∙ was.chips.phase in
     let like : IsLike fdc controller = record {
       seeks = ap (λ c. c.seeks) after;

@@ -4,3 +4,4 @@ mod Listening
 pub mod Steps
 pub mod Standing
 pub mod Accesses
+mod Given

@@ -1,7 +1,6 @@
 -- Between two data commands: device steps leave a setting.
-use Rattle.std.proofs.Common.{◌≡◌, ◌⊎◌, inl, inr, ℕ, zero, suc, ◌≤◌, ◌==◌, ◌&&◌, not, Bool, true, false, if◌then◌else◌, refl, sym, ◌∙◌, ap, subst}
+use Rattle.std.proofs.Common.{◌≡◌, inl, inr, ℕ, zero, suc, ◌==◌, Bool, false, refl, sym, ◌∙◌, ap, subst}
 use Rattle.std.proofs.lemmas.Bool.{false≢true}
-use Rattle.machine_pace.specs.Holds.{Holds, shown}
 use Rattle.machine_pace.specs.declared.holding.Request.{Request}
 use Rattle.machine_pace.specs.declared.holding.Request.TheVariants.{Low}
 use Rattle.fdc_core.specs.Listening.{is_executing}
@@ -13,10 +12,10 @@ use Rattle.pc_bus.specs.Boards.{Board, controller_of, selected_of}
 use Rattle.pc_bus.specs.Steps.{Step, Runs, RunsUnset, Waits, stirred}
 use Rattle.pc_bus.specs.Transfers.{dma_stepped}
 use Rattle.pc_bus.specs.declared.chips.Chips.{Chips}
-use Rattle.machine_quiet.specs.Quiet.{IsQuiet, HoldsOn, HaveTurned, StandsStill}
+use Rattle.machine_quiet.specs.Quiet.{IsQuiet, HoldsOn, StandsStill}
 use Rattle.machine_quiet.specs.Settings.{Setting, setting_of, ChipsStand, Stands}
 use Rattle.machine_quiet.proofs.Listening.{polled_phase, polled_asking}
-use Rattle.machine_quiet.proofs.Steps.{WorksOn, step_works, drives_on, drives_still, starts_quietly, first_second_or_none, stirred_still}
+use Rattle.machine_quiet.proofs.Steps.{step_works, drives_on, drives_still, starts_quietly, first_second_or_none, stirred_still}
 use Rattle.machine_quiet.proofs.Transfers.{idle_dma}
 
 -- outside execution a controller stays in its phase, with DRQ as it was

@@ -1,18 +1,16 @@
 -- A quiet machine, through device steps.
-use Rattle.std.proofs.Common.{◌≡◌, ◌⊎◌, inl, inr, ℕ, zero, suc, ◌<◌, ◌≤◌, ◌==◌, Bool, true, false, Option, None, List, length, if◌then◌else◌, refl, sym, ◌∙◌, ap, subst, arith}
-use Rattle.std.proofs.lemmas.Bool.{false≢true}
+use Rattle.std.proofs.Common.{◌≡◌, ◌⊎◌, inl, inr, ℕ, zero, suc, ◌≤◌, ◌==◌, Bool, true, false, None, List, length, if◌then◌else◌, refl, sym, ◌∙◌, ap, subst, arith}
 use Rattle.drive_model.specs.Drive.{DriveState}
 use Rattle.fdc_fifo.specs.Fifo.{Fifo, room_of}
 use Rattle.fdc_core.specs.Dma.{taken_out, taken_in, phase_told, task_told, fifo_told, to_memory_of}
 use Rattle.fdc_core.specs.Listening.{ExecutesIn}
 use Rattle.fdc_core.specs.Phases.{is_listening, is_reading}
-use Rattle.fdc_core.specs.Steps.{polled, RestsIn, Stays, MovesIn, MovesTask, MovesDrive}
+use Rattle.fdc_core.specs.Steps.{polled, RestsIn, Stays, MovesIn, MovesTask}
 use Rattle.fdc_core.specs.declared.controller.Fdc.{Fdc}
 use Rattle.fdc_core.specs.declared.phases.Phase.{Phase}
 use Rattle.fdc_core.specs.declared.phases.Phase.TheVariants.{Command, Execute, Result}
 use Rattle.fdc_core.specs.declared.phases.Task.{Task}
 use Rattle.fdc_core.specs.declared.phases.Task.TheVariants.{ReadId, Read, Write, Format}
-use Rattle.machine_pace.specs.Holds.{Holds}
 use Rattle.pc_bus.specs.Boards.{Board, controller_of, selected_of}
 use Rattle.pc_bus.specs.Steps.{Works, WorksAlone, Step, Runs, RunsUnset, Waits, stirred}
 use Rattle.pc_bus.specs.Transfers.{moved, moved_to_memory, moved_from_memory, byte_read, told_if, dma_stepped}

@@ -1,5 +1,5 @@
 -- The machine between two data commands: what port accesses set, and what stays.
-use Rattle.std.specs.Prelude.{◌≡◌, ℕ, ◌==◌, ◌++◌, [], ◌∷◌, Bool, false, List, if◌then◌else◌}
+use Rattle.std.specs.Prelude.{◌≡◌, ℕ, ◌==◌, ◌++◌, [], ◌∷◌, false, List, if◌then◌else◌}
 use Rattle.dma_8237.specs.Channel.{Channel, after_write, after_read}
 use Rattle.fdc_core.specs.Listening.{is_executing}
 use Rattle.fdc_core.specs.Ports.{phase_after}

@@ -1,11 +1,15 @@
 // What follows of the machine's steps and port accesses. The bodies are empty.
 ghost use Rattle.std.specs.Prelude.{◌≡◌, ◌++◌, [], ◌∷◌, ℕ, Bool, false};
+ghost use Rattle.fdc_commands.specs.declared.results.Results.{Results};
+ghost use Rattle.fdc_core.specs.declared.answers.Answer.TheVariants.{Long};
+ghost use Rattle.fdc_stages.specs.declared.ending.Ending.{Ending};
+ghost use Rattle.machine_quiet.specs.Results.{GivesBytes, HasGiven};
 ghost use Rattle.fdc_commands.specs.Table.{answer};
 ghost use Rattle.fdc_commands.specs.declared.bytes.Accepted.TheVariants.{More};
 ghost use Rattle.fdc_core.specs.Listening.{is_executing};
 ghost use Rattle.fdc_core.specs.Ports.{result_byte};
 ghost use Rattle.fdc_core.specs.State.{data_commands_of, is_held};
-ghost use Rattle.fdc_core.specs.declared.phases.Phase.TheVariants.{Command};
+ghost use Rattle.fdc_core.specs.declared.phases.Phase.TheVariants.{Command, Result};
 ghost use Rattle.machine_quiet.specs.Quiet.{IsQuiet, GoesQuietly, StandsStill};
 ghost use Rattle.machine_quiet.specs.Settings.{Setting, Stands, setting_of, with_byte, with_rate, with_read, with_write};
 ghost use Rattle.pc_bus.specs.Boards.{Board, controller_of};
@@ -41,4 +45,12 @@ pub fn accesses_set_registers()
     ensures rate { (start : Board) (set : Setting) (value : ℕ) (old new : Board) → Outputs 0x3F7 value old new → Stands start set old → Stands start (with_rate value set) new }
     ensures read { (start : Board) (set : Setting) (port value : ℕ) (old new : Board) → Inputs port value old new → Stands start set old → Stands start (with_read port set) new }
     ensures gives { (start : Board) (set : Setting) (value : ℕ) (old new : Board) → Inputs 0x3F5 value old new → Stands start set old → value ≡ result_byte set.phase }
+{}
+
+/// Seven reads of the data port give the results of a data command, which are ST0, ST1, ST2, C, H, R, N; then the controller
+/// takes commands, and all else stands as it was.
+pub fn results_are_read()
+    ensures { (ending : Ending) (results : Results) (old new : Board) (st0 st1 st2 c h r n : ℕ) → IsQuiet (controller_of old) → (controller_of old).asking ≡ false
+        → (controller_of old).phase ≡ Result (Long ending results 0) → GivesBytes (st0 ∷ st1 ∷ st2 ∷ c ∷ h ∷ r ∷ n ∷ []) old new
+        → HasGiven results (st0 ∷ st1 ∷ st2 ∷ c ∷ h ∷ r ∷ n ∷ []) old (setting_of old) new }
 {}

@@ -4,4 +4,6 @@
 
 mod laws;
 
-pub use laws::{accesses_set_registers, quiet_steps_turn_drives, steps_leave_a_setting};
+pub use laws::{
+    accesses_set_registers, quiet_steps_turn_drives, results_are_read, steps_leave_a_setting,
+};

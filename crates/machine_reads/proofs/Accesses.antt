@@ -1,15 +1,12 @@
 -- Port accesses of a READ DATA: the write that begins it, and reads.
-use Rattle.std.proofs.Common.{◌≡◌, ◌⊎◌, inl, inr, ℕ, zero, suc, ◌+◌, ◌%◌, ◌<◌, ◌≤◌, ◌==◌, ◌||◌, nat_le, Bool, true, false, not, Option, Some, None, List, [], ◌∷◌, ◌++◌, length, slice_index, if◌then◌else◌, refl, sym, ◌∙◌, ap, subst, arith}
+use Rattle.std.proofs.Common.{◌≡◌, ◌⊎◌, inl, inr, ℕ, ◌+◌, ◌==◌, ◌||◌, nat_le, Bool, true, false, not, Some, None, List, [], ◌∷◌, ◌++◌, length, slice_index, if◌then◌else◌, refl, sym, ◌∙◌, ap, subst, arith}
 use Rattle.std.proofs.lemmas.Bool.{false≢true}
 use Rattle.drive_model.specs.Drive.{DriveState}
 use Rattle.dma_8237.specs.Channel.{Channel, grants, after_read}
 use Rattle.fdc_commands.specs.Table.{answer, kept}
-use Rattle.fdc_commands.specs.declared.bytes.Accepted.{Accepted}
-use Rattle.fdc_commands.specs.declared.bytes.Accepted.TheVariants.{Ready}
-use Rattle.fdc_commands.specs.declared.command.Command.TheVariants.{ReadData}
 use Rattle.fdc_stages.specs.History.{Past, begun as new_past}
-use Rattle.fdc_core.specs.Commands.{TakesAs, BeginsTask, IsReadingData, begun}
-use Rattle.fdc_core.specs.Heard.{Sent, MayRead, MayReadIn}
+use Rattle.fdc_core.specs.Commands.{TakesAs}
+use Rattle.fdc_core.specs.Heard.{MayRead}
 use Rattle.fdc_core.specs.Listening.{is_executing}
 use Rattle.fdc_core.specs.Ports.{given, after_read as controller_after, phase_after, Writes}
 use Rattle.fdc_core.specs.Answers.{after_byte}
@@ -23,12 +20,11 @@ use Rattle.fdc_core.specs.declared.phases.Phase.TheVariants.{Command, Execute, R
 use Rattle.fdc_core.proofs.MayRead.{given_reads}
 use Rattle.machine_pace.specs.Entries.{next_entry, rest_of}
 use Rattle.pc_bus.specs.Boards.{Board, controller_of, drive_in, lines_of}
-use Rattle.pc_bus.specs.Ports.{is_controllers, port_read, Inputs, Outputs, RunsGap}
+use Rattle.pc_bus.specs.Ports.{is_controllers, port_read, Inputs, Outputs}
 use Rattle.pc_bus.specs.Transfers.{shown_again}
 use Rattle.pc_bus.specs.declared.chips.Chips.{Chips}
-use Rattle.track_heard.specs.Heard.{IsHeard, IsHeardWhole}
-use Rattle.machine_reads.specs.Scenes.{Scene, IsScene, track_met}
-use Rattle.machine_reads.specs.Underway.{IsUnder, IsHearing, HasBytes, IsSet, IsMoved, IsReadBy, IsReadOf, ReadUnderway}
+use Rattle.machine_reads.specs.Scenes.{Scene, IsScene}
+use Rattle.machine_reads.specs.Underway.{IsHearing, IsSet, IsMoved, IsReadBy, ReadUnderway}
 use Rattle.machine_reads.specs.Begins.{IsDriveOf, IsLastByte, CanBegin}
 use Rattle.machine_reads.proofs.Steps.{runs_keep, same_drive}
 use Rattle.machine_reads.proofs.Words.{length-met}

@@ -5,3 +5,4 @@ pub mod Steps
 mod Results
 mod Commands
 pub mod Accesses
+mod Beginnings

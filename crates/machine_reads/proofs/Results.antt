@@ -1,25 +1,25 @@
 -- From the words that were heard to the track.
-use Rattle.std.proofs.Common.{◌≡◌, ◌⊎◌, inl, inr, ℕ, ◌+◌, ◌-◌, ◌*◌, ◌<◌, ◌≤◌, Bool, true, false, List, [], ◌∷◌, Option, Some, length, slice_index, get_or, drop, refl, sym, ◌∙◌, ap, subst, arith}
+use Rattle.std.proofs.Common.{◌≡◌, inl, inr, ℕ, ◌+◌, ◌-◌, ◌*◌, ◌<◌, ◌≤◌, Bool, true, false, List, [], ◌∷◌, Some, length, drop, refl, sym, ◌∙◌, subst, arith}
+use Rattle.std.proofs.lemmas.Bool.{false≢true}
 use Rattle.std.proofs.lemmas.List.{get_or-drop, length-drop}
-use Rattle.flop_base.specs.declared.key.Chrn.{Chrn}
-use Rattle.track_model.specs.declared.Look.TheVariants.{Found, NoData, BadCrc}
-use Rattle.track_model.specs.Fields.{IsAddressAt, IsSizeCode, content_size, content_at, IsWhole}
+use Rattle.track_model.specs.declared.Look.TheVariants.{NoData, BadCrc}
+use Rattle.track_model.specs.Fields.{IsAddressAt, IsSizeCode, content_size, content_at}
 use Rattle.track_model.specs.Looks.{HasAddressMark, LookAt, IsIntact, HasDataField}
 use Rattle.track_separator.specs.Parts.{IsPart}
-use Rattle.fdc_stages.specs.History.{Past, IsTurnIn, IsAmong, IsJustOver}
-use Rattle.fdc_stages.specs.Searches.{HasNoClear, HasMarkIn, IsBetween}
-use Rattle.fdc_stages.specs.Findings.{IsFoundAt, HasAddressIn, FindsSector, FindsBadCheck, FindsNoField, FindsNoMark, FindsNoSector, IsWithoutData}
+use Rattle.fdc_stages.specs.History.{Past, IsTurnIn, IsAmong}
+use Rattle.fdc_stages.specs.Searches.{HasNoClear, IsBetween}
+use Rattle.fdc_stages.specs.Findings.{IsFoundAt, FindsBadCheck, FindsNoField, FindsNoMark, FindsNoSector}
 use Rattle.fdc_stages.specs.declared.ending.Ending.{Ending}
 use Rattle.fdc_stages.specs.declared.ending.Ending.TheVariants.{Done, NoMark, NoSector, NoField, BadCheck, Overrun, NoCount, Protected, Late}
 use Rattle.fdc_core.specs.Meaning.{ReadMeans, ReadMeansIn, FindsUncounted}
 use Rattle.fdc_core.specs.declared.answers.Answer.TheVariants.{Short, Long}
 use Rattle.fdc_core.specs.declared.phases.Phase.{Phase}
 use Rattle.fdc_core.specs.declared.phases.Phase.TheVariants.{Command, Execute, Result}
-use Rattle.track_heard.specs.Heard.{IsHeard, IsHeardWhole, start_of, place_in, AreHeard, AreHeardWhole, IsHeardFrom, IsWholeFrom}
+use Rattle.track_heard.specs.Heard.{IsHeard, IsHeardWhole, start_of, AreHeard, AreHeardWhole, IsHeardFrom, IsWholeFrom}
 use Rattle.track_heard.proofs.Fields.{mark_heard, address_heard, data_mark_heard, field_heard, found_on, bad_on, none_on, lone_found, turn_is}
 use Rattle.track_model.proofs.Spans.{intact_of}
 use Rattle.machine_reads.specs.Scenes.{Scene, track_met}
-use Rattle.machine_reads.specs.Underway.{IsCalm, HasBytes, IsMoved, IsHearing}
+use Rattle.machine_reads.specs.Underway.{IsCalm, HasBytes, IsMoved}
 use Rattle.dma_8237.specs.Channel.{Channel}
 use Rattle.machine_reads.specs.Results.{FindsField, EndsAs, EndedIn, StaysOutside}
 
@@ -167,3 +167,9 @@ stays_outside scene given counted memory channel moved =
       lengths = moved.bytes.lengths;
       others = λ k outside. moved.bytes.others k (elim outside [ inl before ↦ inl before | inr behind ↦ inr (omega arith) ]);
     }
+
+-- ---- the request
+
+pub low_outside : (asking busy : Bool) → (asking ≡ true → busy ≡ true) → busy ≡ false → asking ≡ false
+low_outside true busy quiet idle = absurd (false≢true (sym idle ∙ quiet refl))
+low_outside false busy quiet idle = refl

@@ -1,32 +1,31 @@
 -- A device step of a READ DATA.
-use Rattle.std.proofs.Common.{◌≡◌, ◌⊎◌, inl, inr, ℕ, zero, suc, ◌+◌, ◌/◌, ◌%◌, ◌<◌, ◌≤◌, ◌==◌, ◌&&◌, not, Bool, true, false, List, Option, Some, None, length, if◌then◌else◌, refl, sym, ◌∙◌, ap, subst, arith}
+use Rattle.std.proofs.Common.{◌≡◌, ◌⊎◌, inl, inr, ℕ, zero, suc, ◌/◌, ◌%◌, ◌≤◌, ◌==◌, ◌&&◌, not, Bool, true, false, List, Option, Some, None, if◌then◌else◌, refl, sym, ◌∙◌, ap, subst, arith}
 use Rattle.std.proofs.lemmas.Bool.{false≢true}
-use Rattle.drive_model.specs.Drive.{DriveState, Becomes, Pulses, at_index}
+use Rattle.drive_model.specs.Drive.{DriveState, at_index}
 use Rattle.fdc_seek.specs.Seeking.{with_polls}
 use Rattle.fdc_fifo.specs.Fifo.{Fifo}
 use Rattle.fdc_stages.specs.History.{Past, heard}
 use Rattle.fdc_core.specs.Dma.{phase_asks}
-use Rattle.fdc_core.specs.Heard.{Sent, MayRead, MayReadIn, MayReadTask, stepped}
+use Rattle.fdc_core.specs.Heard.{Sent, MayReadIn, MayReadTask, stepped}
 use Rattle.fdc_core.specs.Listening.{is_executing, StepHears, SeesUnder, SeesTask}
 use Rattle.fdc_core.specs.Phases.{is_listening}
-use Rattle.fdc_core.specs.State.{is_held, dor_of}
+use Rattle.fdc_core.specs.State.{is_held}
 use Rattle.fdc_core.specs.Steps.{polled, RestsIn, Moves, MovesTask, MovesIn, FlowsIn}
 use Rattle.fdc_core.specs.declared.controller.Fdc.{Fdc}
-use Rattle.fdc_core.specs.declared.phases.Execution.{Execution}
 use Rattle.fdc_core.specs.declared.phases.Phase.{Phase}
 use Rattle.fdc_core.specs.declared.phases.Phase.TheVariants.{Command, Execute, Result}
 use Rattle.fdc_core.specs.declared.phases.Task.{Task}
 use Rattle.fdc_core.specs.declared.phases.Task.TheVariants.{Read}
 use Rattle.pc_bus.specs.Boards.{Board, controller_of, drive_in, selected_of}
-use Rattle.pc_bus.specs.Steps.{Works, Turns, Step, Runs, RunsUnset, Waits, stirred, step_begun, with_controller, step_ended}
+use Rattle.pc_bus.specs.Steps.{Works, Step, Runs, RunsUnset, Waits, stirred}
 use Rattle.machine_quiet.specs.Quiet.{StandsStill}
 use Rattle.machine_quiet.proofs.Steps.{stirred_still}
 use Rattle.pc_bus.specs.Transfers.{dma_stepped}
 use Rattle.pc_bus.specs.declared.chips.Chips.{Chips}
-use Rattle.track_heard.specs.Heard.{start_of, place_in, IsHeardFrom, IsWholeFrom}
+use Rattle.track_heard.specs.Heard.{place_in, IsHeardFrom, IsWholeFrom}
 use Rattle.machine_reads.specs.Scenes.{Scene, IsScene, head_sent, track_met}
-use Rattle.machine_reads.specs.Underway.{IsUnder, IsHearing, IsReadBy, IsReadOf, ReadUnderway}
-use Rattle.machine_reads.proofs.Transfers.{SameWords, GoesOn, dma_goes}
+use Rattle.machine_reads.specs.Underway.{IsHearing, IsReadBy, IsReadOf, ReadUnderway}
+use Rattle.machine_reads.proofs.Transfers.{SameWords, dma_goes}
 use Rattle.machine_reads.proofs.Words.{hearing_on, hearing_over}
 
 -- ---- the poll
@@ -52,7 +51,7 @@ sent_task : (past : Past) (sent : Sent) (head_drive steps : ℕ) (task : Task) (
 sent_task past sent head_drive steps (Read reading) asking fifo (asks, (told, underway)) = ap (λ s. s.head_drive) underway.sent_is
 sent_task past sent head_drive steps _ asking fifo was = absurd was
 
-listens_task : (past : Past) (sent : Sent) (head_drive steps : ℕ) (task : Task) (asking : Bool) (fifo : List ℕ) → MayReadTask past sent head_drive steps task asking fifo
+pub listens_task : (past : Past) (sent : Sent) (head_drive steps : ℕ) (task : Task) (asking : Bool) (fifo : List ℕ) → MayReadTask past sent head_drive steps task asking fifo
     → is_listening task ≡ true
 listens_task past sent head_drive steps (Read reading) asking fifo was = refl
 listens_task past sent head_drive steps _ asking fifo was = absurd was
