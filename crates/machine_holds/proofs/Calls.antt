@@ -24,7 +24,7 @@ use Rattle.pc_bus.specs.declared.chips.Chips.{Chips}
 use Rattle.machine_quiet.specs.Quiet.{StandsStill}
 use Rattle.machine_quiet.proofs.Steps.{stirred_still}
 use Rattle.machine_reads.specs.Scenes.{Scene}
-use Rattle.machine_reads.proofs.Accesses.{read_between, grants_read, busy_before}
+use Rattle.machine_reads.proofs.Accesses.{read_board, read_between, grants_read, busy_before}
 use Rattle.machine_reads.proofs.Steps.{still_keeps}
 use Rattle.machine_reads.proofs.Transfers.{reads_there}
 use Rattle.machine_holds.specs.Timely.{slack_of, IsTimely, IsPunctual, Stalled, ReadInTime}
@@ -56,7 +56,7 @@ calm_read Command calm = refl
 calm_read (Execute execution) calm = refl
 calm_read (Result answer) calm = calm_after answer calm
 
-same_busy : (phase : Phase) → is_executing phase ≡ true → phase_after phase ≡ phase
+pub same_busy : (phase : Phase) → is_executing phase ≡ true → phase_after phase ≡ phase
 same_busy Command busy = refl
 same_busy (Execute execution) busy = refl
 same_busy (Result answer) busy = absurd (false≢true busy)
@@ -111,26 +111,32 @@ read_punctual chips port reads was false data_port = record {
   no_overrun = was.no_overrun;
 }
 
-read_stalls : (line : Bool) (holding : Holds) → (shown line holding).stalls ≡ holding.stalls
-read_stalls true holding = refl
-read_stalls false holding = refl
+line_stalls : (line : Bool) (holding : Holds) → (shown line holding).stalls ≡ holding.stalls
+line_stalls true holding = refl
+line_stalls false holding = refl
 
 port_stalls : (chips : Chips) (port : ℕ) (controllers : Bool)
     → (if controllers then shown_again (record chips { controller = controller_after port chips.controller }) else record chips { channel = after_read port chips.channel }).holding.stalls ≡ chips.holding.stalls
-port_stalls chips port true = read_stalls _ chips.holding
+port_stalls chips port true = line_stalls _ chips.holding
 port_stalls chips port false = refl
+
+-- before the gap
+pub read_in_time : (port value : ℕ) (old new : Board) → Inputs port value old new → (scene : Scene) → ReadInTime scene old
+    → ReadInTime scene (read_board port old) ⊎ ((controller_of new).phase ≡ Command)
+read_in_time port value old new access scene ((past, was), punctual) =
+    let chips = old.bus.chips in
+    let still = read_punctual chips port (reads_there past scene.sent chips.controller.phase chips.controller.asking chips.controller.fifo.bytes was.chips.reads) punctual (is_controllers port) (port == 0x3F5) in
+    elim (read_between port value old new access scene (past, was)) [ inl under ↦ inl (under, still) | inr over ↦ inr over ]
+
+pub read_stalls : (port : ℕ) (old : Board) → (holds_of (read_board port old)).stalls ≡ (holds_of old).stalls
+read_stalls port old = port_stalls old.bus.chips port (is_controllers port)
 
 pub inputs_in_time : (port value : ℕ) (old new : Board) → Inputs port value old new → (scene : Scene) → ReadInTime scene old
     → ReadInTime scene new ⊎ ((controller_of new).phase ≡ Command) ⊎ Stalled old new
-inputs_in_time port value old new access scene ((past, was), punctual) =
-    let between : Board = record old { bus = record old.bus { chips = port_read port old.bus.chips; gaps = rest_of old.bus.gaps; fresh = false } } in
-    let chips = old.bus.chips in
-    let still = read_punctual chips port (reads_there past scene.sent chips.controller.phase chips.controller.asking chips.controller.fifo.bytes was.chips.reads) punctual (is_controllers port) (port == 0x3F5) in
-    let same : (holds_of between).stalls ≡ (holds_of old).stalls = port_stalls chips port (is_controllers port) in
-    elim (read_between port value old new access scene (past, was)) [
-      | inl under ↦ elim (runs_in_time (next_entry old.bus.gaps) between new access.gap.runs scene (under, still)) [
-        | inl on_time ↦ inl on_time
-        | inr rose ↦ inr (inr (subst (λ stalls. Rose stalls (holds_of new).stalls) same rose))
-      ]
-      | inr over ↦ inr (inl over)
-    ]
+inputs_in_time port value old new access scene was = elim (read_in_time port value old new access scene was) [
+  | inl under ↦ elim (runs_in_time (next_entry old.bus.gaps) (read_board port old) new access.gap.runs scene under) [
+    | inl on_time ↦ inl on_time
+    | inr rose ↦ inr (inr (subst (λ stalls. Rose stalls (holds_of new).stalls) (read_stalls port old) rose))
+  ]
+  | inr over ↦ inr (inl over)
+]

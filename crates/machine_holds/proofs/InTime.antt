@@ -60,16 +60,16 @@ step_in_time old new step scene ((past, was), punctual) =
 -- ---- the count of stalls
 
 -- it doesn't fall, but to its last value
-abbrev Grows : ℕ → ℕ → Type 0
+abbrev pub Grows : ℕ → ℕ → Type 0
 Grows before now = min before last_count ≤ now
 
 grows_on : (a b c : ℕ) → Grows a b → Grows b c → Grows a c
 grows_on a b c first second = omega arith
 
-rose_behind : (a b c : ℕ) → Grows a b → Rose b c → Rose a c
+pub rose_behind : (a b c : ℕ) → Grows a b → Rose b c → Rose a c
 rose_behind a b c grows rose = omega arith
 
-rose_before : (a b c : ℕ) → Rose a b → Grows b c → Rose a c
+pub rose_before : (a b c : ℕ) → Rose a b → Grows b c → Rose a c
 rose_before a b c rose grows = omega arith
 
 taken_grows : (b : Bool) (stalls : ℕ) → Grows stalls (if b then counted stalls else stalls)
@@ -84,18 +84,18 @@ looked_grows : (line : Bool) (old : Holds) → Grows old.stalls (looked line old
 looked_grows true old = waited_grows old.request old
 looked_grows false old = omega arith
 
-step_grows : (old new : Board) → Step old new → Grows (holds_of old).stalls (holds_of new).stalls
+pub step_grows : (old new : Board) → Step old new → Grows (holds_of old).stalls (holds_of new).stalls
 step_grows old new step =
     let chips : Chips = record old.bus.chips { controller = step.between } in
     let is : new.bus.chips.holding.stalls ≡ (looked_at chips).holding.stalls = ap (λ bus. bus.chips.holding.stalls) step.bus ∙ dma_stalls chips in
     subst (Grows (holds_of old).stalls) (sym is) (looked_grows _ old.bus.chips.holding)
 
-runs_grow : (n : ℕ) (old new : Board) → Runs n old new → Grows (holds_of old).stalls (holds_of new).stalls
+pub runs_grow : (n : ℕ) (old new : Board) → Runs n old new → Grows (holds_of old).stalls (holds_of new).stalls
 unfolding Runs
 runs_grow zero old new same = let is = ap (λ board. board.bus.chips.holding.stalls) same in omega arith
 runs_grow (suc n) old new (between, runs, step) = grows_on _ (holds_of between).stalls _ (runs_grow n old between runs) (step_grows between new step)
 
-unset_grow : (n : ℕ) (old new : Board) → RunsUnset n old new → Grows (holds_of old).stalls (holds_of new).stalls
+pub unset_grow : (n : ℕ) (old new : Board) → RunsUnset n old new → Grows (holds_of old).stalls (holds_of new).stalls
 unfolding RunsUnset
 unset_grow zero old new same = let is = ap (λ board. board.bus.chips.holding.stalls) same in omega arith
 unset_grow (suc n) old new (between, runs, unset, step) = grows_on _ (holds_of between).stalls _ (unset_grow n old between runs) (step_grows between new step)
@@ -152,10 +152,19 @@ begun_punctual chips sent task old is on threshold gated = record {
   no_overrun = refl;
 }
 
-pub begins_in_time : (scene : Scene) (byte : ℕ) (old new : Board) → Outputs 0x3F5 byte old new → CanBegin scene byte old
+-- before the gap
+pub record HasBegun (scene : Scene) (old between : Board) : Type 0 where
+  pub head_drive : ℕ
+  pub task : Task
+  pub was : Fdc
+  pub chips : between.bus.chips ≡ shown_again (record old.bus.chips { controller = begun head_drive task was })
+  pub on_time : ReadInTime scene (gapped between)
+  pub stalls : (holds_of between).stalls ≡ (holds_of old).stalls
+
+pub begun_in_time : (scene : Scene) (byte : ℕ) (old new : Board) → (access : Outputs 0x3F5 byte old new) → CanBegin scene byte old
     → (controller_of old).fifo.on ≡ true → (controller_of old).fifo.threshold ≡ 8 → is_gated (controller_of old) ≡ true
-    → ReadInTime scene new ⊎ Stalled old new
-begins_in_time scene byte old new access can on threshold gated =
+    → HasBegun scene old access.between
+begun_in_time scene byte old new access can on threshold gated =
     let (controller, writes, chips_are) = access.writes.writes.controllers refl in
     let fdc = controller_of old in
     let bytes = fdc.command ++ byte ∷ [] in
@@ -165,12 +174,25 @@ begins_in_time scene byte old new access can on threshold gated =
     let at : access.between.bus.chips ≡ shown_again (record old.bus.chips { controller = controller }) = ap (λ bus. bus.chips) access.writes.bus ∙ chips_are in
     let punctual : IsPunctual access.between.bus.chips = subst IsPunctual (sym at)
     (subst (λ c. IsPunctual (shown_again (record old.bus.chips { controller = c }))) (sym after) (begun_punctual old.bus.chips scene.sent task (record fdc { command = kept whole bytes }) is on threshold gated)) in
-    let same : (holds_of access.between).stalls ≡ (holds_of old).stalls = ap (λ chips. chips.holding.stalls) at ∙ shown_stalls _ old.bus.chips.holding in
-    elim (runs_in_time (next_entry access.between.bus.gaps) (gapped access.between) new access.gap.runs scene (begun_underway scene byte old new access can, punctual)) [
-      | inl on_time ↦ inl on_time
-      | inr rose ↦ inr (subst (λ stalls. Rose stalls (holds_of new).stalls) same rose)
-    ]
+    record {
+      head_drive = scene.sent.head_drive;
+      task = task;
+      was = record fdc { command = kept whole bytes };
+      chips = at ∙ ap (λ c. shown_again (record old.bus.chips { controller = c })) after;
+      on_time = (begun_underway scene byte old new access can, punctual);
+      stalls = ap (λ chips. chips.holding.stalls) at ∙ shown_stalls _ old.bus.chips.holding;
+    }
   where
     shown_stalls : (line : Bool) (holding : Holds) → (shown line holding).stalls ≡ holding.stalls
     shown_stalls true holding = refl
     shown_stalls false holding = refl
+
+pub begins_in_time : (scene : Scene) (byte : ℕ) (old new : Board) → Outputs 0x3F5 byte old new → CanBegin scene byte old
+    → (controller_of old).fifo.on ≡ true → (controller_of old).fifo.threshold ≡ 8 → is_gated (controller_of old) ≡ true
+    → ReadInTime scene new ⊎ Stalled old new
+begins_in_time scene byte old new access can on threshold gated =
+    let has = begun_in_time scene byte old new access can on threshold gated in
+    elim (runs_in_time (next_entry access.between.bus.gaps) (gapped access.between) new access.gap.runs scene has.on_time) [
+      | inl on_time ↦ inl on_time
+      | inr rose ↦ inr (subst (λ stalls. Rose stalls (holds_of new).stalls) has.stalls rose)
+    ]

@@ -77,17 +77,17 @@ over_in past sent (Result answer) asking fifo index word polls between track0 wa
 over_in past sent (Execute execution) asking fifo index word polls between track0 was overruns rests same room calm =
     over_task past sent execution.head_drive execution.steps execution.task asking fifo index word polls between was overruns (λ uncounted full. room uncounted refl full)
 
-busy_in : (phase : Phase) (polls between : Fdc) (track0 : Bool) → RestsIn phase polls track0 between → polls.phase ≡ phase → is_executing between.phase ≡ true → is_executing phase ≡ true
+pub busy_in : (phase : Phase) (polls between : Fdc) (track0 : Bool) → RestsIn phase polls track0 between → polls.phase ≡ phase → is_executing between.phase ≡ true → is_executing phase ≡ true
 busy_in Command polls between track0 rests same busy = absurd (false≢true (sym (ap (λ fdc. is_executing fdc.phase) rests ∙ ap is_executing same) ∙ busy))
 busy_in (Result answer) polls between track0 rests same busy = absurd (false≢true (sym (ap (λ fdc. is_executing fdc.phase) rests ∙ ap is_executing same) ∙ busy))
 busy_in (Execute execution) polls between track0 rests same busy = refl
 
-flows_in : (phase : Phase) (asking : Bool) (new : Fdc) → is_executing phase ≡ true → FlowsIn phase asking new → new.asking ≡ phase_asks new.phase asking new.fifo
+pub flows_in : (phase : Phase) (asking : Bool) (new : Fdc) → is_executing phase ≡ true → FlowsIn phase asking new → new.asking ≡ phase_asks new.phase asking new.fifo
 flows_in Command asking new busy flows = absurd (false≢true busy)
 flows_in (Result answer) asking new busy flows = absurd (false≢true busy)
 flows_in (Execute execution) asking new busy flows = flows
 
-polled_fifo : (old : Fdc) → (polled old).fifo ≡ old.fifo
+pub polled_fifo : (old : Fdc) → (polled old).fifo ≡ old.fifo
 polled_fifo old = by_poll (old.poll_due && not (is_held old))
   where
     by_poll : (b : Bool) → (if b then record old { poll_due = false; interrupt = true; seeks = with_polls old.seeks } else old).fifo ≡ old.fifo
@@ -131,11 +131,11 @@ pub ready_low : (line : Bool) (holding : Holds) (slack : ℕ) → line ≡ false
 ready_low true holding slack low enough = absurd (false≢true (sym low))
 ready_low false holding slack low enough = enough
 
-not_due : (request : Request) (slack : ℕ) → IsInTime request slack → is_due request ≡ false → IsReady request slack
+pub not_due : (request : Request) (slack : ℕ) → IsInTime request slack → is_due request ≡ false → IsReady request slack
 not_due Low slack enough due = enough
 not_due (High left) slack enough due = (positive left due, enough)
 
-ready_one : (request : Request) (slack : ℕ) → IsReady request slack → 1 ≤ slack
+pub ready_one : (request : Request) (slack : ℕ) → IsReady request slack → 1 ≤ slack
 ready_one Low slack enough = omega arith
 ready_one (High left) slack enough = let some = enough.0 in let all = enough.1 in omega arith
 
@@ -221,7 +221,7 @@ behind chips before mode reading rule less ready true is =
       | inr rose ↦ inr (subst (λ stalls. Rose chips.holding.stalls stalls) (sym (dma_stalls chips)) rose)
     ]
 
-gated_same : (a b : Fdc) → a.dor ≡ b.dor → is_gated b ≡ true → is_gated a ≡ true
+pub gated_same : (a b : Fdc) → a.dor ≡ b.dor → is_gated b ≡ true → is_gated a ≡ true
 gated_same a b same is = ap (λ (dor : Dor). (bit_and dor.0 gate == gate)) same ∙ is
 
 pub in_step : (scene : Scene) (past : Past) (chips : Chips) (drive : DriveState) (between : Fdc) (after : DriveState) → IsReadBy scene past chips

@@ -2,7 +2,7 @@ mod Bytes
 pub mod Transfers
 pub mod Words
 pub mod Steps
-mod Results
+pub mod Results
 mod Commands
 pub mod Accesses
 mod Beginnings

@@ -1,0 +1,4 @@
+mod Words
+mod Moves
+mod Steps
+mod Calls
