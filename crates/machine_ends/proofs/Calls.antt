@@ -75,7 +75,7 @@ calm_after (Long ending results taken) calm = by_last (nat_le 6 taken)
     by_last true = refl
     by_last false = calm
 
-calm_read : (phase : Phase) → is_late phase ≡ false → is_late (phase_after phase) ≡ false
+pub calm_read : (phase : Phase) → is_late phase ≡ false → is_late (phase_after phase) ≡ false
 calm_read Command calm = refl
 calm_read (Execute execution) calm = refl
 calm_read (Result answer) calm = calm_after answer calm

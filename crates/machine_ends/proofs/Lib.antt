@@ -1,4 +1,4 @@
-mod Words
+pub mod Words
 mod Moves
 mod Steps
-mod Calls
+pub mod Calls

@@ -123,7 +123,7 @@ by_port scene past chips port known false = inl (record {
   busy = λ busy. busy;
 })
 
-hearing_less : (scene : Scene) (past : Past) (before now : Bool) (drive : DriveState) → (now ≡ true → before ≡ true) → IsHearing scene past before drive → IsHearing scene past now drive
+pub hearing_less : (scene : Scene) (past : Past) (before now : Bool) (drive : DriveState) → (now ≡ true → before ≡ true) → IsHearing scene past before drive → IsHearing scene past now drive
 hearing_less scene past before now drive less hears =
     record { heard = hears.heard; never_falls = hears.never_falls; whole = hears.whole; under = λ busy. hears.under (less busy) }
 
@@ -169,7 +169,7 @@ none_moved scene memory channel left same size set = record {
   over = λ no. absurd (false≢true no);
 }
 
-none_heard : (scene : Scene) (executes : Bool) (drive : DriveState) → IsScene scene → IsDriveOf scene drive → IsHearing scene new_past executes drive
+pub none_heard : (scene : Scene) (executes : Bool) (drive : DriveState) → IsScene scene → IsDriveOf scene drive → IsHearing scene new_past executes drive
 none_heard scene executes drive whole is = record {
   heard = record { over = tt; now = record { inside = let long = length-met scene whole.disk in let room = is.inside in omega arith; each = λ i below. absurd (omega arith) } };
   never_falls = let same = is.faults in omega arith;

@@ -45,7 +45,7 @@ is_set address left channel up room = record {
 
 -- ---- all but the last byte
 
-turned_in : (bay : ℕ) (old new : Board) → HaveTurned old new → Turned (drive_in old bay) (drive_in new bay)
+pub turned_in : (bay : ℕ) (old new : Board) → HaveTurned old new → Turned (drive_in old bay) (drive_in new bay)
 turned_in bay old new turned = by_bay (bay == 0)
   where
     by_bay : (b : Bool) → Turned (if b then old.first else old.second) (if b then new.first else new.second)
@@ -92,7 +92,7 @@ can_begin start board set sent bay address left byte disk ready stands for fits 
 
 -- ---- the counts
 
-holds_begun : (count : ℕ) (start old : Fdc) (head_drive : ℕ) (task : Task) → HoldsOn count start old → is_listening task ≡ true → HoldsOn (counted count) start (begun head_drive task old)
+pub holds_begun : (count : ℕ) (start old : Fdc) (head_drive : ℕ) (task : Task) → HoldsOn count start old → is_listening task ≡ true → HoldsOn (counted count) start (begun head_drive task old)
 holds_begun count start old head_drive task was listens = record {
   quiet = record { no_seek = was.quiet.no_seek; listens = listens };
   dor = was.dor;
@@ -104,7 +104,7 @@ holds_begun count start old head_drive task was listens = record {
   data_commands = ap (λ n. min (n + 1) last_count) was.data_commands;
 }
 
-holds_kept : (count : ℕ) (start old : Fdc) (command : List ℕ) → HoldsOn count start old → HoldsOn count start (record old { command = command })
+pub holds_kept : (count : ℕ) (start old : Fdc) (command : List ℕ) → HoldsOn count start old → HoldsOn count start (record old { command = command })
 holds_kept count start old command was = record {
   quiet = record { no_seek = was.quiet.no_seek; listens = was.quiet.listens };
   dor = was.dor;

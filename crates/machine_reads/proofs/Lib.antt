@@ -3,6 +3,6 @@ pub mod Transfers
 pub mod Words
 pub mod Steps
 pub mod Results
-mod Commands
+pub mod Commands
 pub mod Accesses
-mod Beginnings
+pub mod Beginnings

@@ -33,7 +33,7 @@ among_heard track from (last ∷ turns) turn (heard, end, others) among = elim a
   | inr earlier ↦ let (start, is, is_whole) = among_heard track from turns turn others earlier in (start, is, λ whole. is_whole whole.1)
 ]
 
-turn_heard : (track : List ℕ) (from : ℕ) (turns : List (List ℕ)) (seen turn : List ℕ) → IsHeardFrom track from turns seen → IsTurnIn turns seen turn
+pub turn_heard : (track : List ℕ) (from : ℕ) (turns : List (List ℕ)) (seen turn : List ℕ) → IsHeardFrom track from turns seen → IsTurnIn turns seen turn
     → (start : ℕ) × IsHeard track start turn × (IsWholeFrom track from turns seen → IsHeardWhole track start turn)
 turn_heard track from turns seen turn heard among = elim among [
   | inl is ↦ (start_of from turns, subst (IsHeard track (start_of from turns)) (sym is) heard.now, λ whole. subst (IsHeardWhole track (start_of from turns)) (sym is) whole.now)
@@ -41,7 +41,7 @@ turn_heard track from turns seen turn heard among = elim among [
 ]
 
 -- between two indexes, heard whole, it is the track
-between_is : (track : List ℕ) (from : ℕ) (past : Past) (between : List ℕ) → IsHeardFrom track from past.turns past.seen → IsWholeFrom track from past.turns past.seen → IsBetween past between
+pub between_is : (track : List ℕ) (from : ℕ) (past : Past) (between : List ℕ) → IsHeardFrom track from past.turns past.seen → IsWholeFrom track from past.turns past.seen → IsBetween past between
     → between ≡ track
 between_is track from past between heard whole is =
     let over : AreHeard track from (between ∷ is.first ∷ []) = subst (AreHeard track from) is.turns heard.over in
@@ -79,7 +79,7 @@ module _ (scene : Scene) (past : Past) (faults : ℕ) (memory : List ℕ)
         },
       )
 
-  mark_ends : FindsNoMark past → IsCalm scene.faults faults → HasAddressMark (track_met scene) → ⊥
+  pub mark_ends : FindsNoMark past → IsCalm scene.faults faults → HasAddressMark (track_met scene) → ⊥
   mark_ends (between, is, none) calm mark =
       none (subst HasAddressMark (sym (between_is (track_met scene) scene.from past between heard (whole calm) is)) mark)
 

@@ -37,7 +37,7 @@ polled_phase old = by_poll (old.poll_due && not (is_held old))
     by_poll true = refl
     by_poll false = refl
 
-polled_asking : (old : Fdc) → (polled old).asking ≡ old.asking
+pub polled_asking : (old : Fdc) → (polled old).asking ≡ old.asking
 polled_asking old = by_poll (old.poll_due && not (is_held old))
   where
     by_poll : (b : Bool) → (if b then record old { poll_due = false; interrupt = true; seeks = with_polls old.seeks } else old).asking ≡ old.asking
@@ -61,7 +61,7 @@ asks_busy Command asking fifo up = absurd (false≢true up)
 asks_busy (Execute execution) asking fifo up = refl
 asks_busy (Result answer) asking fifo up = absurd (false≢true up)
 
-moves_faults : (pulse : Option Bool) (before after : DriveState) → Moves pulse before after → before.faults ≤ after.faults
+pub moves_faults : (pulse : Option Bool) (before after : DriveState) → Moves pulse before after → before.faults ≤ after.faults
 moves_faults None before after becomes = becomes.never_falls
 moves_faults (Some inward) before after (between, pulses, becomes) =
     let falls = becomes.never_falls in elim pulses [
