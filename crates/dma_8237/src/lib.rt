@@ -6,4 +6,4 @@ mod laws;
 mod word;
 
 pub use channel::{Dma, MEMORY_SIZE};
-pub use laws::count_is_transfers_less_one;
+pub use laws::{channel_is_set, count_is_transfers_less_one};

@@ -1,6 +1,7 @@
 -- What a device step, a transfer and the terminal count leave of a READ DATA.
 use Rattle.std.proofs.Common.{rules, ◌≡◌, ◌⊎◌, ℕ, ◌+◌, Bool, true, false, not, ◌&&◌, if◌then◌else◌, ◌==◌, List, [], ◌∷◌, ◌++◌, length, min, drop, get_or, nat_le, Option, Some, None, IfSome, refl, sym, ap, subst, ◌∙◌, arith, inl, inr, append_assoc}
 use Rattle.std.proofs.lemmas.Bool.{false≢true}
+use Rattle.std.proofs.lemmas.Bool.Decides.{nat_tests}
 use Rattle.flop_base.specs.declared.key.Chrn.{Chrn}
 use Rattle.track_model.specs.Fields.{content_size}
 use Rattle.track_separator.proofs.Laws.{reads_mark, reads_within}
@@ -14,7 +15,7 @@ use Rattle.fdc_stages.specs.declared.reading.ReadStage.{ReadStage}
 use Rattle.fdc_stages.specs.declared.reading.ReadStage.TheVariants.{Search, Wait, Content, Over}
 use Rattle.fdc_stages.proofs.Laws.{over_told, told_stays, heard_count}
 use Rattle.drive_model.specs.Drive.{DriveState}
-use Rattle.fdc_core.specs.Heard.{Sent, sent_of, IsUnderway, HasEndedAs, MayRead, MayReadIn, MayReadTask, MayReadIdIn, told_in, stepped, gave}
+use Rattle.fdc_core.specs.Heard.{Sent, sent_of, IsUnderway, HasEndedAs, IsSpent, MayRead, MayReadIn, MayReadTask, MayReadIdIn, told_in, stepped, gave}
 use Rattle.fdc_core.specs.Listening.{SeesWord, is_executing, after_step, Hears, StageHears}
 use Rattle.fdc_core.specs.State.{finished}
 use Rattle.fdc_fifo.specs.Fifo.{Fifo}
@@ -87,6 +88,38 @@ starts_given given fifo told (rest, is) = (fifo ++ rest, is ∙ append_assoc giv
 pub told_more : (bytes told : List ℕ) (value : ℕ) → IsStart true bytes told → IsStart true bytes (told ++ value ∷ [])
 told_more bytes told value (rest, is) = (rest ++ value ∷ [], ap (λ all. all ++ value ∷ []) is ∙ append_assoc bytes rest (value ∷ []))
 
+-- ---- what was not given
+
+spent_none : (ending : Ending) → IsSpent ending []
+spent_none NoCount = refl
+spent_none _ = tt
+
+spent_failure : (ending : Ending) (rest : List ℕ) → IsFailure ending → IsSpent ending rest
+spent_failure NoCount rest is = absurd is
+spent_failure _ rest is = tt
+
+spent_counted : (past : Past) (key : Chrn) (told : List ℕ) (ending : Ending) (rest : List ℕ) → past.counted ≡ true → HasRead past key told ending → IsSpent ending rest
+spent_counted past key told NoCount rest counted read = absurd (false≢true (sym read.cause.0 ∙ counted))
+spent_counted past key told _ rest counted read = tt
+
+nothing_of : (bytes : List ℕ) → (length bytes == 0) ≡ true → bytes ≡ []
+nothing_of [] none = refl
+nothing_of (byte ∷ bytes) none = absurd (grind (arith, nat_tests))
+
+-- what was told, once the FIFO is empty
+pub record IsGiven (ending : Ending) (given told : List ℕ) : Type 0 where
+  pub rest : List ℕ
+  pub bytes_are : told ≡ given ++ rest
+  pub spent : IsSpent ending rest
+
+all_given : (past : Past) (key : Chrn) (fifo told : List ℕ) (ending : Ending) (counted : Bool) → past.counted ≡ counted → HasRead past key told ending
+    → IsStart counted (past.given ++ fifo) told → (length fifo == 0) ≡ true → IsGiven ending past.given told
+all_given past key fifo told ending false same read start none =
+    record { rest = []; bytes_are = sym start ∙ ap (λ bytes. past.given ++ bytes) (nothing_of fifo none); spent = spent_none ending }
+all_given past key fifo told ending true same read start none =
+    let (rest, all) = starts_given past.given fifo told start in
+    record { rest = rest; bytes_are = all; spent = spent_counted past key told ending rest same read }
+
 -- ---- a field that is over
 
 ended_over : (past : Past) (key : Chrn) (told : List ℕ) (deleted good counted : Bool) → IsOver past key told deleted good → past.counted ≡ counted → HasRead past key told (ending_over good counted deleted)
@@ -119,22 +152,22 @@ failure_key Protected key last_sector is = absurd is
 failure_key Late key last_sector is = absurd is
 
 module _ (past : Past) (head_drive steps : ℕ) (old : Fdc) where
-  over_on : (ending : Option Ending) (empty : Bool) (reading : Reading) (told : List ℕ) → IfSome ending (λ e. HasRead past reading.wanted.key told e) → IsUnderway past (sent_of head_drive reading) head_drive reading steps (past.given ++ old.fifo.bytes) told → MayRead past (sent_of head_drive reading) (over_or_on ending empty head_drive steps reading old)
-  over_on None empty reading told ends is = (asks_bytes (length old.fifo.bytes == 0) _, (told, is))
-  over_on (Some ending) true reading told ends is =
-      let (rest, all) = starts_given past.given old.fifo.bytes told (starts reading.counted (past.given ++ old.fifo.bytes) told is.bytes_are) in
-      (refl, (told, record { read = ends; rest = rest; bytes_are = all }))
-  over_on (Some ending) false reading told ends is = (asks_bytes (length old.fifo.bytes == 0) _, (told, is))
+  over_on : (ending : Option Ending) (empty : Bool) (reading : Reading) (told : List ℕ) → (length old.fifo.bytes == 0) ≡ empty → IfSome ending (λ e. HasRead past reading.wanted.key told e) → IsUnderway past (sent_of head_drive reading) head_drive reading steps (past.given ++ old.fifo.bytes) told → MayRead past (sent_of head_drive reading) (over_or_on ending empty head_drive steps reading old)
+  over_on None empty reading told none ends is = (asks_bytes (length old.fifo.bytes == 0) _, (told, is))
+  over_on (Some ending) true reading told none ends is =
+      let all = all_given past reading.wanted.key old.fifo.bytes told ending reading.counted is.counted_is ends is.bytes_are none in
+      (refl, (told, record { read = ends; rest = all.rest; bytes_are = all.bytes_are; spent = all.spent }))
+  over_on (Some ending) false reading told none ends is = (asks_bytes (length old.fifo.bytes == 0) _, (told, is))
 
   on_reads : (reading : Reading) (told : List ℕ) → IsUnderway past (sent_of head_drive reading) head_drive reading steps (past.given ++ old.fifo.bytes) told → MayRead past (sent_of head_drive reading) (gone_on_reading head_drive steps reading old)
   on_reads reading told is =
-      over_on (ending_of reading) (length old.fifo.bytes == 0) reading told (ended_at past reading.wanted.key told reading.stage reading.counted is.reads is.counted_is) is
+      over_on (ending_of reading) (length old.fifo.bytes == 0) reading told refl (ended_at past reading.wanted.key told reading.stage reading.counted is.reads is.counted_is) is
 
   -- the bytes begin with what was given
-  ended_reads : (key : Chrn) (ending : Ending) (counted : Bool) (told : List ℕ) → HasRead past key told ending → IsStart counted (past.given ++ old.fifo.bytes) told → HasEndedAs past key ending told
-  ended_reads key ending counted told read start =
+  ended_reads : (key : Chrn) (ending : Ending) (counted : Bool) (told : List ℕ) → IsFailure ending → HasRead past key told ending → IsStart counted (past.given ++ old.fifo.bytes) told → HasEndedAs past key ending told
+  ended_reads key ending counted told fails read start =
       let (rest, all) = starts_given past.given old.fifo.bytes told (starts counted (past.given ++ old.fifo.bytes) told start) in
-      record { read = read; rest = rest; bytes_are = all }
+      record { read = read; rest = rest; bytes_are = all; spent = spent_failure ending rest fails }
 
 module _ (past : Past) (head_drive steps : ℕ) (old : Fdc) (reading : Reading) (counted_is : past.counted ≡ reading.counted) (steps_are : past.steps ≡ steps) (heard_are : words_heard past ≡ steps) where
   -- a byte came
@@ -157,6 +190,7 @@ module _ (past : Past) (head_drive steps : ℕ) (old : Fdc) (reading : Reading) 
             read = record { bytes = told_of past reading.wanted.key (told ++ value ∷ []) reading.stage reads; cause = counted_is ∙ is };
             rest = rest;
             bytes_are = all;
+            spent = tt;
           },
         ),
       )
@@ -177,7 +211,7 @@ module _ (past : Past) (head_drive steps : ℕ) (old : Fdc) (reading : Reading) 
       byte_reads past head_drive steps old (at_stage reading stage) counted_is steps_are heard_are reading.counted (is_full old) value told refl reads start
   follow_reads (given.Ended ending) read well = (
     ap (λ key. results_of ending head_drive key) (failure_key ending reading.wanted.key reading.last_sector well),
-    (told, ended_reads past head_drive steps old reading.wanted.key ending reading.counted told read start),
+    (told, ended_reads past head_drive steps old reading.wanted.key ending reading.counted told well read start),
   )
 
 -- a READ DATA follows the word that it heard
@@ -206,6 +240,7 @@ late_underway index word past sent head_drive reading fifo told was =
       read = record { bytes = told_stays index word (stepped past) reading.wanted.key told (told_of past reading.wanted.key told reading.stage was.reads); cause = omega arith };
       rest = rest;
       bytes_are = all;
+      spent = tt;
     }
 
 late_task : (index : Bool) (word : ℕ) (past : Past) (sent : Sent) (head_drive steps : ℕ) (task : Task) (old : Fdc) → steps ≡ 65535 → MayReadTask past sent head_drive steps task old.asking old.fifo.bytes → MayRead (heard index word (stepped past)) sent (finished Late head_drive (key_as_sent task) old)

@@ -1,6 +1,7 @@
 -- What follows from what is known of a command.
-use Rattle.std.proofs.Common.{◌≡◌, ℕ, Bool, true, false, not, List, ◌++◌, refl, subst, None, Some}
+use Rattle.std.proofs.Common.{◌≡◌, ℕ, Bool, true, false, not, List, ◌++◌, length, refl, sym, ◌∙◌, ap, subst, None, Some}
 use Rattle.std.proofs.lemmas.Bool.{false≢true}
+use Rattle.std.proofs.lemmas.List.{append-nil}
 use Rattle.flop_base.specs.declared.key.Chrn.{Chrn}
 use Rattle.track_model.specs.Fields.{IsSizeCode}
 use Rattle.fdc_stages.specs.History.{Past, HasFewTurns}
@@ -11,7 +12,7 @@ use Rattle.fdc_stages.specs.declared.ending.Ending.TheVariants.{Done, NoMark, No
 use Rattle.fdc_stages.specs.declared.reading.ReadStage.{ReadStage}
 use Rattle.fdc_stages.specs.declared.reading.ReadStage.TheVariants as stages
 use Rattle.fdc_stages.proofs.Causes.{found_of, bad_check_of, no_field_of, no_mark_of, no_sector_of}
-use Rattle.fdc_stages.proofs.Laws.{over_told, reading_told, searching_few}
+use Rattle.fdc_stages.proofs.Laws.{over_told, over_full, reading_told, searching_few}
 use Rattle.fdc_core.specs.Heard.{Sent, MayRead, MayReadIn, MayReadTask, MayReadId, MayReadIdIn, MayReadIdTask, HasEndedAs}
 use Rattle.fdc_core.specs.Meaning.{ReadMeans, ReadMeansIn, FindsUncounted, ReadGives, AreOfField, bytes_held, IdMeans, IdMeansIn, PacedIn, IsPaced, is_hearing}
 use Rattle.fdc_core.specs.Phases.{is_over}
@@ -35,7 +36,8 @@ uncounted past key told sized ended =
     let (none, (deleted, over)) = ended.read.cause in
     let counted : Past = record past { counted = true } in
     let (_, (turn, p, q, found)) = found_of counted key told past.given deleted sized (record { bytes = over_told past key told deleted true over; cause = (refl, over) }) (ended.rest, ended.bytes_are) in
-    (none, (deleted, turn, p, q, record { among = found.among; address = found.address; finds = found.finds; content = found.content }))
+    let whole = ended.bytes_are ∙ (ap (λ rest. past.given ++ rest) ended.spent ∙ append-nil past.given) in
+    (none, ap length (sym whole) ∙ over_full past key told deleted true over, (deleted, turn, p, q, record { among = found.among; address = found.address; finds = found.finds; content = found.content }))
 
 read_means : (past : Past) (sent : Sent) (ending : Ending) (told : List ℕ) → IsSizeCode sent.key.n → HasEndedAs past sent.key ending told → ReadMeans past sent ending
 read_means past sent (Done deleted) told sized ended =

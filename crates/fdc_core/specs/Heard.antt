@@ -6,7 +6,7 @@ use Rattle.fdc_stages.specs.Searches.{IsSearching}
 use Rattle.fdc_stages.specs.Findings.{HasIdentified}
 use Rattle.fdc_stages.specs.Readings.{IsStart, IsReading, HasRead}
 use Rattle.fdc_stages.specs.declared.ending.Ending.{Ending}
-use Rattle.fdc_stages.specs.declared.ending.Ending.TheVariants.{Done}
+use Rattle.fdc_stages.specs.declared.ending.Ending.TheVariants.{Done, NoCount}
 use Rattle.fdc_stages.specs.declared.searching.Search.{Search}
 use Rattle.fdc_commands.specs.declared.results.Results.{Results}
 use Rattle.fdc_core.specs.Answers.{results_of, key_after, no_key}
@@ -68,11 +68,17 @@ MayReadTask past sent head_drive steps (Read reading) asking fifo =
     × ((told : List ℕ) × IsUnderway past sent head_drive reading steps (past.given ++ fifo) told)
 MayReadTask past sent head_drive steps _ asking fifo = ⊥
 
+-- where the field was over before the terminal count, all that it told was given
+abbrev pub IsSpent : Ending → List ℕ → Type 0
+IsSpent NoCount rest = rest ≡ []
+IsSpent _ rest = Unit {0}
+
 -- a reading has ended so, and the bytes that were given to memory are the first of those that it told
 pub record HasEndedAs (past : Past) (key : Chrn) (ending : Ending) (told : List ℕ) : Type 0 where
   pub read : HasRead past key told ending
   pub rest : List ℕ
   pub bytes_are : told ≡ past.given ++ rest
+  pub spent : IsSpent ending rest
 
 -- the results of a READ DATA that ended so
 abbrev pub results_sent : Ending → Sent → Results

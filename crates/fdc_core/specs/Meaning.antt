@@ -1,5 +1,6 @@
 -- What the results of READ DATA and READ ID say of the words heard.
-use Rattle.std.specs.Prelude.{◌≡◌, ℕ, Bool, true, false, not, List, ◌++◌, None, Some}
+use Rattle.std.specs.Prelude.{◌≡◌, ℕ, Bool, true, false, not, List, ◌++◌, length, None, Some}
+use Rattle.track_model.specs.Fields.{content_size}
 use Rattle.fdc_stages.specs.History.{Past, words_heard, HasFewTurns}
 use Rattle.fdc_stages.specs.Findings.{IsFoundAt, FindsSector, FindsBadCheck, FindsNoField, FindsNoMark, FindsNoSector, HasAddress}
 use Rattle.fdc_stages.specs.Readings.{IsToldOf}
@@ -18,10 +19,10 @@ use Rattle.fdc_core.specs.declared.phases.Task.TheVariants.{ReadId, Read}
 
 -- ---- READ DATA
 
--- the sector was found whole, and the terminal count didn't come
+-- the sector was found whole and given whole, and the terminal count didn't come
 abbrev pub FindsUncounted : Past → Chrn → List ℕ → Type 0
 FindsUncounted past key given =
-    (past.counted ≡ false)
+    (past.counted ≡ false) × (length given ≡ content_size key.n)
     × ((deleted : Bool) × (turn : List ℕ) × (p : ℕ) × (q : ℕ) × IsFoundAt past key given deleted turn p q)
 
 -- what an ending says: IC 00, the sector with this mark, and its content where as many bytes as the size were given; MA

@@ -1,16 +1,16 @@
 -- A data command has fewer device steps left with each of them.
-use Rattle.std.proofs.Common.{◌≡◌, ◌⊎◌, inl, inr, ℕ, zero, suc, ◌-◌, ◌<◌, ◌≤◌, ◌==◌, Bool, true, false, if◌then◌else◌, refl, sym, ◌∙◌, ap, subst, arith}
+use Rattle.std.proofs.Common.{◌≡◌, ◌⊎◌, inl, inr, ℕ, zero, suc, ◌-◌, ◌≤◌, ◌==◌, Bool, true, false, if◌then◌else◌, refl, ◌∙◌, ap, subst, arith}
 use Rattle.fdc_core.specs.Dma.{phase_told, taken_out, taken_in, to_memory_of}
 use Rattle.fdc_core.specs.Steps.{polled, steps_left, EndsIn, RestsIn}
 use Rattle.fdc_core.specs.declared.controller.Fdc.{Fdc}
 use Rattle.fdc_core.specs.declared.phases.Phase.{Phase}
 use Rattle.fdc_core.specs.declared.phases.Phase.TheVariants.{Command, Execute, Result}
 use Rattle.pc_bus.specs.Boards.{Board, controller_of, selected_of}
-use Rattle.pc_bus.specs.Steps.{Step, Runs}
+use Rattle.pc_bus.specs.Steps.{Step, Runs, RunsUnset}
 use Rattle.pc_bus.specs.Transfers.{moved, moved_to_memory, moved_from_memory, byte_read, told_if, dma_stepped}
 use Rattle.pc_bus.specs.declared.chips.Chips.{Chips}
 use Rattle.machine_reads.proofs.Steps.{polled_phase}
-use Rattle.machine_holds.proofs.Kept.{dma_keeps}
+use Rattle.machine_quiet.proofs.Transfers.{dma_keeps}
 
 -- no transfer changes it
 told_left : (phase : Phase) → steps_left (phase_told phase) ≡ steps_left phase
@@ -68,3 +68,9 @@ unfolding Runs
 runs_end zero old new same = let is = ap (λ board. steps_left board.bus.chips.controller.phase) same in omega arith
 runs_end (suc n) old new (between, runs, step) =
     let before = runs_end n old between runs in let last = step_ends between new step in omega arith
+
+pub unset_end : (n : ℕ) (old new : Board) → RunsUnset n old new → steps_left (controller_of new).phase ≤ steps_left (controller_of old).phase - n
+unfolding RunsUnset
+unset_end zero old new same = let is = ap (λ board. steps_left board.bus.chips.controller.phase) same in omega arith
+unset_end (suc n) old new (between, runs, unset, step) =
+    let before = unset_end n old between runs in let last = step_ends between new step in omega arith

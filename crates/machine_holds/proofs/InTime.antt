@@ -1,24 +1,22 @@
 -- A READ DATA in time, through device steps.
-use Rattle.std.proofs.Common.{◌≡◌, ◌⊎◌, inl, inr, ℕ, zero, suc, ◌+◌, ◌-◌, ◌%◌, ◌<◌, ◌≤◌, min, ◌&&◌, nat_lt, Bool, true, false, List, [], ◌∷◌, ◌++◌, length, if◌then◌else◌, refl, sym, ◌∙◌, ap, subst, arith}
+use Rattle.std.proofs.Common.{◌≡◌, ◌⊎◌, inl, inr, ℕ, zero, suc, ◌%◌, ◌≤◌, min, ◌&&◌, nat_lt, Bool, true, false, [], ◌∷◌, ◌++◌, if◌then◌else◌, refl, sym, ◌∙◌, ap, subst, arith}
 use Rattle.std.proofs.lemmas.Bool.{false≢true}
 use Rattle.flop_base.specs.Counts.{last_count, Rose}
-use Rattle.dma_8237.specs.Channel.{grants}
 use Rattle.fdc_fifo.specs.Fifo.{Fifo, emptied}
 use Rattle.fdc_commands.specs.Table.{kept}
 use Rattle.fdc_commands.specs.declared.bytes.Accepted.{Accepted}
 use Rattle.fdc_commands.specs.declared.bytes.Accepted.TheVariants.{Ready}
 use Rattle.fdc_commands.specs.declared.command.Command.TheVariants.{ReadData}
 use Rattle.fdc_core.specs.Commands.{TakesAs, IsReadingData, begun}
-use Rattle.fdc_core.specs.Dma.{task_asks, phase_asks}
+use Rattle.fdc_core.specs.Dma.{task_asks}
 use Rattle.fdc_core.specs.Heard.{Sent}
 use Rattle.fdc_core.specs.Listening.{is_executing}
-use Rattle.fdc_core.specs.Ports.{Writes}
 use Rattle.fdc_core.specs.State.{is_gated}
 use Rattle.fdc_core.specs.declared.controller.Fdc.{Fdc}
 use Rattle.fdc_core.specs.declared.phases.Task.{Task}
 use Rattle.fdc_core.specs.declared.phases.Task.TheVariants.{Read}
 use Rattle.machine_pace.specs.Entries.{next_entry}
-use Rattle.machine_pace.specs.Holds.{Holds, IsReady, looked, waited, stalls_with, counted, shown}
+use Rattle.machine_pace.specs.Holds.{Holds, IsReady, looked, waited, counted, shown}
 use Rattle.machine_pace.specs.declared.holding.Request.{Request}
 use Rattle.machine_pace.specs.declared.holding.Request.TheVariants.{Low, High}
 use Rattle.pc_bus.specs.Boards.{Board, controller_of, drive_in, holds_of, selected_of, lines_of}
@@ -28,10 +26,10 @@ use Rattle.pc_bus.specs.Transfers.{dma_stepped, looked_at, shown_again}
 use Rattle.pc_bus.specs.declared.chips.Chips.{Chips}
 use Rattle.machine_reads.specs.Begins.{CanBegin}
 use Rattle.machine_reads.specs.Scenes.{Scene}
-use Rattle.machine_reads.specs.Underway.{IsHearing, ReadUnderway}
+use Rattle.machine_reads.specs.Underway.{IsHearing}
 use Rattle.machine_reads.proofs.Accesses.{gapped, begun_underway}
 use Rattle.machine_reads.proofs.Steps.{word_time, step_keeps, first_or_second}
-use Rattle.machine_holds.specs.Timely.{slack_of, IsTimely, IsPunctual, Stalled, ReadInTime}
+use Rattle.machine_holds.specs.Timely.{IsPunctual, Stalled, ReadInTime}
 use Rattle.machine_holds.proofs.Kept.{dma_stalls}
 use Rattle.machine_holds.proofs.Timely.{in_step}
 
@@ -62,16 +60,16 @@ step_in_time old new step scene ((past, was), punctual) =
 -- ---- the count of stalls
 
 -- it doesn't fall, but to its last value
-abbrev Grows : ℕ → ℕ → Type 0
+abbrev pub Grows : ℕ → ℕ → Type 0
 Grows before now = min before last_count ≤ now
 
 grows_on : (a b c : ℕ) → Grows a b → Grows b c → Grows a c
 grows_on a b c first second = omega arith
 
-rose_behind : (a b c : ℕ) → Grows a b → Rose b c → Rose a c
+pub rose_behind : (a b c : ℕ) → Grows a b → Rose b c → Rose a c
 rose_behind a b c grows rose = omega arith
 
-rose_before : (a b c : ℕ) → Rose a b → Grows b c → Rose a c
+pub rose_before : (a b c : ℕ) → Rose a b → Grows b c → Rose a c
 rose_before a b c rose grows = omega arith
 
 taken_grows : (b : Bool) (stalls : ℕ) → Grows stalls (if b then counted stalls else stalls)
@@ -86,18 +84,18 @@ looked_grows : (line : Bool) (old : Holds) → Grows old.stalls (looked line old
 looked_grows true old = waited_grows old.request old
 looked_grows false old = omega arith
 
-step_grows : (old new : Board) → Step old new → Grows (holds_of old).stalls (holds_of new).stalls
+pub step_grows : (old new : Board) → Step old new → Grows (holds_of old).stalls (holds_of new).stalls
 step_grows old new step =
     let chips : Chips = record old.bus.chips { controller = step.between } in
     let is : new.bus.chips.holding.stalls ≡ (looked_at chips).holding.stalls = ap (λ bus. bus.chips.holding.stalls) step.bus ∙ dma_stalls chips in
     subst (Grows (holds_of old).stalls) (sym is) (looked_grows _ old.bus.chips.holding)
 
-runs_grow : (n : ℕ) (old new : Board) → Runs n old new → Grows (holds_of old).stalls (holds_of new).stalls
+pub runs_grow : (n : ℕ) (old new : Board) → Runs n old new → Grows (holds_of old).stalls (holds_of new).stalls
 unfolding Runs
 runs_grow zero old new same = let is = ap (λ board. board.bus.chips.holding.stalls) same in omega arith
 runs_grow (suc n) old new (between, runs, step) = grows_on _ (holds_of between).stalls _ (runs_grow n old between runs) (step_grows between new step)
 
-unset_grow : (n : ℕ) (old new : Board) → RunsUnset n old new → Grows (holds_of old).stalls (holds_of new).stalls
+pub unset_grow : (n : ℕ) (old new : Board) → RunsUnset n old new → Grows (holds_of old).stalls (holds_of new).stalls
 unfolding RunsUnset
 unset_grow zero old new same = let is = ap (λ board. board.bus.chips.holding.stalls) same in omega arith
 unset_grow (suc n) old new (between, runs, unset, step) = grows_on _ (holds_of between).stalls _ (unset_grow n old between runs) (step_grows between new step)
@@ -154,10 +152,19 @@ begun_punctual chips sent task old is on threshold gated = record {
   no_overrun = refl;
 }
 
-pub begins_in_time : (scene : Scene) (byte : ℕ) (old new : Board) → Outputs 0x3F5 byte old new → CanBegin scene byte old
+-- before the gap
+pub record HasBegun (scene : Scene) (old between : Board) : Type 0 where
+  pub head_drive : ℕ
+  pub task : Task
+  pub was : Fdc
+  pub chips : between.bus.chips ≡ shown_again (record old.bus.chips { controller = begun head_drive task was })
+  pub on_time : ReadInTime scene (gapped between)
+  pub stalls : (holds_of between).stalls ≡ (holds_of old).stalls
+
+pub begun_in_time : (scene : Scene) (byte : ℕ) (old new : Board) → (access : Outputs 0x3F5 byte old new) → CanBegin scene byte old
     → (controller_of old).fifo.on ≡ true → (controller_of old).fifo.threshold ≡ 8 → is_gated (controller_of old) ≡ true
-    → ReadInTime scene new ⊎ Stalled old new
-begins_in_time scene byte old new access can on threshold gated =
+    → HasBegun scene old access.between
+begun_in_time scene byte old new access can on threshold gated =
     let (controller, writes, chips_are) = access.writes.writes.controllers refl in
     let fdc = controller_of old in
     let bytes = fdc.command ++ byte ∷ [] in
@@ -167,12 +174,25 @@ begins_in_time scene byte old new access can on threshold gated =
     let at : access.between.bus.chips ≡ shown_again (record old.bus.chips { controller = controller }) = ap (λ bus. bus.chips) access.writes.bus ∙ chips_are in
     let punctual : IsPunctual access.between.bus.chips = subst IsPunctual (sym at)
     (subst (λ c. IsPunctual (shown_again (record old.bus.chips { controller = c }))) (sym after) (begun_punctual old.bus.chips scene.sent task (record fdc { command = kept whole bytes }) is on threshold gated)) in
-    let same : (holds_of access.between).stalls ≡ (holds_of old).stalls = ap (λ chips. chips.holding.stalls) at ∙ shown_stalls _ old.bus.chips.holding in
-    elim (runs_in_time (next_entry access.between.bus.gaps) (gapped access.between) new access.gap.runs scene (begun_underway scene byte old new access can, punctual)) [
-      | inl on_time ↦ inl on_time
-      | inr rose ↦ inr (subst (λ stalls. Rose stalls (holds_of new).stalls) same rose)
-    ]
+    record {
+      head_drive = scene.sent.head_drive;
+      task = task;
+      was = record fdc { command = kept whole bytes };
+      chips = at ∙ ap (λ c. shown_again (record old.bus.chips { controller = c })) after;
+      on_time = (begun_underway scene byte old new access can, punctual);
+      stalls = ap (λ chips. chips.holding.stalls) at ∙ shown_stalls _ old.bus.chips.holding;
+    }
   where
     shown_stalls : (line : Bool) (holding : Holds) → (shown line holding).stalls ≡ holding.stalls
     shown_stalls true holding = refl
     shown_stalls false holding = refl
+
+pub begins_in_time : (scene : Scene) (byte : ℕ) (old new : Board) → Outputs 0x3F5 byte old new → CanBegin scene byte old
+    → (controller_of old).fifo.on ≡ true → (controller_of old).fifo.threshold ≡ 8 → is_gated (controller_of old) ≡ true
+    → ReadInTime scene new ⊎ Stalled old new
+begins_in_time scene byte old new access can on threshold gated =
+    let has = begun_in_time scene byte old new access can on threshold gated in
+    elim (runs_in_time (next_entry access.between.bus.gaps) (gapped access.between) new access.gap.runs scene has.on_time) [
+      | inl on_time ↦ inl on_time
+      | inr rose ↦ inr (subst (λ stalls. Rose stalls (holds_of new).stalls) has.stalls rose)
+    ]

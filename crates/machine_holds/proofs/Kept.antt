@@ -1,8 +1,8 @@
 -- What transfers keep.
-use Rattle.std.proofs.Common.{◌≡◌, ◌⊎◌, inl, inr, ℕ, zero, suc, ◌==◌, ◌&&◌, ◌||◌, not, Bool, true, false, List, length, if◌then◌else◌, refl, sym, ◌∙◌, ap, subst}
+use Rattle.std.proofs.Common.{◌≡◌, ℕ, ◌==◌, Bool, true, false, List, length, if◌then◌else◌, refl, ◌∙◌, ap}
 use Rattle.dma_8237.specs.Channel.{grants}
 use Rattle.fdc_fifo.specs.Fifo.{Fifo, room_of}
-use Rattle.fdc_core.specs.Dma.{taken_out, taken_in, with_byte, phase_told, fifo_told, task_told, to_memory_of}
+use Rattle.fdc_core.specs.Dma.{taken_out, taken_in, phase_told, fifo_told, task_told, to_memory_of}
 use Rattle.fdc_core.specs.Listening.{is_executing}
 use Rattle.fdc_core.specs.Phases.{is_reading, is_read, is_overrun}
 use Rattle.fdc_core.specs.State.{is_gated}
@@ -11,33 +11,10 @@ use Rattle.fdc_core.specs.declared.phases.Phase.{Phase}
 use Rattle.fdc_core.specs.declared.phases.Phase.TheVariants.{Command, Execute, Result}
 use Rattle.fdc_core.specs.declared.phases.Task.{Task}
 use Rattle.fdc_core.specs.declared.phases.Task.TheVariants.{ReadId, Read, Write, Format}
-use Rattle.machine_pace.specs.Holds.{Holds, is_due, looked, shown}
-use Rattle.pc_bus.specs.Transfers.{can_move, moved, moved_to_memory, moved_from_memory, moved_up_to, byte_read, told_if, looked_at, shown_again, granted, dma_stepped}
+use Rattle.machine_pace.specs.Holds.{Holds, is_due, shown}
+use Rattle.pc_bus.specs.Transfers.{moved, moved_to_memory, moved_from_memory, moved_up_to, byte_read, told_if, looked_at, shown_again, granted, dma_stepped}
 use Rattle.pc_bus.specs.declared.chips.Chips.{Chips}
-
--- what one transfer keeps, all keep
-up_to_keeps_if : (P : Chips → Type 0) (n : ℕ) (chips : Chips) → P chips → P (moved_up_to n (moved chips)) → (can : Bool) → P (if can then moved_up_to n (moved chips) else chips)
-up_to_keeps_if P n chips was on true = on
-up_to_keeps_if P n chips was on false = was
-
-pub up_to_keeps : (P : Chips → Type 0) → ((chips : Chips) → P chips → P (moved chips)) → (n : ℕ) (chips : Chips) → P chips → P (moved_up_to n chips)
-unfolding moved_up_to
-up_to_keeps P one zero chips was = was
-up_to_keeps P one (suc n) chips was = up_to_keeps_if P n chips was (up_to_keeps P one n (moved chips) (one chips was)) (can_move chips)
-
--- and so does the part of a device step that moves bytes, where the request plays no part
-pub dma_keeps : (P : Chips → Type 0) → ((chips : Chips) → P chips → P (moved chips)) → ((chips : Chips) (holding : Holds) → P chips → P (record chips { holding = holding }))
-    → (chips : Chips) → P chips → P (dma_stepped chips)
-unfolding dma_stepped granted
-dma_keeps P one held chips was = by_due (is_due (looked_at chips).holding.request) (grants chips.channel)
-  where
-    look : P (looked_at chips)
-    look = held chips (looked_at chips).holding was
-
-    by_due : (due granting : Bool) → P (if due then (if granting then shown_again (moved_up_to 16 (looked_at chips)) else looked_at chips) else looked_at chips)
-    by_due true true = held (moved_up_to 16 (looked_at chips)) (shown_again (moved_up_to 16 (looked_at chips))).holding (up_to_keeps P one 16 (looked_at chips) look)
-    by_due true false = look
-    by_due false granting = look
+use Rattle.machine_quiet.proofs.Transfers.{up_to_keeps, dma_keeps}
 
 -- ---- the FIFO's mode and the gate
 

@@ -1,5 +1,6 @@
-mod Served
-mod Kept
-mod Timely
-mod InTime
+pub mod Served
+pub mod Kept
+pub mod Timely
+pub mod InTime
+pub mod Calls
 mod Ends

@@ -1,10 +1,10 @@
 -- A request that is served falls.
-use Rattle.std.proofs.Common.{◌≡◌, ◌⊎◌, inl, inr, ℕ, zero, suc, ◌+◌, ◌-◌, ◌<◌, ◌≤◌, ◌==◌, ◌&&◌, ◌||◌, not, nat_le, Bool, true, false, List, [], ◌∷◌, ◌++◌, length, drop, if◌then◌else◌, refl, sym, ◌∙◌, ap, subst, arith, length-append}
+use Rattle.std.proofs.Common.{◌≡◌, ◌⊎◌, inl, inr, ℕ, zero, suc, ◌+◌, ◌-◌, ◌≤◌, ◌==◌, ◌&&◌, ◌||◌, not, nat_le, Bool, true, false, List, [], ◌∷◌, ◌++◌, length, drop, if◌then◌else◌, refl, sym, ◌∙◌, subst, arith, length-append}
 use Rattle.std.proofs.lemmas.Bool.{false≢true}
 use Rattle.std.proofs.lemmas.Bool.Decides.{nat_tests}
 use Rattle.dma_8237.specs.Channel.{grants}
 use Rattle.fdc_fifo.specs.Fifo.{Fifo, room_of, worth_fetching, low_level}
-use Rattle.fdc_core.specs.Dma.{task_asks, phase_asks, byte_out, taken_out, taken_in, with_byte, told_count, task_told, phase_told, fifo_told, asking_told, to_memory_of}
+use Rattle.fdc_core.specs.Dma.{task_asks, phase_asks, taken_out, taken_in, with_byte, task_told, phase_told, fifo_told, asking_told}
 use Rattle.fdc_core.specs.Phases.{is_reading, is_read, is_moving, is_over}
 use Rattle.fdc_core.specs.State.{asks, is_gated}
 use Rattle.fdc_core.specs.declared.controller.Fdc.{Fdc}

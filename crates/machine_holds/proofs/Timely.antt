@@ -1,8 +1,8 @@
 -- A READ DATA in time, step by step.
-use Rattle.std.proofs.Common.{◌≡◌, ◌⊎◌, inl, inr, ℕ, zero, suc, ◌+◌, ◌-◌, ◌%◌, ◌<◌, ◌≤◌, min, max, ◌==◌, ◌&&◌, ◌||◌, not, nat_le, bit_and, Bool, true, false, List, length, if◌then◌else◌, refl, sym, ◌∙◌, ap, subst, arith}
+use Rattle.std.proofs.Common.{◌≡◌, ◌⊎◌, inl, inr, ℕ, ◌+◌, ◌<◌, ◌≤◌, ◌==◌, ◌&&◌, ◌||◌, not, nat_le, bit_and, Bool, true, false, List, length, if◌then◌else◌, refl, sym, ◌∙◌, ap, subst, arith}
 use Rattle.std.proofs.lemmas.Bool.{false≢true}
 use Rattle.std.proofs.lemmas.Bool.Decides.{nat_tests}
-use Rattle.flop_base.specs.Counts.{last_count, Rose}
+use Rattle.flop_base.specs.Counts.{Rose}
 use Rattle.drive_model.specs.Drive.{DriveState}
 use Rattle.dma_8237.specs.Channel.{grants}
 use Rattle.fdc_fifo.specs.Fifo.{Fifo, room_of, worth_fetching}
@@ -15,27 +15,28 @@ use Rattle.fdc_core.specs.Heard.{Sent, MayReadIn, MayReadTask}
 use Rattle.fdc_core.specs.Listening.{is_executing, OverrunsIn, OverrunsTask}
 use Rattle.fdc_core.specs.Phases.{is_reading, is_read, is_overrun, is_over}
 use Rattle.fdc_core.specs.Reading.{is_full}
-use Rattle.fdc_core.specs.State.{asks, is_gated, is_held, dor_of}
+use Rattle.fdc_core.specs.State.{asks, is_gated, is_held}
 use Rattle.fdc_core.specs.Steps.{polled, RestsIn, FlowsIn}
 use Rattle.fdc_core.specs.declared.controller.Fdc.{Fdc}
 use Rattle.fdc_core.specs.declared.phases.Phase.{Phase}
 use Rattle.fdc_core.specs.declared.phases.Phase.TheVariants.{Command, Execute, Result}
 use Rattle.fdc_core.specs.declared.phases.Task.{Task}
 use Rattle.fdc_core.specs.declared.phases.Task.TheVariants.{Read}
-use Rattle.machine_pace.specs.Holds.{Holds, IsReady, IsInTime, is_due, looked, shown}
+use Rattle.machine_pace.specs.Holds.{Holds, IsReady, IsInTime, is_due, shown}
 use Rattle.machine_pace.specs.declared.holding.Request.{Request}
 use Rattle.machine_pace.specs.declared.holding.Request.TheVariants.{Low, High}
 use Rattle.machine_pace.proofs.InTime.{in_time}
 use Rattle.pc_bus.specs.Steps.{Works}
-use Rattle.pc_bus.specs.Transfers.{can_move, moved_up_to, looked_at, shown_again, granted, dma_stepped}
+use Rattle.pc_bus.specs.Transfers.{moved_up_to, looked_at, shown_again, granted, dma_stepped}
 use Rattle.pc_bus.specs.declared.chips.Chips.{Chips}
 use Rattle.machine_reads.specs.Scenes.{Scene}
-use Rattle.machine_reads.specs.Underway.{IsMoved, IsReadBy}
+use Rattle.machine_reads.specs.Underway.{IsReadBy}
 use Rattle.machine_reads.proofs.Steps.{polled_phase, IsBetween}
 use Rattle.machine_reads.proofs.Transfers.{reads_there}
-use Rattle.machine_holds.specs.Served.{GoesByRule, moves_left, IsRuled}
+use Rattle.machine_holds.specs.Served.{IsRuled}
 use Rattle.machine_holds.specs.Timely.{slack_of, IsTimely, IsPunctual}
-use Rattle.machine_holds.proofs.Kept.{HasMode, mode_held, mode_moved, up_to_keeps, dma_keeps, dma_overrun, dma_executing, dma_stalls, up_to_reading, up_to_holding}
+use Rattle.machine_quiet.proofs.Transfers.{up_to_keeps}
+use Rattle.machine_holds.proofs.Kept.{HasMode, mode_held, mode_moved, dma_overrun, dma_executing, dma_stalls, up_to_reading}
 use Rattle.machine_holds.proofs.Served.{phase_again, served, left_reading, IsServed}
 
 -- ---- tests
@@ -76,17 +77,17 @@ over_in past sent (Result answer) asking fifo index word polls between track0 wa
 over_in past sent (Execute execution) asking fifo index word polls between track0 was overruns rests same room calm =
     over_task past sent execution.head_drive execution.steps execution.task asking fifo index word polls between was overruns (λ uncounted full. room uncounted refl full)
 
-busy_in : (phase : Phase) (polls between : Fdc) (track0 : Bool) → RestsIn phase polls track0 between → polls.phase ≡ phase → is_executing between.phase ≡ true → is_executing phase ≡ true
+pub busy_in : (phase : Phase) (polls between : Fdc) (track0 : Bool) → RestsIn phase polls track0 between → polls.phase ≡ phase → is_executing between.phase ≡ true → is_executing phase ≡ true
 busy_in Command polls between track0 rests same busy = absurd (false≢true (sym (ap (λ fdc. is_executing fdc.phase) rests ∙ ap is_executing same) ∙ busy))
 busy_in (Result answer) polls between track0 rests same busy = absurd (false≢true (sym (ap (λ fdc. is_executing fdc.phase) rests ∙ ap is_executing same) ∙ busy))
 busy_in (Execute execution) polls between track0 rests same busy = refl
 
-flows_in : (phase : Phase) (asking : Bool) (new : Fdc) → is_executing phase ≡ true → FlowsIn phase asking new → new.asking ≡ phase_asks new.phase asking new.fifo
+pub flows_in : (phase : Phase) (asking : Bool) (new : Fdc) → is_executing phase ≡ true → FlowsIn phase asking new → new.asking ≡ phase_asks new.phase asking new.fifo
 flows_in Command asking new busy flows = absurd (false≢true busy)
 flows_in (Result answer) asking new busy flows = absurd (false≢true busy)
 flows_in (Execute execution) asking new busy flows = flows
 
-polled_fifo : (old : Fdc) → (polled old).fifo ≡ old.fifo
+pub polled_fifo : (old : Fdc) → (polled old).fifo ≡ old.fifo
 polled_fifo old = by_poll (old.poll_due && not (is_held old))
   where
     by_poll : (b : Bool) → (if b then record old { poll_due = false; interrupt = true; seeks = with_polls old.seeks } else old).fifo ≡ old.fifo
@@ -113,7 +114,7 @@ worth_is : (fifo : Fifo) → fifo.on ≡ true → fifo.threshold ≡ 8 → worth
 worth_is fifo on eight = rw (on, eight) refl
 
 -- with its line low
-slack_low : (chips : Chips) → HasMode chips → chips.controller.asking ≡ phase_asks chips.controller.phase chips.controller.asking chips.controller.fifo
+pub slack_low : (chips : Chips) → HasMode chips → chips.controller.asking ≡ phase_asks chips.controller.phase chips.controller.asking chips.controller.fifo
     → is_reading chips.controller.phase ≡ true → asks chips.controller ≡ false → 9 ≤ slack_of chips.controller
 slack_low chips mode rule reading low =
     let quiet : chips.controller.asking ≡ false = gated_low (is_gated chips.controller) chips.controller.asking mode.gated low in
@@ -126,15 +127,15 @@ slack_low chips mode rule reading low =
 
 -- ---- the request
 
-ready_low : (line : Bool) (holding : Holds) (slack : ℕ) → line ≡ false → 9 ≤ slack → IsReady (shown line holding).request slack
+pub ready_low : (line : Bool) (holding : Holds) (slack : ℕ) → line ≡ false → 9 ≤ slack → IsReady (shown line holding).request slack
 ready_low true holding slack low enough = absurd (false≢true (sym low))
 ready_low false holding slack low enough = enough
 
-not_due : (request : Request) (slack : ℕ) → IsInTime request slack → is_due request ≡ false → IsReady request slack
+pub not_due : (request : Request) (slack : ℕ) → IsInTime request slack → is_due request ≡ false → IsReady request slack
 not_due Low slack enough due = enough
 not_due (High left) slack enough due = (positive left due, enough)
 
-ready_one : (request : Request) (slack : ℕ) → IsReady request slack → 1 ≤ slack
+pub ready_one : (request : Request) (slack : ℕ) → IsReady request slack → 1 ≤ slack
 ready_one Low slack enough = omega arith
 ready_one (High left) slack enough = let some = enough.0 in let all = enough.1 in omega arith
 
@@ -220,7 +221,7 @@ behind chips before mode reading rule less ready true is =
       | inr rose ↦ inr (subst (λ stalls. Rose chips.holding.stalls stalls) (sym (dma_stalls chips)) rose)
     ]
 
-gated_same : (a b : Fdc) → a.dor ≡ b.dor → is_gated b ≡ true → is_gated a ≡ true
+pub gated_same : (a b : Fdc) → a.dor ≡ b.dor → is_gated b ≡ true → is_gated a ≡ true
 gated_same a b same is = ap (λ (dor : Dor). (bit_and dor.0 gate == gate)) same ∙ is
 
 pub in_step : (scene : Scene) (past : Past) (chips : Chips) (drive : DriveState) (between : Fdc) (after : DriveState) → IsReadBy scene past chips

@@ -1,15 +1,12 @@
 -- Port accesses of a READ DATA: the write that begins it, and reads.
-use Rattle.std.proofs.Common.{◌≡◌, ◌⊎◌, inl, inr, ℕ, zero, suc, ◌+◌, ◌%◌, ◌<◌, ◌≤◌, ◌==◌, ◌||◌, nat_le, Bool, true, false, not, Option, Some, None, List, [], ◌∷◌, ◌++◌, length, slice_index, if◌then◌else◌, refl, sym, ◌∙◌, ap, subst, arith}
+use Rattle.std.proofs.Common.{◌≡◌, ◌⊎◌, inl, inr, ℕ, ◌+◌, ◌==◌, ◌||◌, nat_le, Bool, true, false, not, Some, None, List, [], ◌∷◌, ◌++◌, length, slice_index, if◌then◌else◌, refl, sym, ◌∙◌, ap, subst, arith}
 use Rattle.std.proofs.lemmas.Bool.{false≢true}
 use Rattle.drive_model.specs.Drive.{DriveState}
 use Rattle.dma_8237.specs.Channel.{Channel, grants, after_read}
 use Rattle.fdc_commands.specs.Table.{answer, kept}
-use Rattle.fdc_commands.specs.declared.bytes.Accepted.{Accepted}
-use Rattle.fdc_commands.specs.declared.bytes.Accepted.TheVariants.{Ready}
-use Rattle.fdc_commands.specs.declared.command.Command.TheVariants.{ReadData}
 use Rattle.fdc_stages.specs.History.{Past, begun as new_past}
-use Rattle.fdc_core.specs.Commands.{TakesAs, BeginsTask, IsReadingData, begun}
-use Rattle.fdc_core.specs.Heard.{Sent, MayRead, MayReadIn}
+use Rattle.fdc_core.specs.Commands.{TakesAs}
+use Rattle.fdc_core.specs.Heard.{MayRead}
 use Rattle.fdc_core.specs.Listening.{is_executing}
 use Rattle.fdc_core.specs.Ports.{given, after_read as controller_after, phase_after, Writes}
 use Rattle.fdc_core.specs.Answers.{after_byte}
@@ -23,14 +20,13 @@ use Rattle.fdc_core.specs.declared.phases.Phase.TheVariants.{Command, Execute, R
 use Rattle.fdc_core.proofs.MayRead.{given_reads}
 use Rattle.machine_pace.specs.Entries.{next_entry, rest_of}
 use Rattle.pc_bus.specs.Boards.{Board, controller_of, drive_in, lines_of}
-use Rattle.pc_bus.specs.Ports.{is_controllers, port_read, Inputs, Outputs, RunsGap}
+use Rattle.pc_bus.specs.Ports.{is_controllers, port_read, Inputs, Outputs}
 use Rattle.pc_bus.specs.Transfers.{shown_again}
 use Rattle.pc_bus.specs.declared.chips.Chips.{Chips}
-use Rattle.track_heard.specs.Heard.{IsHeard, IsHeardWhole}
-use Rattle.machine_reads.specs.Scenes.{Scene, IsScene, track_met}
-use Rattle.machine_reads.specs.Underway.{IsUnder, IsHearing, HasBytes, IsSet, IsMoved, IsReadBy, IsReadOf, ReadUnderway}
+use Rattle.machine_reads.specs.Scenes.{Scene, IsScene}
+use Rattle.machine_reads.specs.Underway.{IsHearing, IsSet, IsMoved, IsReadBy, ReadUnderway}
 use Rattle.machine_reads.specs.Begins.{IsDriveOf, IsLastByte, CanBegin}
-use Rattle.machine_reads.proofs.Steps.{runs_keep}
+use Rattle.machine_reads.proofs.Steps.{runs_keep, same_drive}
 use Rattle.machine_reads.proofs.Words.{length-met}
 use Rattle.machine_reads.proofs.Commands.{runs_command}
 
@@ -45,7 +41,7 @@ set_read port channel address left set = by_port (port == 4 || port == 5) (port 
     by_port false true = record { granting = set.granting; writing = set.writing; place = set.place; count = set.count; room = set.room }
     by_port false false = set
 
-grants_read : (port : ℕ) (channel : Channel) → grants (after_read port channel) ≡ grants channel
+pub grants_read : (port : ℕ) (channel : Channel) → grants (after_read port channel) ≡ grants channel
 unfolding after_read grants
 grants_read port channel = by_port (port == 4 || port == 5) (port == 8)
   where
@@ -73,7 +69,7 @@ idle_after (Long ending results taken) = by_last (nat_le 6 taken)
     by_last true = refl
     by_last false = refl
 
-busy_before : (phase : Phase) → is_executing (phase_after phase) ≡ true → is_executing phase ≡ true
+pub busy_before : (phase : Phase) → is_executing (phase_after phase) ≡ true → is_executing phase ≡ true
 busy_before Command busy = busy
 busy_before (Execute execution) busy = refl
 busy_before (Result answer) busy = absurd (false≢true (sym (idle_after answer) ∙ busy))
@@ -127,27 +123,37 @@ by_port scene past chips port known false = inl (record {
   busy = λ busy. busy;
 })
 
-hearing_less : (scene : Scene) (past : Past) (before now : Bool) (drive : DriveState) → (now ≡ true → before ≡ true) → IsHearing scene past before drive → IsHearing scene past now drive
+pub hearing_less : (scene : Scene) (past : Past) (before now : Bool) (drive : DriveState) → (now ≡ true → before ≡ true) → IsHearing scene past before drive → IsHearing scene past now drive
 hearing_less scene past before now drive less hears =
     record { heard = hears.heard; never_falls = hears.never_falls; whole = hears.whole; under = λ busy. hears.under (less busy) }
 
-pub inputs_keep : (port value : ℕ) (old new : Board) → Inputs port value old new → (scene : Scene) → ReadUnderway scene old
-    → ReadUnderway scene new ⊎ ((controller_of new).phase ≡ Command)
-inputs_keep port value old new access scene (past, was) =
+-- a port was read, and its gap is to run
+abbrev pub read_board : ℕ → Board → Board
+read_board port old = record old { bus = record old.bus { chips = port_read port old.bus.chips; gaps = rest_of old.bus.gaps; fresh = false } }
+
+-- before the gap; or the controller takes commands behind it
+pub read_between : (port value : ℕ) (old new : Board) → Inputs port value old new → (scene : Scene) → ReadUnderway scene old
+    → ReadUnderway scene (read_board port old) ⊎ ((controller_of new).phase ≡ Command)
+read_between port value old new access scene (past, was) =
     let chips = port_read port old.bus.chips in
-    let gapped : Board = record old { bus = record old.bus { chips = chips; gaps = rest_of old.bus.gaps; fresh = false } } in
-    let gap = next_entry old.bus.gaps in
     elim (by_port scene past old.bus.chips port was.chips (is_controllers port)) [
-      | inl on ↦ inl (runs_keep gap gapped new access.gap.runs scene (
+      | inl on ↦ inl (
         past,
         record {
           scene_is = was.scene_is;
           chips = on.known;
           hears = hearing_less scene past (is_executing (controller_of old).phase) (is_executing chips.controller.phase) (drive_in old scene.bay) on.busy was.hears;
         },
-      ))
-      | inr over ↦ inr (runs_command gap gapped new access.gap.runs over)
+      )
+      | inr over ↦ inr (runs_command (next_entry old.bus.gaps) (read_board port old) new access.gap.runs over)
     ]
+
+pub inputs_keep : (port value : ℕ) (old new : Board) → Inputs port value old new → (scene : Scene) → ReadUnderway scene old
+    → ReadUnderway scene new ⊎ ((controller_of new).phase ≡ Command)
+inputs_keep port value old new access scene was = elim (read_between port value old new access scene was) [
+  | inl on ↦ inl (runs_keep (next_entry old.bus.gaps) (read_board port old) new access.gap.runs scene on)
+  | inr over ↦ inr over
+]
 
 -- ---- the write that begins it
 
@@ -163,7 +169,7 @@ none_moved scene memory channel left same size set = record {
   over = λ no. absurd (false≢true no);
 }
 
-none_heard : (scene : Scene) (executes : Bool) (drive : DriveState) → IsScene scene → IsDriveOf scene drive → IsHearing scene new_past executes drive
+pub none_heard : (scene : Scene) (executes : Bool) (drive : DriveState) → IsScene scene → IsDriveOf scene drive → IsHearing scene new_past executes drive
 none_heard scene executes drive whole is = record {
   heard = record { over = tt; now = record { inside = let long = length-met scene whole.disk in let room = is.inside in omega arith; each = λ i below. absurd (omega arith) } };
   never_falls = let same = is.faults in omega arith;
@@ -193,11 +199,6 @@ begun_by scene chips byte old controller lines dor rate moved last writes =
       quiet = λ up. absurd (false≢true (sym (ap (λ fdc. fdc.asking) after) ∙ up));
       moved = moved;
     }
-
-same_drive : (first second first_now second_now : DriveState) → first_now ≡ first → second_now ≡ second → (b : Bool)
-    → (if b then first_now else second_now) ≡ (if b then first else second)
-same_drive first second first_now second_now one two true = one
-same_drive first second first_now second_now one two false = two
 
 -- the gap is taken
 abbrev pub gapped : Board → Board

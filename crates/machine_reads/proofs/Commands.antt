@@ -1,13 +1,11 @@
 -- While the controller takes commands, device steps keep it so.
-use Rattle.std.proofs.Common.{◌≡◌, ◌⊎◌, inl, inr, ℕ, zero, suc, ◌+◌, ◌%◌, ◌<◌, ◌≤◌, ◌==◌, Bool, true, false, List, if◌then◌else◌, refl, sym, ◌∙◌, ap, subst, arith}
-use Rattle.drive_model.specs.Drive.{DriveState}
+use Rattle.std.proofs.Common.{◌≡◌, ◌⊎◌, inl, inr, ℕ, zero, suc, ◌≤◌, ◌==◌, Bool, true, false, if◌then◌else◌, refl, ◌∙◌, ap, subst, arith}
 use Rattle.dma_8237.specs.Channel.{grants}
 use Rattle.machine_pace.specs.Holds.{is_due}
-use Rattle.fdc_core.specs.Dma.{byte_out, taken_out, taken_in, told_count, to_memory_of, phase_told}
+use Rattle.fdc_core.specs.Dma.{taken_out, taken_in, to_memory_of, phase_told}
 use Rattle.fdc_core.specs.Steps.{polled, RestsIn}
 use Rattle.fdc_core.specs.declared.controller.Fdc.{Fdc}
-use Rattle.fdc_core.specs.declared.phases.Phase.{Phase}
-use Rattle.fdc_core.specs.declared.phases.Phase.TheVariants.{Command, Execute, Result}
+use Rattle.fdc_core.specs.declared.phases.Phase.TheVariants.{Command}
 use Rattle.pc_bus.specs.Boards.{Board, controller_of, selected_of}
 use Rattle.pc_bus.specs.Steps.{Step, Runs}
 use Rattle.pc_bus.specs.Transfers.{can_move, moved, moved_to_memory, moved_from_memory, moved_up_to, byte_read, looked_at, shown_again, granted, dma_stepped, told_if}

@@ -2,6 +2,7 @@ mod Bytes
 pub mod Transfers
 pub mod Words
 pub mod Steps
-mod Results
-mod Commands
+pub mod Results
+pub mod Commands
 pub mod Accesses
+pub mod Beginnings

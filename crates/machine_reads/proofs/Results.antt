@@ -1,25 +1,25 @@
 -- From the words that were heard to the track.
-use Rattle.std.proofs.Common.{◌≡◌, ◌⊎◌, inl, inr, ℕ, ◌+◌, ◌-◌, ◌*◌, ◌<◌, ◌≤◌, Bool, true, false, List, [], ◌∷◌, Option, Some, length, slice_index, get_or, drop, refl, sym, ◌∙◌, ap, subst, arith}
+use Rattle.std.proofs.Common.{◌≡◌, inl, inr, ℕ, ◌+◌, ◌-◌, ◌*◌, ◌<◌, ◌≤◌, Bool, true, false, List, [], ◌∷◌, Some, length, drop, refl, sym, ◌∙◌, subst, arith}
+use Rattle.std.proofs.lemmas.Bool.{false≢true}
 use Rattle.std.proofs.lemmas.List.{get_or-drop, length-drop}
-use Rattle.flop_base.specs.declared.key.Chrn.{Chrn}
-use Rattle.track_model.specs.declared.Look.TheVariants.{Found, NoData, BadCrc}
-use Rattle.track_model.specs.Fields.{IsAddressAt, IsSizeCode, content_size, content_at, IsWhole}
+use Rattle.track_model.specs.declared.Look.TheVariants.{NoData, BadCrc}
+use Rattle.track_model.specs.Fields.{IsAddressAt, IsSizeCode, content_size, content_at}
 use Rattle.track_model.specs.Looks.{HasAddressMark, LookAt, IsIntact, HasDataField}
 use Rattle.track_separator.specs.Parts.{IsPart}
-use Rattle.fdc_stages.specs.History.{Past, IsTurnIn, IsAmong, IsJustOver}
-use Rattle.fdc_stages.specs.Searches.{HasNoClear, HasMarkIn, IsBetween}
-use Rattle.fdc_stages.specs.Findings.{IsFoundAt, HasAddressIn, FindsSector, FindsBadCheck, FindsNoField, FindsNoMark, FindsNoSector, IsWithoutData}
+use Rattle.fdc_stages.specs.History.{Past, IsTurnIn, IsAmong}
+use Rattle.fdc_stages.specs.Searches.{HasNoClear, IsBetween}
+use Rattle.fdc_stages.specs.Findings.{IsFoundAt, FindsBadCheck, FindsNoField, FindsNoMark, FindsNoSector}
 use Rattle.fdc_stages.specs.declared.ending.Ending.{Ending}
 use Rattle.fdc_stages.specs.declared.ending.Ending.TheVariants.{Done, NoMark, NoSector, NoField, BadCheck, Overrun, NoCount, Protected, Late}
-use Rattle.fdc_core.specs.Meaning.{ReadMeans, ReadMeansIn}
+use Rattle.fdc_core.specs.Meaning.{ReadMeans, ReadMeansIn, FindsUncounted}
 use Rattle.fdc_core.specs.declared.answers.Answer.TheVariants.{Short, Long}
 use Rattle.fdc_core.specs.declared.phases.Phase.{Phase}
 use Rattle.fdc_core.specs.declared.phases.Phase.TheVariants.{Command, Execute, Result}
-use Rattle.track_heard.specs.Heard.{IsHeard, IsHeardWhole, start_of, place_in, AreHeard, AreHeardWhole, IsHeardFrom, IsWholeFrom}
+use Rattle.track_heard.specs.Heard.{IsHeard, IsHeardWhole, start_of, AreHeard, AreHeardWhole, IsHeardFrom, IsWholeFrom}
 use Rattle.track_heard.proofs.Fields.{mark_heard, address_heard, data_mark_heard, field_heard, found_on, bad_on, none_on, lone_found, turn_is}
 use Rattle.track_model.proofs.Spans.{intact_of}
 use Rattle.machine_reads.specs.Scenes.{Scene, track_met}
-use Rattle.machine_reads.specs.Underway.{IsCalm, HasBytes, IsMoved, IsHearing}
+use Rattle.machine_reads.specs.Underway.{IsCalm, HasBytes, IsMoved}
 use Rattle.dma_8237.specs.Channel.{Channel}
 use Rattle.machine_reads.specs.Results.{FindsField, EndsAs, EndedIn, StaysOutside}
 
@@ -33,7 +33,7 @@ among_heard track from (last ∷ turns) turn (heard, end, others) among = elim a
   | inr earlier ↦ let (start, is, is_whole) = among_heard track from turns turn others earlier in (start, is, λ whole. is_whole whole.1)
 ]
 
-turn_heard : (track : List ℕ) (from : ℕ) (turns : List (List ℕ)) (seen turn : List ℕ) → IsHeardFrom track from turns seen → IsTurnIn turns seen turn
+pub turn_heard : (track : List ℕ) (from : ℕ) (turns : List (List ℕ)) (seen turn : List ℕ) → IsHeardFrom track from turns seen → IsTurnIn turns seen turn
     → (start : ℕ) × IsHeard track start turn × (IsWholeFrom track from turns seen → IsHeardWhole track start turn)
 turn_heard track from turns seen turn heard among = elim among [
   | inl is ↦ (start_of from turns, subst (IsHeard track (start_of from turns)) (sym is) heard.now, λ whole. subst (IsHeardWhole track (start_of from turns)) (sym is) whole.now)
@@ -41,7 +41,7 @@ turn_heard track from turns seen turn heard among = elim among [
 ]
 
 -- between two indexes, heard whole, it is the track
-between_is : (track : List ℕ) (from : ℕ) (past : Past) (between : List ℕ) → IsHeardFrom track from past.turns past.seen → IsWholeFrom track from past.turns past.seen → IsBetween past between
+pub between_is : (track : List ℕ) (from : ℕ) (past : Past) (between : List ℕ) → IsHeardFrom track from past.turns past.seen → IsWholeFrom track from past.turns past.seen → IsBetween past between
     → between ≡ track
 between_is track from past between heard whole is =
     let over : AreHeard track from (between ∷ is.first ∷ []) = subst (AreHeard track from) is.turns heard.over in
@@ -79,7 +79,7 @@ module _ (scene : Scene) (past : Past) (faults : ℕ) (memory : List ℕ)
         },
       )
 
-  mark_ends : FindsNoMark past → IsCalm scene.faults faults → HasAddressMark (track_met scene) → ⊥
+  pub mark_ends : FindsNoMark past → IsCalm scene.faults faults → HasAddressMark (track_met scene) → ⊥
   mark_ends (between, is, none) calm mark =
       none (subst HasAddressMark (sym (between_is (track_met scene) scene.from past between heard (whole calm) is)) mark)
 
@@ -131,24 +131,28 @@ module _ (scene : Scene) (past : Past) (faults : ℕ) (memory : List ℕ)
             )
       ]
 
+  -- until the terminal count comes, bytes are missing
+  count_ends : (past.counted ≡ false → length past.given < content_size scene.sent.key.n) → FindsUncounted past scene.sent.key past.given → ⊥
+  count_ends few (uncounted, all, found) = let missing = few uncounted in omega arith
+
   pub ends : (ending : Ending) → IsSizeCode scene.sent.key.n → HasBytes scene.memory scene.address past.given memory
-      → (past.counted ≡ true → length past.given ≡ content_size scene.sent.key.n) → ReadMeans past scene.sent ending → EndsAs scene faults memory ending
-  ends (Done deleted) coded bytes all (counted, (turn, p, q, found)) = done_ends past.given deleted coded bytes (all counted) turn p q found
-  ends NoMark coded bytes all means = mark_ends means
-  ends NoSector coded bytes all means = sector_ends means
-  ends NoField coded bytes all means = field_ends means
-  ends BadCheck coded bytes all means = bad_ends means
-  ends Overrun coded bytes all means = tt
-  ends NoCount coded bytes all means = tt
-  ends Protected coded bytes all means = means
-  ends Late coded bytes all means = tt
+      → (past.counted ≡ true → length past.given ≡ content_size scene.sent.key.n) → (past.counted ≡ false → length past.given < content_size scene.sent.key.n) → ReadMeans past scene.sent ending → EndsAs scene faults memory ending
+  ends (Done deleted) coded bytes all few (counted, (turn, p, q, found)) = done_ends past.given deleted coded bytes (all counted) turn p q found
+  ends NoMark coded bytes all few means = mark_ends means
+  ends NoSector coded bytes all few means = sector_ends means
+  ends NoField coded bytes all few means = field_ends means
+  ends BadCheck coded bytes all few means = bad_ends means
+  ends Overrun coded bytes all few means = tt
+  ends NoCount coded bytes all few means = count_ends few means
+  ends Protected coded bytes all few means = means
+  ends Late coded bytes all few means = tt
 
   pub ended : (phase : Phase) → IsSizeCode scene.sent.key.n → HasBytes scene.memory scene.address past.given memory
-      → (past.counted ≡ true → length past.given ≡ content_size scene.sent.key.n) → ReadMeansIn past scene.sent phase → EndedIn scene faults memory phase
-  ended Command coded bytes all means = tt
-  ended (Execute execution) coded bytes all means = tt
-  ended (Result (Short next last)) coded bytes all means = tt
-  ended (Result (Long ending results taken)) coded bytes all (is, means) = (is, ends ending coded bytes all means)
+      → (past.counted ≡ true → length past.given ≡ content_size scene.sent.key.n) → (past.counted ≡ false → length past.given < content_size scene.sent.key.n) → ReadMeansIn past scene.sent phase → EndedIn scene faults memory phase
+  ended Command coded bytes all few means = tt
+  ended (Execute execution) coded bytes all few means = tt
+  ended (Result (Short next last)) coded bytes all few means = tt
+  ended (Result (Long ending results taken)) coded bytes all few (is, means) = (is, ends ending coded bytes all few means)
 
 -- ---- memory
 
@@ -163,3 +167,9 @@ stays_outside scene given counted memory channel moved =
       lengths = moved.bytes.lengths;
       others = λ k outside. moved.bytes.others k (elim outside [ inl before ↦ inl before | inr behind ↦ inr (omega arith) ]);
     }
+
+-- ---- the request
+
+pub low_outside : (asking busy : Bool) → (asking ≡ true → busy ≡ true) → busy ≡ false → asking ≡ false
+low_outside true busy quiet idle = absurd (false≢true (sym idle ∙ quiet refl))
+low_outside false busy quiet idle = refl

@@ -1,30 +1,31 @@
 -- A device step of a READ DATA.
-use Rattle.std.proofs.Common.{◌≡◌, ◌⊎◌, inl, inr, ℕ, zero, suc, ◌+◌, ◌/◌, ◌%◌, ◌<◌, ◌≤◌, ◌==◌, ◌&&◌, not, Bool, true, false, List, Option, Some, None, length, if◌then◌else◌, refl, sym, ◌∙◌, ap, subst, arith}
+use Rattle.std.proofs.Common.{◌≡◌, ◌⊎◌, inl, inr, ℕ, zero, suc, ◌/◌, ◌%◌, ◌≤◌, ◌==◌, ◌&&◌, not, Bool, true, false, List, Option, Some, None, if◌then◌else◌, refl, sym, ◌∙◌, ap, subst, arith}
 use Rattle.std.proofs.lemmas.Bool.{false≢true}
-use Rattle.drive_model.specs.Drive.{DriveState, Becomes, Pulses, at_index}
+use Rattle.drive_model.specs.Drive.{DriveState, at_index}
 use Rattle.fdc_seek.specs.Seeking.{with_polls}
 use Rattle.fdc_fifo.specs.Fifo.{Fifo}
 use Rattle.fdc_stages.specs.History.{Past, heard}
 use Rattle.fdc_core.specs.Dma.{phase_asks}
-use Rattle.fdc_core.specs.Heard.{Sent, MayRead, MayReadIn, MayReadTask, stepped}
+use Rattle.fdc_core.specs.Heard.{Sent, MayReadIn, MayReadTask, stepped}
 use Rattle.fdc_core.specs.Listening.{is_executing, StepHears, SeesUnder, SeesTask}
 use Rattle.fdc_core.specs.Phases.{is_listening}
-use Rattle.fdc_core.specs.State.{is_held, dor_of}
+use Rattle.fdc_core.specs.State.{is_held}
 use Rattle.fdc_core.specs.Steps.{polled, RestsIn, Moves, MovesTask, MovesIn, FlowsIn}
 use Rattle.fdc_core.specs.declared.controller.Fdc.{Fdc}
-use Rattle.fdc_core.specs.declared.phases.Execution.{Execution}
 use Rattle.fdc_core.specs.declared.phases.Phase.{Phase}
 use Rattle.fdc_core.specs.declared.phases.Phase.TheVariants.{Command, Execute, Result}
 use Rattle.fdc_core.specs.declared.phases.Task.{Task}
 use Rattle.fdc_core.specs.declared.phases.Task.TheVariants.{Read}
 use Rattle.pc_bus.specs.Boards.{Board, controller_of, drive_in, selected_of}
-use Rattle.pc_bus.specs.Steps.{Works, Turns, Step, Runs, RunsUnset, step_begun, with_controller, step_ended}
+use Rattle.pc_bus.specs.Steps.{Works, Step, Runs, RunsUnset, Waits, stirred}
+use Rattle.machine_quiet.specs.Quiet.{StandsStill}
+use Rattle.machine_quiet.proofs.Steps.{stirred_still}
 use Rattle.pc_bus.specs.Transfers.{dma_stepped}
 use Rattle.pc_bus.specs.declared.chips.Chips.{Chips}
-use Rattle.track_heard.specs.Heard.{start_of, place_in, IsHeardFrom, IsWholeFrom}
+use Rattle.track_heard.specs.Heard.{place_in, IsHeardFrom, IsWholeFrom}
 use Rattle.machine_reads.specs.Scenes.{Scene, IsScene, head_sent, track_met}
-use Rattle.machine_reads.specs.Underway.{IsUnder, IsHearing, IsReadBy, IsReadOf, ReadUnderway}
-use Rattle.machine_reads.proofs.Transfers.{SameWords, GoesOn, dma_goes}
+use Rattle.machine_reads.specs.Underway.{IsHearing, IsReadBy, IsReadOf, ReadUnderway}
+use Rattle.machine_reads.proofs.Transfers.{SameWords, dma_goes}
 use Rattle.machine_reads.proofs.Words.{hearing_on, hearing_over}
 
 -- ---- the poll
@@ -36,7 +37,7 @@ polled_phase old = by_poll (old.poll_due && not (is_held old))
     by_poll true = refl
     by_poll false = refl
 
-polled_asking : (old : Fdc) → (polled old).asking ≡ old.asking
+pub polled_asking : (old : Fdc) → (polled old).asking ≡ old.asking
 polled_asking old = by_poll (old.poll_due && not (is_held old))
   where
     by_poll : (b : Bool) → (if b then record old { poll_due = false; interrupt = true; seeks = with_polls old.seeks } else old).asking ≡ old.asking
@@ -50,7 +51,7 @@ sent_task : (past : Past) (sent : Sent) (head_drive steps : ℕ) (task : Task) (
 sent_task past sent head_drive steps (Read reading) asking fifo (asks, (told, underway)) = ap (λ s. s.head_drive) underway.sent_is
 sent_task past sent head_drive steps _ asking fifo was = absurd was
 
-listens_task : (past : Past) (sent : Sent) (head_drive steps : ℕ) (task : Task) (asking : Bool) (fifo : List ℕ) → MayReadTask past sent head_drive steps task asking fifo
+pub listens_task : (past : Past) (sent : Sent) (head_drive steps : ℕ) (task : Task) (asking : Bool) (fifo : List ℕ) → MayReadTask past sent head_drive steps task asking fifo
     → is_listening task ≡ true
 listens_task past sent head_drive steps (Read reading) asking fifo was = refl
 listens_task past sent head_drive steps _ asking fifo was = absurd was
@@ -60,7 +61,7 @@ asks_busy Command asking fifo up = absurd (false≢true up)
 asks_busy (Execute execution) asking fifo up = refl
 asks_busy (Result answer) asking fifo up = absurd (false≢true up)
 
-moves_faults : (pulse : Option Bool) (before after : DriveState) → Moves pulse before after → before.faults ≤ after.faults
+pub moves_faults : (pulse : Option Bool) (before after : DriveState) → Moves pulse before after → before.faults ≤ after.faults
 moves_faults None before after becomes = becomes.never_falls
 moves_faults (Some inward) before after (between, pulses, becomes) =
     let falls = becomes.never_falls in elim pulses [
@@ -213,3 +214,26 @@ pub unset_keep : (n : ℕ) (old new : Board) → RunsUnset n old new → (scene 
 unfolding RunsUnset
 unset_keep zero old new same scene was = subst (ReadUnderway scene) (sym same) was
 unset_keep (suc n) old new (between, runs, unset, step) scene was = step_keeps between new step scene (unset_keep n old between runs scene was)
+
+-- ---- a call that leaves chips and drives
+
+pub same_drive : (first second first_now second_now : DriveState) → first_now ≡ first → second_now ≡ second → (b : Bool)
+    → (if b then first_now else second_now) ≡ (if b then first else second)
+same_drive first second first_now second_now one two true = one
+same_drive first second first_now second_now one two false = two
+
+pub still_keeps : (old new : Board) → StandsStill old new → (scene : Scene) → ReadUnderway scene old → ReadUnderway scene new
+still_keeps old new still scene (past, was) = (
+  past,
+  record {
+    scene_is = was.scene_is;
+    chips = subst (IsReadBy scene past) (sym still.chips) was.chips;
+    hears = subst (λ chips. IsHearing scene past (is_executing chips.controller.phase) (drive_in new scene.bay)) (sym still.chips)
+        (subst (IsHearing scene past (is_executing (controller_of old).phase))
+        (sym (same_drive old.first old.second new.first new.second still.first still.second (scene.bay == 0))) was.hears);
+  },
+)
+
+pub waits_keep : (most : ℕ) (set : Bool) (old new : Board) → Waits most old set new → (scene : Scene) → ReadUnderway scene old → ReadUnderway scene new
+waits_keep most set old new waits scene was =
+    unset_keep waits.steps (stirred old) new waits.runs scene (still_keeps old (stirred old) (stirred_still old) scene was)

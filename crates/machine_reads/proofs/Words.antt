@@ -1,24 +1,23 @@
 -- The word of a device step, and where the drive then is.
-use Rattle.std.proofs.Common.{◌≡◌, ◌⊎◌, inl, inr, ℕ, zero, suc, ◌+◌, ◌-◌, ◌/◌, ◌%◌, ◌<◌, ◌≤◌, min, ◌==◌, ◌&&◌, nat_lt, nat_le, Bool, true, false, List, ◌∷◌, [], ◌++◌, Option, Some, None, is_some, length, get_or, slice_index, replicate, if◌then◌else◌, refl, sym, ◌∙◌, ap, subst, arith, length-append}
+use Rattle.std.proofs.Common.{◌≡◌, ◌⊎◌, inl, inr, ℕ, ◌+◌, ◌<◌, ◌≤◌, ◌==◌, ◌&&◌, nat_lt, nat_le, Bool, true, false, List, ◌∷◌, [], ◌++◌, Some, length, slice_index, replicate, if◌then◌else◌, refl, sym, ◌∙◌, ap, subst, arith, length-append}
 use Rattle.std.proofs.lemmas.List.{get_or-replicate, get_or_past, length-replicate}
 use Rattle.std.proofs.lemmas.Bool.{cases_lt}
 use Rattle.std.proofs.lemmas.Bool.Decides.{nat_tests}
-use Rattle.flop_base.specs.Counts.{last_count, Rose}
-use Rattle.raw_image.specs.Disk.{Disk, IsDisk, HasTrack, track_of}
+use Rattle.flop_base.specs.Counts.{Rose}
+use Rattle.raw_image.specs.Disk.{Disk, IsDisk, track_of}
 use Rattle.sector_map.specs.Met.{unrecorded}
 use Rattle.sector_map.proofs.MetTracks.{length-unrecorded}
 use Rattle.sector_map.proofs.RegularTracks.{length-track_of}
-use Rattle.drive_model.specs.Drive.{DriveState, Becomes, Reads, passed, at_speed, at_index, turns, word_under, words_on, has_track, track_words, rate_of}
-use Rattle.fdc_stages.specs.History.{Past, heard, turns_after}
-use Rattle.fdc_core.specs.Heard.{Sent, stepped}
+use Rattle.drive_model.specs.Drive.{DriveState, Becomes, passed, at_speed, at_index, turns, word_under, rate_of}
+use Rattle.fdc_stages.specs.History.{Past, heard}
+use Rattle.fdc_core.specs.Heard.{stepped}
 use Rattle.fdc_core.specs.Listening.{SeesUnder}
 use Rattle.fdc_core.specs.Rates.{rate_fits, seen_of}
 use Rattle.fdc_core.specs.Steps.{let_pass}
-use Rattle.track_separator.specs.Parts.{with_word, turn_after}
-use Rattle.track_heard.specs.Heard.{start_of, place_in, IsHeardFrom, IsWholeFrom}
+use Rattle.track_heard.specs.Heard.{place_in}
 use Rattle.track_heard.proofs.Hearing.{heard_on, heard_on_whole}
-use Rattle.machine_reads.specs.Scenes.{Scene, IsScene, head_sent, track_met}
-use Rattle.machine_reads.specs.Underway.{IsCalm, IsUnder, IsHearing}
+use Rattle.machine_reads.specs.Scenes.{Scene, head_sent, track_met}
+use Rattle.machine_reads.specs.Underway.{IsUnder, IsHearing}
 
 -- ---- tests
 

@@ -5,14 +5,13 @@ use Rattle.track_model.specs.Fields.{IsAddressAt, IsDataMark, IsWhole}
 use Rattle.track_model.specs.Looks.{HasAddressMark, LookAt}
 use Rattle.track_model.specs.Sectors.{IsLone}
 use Rattle.sector_map.specs.Met.{HasLook}
-use Rattle.fdc_commands.specs.declared.results.Results.{Results}
 use Rattle.fdc_core.specs.Heard.{results_sent}
-use Rattle.fdc_core.specs.declared.answers.Answer.TheVariants.{Short, Long}
+use Rattle.fdc_core.specs.declared.answers.Answer.TheVariants.{Long}
 use Rattle.fdc_core.specs.declared.phases.Phase.{Phase}
-use Rattle.fdc_core.specs.declared.phases.Phase.TheVariants.{Command, Execute, Result}
+use Rattle.fdc_core.specs.declared.phases.Phase.TheVariants.{Result}
 use Rattle.fdc_stages.specs.Searches.{HasNoClear}
 use Rattle.fdc_stages.specs.declared.ending.Ending.{Ending}
-use Rattle.fdc_stages.specs.declared.ending.Ending.TheVariants.{Done, NoMark, NoSector, NoField, BadCheck, Overrun, NoCount, Protected, Late}
+use Rattle.fdc_stages.specs.declared.ending.Ending.TheVariants.{Done, NoMark, NoSector, NoField, BadCheck, NoCount, Protected}
 use Rattle.pc_bus.specs.Boards.{Board, controller_of, memory_of, drive_in}
 use Rattle.machine_reads.specs.Scenes.{Scene, track_met}
 use Rattle.machine_reads.specs.Underway.{IsCalm, HasBytes}
@@ -36,6 +35,7 @@ EndsAs scene faults memory NoSector =
     HasAddressMark (track_met scene) × (IsCalm scene.faults faults → HasNoClear (Some scene.sent.key) (track_met scene))
 EndsAs scene faults memory NoField = IsCalm scene.faults faults → HasLook (track_met scene) scene.sent.key NoData
 EndsAs scene faults memory BadCheck = IsCalm scene.faults faults → HasLook (track_met scene) scene.sent.key BadCrc
+EndsAs scene faults memory NoCount = ⊥
 EndsAs scene faults memory Protected = ⊥
 EndsAs scene faults memory _ = Unit {0}
 

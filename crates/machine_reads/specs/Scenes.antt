@@ -1,5 +1,5 @@
 -- How all stood when a READ DATA began.
-use Rattle.std.specs.Prelude.{◌≡◌, ℕ, ◌+◌, ◌/◌, ◌%◌, ◌<◌, ◌≤◌, ◌&&◌, nat_lt, if◌then◌else◌, List, length}
+use Rattle.std.specs.Prelude.{◌≡◌, ℕ, ◌+◌, ◌/◌, ◌%◌, ◌≤◌, ◌&&◌, nat_lt, if◌then◌else◌, List, length}
 use Rattle.raw_image.specs.Disk.{Disk, IsDisk, track_of}
 use Rattle.sector_map.specs.Met.{unrecorded}
 use Rattle.fdc_core.specs.Heard.{Sent}

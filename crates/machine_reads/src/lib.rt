@@ -4,4 +4,6 @@
 
 mod laws;
 
-pub use laws::{a_read_tells_of_the_track, device_steps_keep_a_read, port_accesses_keep_a_read};
+pub use laws::{
+    a_read_begins, a_read_tells_of_the_track, device_steps_keep_a_read, port_accesses_keep_a_read,
+};

@@ -1,4 +1,4 @@
-use Rattle.machine_reads.proofs.Steps.{step_keeps, runs_keep, unset_keep}
+use Rattle.machine_reads.proofs.Steps.{step_keeps, runs_keep, unset_keep, still_keeps, waits_keep}
 use Rattle.machine_reads.proofs.laws.device_steps_keep_a_read.Goals as goal
 
 pub returns-clause-step : goal.returns-clause-step
@@ -9,3 +9,9 @@ returns-clause-runs c = runs_keep
 
 pub returns-clause-unset : goal.returns-clause-unset
 returns-clause-unset c = unset_keep
+
+pub returns-clause-still : goal.returns-clause-still
+returns-clause-still c = still_keeps
+
+pub returns-clause-waits : goal.returns-clause-waits
+returns-clause-waits c = waits_keep

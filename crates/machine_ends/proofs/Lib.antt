@@ -1,0 +1,4 @@
+pub mod Words
+mod Moves
+mod Steps
+pub mod Calls

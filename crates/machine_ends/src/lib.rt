@@ -1,0 +1,7 @@
+//! A READ DATA ends in time: where no stall is counted its results tell neither OR nor that it took all its steps. Definitions
+//! and laws, no code.
+#![tactic(auto)]
+
+mod laws;
+
+pub use laws::a_read_ends_in_time;

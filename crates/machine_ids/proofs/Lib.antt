@@ -1,0 +1,4 @@
+mod Words
+mod Steps
+mod Accesses
+mod Results

@@ -1,0 +1,54 @@
+-- From the words that a READ ID heard to the track.
+use Rattle.std.proofs.Common.{◌≡◌, ℕ, ◌+◌, ◌*◌, true, false, List, [], ◌∷◌, None, Some, refl, sym, ◌∙◌, subst}
+use Rattle.std.proofs.lemmas.Bool.{false≢true}
+use Rattle.flop_base.specs.declared.key.Chrn.{Chrn}
+use Rattle.track_model.specs.Fields.{IsAddressAt}
+use Rattle.track_model.specs.Looks.{HasAddressMark}
+use Rattle.fdc_stages.specs.Findings.{HasAddress, FindsNoSector}
+use Rattle.fdc_stages.specs.History.{Past}
+use Rattle.fdc_stages.specs.Searches.{HasNoClear}
+use Rattle.fdc_stages.specs.declared.ending.Ending.{Ending}
+use Rattle.fdc_stages.specs.declared.ending.Ending.TheVariants.{Done, NoMark, NoSector, NoField, BadCheck, Overrun, NoCount, Protected, Late}
+use Rattle.fdc_core.specs.Meaning.{IdMeans, IdMeansIn}
+use Rattle.fdc_core.specs.declared.answers.Answer.TheVariants.{Short, Long}
+use Rattle.fdc_core.specs.declared.phases.Phase.{Phase}
+use Rattle.fdc_core.specs.declared.phases.Phase.TheVariants.{Command, Execute, Result}
+use Rattle.track_heard.specs.Heard.{IsHeardFrom, IsWholeFrom}
+use Rattle.track_heard.proofs.Fields.{mark_heard, address_heard}
+use Rattle.machine_reads.specs.Scenes.{Scene, track_met}
+use Rattle.machine_reads.specs.Underway.{IsCalm}
+use Rattle.machine_reads.proofs.Results.{turn_heard, between_is, mark_ends}
+use Rattle.machine_ends.specs.Ends.{ends_late, is_late}
+use Rattle.machine_ids.specs.Ids.{IdEndsAs, IdEndedIn}
+
+module _ (scene : Scene) (past : Past) (faults : ℕ)
+    (heard : IsHeardFrom (track_met scene) scene.from past.turns past.seen)
+    (whole : IsCalm scene.faults faults → IsWholeFrom (track_met scene) scene.from past.turns past.seen) where
+  address_ends : (key : Chrn) → HasAddress past key → (p : ℕ) × IsAddressAt (track_met scene) p key
+  address_ends key (turn, p, has) =
+      let (start, turned, turned_whole) = turn_heard (track_met scene) scene.from past.turns past.seen turn heard has.among in
+      (p + 16 * start, address_heard (track_met scene) start turn turned p key has.address)
+
+  sector_ends : FindsNoSector past None → HasAddressMark (track_met scene) × (IsCalm scene.faults faults → HasNoClear None (track_met scene))
+  sector_ends ((words, among, (p, mark)), (between, is, none)) =
+      let (start, turned, turned_whole) = turn_heard (track_met scene) scene.from past.turns past.seen words heard among in (
+        (p + 16 * start, mark_heard (track_met scene) start words turned p mark),
+        λ calm. subst (HasNoClear None) (between_is (track_met scene) scene.from past between heard (whole calm) is) none,
+      )
+
+  ends : (key : Chrn) (ending : Ending) → ends_late ending ≡ false → IdMeans past key ending → IdEndsAs scene faults key ending
+  ends key (Done deleted) calm means = address_ends key means
+  ends key NoMark calm means = mark_ends scene past faults [] heard whole means
+  ends key NoSector calm means = sector_ends means
+  ends key NoField calm means = means
+  ends key BadCheck calm means = means
+  ends key Overrun calm means = means
+  ends key NoCount calm means = means
+  ends key Protected calm means = means
+  ends key Late calm means = absurd (false≢true (sym calm))
+
+  pub ended : (phase : Phase) → is_late phase ≡ false → IdMeansIn past scene.sent.head_drive phase → IdEndedIn scene faults phase
+  ended Command calm means = tt
+  ended (Execute execution) calm means = tt
+  ended (Result (Short next last)) calm means = tt
+  ended (Result (Long ending results taken)) calm (is, means) = (is, ends results.key ending calm means)

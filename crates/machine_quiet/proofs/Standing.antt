@@ -1,0 +1,117 @@
+-- Between two data commands: device steps leave a setting.
+use Rattle.std.proofs.Common.{◌≡◌, inl, inr, ℕ, zero, suc, ◌==◌, Bool, false, refl, sym, ◌∙◌, ap, subst}
+use Rattle.std.proofs.lemmas.Bool.{false≢true}
+use Rattle.machine_pace.specs.declared.holding.Request.{Request}
+use Rattle.machine_pace.specs.declared.holding.Request.TheVariants.{Low}
+use Rattle.fdc_core.specs.Listening.{is_executing}
+use Rattle.fdc_core.specs.Steps.{polled, seek_stepped, RestsIn, Stays}
+use Rattle.fdc_core.specs.declared.controller.Fdc.{Fdc}
+use Rattle.fdc_core.specs.declared.phases.Phase.{Phase}
+use Rattle.fdc_core.specs.declared.phases.Phase.TheVariants.{Command, Execute, Result}
+use Rattle.pc_bus.specs.Boards.{Board, controller_of, selected_of}
+use Rattle.pc_bus.specs.Steps.{Step, Runs, RunsUnset, Waits, stirred}
+use Rattle.pc_bus.specs.Transfers.{dma_stepped}
+use Rattle.pc_bus.specs.declared.chips.Chips.{Chips}
+use Rattle.machine_quiet.specs.Quiet.{IsQuiet, HoldsOn, StandsStill}
+use Rattle.machine_quiet.specs.Settings.{Setting, setting_of, ChipsStand, Stands}
+use Rattle.machine_quiet.proofs.Listening.{polled_phase, polled_asking}
+use Rattle.machine_quiet.proofs.Steps.{step_works, drives_on, drives_still, starts_quietly, first_second_or_none, stirred_still}
+use Rattle.machine_quiet.proofs.Transfers.{idle_dma}
+
+-- outside execution a controller stays in its phase, with DRQ as it was
+record Stayed (old new : Fdc) : Type 0 where
+  phase : new.phase ≡ old.phase
+  asking : new.asking ≡ old.asking
+
+stepped_stayed : (old new : Fdc) (track0 : Bool) → new ≡ seek_stepped track0 (polled old) → Stayed old new
+stepped_stayed old new track0 is = record {
+  phase = ap (λ fdc. fdc.phase) is ∙ polled_phase old;
+  asking = ap (λ fdc. fdc.asking) is ∙ polled_asking old;
+}
+
+rests_stayed : (phase : Phase) (old new : Fdc) (track0 : Bool) → is_executing phase ≡ false → RestsIn phase (polled old) track0 new → Stayed old new
+rests_stayed Command old new track0 idle rests = stepped_stayed old new track0 rests
+rests_stayed (Result answer) old new track0 idle rests = stepped_stayed old new track0 rests
+rests_stayed (Execute execution) old new track0 idle rests = absurd (false≢true (sym idle))
+
+rested : (old new : Fdc) (track0 : Bool) → is_executing old.phase ≡ false → RestsIn (polled old).phase (polled old) track0 new → Stayed old new
+rested old new track0 idle rests = rests_stayed old.phase old new track0 idle (subst (λ phase. RestsIn phase (polled old) track0 new) (polled_phase old) rests)
+
+step_stayed : (old new : Board) → is_executing (controller_of old).phase ≡ false → (step : Step old new) → Stayed (controller_of old) step.between × Stays (controller_of old) step.between
+step_stayed old new idle step = elim (first_second_or_none (selected_of old)) [
+  | inl at ↦ let works = (step.turns.at_first at).0 in (rested (controller_of old) step.between (old.first.cylinder == 0) idle works.rests, works.stays)
+  | inr (inl at) ↦ let works = (step.turns.at_second at).0 in (rested (controller_of old) step.between (old.second.cylinder == 0) idle works.rests, works.stays)
+  | inr (inr at) ↦ let works = (step.turns.at_none at).0 in (rested (controller_of old) step.between false idle works.rests, works.stays)
+]
+
+-- the request plays no part
+quiet_chips : (old : Chips) (set : Setting) (now : Chips) (request : Request) → ChipsStand old set now → ChipsStand old set (record now { holding = record now.holding { request = request } })
+quiet_chips old set now request was = record {
+  controller = was.controller;
+  phase = was.phase;
+  command = was.command;
+  rate = was.rate;
+  low = was.low;
+  channel = was.channel;
+  memory = was.memory;
+  stalls = was.stalls;
+}
+
+stands_dma : (old : Chips) (set : Setting) (now : Chips) → ChipsStand old set now → ChipsStand old set (dma_stepped now)
+stands_dma old set now was = subst (ChipsStand old set) (sym (idle_dma now was.low)) (quiet_chips old set now Low was)
+
+stands_word : (old : Chips) (set : Setting) (now : Chips) (between : Fdc) → ChipsStand old set now → HoldsOn old.controller.data_commands old.controller between
+    → Stayed now.controller between → Stays now.controller between → ChipsStand old set (record now { controller = between })
+stands_word old set now between was holds stayed stays = record {
+  controller = holds;
+  phase = stayed.phase ∙ was.phase;
+  command = stays.command ∙ was.command;
+  rate = stays.rate ∙ was.rate;
+  low = stayed.asking ∙ was.low;
+  channel = was.channel;
+  memory = was.memory;
+  stalls = was.stalls;
+}
+
+pub step_stands : (start : Board) (set : Setting) (old new : Board) → Step old new → Stands start set old → Stands start set new
+step_stands start set old new step was =
+    let works = step_works (controller_of start).data_commands (controller_of start) old new was.chips.controller step in
+    let (stayed, stays) = step_stayed old new (ap is_executing was.chips.phase ∙ was.idle) step in
+    record {
+      idle = was.idle;
+      chips = subst (ChipsStand start.bus.chips set) (sym (ap (λ bus. bus.chips) step.bus))
+          (stands_dma start.bus.chips set (record old.bus.chips { controller = step.between })
+          (stands_word start.bus.chips set old.bus.chips step.between was.chips works.controller stayed stays));
+      drives = drives_on start old new was.drives works.drives;
+    }
+
+pub still_stands : (start : Board) (set : Setting) (old new : Board) → StandsStill old new → Stands start set old → Stands start set new
+still_stands start set old new still was = record {
+  idle = was.idle;
+  chips = subst (ChipsStand start.bus.chips set) (sym still.chips) was.chips;
+  drives = drives_on start old new was.drives (drives_still old new still);
+}
+
+pub starts_standing : (board : Board) → IsQuiet (controller_of board) → is_executing (controller_of board).phase ≡ false → (controller_of board).asking ≡ false
+    → Stands board (setting_of board) board
+starts_standing board quiet idle low =
+    let all = starts_quietly board quiet in
+    record {
+      idle = idle;
+      chips = record { controller = all.controller; phase = refl; command = refl; rate = refl; low = low; channel = refl; memory = refl; stalls = refl };
+      drives = all.drives;
+    }
+
+pub runs_stand : (n : ℕ) (start : Board) (set : Setting) (old new : Board) → Runs n old new → Stands start set old → Stands start set new
+unfolding Runs
+runs_stand zero start set old new same was = subst (Stands start set) (sym same) was
+runs_stand (suc n) start set old new (between, runs, step) was = step_stands start set between new step (runs_stand n start set old between runs was)
+
+pub unset_stand : (n : ℕ) (start : Board) (set : Setting) (old new : Board) → RunsUnset n old new → Stands start set old → Stands start set new
+unfolding RunsUnset
+unset_stand zero start set old new same was = subst (Stands start set) (sym same) was
+unset_stand (suc n) start set old new (between, runs, unset, step) was = step_stands start set between new step (unset_stand n start set old between runs was)
+
+pub waits_stand : (most : ℕ) (answer : Bool) (start : Board) (set : Setting) (old new : Board) → Waits most old answer new → Stands start set old → Stands start set new
+waits_stand most answer start set old new waits was =
+    unset_stand waits.steps start set (stirred old) new waits.runs (still_stands start set old (stirred old) (stirred_still old) was)

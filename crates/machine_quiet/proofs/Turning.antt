@@ -1,0 +1,72 @@
+-- Drives that turn on.
+use Rattle.std.proofs.Common.{◌≡◌, ℕ, ◌+◌, ◌<◌, ◌≤◌, ◌==◌, ◌&&◌, nat_lt, Bool, true, false, Option, None, if◌then◌else◌, refl, sym, ◌∙◌, ap, subst, arith}
+use Rattle.std.proofs.lemmas.Bool.Decides.{nat_tests}
+use Rattle.drive_model.specs.Drive.{DriveState, Becomes, passed, at_speed, turns, track_words}
+use Rattle.fdc_core.specs.Steps.{let_pass, Moves}
+use Rattle.machine_quiet.specs.Quiet.{Turned}
+
+different : (a b : ℕ) → (a == b) ≡ false → a ≡ b → ⊥
+different a b h same = grind (arith, nat_tests)
+
+place_on : (fast : Bool) (place words : ℕ) → place < words
+    → (if fast && (place + 1 == words) then 0 else (if fast then place + 1 else place)) < words
+place_on false place words below = below
+place_on true place words below = by_end (place + 1 == words) refl
+  where
+    by_end : (b : Bool) → (place + 1 == words) ≡ b → (if b then 0 else place + 1) < words
+    by_end true is = omega arith
+    by_end false is = let unlike = different (place + 1) words is in omega arith
+
+spin_on : (b : Bool) (spin : ℕ) → spin ≤ (if b then spin + 1 else spin)
+spin_on true spin = omega arith
+spin_on false spin = omega arith
+
+pub turned_passed : (old new : DriveState) → Becomes old (passed old) new → Turned old new
+turned_passed old new is = record {
+  medium = ap (λ s. s.medium) is.becomes;
+  cylinder = ap (λ s. s.cylinder) is.becomes;
+  motor = ap (λ s. s.motor) is.becomes;
+  change = ap (λ s. s.change) is.becomes;
+  spin = subst (λ n. old.spin ≤ n) (sym (ap (λ s. s.spin) is.becomes)) (spin_on (turns old && nat_lt old.spin 6250) old.spin);
+  place = λ inside. subst (λ n. n < track_words old.medium) (sym (ap (λ s. s.place) is.becomes))
+      (place_on (at_speed old) old.place (track_words old.medium) inside);
+  faults = is.never_falls;
+}
+
+pub turned_let : (old new : DriveState) → Becomes old (let_pass old) new → Turned old new
+turned_let old new is = record {
+  medium = ap (λ s. s.medium) is.becomes;
+  cylinder = ap (λ s. s.cylinder) is.becomes;
+  motor = ap (λ s. s.motor) is.becomes;
+  change = ap (λ s. s.change) is.becomes;
+  spin = subst (λ n. old.spin ≤ n) (sym (ap (λ s. s.spin) is.becomes)) (spin_on (turns old && nat_lt old.spin 6250) old.spin);
+  place = λ inside. subst (λ n. n < track_words old.medium) (sym (ap (λ s. s.place) is.becomes))
+      (place_on (at_speed old) old.place (track_words old.medium) inside);
+  faults = is.never_falls;
+}
+
+pub turned_moves : (pulse : Option Bool) (old new : DriveState) → pulse ≡ None → Moves pulse old new → Turned old new
+turned_moves pulse old new none moves = turned_let old new (subst (λ p. Moves p old new) none moves)
+
+pub turned_still : (old new : DriveState) → new ≡ old → Turned old new
+turned_still old new same = record {
+  medium = ap (λ s. s.medium) same;
+  cylinder = ap (λ s. s.cylinder) same;
+  motor = ap (λ s. s.motor) same;
+  change = ap (λ s. s.change) same;
+  spin = let is = ap (λ s. s.spin) same in omega arith;
+  place = λ inside. subst (λ n. n < track_words old.medium) (sym (ap (λ s. s.place) same)) inside;
+  faults = let is = ap (λ s. s.faults) same in omega arith;
+}
+
+pub turned_on : (a b c : DriveState) → Turned a b → Turned b c → Turned a c
+turned_on a b c first second = record {
+  medium = second.medium ∙ first.medium;
+  cylinder = second.cylinder ∙ first.cylinder;
+  motor = second.motor ∙ first.motor;
+  change = second.change ∙ first.change;
+  spin = let one = first.spin in let two = second.spin in omega arith;
+  place = λ inside. subst (λ medium. c.place < track_words medium) first.medium
+      (second.place (subst (λ medium. b.place < track_words medium) (sym first.medium) (first.place inside)));
+  faults = let one = first.faults in let two = second.faults in omega arith;
+}
