@@ -1,0 +1,5 @@
+pub mod Asking
+pub mod Bays
+pub mod Endings
+pub mod FormatGoes
+pub mod Going

@@ -1,0 +1,7 @@
+//! Laws over runs of the commands on whole disks where nothing is left to go wrong: they go to their end, unless the outside fails;
+//! and how often a command accesses media past the driver.
+#![tactic(auto)]
+
+mod format_ends;
+
+pub use format_ends::format_ends_well;
