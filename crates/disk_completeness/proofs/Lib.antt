@@ -1,5 +1,13 @@
 pub mod Asking
 pub mod Bays
+pub mod BlankDisk
+pub mod CopyEnds
+pub mod CopyGoes
 pub mod Endings
 pub mod FormatGoes
 pub mod Going
+pub mod ImageLeast
+pub mod PlanAccesses
+pub mod ReadDone
+pub mod StepAccesses
+pub mod WriteDone

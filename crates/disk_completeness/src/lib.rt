@@ -2,6 +2,10 @@
 //! and how often a command accesses media past the driver.
 #![tactic(auto)]
 
+mod accesses;
+mod copy_ends;
 mod format_ends;
 
+pub use accesses::{copy_accesses, format_accesses, verify_accesses};
+pub use copy_ends::copy_ends_well;
 pub use format_ends::format_ends_well;
