@@ -25,9 +25,9 @@ use Rattle.disk_commands.specs.Carried.{Stage}
 use Rattle.disk_commands.specs.Commands.{IsShapePutIn, Copies, Runs}
 use Rattle.disk_laws.proofs.Reading.{reaches}
 use Rattle.disk_laws.proofs.Verified.{one_image, image_ranges}
-use Rattle.disk_completeness.specs.Complete.{BeginsSound, EndsWellOrOutside, IsReadable}
+use Rattle.disk_completeness.specs.Complete.{BeginsSound, IsReadable}
 use Rattle.disk_completeness.proofs.Going.{at, IsDone, IsAnswered, reaches_next}
-use Rattle.disk_completeness.proofs.Endings.{AllAnswered, ends_outside}
+use Rattle.disk_completeness.proofs.Endings.{AllAnswered, Ends, ends_outside}
 use Rattle.disk_completeness.proofs.FormatGoes.{fresh_empty}
 use Rattle.disk_completeness.proofs.CopyGoes.{copy_rest_goes}
 use Rattle.disk_completeness.proofs.ImageLeast.{some_cylinder}
@@ -128,9 +128,10 @@ module _ (from to : List ℕ) (files : Files) (disk : Disk) (old : State) (image
       same_shape : (o : Option Shape) (x y : Shape) → o ≡ Some x → o ≡ Some y → x ≡ y
       same_shape o x y e f = cc (e, f)
 
--- where nothing is left to go wrong, a copy of a readable disk goes to its end, or the outside failed
-pub copy_complete : (from to : List ℕ) (old new : World) (ended : Status) (files : Files) (disk : Disk) → BeginsSound old → old.files ≡ Some files → IsImageOf (Some files) from disk → IsReadable disk → Runs (Copies from to) old new ended → EndsWellOrOutside ended
-copy_complete from to old new ended files disk begins told image readable runs =
+-- ---- the whole command
+
+pub copy_ends : (from to : List ℕ) (old new : World) (ended : Status) (files : Files) (disk : Disk) → BeginsSound old → old.files ≡ Some files → IsImageOf (Some files) from disk → IsReadable disk → Runs (Copies from to) old new ended → Ends ended
+copy_ends from to old new ended files disk begins told image readable runs =
     let shape = runs.does.0 in
     let empty = fresh_empty old.state 0 begins.fresh in
     let other = fresh_empty old.state 1 begins.fresh in

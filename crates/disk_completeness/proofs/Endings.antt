@@ -1,5 +1,5 @@
 -- How a command ends whose requests are answered.
-use Rattle.std.proofs.Common.{◌≡◌, ℕ, false, true≢false, List, [], ◌∷◌, ◌++◌, sym, subst, append-nil, Option}
+use Rattle.std.proofs.Common.{◌≡◌, ℕ, false, true≢false, refl, List, [], ◌∷◌, ◌++◌, sym, subst, append-nil, Option}
 use Rattle.flop_base.specs.Shelf.{Files}
 use Rattle.flop_base.specs.declared.answers.Status.{Status}
 use Rattle.flop_base.specs.declared.answers.Status.TheVariants as status
@@ -18,7 +18,11 @@ use Rattle.disk_commands.specs.Commands.{IsBegun, IsRefusedAt, IsStoppedAt, AtRe
 use Rattle.disk_completeness.specs.Complete.{EndsWellOrOutside}
 use Rattle.disk_completeness.proofs.Going.{at, IsAnswered, calm_parts}
 
-put_fault_outside : (ended : Status) → IsPutFault ended → EndsWellOrOutside ended
+-- some command that ends so, whatever holds then
+abbrev pub Ends : Status → Type 0
+Ends ended = EndsWellOrOutside (Unit {0}) ended
+
+put_fault_outside : (ended : Status) → IsPutFault ended → Ends ended
 put_fault_outside status.NoMemory fault = tt
 put_fault_outside status.SinkFault fault = tt
 put_fault_outside status.AllOk fault = absurd fault
@@ -29,7 +33,7 @@ put_fault_outside status.BadImage fault = absurd fault
 put_fault_outside status.Absent fault = absurd fault
 put_fault_outside status.FileFault fault = absurd fault
 
-stop_outside : (cause : Stop) → IsEndStop cause → EndsWellOrOutside (stop_status cause)
+stop_outside : (cause : Stop) → IsEndStop cause → Ends (stop_status cause)
 stop_outside stop.FileFault only = tt
 stop_outside stop.NoMemory only = tt
 stop_outside (stop.BadImage name error) only = absurd only
@@ -37,8 +41,8 @@ stop_outside (stop.TooLong name most) only = absurd only
 stop_outside (stop.Absent name) only = absurd only
 
 -- a last line whose status is such a one
-prints_outside : (report : Option (List ℕ)) (line : List ℕ) (wanted ended : Status) (after : Option (List ℕ)) → EndsWellOrOutside wanted → Prints report line wanted after ended → EndsWellOrOutside ended
-prints_outside report line wanted ended after well (plays.Whole told same) = subst EndsWellOrOutside (sym same) well
+prints_outside : (report : Option (List ℕ)) (line : List ℕ) (wanted ended : Status) (after : Option (List ℕ)) → Ends wanted → Prints report line wanted after ended → Ends ended
+prints_outside report line wanted ended after well (plays.Whole told same) = subst Ends (sym same) well
 prints_outside report line wanted ended after well (plays.Part grows fault) = put_fault_outside ended fault
 
 -- each request behind an undisturbed first part of a course is answered
@@ -56,14 +60,26 @@ none_refused plan old course new ended all calm p =
     let fine = (here.answers p.last.answer (at p.last.after new.files) p.step parts.1).0 in
     true≢false (subst (λ (r : Reply). is_refusal r ≡ false) p.answered fine)
 
-stops_outside : (plan : List Planned) (old : World) (course : List Taken) (new : World) (ended : Status) → AllAnswered plan old course → AreUndisturbed old.state.station.counters course → IsStoppedAt plan old course new ended → EndsWellOrOutside ended
+stops_outside : (plan : List Planned) (old : World) (course : List Taken) (new : World) (ended : Status) → AllAnswered plan old course → AreUndisturbed old.state.station.counters course → IsStoppedAt plan old course new ended → Ends ended
 stops_outside plan old course new ended all calm p =
     let answered = all course [] p.next p.mid p.files (sym (append-nil course)) p.begun calm in
     let only = answered.stops p.cause (at new.state new.files) p.stops in
     prints_outside _ _ (stop_status p.cause) ended _ (stop_outside p.cause only) p.prints
 
 -- a command whose requests are answered ends so
-pub ends_outside : (plan : List Planned) (line : List ℕ) (old : World) (course : List Taken) (new : World) (ended : Status) → AllAnswered plan old course → AreUndisturbed old.state.station.counters course → Performs plan line old course new ended → EndsWellOrOutside ended
+pub ends_outside : (plan : List Planned) (line : List ℕ) (old : World) (course : List Taken) (new : World) (ended : Status) → AllAnswered plan old course → AreUndisturbed old.state.station.counters course → Performs plan line old course new ended → Ends ended
 ends_outside plan line old course new ended all calm (Whole p) = prints_outside _ _ status.AllOk ended _ tt p.prints
 ends_outside plan line old course new ended all calm (Halted (AtRefusal p)) = absurd (none_refused plan old course new ended all calm p)
 ends_outside plan line old course new ended all calm (Halted (AtStop p)) = stops_outside plan old course new ended all calm p
+
+-- and what holds where it ends well
+pub ends_with : (Holds : Type 0) (ended : Status) → Ends ended → (status.AllOk ≡ ended → Holds) → EndsWellOrOutside Holds ended
+ends_with Holds status.AllOk ends holds = holds refl
+ends_with Holds status.FileFault ends holds = tt
+ends_with Holds status.SinkFault ends holds = tt
+ends_with Holds status.NoMemory ends holds = tt
+ends_with Holds status.SomeRefused ends holds = absurd ends
+ends_with Holds status.BadWords ends holds = absurd ends
+ends_with Holds status.BadJob ends holds = absurd ends
+ends_with Holds status.BadImage ends holds = absurd ends
+ends_with Holds status.Absent ends holds = absurd ends

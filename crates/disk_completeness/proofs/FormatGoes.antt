@@ -2,7 +2,6 @@
 use Rattle.std.proofs.Common.{arith, ◌≡◌, ◌∙◌, ◌<◌, ◌≤◌, ℕ, Bool, true, false, List, [], ◌∷◌, ◌++◌, refl, ap, Some, None}
 use Rattle.std.specs.Prelude.{is_some, ◌==◌, if◌then◌else◌}
 use Rattle.flop_base.specs.declared.answers.Rate.{Rate}
-use Rattle.flop_base.specs.declared.answers.Status.{Status}
 use Rattle.raw_image.specs.Disk.{IsDisk}
 use Rattle.bay_model.specs.Bays.{Two, in_bay}
 use Rattle.floppy_jobs.specs.declared.request.Request.TheVariants as request
@@ -10,14 +9,10 @@ use Rattle.sector_map.proofs.KeptTracks.{alike_itself}
 use Rattle.sector_model.specs.Stations.{StationState, Bay, IsFresh, bay_of, fresh_bay}
 use Rattle.sector_model.specs.States.{State}
 use Rattle.sector_model.specs.Steps.{is_loaded, blank_of}
-use Rattle.sector_model.specs.Plays.{World}
 use Rattle.floppy_session.specs.Blanks.{blank_request}
 use Rattle.disk_commands.specs.Plans.{Planned, Asks, each, by_track, format_track, rate_plan, format_plan}
 use Rattle.disk_commands.specs.Carried.{Stage}
-use Rattle.disk_commands.specs.Commands.{Formats, Runs}
-use Rattle.disk_completeness.specs.Complete.{BeginsSound, EndsWellOrOutside}
-use Rattle.disk_completeness.proofs.Going.{at, IsDone, GoesWell, goes_then, goes_each, goes_asked, goes_on, reaches_next}
-use Rattle.disk_completeness.proofs.Endings.{AllAnswered, ends_outside}
+use Rattle.disk_completeness.proofs.Going.{IsDone, GoesWell, goes_then, goes_each, goes_asked, goes_on}
 use Rattle.disk_completeness.proofs.Bays.{HoldsBlank, IsReadyFor, IsAckedWith, format_taken}
 use Rattle.disk_completeness.proofs.Asking.{stops_outside, FormatsBay, blank_done, ack_first, rate_goes, eject_done}
 
@@ -76,11 +71,3 @@ format_goes rate name count old least most empty =
     (λ three ready.
     goes_then (λ new. FormatsBay rate count new) top tracks last three (formats_go rate count three ready)
     (λ four bay. goes_asked top (request.Eject 0) four (eject_done 0 bay.disk four refl bay.holds.medium)))))
-
--- where nothing is left to go wrong, a format goes to its end, or the outside failed
-pub format_complete : (rate : Rate) (name : List ℕ) (count : ℕ) (old new : World) (ended : Status) → 1 ≤ count → count ≤ 80 → BeginsSound old → Runs (Formats name count rate) old new ended → EndsWellOrOutside ended
-format_complete rate name count old new ended least most begins runs =
-    let goes = format_goes rate name count (at old.state old.files) least most (fresh_empty old.state 0 begins.fresh) in
-    let answered : AllAnswered (format_plan name count rate) old runs.course = λ before tail next mid files is begun calm.
-    reaches_next (λ new. Unit {0}) (format_plan name count rate) begun.done next begun.later [] before old.state mid old.files files begun.parts goes begun.run begun.asked calm in
-    ends_outside (format_plan name count rate) _ old runs.course new ended answered (runs.ties.undisturbed begins.sound) runs.does

@@ -3,11 +3,14 @@ pub mod Bays
 pub mod BlankDisk
 pub mod CopyEnds
 pub mod CopyGoes
+pub mod CopyStored
 pub mod Endings
+pub mod FormatEnds
 pub mod FormatGoes
 pub mod Going
 pub mod ImageLeast
 pub mod PlanAccesses
 pub mod ReadDone
 pub mod StepAccesses
+pub mod Still
 pub mod WriteDone
