@@ -14,7 +14,7 @@ use Rattle.sector_model.specs.Plays.{World, Prints, IsPutFault}
 use Rattle.sector_model.specs.Plays as plays
 use Rattle.sector_model.specs.Ties.{AreUndisturbed}
 use Rattle.disk_commands.specs.Plans.{Planned, asked_after}
-use Rattle.disk_commands.specs.Commands.{IsBegun, IsRefusedAt, IsStoppedAt, AtRefusal, AtStop, Performs, Whole, Halted}
+use Rattle.disk_commands.specs.Commands.{IsBegun, IsRefusedAt, IsStoppedAt, Halts, AtRefusal, AtStop, Performs, Whole, Halted}
 use Rattle.disk_completeness.specs.Complete.{EndsWellOrOutside}
 use Rattle.disk_completeness.proofs.Going.{at, IsAnswered, calm_parts}
 
@@ -22,28 +22,28 @@ use Rattle.disk_completeness.proofs.Going.{at, IsAnswered, calm_parts}
 abbrev pub Ends : Status → Type 0
 Ends ended = EndsWellOrOutside (Unit {0}) ended
 
-put_fault_outside : (ended : Status) → IsPutFault ended → Ends ended
-put_fault_outside status.NoMemory fault = tt
-put_fault_outside status.SinkFault fault = tt
-put_fault_outside status.AllOk fault = absurd fault
-put_fault_outside status.SomeRefused fault = absurd fault
-put_fault_outside status.BadWords fault = absurd fault
-put_fault_outside status.BadJob fault = absurd fault
-put_fault_outside status.BadImage fault = absurd fault
-put_fault_outside status.Absent fault = absurd fault
-put_fault_outside status.FileFault fault = absurd fault
+pub put_fault_outside : (Holds : Type 0) (ended : Status) → IsPutFault ended → EndsWellOrOutside Holds ended
+put_fault_outside Holds status.NoMemory fault = tt
+put_fault_outside Holds status.SinkFault fault = tt
+put_fault_outside Holds status.AllOk fault = absurd fault
+put_fault_outside Holds status.SomeRefused fault = absurd fault
+put_fault_outside Holds status.BadWords fault = absurd fault
+put_fault_outside Holds status.BadJob fault = absurd fault
+put_fault_outside Holds status.BadImage fault = absurd fault
+put_fault_outside Holds status.Absent fault = absurd fault
+put_fault_outside Holds status.FileFault fault = absurd fault
 
-stop_outside : (cause : Stop) → IsEndStop cause → Ends (stop_status cause)
-stop_outside stop.FileFault only = tt
-stop_outside stop.NoMemory only = tt
-stop_outside (stop.BadImage name error) only = absurd only
-stop_outside (stop.TooLong name most) only = absurd only
-stop_outside (stop.Absent name) only = absurd only
+pub stop_outside : (Holds : Type 0) (cause : Stop) → IsEndStop cause → EndsWellOrOutside Holds (stop_status cause)
+stop_outside Holds stop.FileFault only = tt
+stop_outside Holds stop.NoMemory only = tt
+stop_outside Holds (stop.BadImage name error) only = absurd only
+stop_outside Holds (stop.TooLong name most) only = absurd only
+stop_outside Holds (stop.Absent name) only = absurd only
 
 -- a last line whose status is such a one
-prints_outside : (report : Option (List ℕ)) (line : List ℕ) (wanted ended : Status) (after : Option (List ℕ)) → Ends wanted → Prints report line wanted after ended → Ends ended
-prints_outside report line wanted ended after well (plays.Whole told same) = subst Ends (sym same) well
-prints_outside report line wanted ended after well (plays.Part grows fault) = put_fault_outside ended fault
+pub prints_outside : (Holds : Type 0) (report : Option (List ℕ)) (line : List ℕ) (wanted ended : Status) (after : Option (List ℕ)) → EndsWellOrOutside Holds wanted → Prints report line wanted after ended → EndsWellOrOutside Holds ended
+prints_outside Holds report line wanted ended after well (plays.Whole told same) = subst (λ (s : Status). EndsWellOrOutside Holds s) (sym same) well
+prints_outside Holds report line wanted ended after well (plays.Part grows fault) = put_fault_outside Holds ended fault
 
 -- each request behind an undisturbed first part of a course is answered
 abbrev pub AllAnswered : List Planned → World → List Taken → Type 0
@@ -60,17 +60,21 @@ none_refused plan old course new ended all calm p =
     let fine = (here.answers p.last.answer (at p.last.after new.files) p.step parts.1).0 in
     true≢false (subst (λ (r : Reply). is_refusal r ≡ false) p.answered fine)
 
-stops_outside : (plan : List Planned) (old : World) (course : List Taken) (new : World) (ended : Status) → AllAnswered plan old course → AreUndisturbed old.state.station.counters course → IsStoppedAt plan old course new ended → Ends ended
-stops_outside plan old course new ended all calm p =
+stops_outside : (Holds : Type 0) (plan : List Planned) (old : World) (course : List Taken) (new : World) (ended : Status) → AllAnswered plan old course → AreUndisturbed old.state.station.counters course → IsStoppedAt plan old course new ended → EndsWellOrOutside Holds ended
+stops_outside Holds plan old course new ended all calm p =
     let answered = all course [] p.next p.mid p.files (sym (append-nil course)) p.begun calm in
     let only = answered.stops p.cause (at new.state new.files) p.stops in
-    prints_outside _ _ (stop_status p.cause) ended _ (stop_outside p.cause only) p.prints
+    prints_outside Holds _ _ (stop_status p.cause) ended _ (stop_outside Holds p.cause only) p.prints
 
--- a command whose requests are answered ends so
+-- a command that halts whose requests are answered
+pub halts_outside : (Holds : Type 0) (plan : List Planned) (old : World) (course : List Taken) (new : World) (ended : Status) → AllAnswered plan old course → AreUndisturbed old.state.station.counters course → Halts plan old course new ended → EndsWellOrOutside Holds ended
+halts_outside Holds plan old course new ended all calm (AtRefusal p) = absurd (none_refused plan old course new ended all calm p)
+halts_outside Holds plan old course new ended all calm (AtStop p) = stops_outside Holds plan old course new ended all calm p
+
+-- and any
 pub ends_outside : (plan : List Planned) (line : List ℕ) (old : World) (course : List Taken) (new : World) (ended : Status) → AllAnswered plan old course → AreUndisturbed old.state.station.counters course → Performs plan line old course new ended → Ends ended
-ends_outside plan line old course new ended all calm (Whole p) = prints_outside _ _ status.AllOk ended _ tt p.prints
-ends_outside plan line old course new ended all calm (Halted (AtRefusal p)) = absurd (none_refused plan old course new ended all calm p)
-ends_outside plan line old course new ended all calm (Halted (AtStop p)) = stops_outside plan old course new ended all calm p
+ends_outside plan line old course new ended all calm (Whole p) = prints_outside (Unit {0}) _ _ status.AllOk ended _ tt p.prints
+ends_outside plan line old course new ended all calm (Halted p) = halts_outside (Unit {0}) plan old course new ended all calm p
 
 -- and what holds where it ends well
 pub ends_with : (Holds : Type 0) (ended : Status) → Ends ended → (status.AllOk ≡ ended → Holds) → EndsWellOrOutside Holds ended

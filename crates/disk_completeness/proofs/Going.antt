@@ -103,10 +103,15 @@ reaches_next P plan (one ∷ done) next later earlier (taken ∷ before) old mid
     let behind = reaches_next P (done ++ next ∷ later) done next later (earlier ++ taken ∷ []) before taken.after mid run.0 files refl rest.1 run.2 asked.1 calm.2 in
     subst (λ (e : List Taken). IsAnswered (asked_after e next) (at mid files)) (append_assoc earlier (taken ∷ []) before) behind
 
--- the last step of a course was as calm as those before it
-pub calm_parts : (old mid : State) (told files : Option Files) (before : List Taken) (last : Taken) → Run old told before mid files → AreUndisturbed old.station.counters (before ++ last ∷ []) → AreUndisturbed old.station.counters before × IsCalm last.asked last.answer mid.station.counters last.after.station.counters
-calm_parts old mid told files [] last run calm =
-    (tt, subst (λ (s : State). IsCalm last.asked last.answer s.station.counters last.after.station.counters) (sym run.0) (record { first = calm.0; second = calm.1 }))
-calm_parts old mid told files (taken ∷ before) last run calm =
-    let rest = calm_parts taken.after mid run.0 files before last run.2 calm.2 in
+-- a part of an undisturbed course was undisturbed, and so was what follows it
+pub calm_apart : (old mid : State) (told files : Option Files) (one two : List Taken) → Run old told one mid files → AreUndisturbed old.station.counters (one ++ two) → AreUndisturbed old.station.counters one × AreUndisturbed mid.station.counters two
+calm_apart old mid told files [] two run calm = (tt, subst (λ (s : State). AreUndisturbed s.station.counters two) (sym run.0) calm)
+calm_apart old mid told files (taken ∷ one) two run calm =
+    let rest = calm_apart taken.after mid run.0 files one two run.2 calm.2 in
     ((calm.0, calm.1, rest.0), rest.1)
+
+-- and so was its last step
+pub calm_parts : (old mid : State) (told files : Option Files) (before : List Taken) (last : Taken) → Run old told before mid files → AreUndisturbed old.station.counters (before ++ last ∷ []) → AreUndisturbed old.station.counters before × IsCalm last.asked last.answer mid.station.counters last.after.station.counters
+calm_parts old mid told files before last run calm =
+    let parts = calm_apart old mid told files before (last ∷ []) run calm in
+    (parts.0, record { first = parts.1.0; second = parts.1.1 })

@@ -1,5 +1,5 @@
 -- The disk of an image has a cylinder.
-use Rattle.std.proofs.Common.{◌≡◌, ℕ, ◌+◌, ◌*◌, ◌≤◌, Bool, true, false, cond, leb, ltb, ◌&&◌, List, length, get_or, take, drop, refl, ap, subst, arith, Option, Some, None, Result, Ok, Err}
+use Rattle.std.proofs.Common.{◌≡◌, ℕ, ◌+◌, ◌*◌, ◌≤◌, Bool, true, false, cond, leb, ltb, ◌&&◌, List, length, get_or, take, drop, refl, subst, arith, Option, Some, None, Result, Ok, Err}
 use Rattle.std.specs.Prelude.{IsSomeAnd}
 use Rattle.std.specs.Option.{ok_or}
 use Rattle.std.proofs.lemmas.Bool.{leb-true, and_parts}
@@ -62,12 +62,13 @@ header_least bytes h e =
     let r = bind_ok (field 11 told) (words_then bytes p.0 c.0 s.0) h s.2 in
     let w = bind_ok (field 12 (within 64 16384 (256 * get_or bytes 12 0 + get_or bytes 13 0))) (λ w. Ok (record { protected = p.0; cylinders = c.0; heads = s.0; rate = r.0; words_per_track = w })) h r.2 in
     let header : Header = record { protected = p.0; cylinders = c.0; heads = s.0; rate = r.0; words_per_track = w.0 } in
-    let low = within_least 1 80 (get_or bytes 9 0) c.0 (field_some 9 _ c.0 c.1) in
-    let same : c.0 ≡ h.cylinders = ap (λ (x : Header). x.cylinders) (same_ok header h w.2) in
-    omega (arith, low, same)
+    least_of header h w.2 (within_least 1 80 (get_or bytes 9 0) c.0 (field_some 9 _ c.0 c.1))
   where
     same_ok : (x y : Header) → told_header x ≡ told_header y → x ≡ y
     same_ok x y e = cc e
+
+    least_of : (x y : Header) → told_header x ≡ told_header y → 1 ≤ x.cylinders → 1 ≤ y.cylinders
+    least_of x y e low = subst (λ (z : Header). 1 ≤ z.cylinders) (same_ok x y e) low
 
 guard_ok : (b : Bool) (e : ImageError) (r : Result Disk ImageError) (d : Disk) → cond b (Err e) r ≡ Ok d → r ≡ Ok d
 guard_ok true e r d same = absurd (cc same)

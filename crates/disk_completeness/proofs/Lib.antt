@@ -7,10 +7,13 @@ pub mod CopyStored
 pub mod Endings
 pub mod FormatEnds
 pub mod FormatGoes
+pub mod FoundAll
 pub mod Going
 pub mod ImageLeast
 pub mod PlanAccesses
+pub mod PutIn
 pub mod ReadDone
 pub mod StepAccesses
 pub mod Still
+pub mod VerifyEnds
 pub mod WriteDone

@@ -66,11 +66,11 @@ disturbed_less tries bay old new calm = record {
 -- ---- what is on the track
 
 -- the track has the data of the key
-abbrev HasData : List ℕ → Chrn → Type 0
+abbrev pub HasData : List ℕ → Chrn → Type 0
 HasData track key =
     (p : ℕ) × (deleted : Bool) × (place : ℕ) × IsAddressAt track p key × LookAt track p key.n (look.Found deleted place)
 
-has_data : (disk : Disk) (key : Chrn) (entry : Entry) → IsRegularDisk disk → IsOnMap disk entry → entry.key ≡ key → HasData (track_of disk key.c key.h) key
+pub has_data : (disk : Disk) (key : Chrn) (entry : Entry) → IsRegularDisk disk → IsOnMap disk entry → entry.key ≡ key → HasData (track_of disk key.c key.h) key
 has_data disk key entry regular on same =
     let at_field : HasData (track_of disk entry.cylinder entry.head) entry.key = (entry.place, entry.deleted, on.content.0, on.address, on.content.1) in
     let place = key_cylinder disk entry.cylinder entry.head entry.place entry.key regular on.track on.address in

@@ -77,12 +77,12 @@ entered_same old (request.SetRate bay rate) answer keeps = refl
 entered_same old (request.Tries tries) answer keeps = refl
 
 -- neither drive had a fault, and no stall came
-record IsStill (old new : Counters) : Type 0 where
+pub record IsStill (old new : Counters) : Type 0 where
   pub first : new.drives.first.faults ≡ old.drives.first.faults
   pub second : new.drives.second.faults ≡ old.drives.second.faults
   pub stalls : new.stalls ≡ old.stalls
 
-run_still : (old new : State) (told after : Option Files) (earlier : List Taken) (plan : List Planned) (course : List Taken) → Run old told course new after → Asked earlier plan course → KeepsAll plan → AreUndisturbed old.station.counters course → IsStill old.station.counters new.station.counters
+pub run_still : (old new : State) (told after : Option Files) (earlier : List Taken) (plan : List Planned) (course : List Taken) → Run old told course new after → Asked earlier plan course → KeepsAll plan → AreUndisturbed old.station.counters course → IsStill old.station.counters new.station.counters
 run_still old new told after earlier [] [] run asked keeps calm =
     subst (λ (s : State). IsStill old.station.counters s.station.counters) (sym run.0) (record { first = refl; second = refl; stalls = refl })
 run_still old new told after earlier [] (taken ∷ later) run asked keeps calm = absurd asked

@@ -31,7 +31,7 @@ pub record IsReadable (disk : Disk) : Type 0 where
   pub regular : IsRegularDisk disk
   pub sectors : (key : Chrn) → IsStandardKey disk key → (entry : Entry) × IsOnMap disk entry × (entry.key ≡ key)
 
--- two disks have one sector under a key, with one mark and one content
+-- two disks have the same sector under a key: one mark, and one content
 abbrev pub HaveSameSector : Disk → Disk → Chrn → Type 0
 HaveSameSector disk copied key =
     (deleted : Bool) × (content : List ℕ) × IsSector (track_of disk key.c key.h) key deleted content
