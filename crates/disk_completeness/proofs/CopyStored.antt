@@ -2,7 +2,7 @@
 use Rattle.std.proofs.Common.{◌≡◌, ◌∙◌, ℕ, List, [], ◌∷◌, ◌++◌, length, refl, sym, ap, subst, inl, Option, Some}
 use Rattle.std.proofs.lemmas.List.{length-replicate}
 use Rattle.flop_base.specs.Shelf.{Files}
-use Rattle.flop_base.specs.Standard.{sectors_at, standard_code}
+use Rattle.flop_base.specs.Standard.{sectors_at}
 use Rattle.flop_base.specs.declared.answers.Status.{Status}
 use Rattle.flop_base.specs.declared.answers.Status.TheVariants as status
 use Rattle.flop_base.specs.declared.key.Chrn.{Chrn}
@@ -24,6 +24,7 @@ use Rattle.disk_laws.proofs.Ended.{ok_is_whole}
 use Rattle.disk_completeness.specs.Complete.{BeginsSound, EndsWellOrOutside, IsReadable, HaveSameSector, StoresSameSectors}
 use Rattle.disk_completeness.proofs.Endings.{ends_with}
 use Rattle.disk_completeness.proofs.CopyEnds.{copy_ends}
+use Rattle.disk_completeness.proofs.FoundAll.{key_is}
 use Rattle.disk_completeness.proofs.Still.{KeepsAll, keeps_both, keeps_each, keeps_tracks, keeps_rate, keeps_blank, whole_faultless}
 
 copy_keeps : (from to : List ℕ) (shape : Shape) → KeepsAll (copy_plan from to shape)
@@ -42,9 +43,6 @@ copy_keeps from to shape =
     let acked = keeps_both (ack_plan 0 shape.rate) (ack_plan 1 shape.rate) first second in
     let behind = keeps_both (ack_plan 0 shape.rate ++ ack_plan 1 shape.rate) (tracks ++ last) acked body in
     (refl, (keeps_blank 1 shape.rate to shape.cylinders, behind))
-
-key_is : (key : Chrn) → key.n ≡ standard_code → key_of key.c key.h key.r ≡ key
-key_is key size = ap (λ (n : ℕ). record { c = key.c; h = key.h; r = key.r; n = n }) (sym size)
 
 length-zeroes : (count : ℕ) → length (zeroes count) ≡ count
 unfolding zeroes

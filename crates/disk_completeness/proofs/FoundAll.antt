@@ -1,7 +1,8 @@
 -- A regular disk that has each of its standard keys: none of them fails, and none can be mistaken.
-use Rattle.std.proofs.Common.{arith, ◌≡◌, ◌+◌, ◌<◌, ◌≤◌, ℕ, Bool, zero, suc, List, [], ◌∷◌, ◌++◌, map, refl}
+use Rattle.std.proofs.Common.{arith, ◌≡◌, ◌+◌, ◌<◌, ◌≤◌, ℕ, Bool, zero, suc, List, [], ◌∷◌, ◌++◌, map, refl, ap, sym}
 use Rattle.std.specs.List.{flat_map, range_with_len}
-use Rattle.flop_base.specs.Standard.{sectors_at}
+use Rattle.flop_base.specs.Standard.{sectors_at, standard_code}
+use Rattle.flop_base.specs.declared.answers.Rate.{Rate}
 use Rattle.flop_base.specs.declared.key.Chrn.{Chrn}
 use Rattle.raw_image.specs.Disk.{Disk}
 use Rattle.track_model.specs.declared.Look.{Look}
@@ -9,9 +10,24 @@ use Rattle.track_model.specs.declared.Look.TheVariants.{Found}
 use Rattle.sector_map.specs.Disks.{LookOn}
 use Rattle.sector_map.specs.Failing.{AreFailing}
 use Rattle.sector_map.specs.Standard.{key_of, track_keys, cylinder_keys, standard_keys}
+use Rattle.disk_laws.specs.Formatted.{IsFormattedDisk, formatted_entry}
 use Rattle.disk_laws.specs.Verified.{IsStandardKey, IsUnmistaken}
+use Rattle.disk_laws.proofs.Sectors.{formatted_regular, formatted_sector}
 use Rattle.disk_completeness.specs.Complete.{IsReadable}
 use Rattle.disk_completeness.proofs.ReadDone.{has_data}
+
+-- a standard key, by its cylinder, head and record
+pub key_is : (key : Chrn) → key.n ≡ standard_code → key_of key.c key.h key.r ≡ key
+key_is key size = ap (λ (n : ℕ). record { c = key.c; h = key.h; r = key.r; n = n }) (sym size)
+
+-- a formatted disk is such a one
+pub formatted_readable : (rate : Rate) (count : ℕ) (disk : Disk) → IsFormattedDisk rate count disk → IsReadable disk
+formatted_readable rate count disk is = record {
+  regular = formatted_regular rate count disk is;
+  sectors = λ key standard.
+      let there = formatted_sector rate count disk is key.c key.h key.r standard.track standard.sector.0 standard.sector.1 in
+      (formatted_entry key.c key.h key.r there.0, there.1, key_is key standard.size);
+}
 
 pub readable_unmistaken : (disk : Disk) → IsReadable disk → IsUnmistaken disk
 readable_unmistaken disk readable = record {

@@ -55,7 +55,7 @@ sector_asked bay c h r is_one cylinder head least most =
 read_order : (good crosses acknowledged : Bool) → good ≡ true → crosses ≡ false → acknowledged ≡ true → (if not good then Some BadRequest else (if crosses then Some Page else (if not acknowledged then Some Changed else None))) ≡ None
 read_order good crosses acknowledged e f g = rw (e, f, g) refl
 
--- with so many attempts as there are, one disturbance less than one is less than what they stand
+-- an undisturbed call is disturbed less than its attempts stand
 pub disturbed_less : (tries bay : ℕ) (old new : Counters) → IsUndisturbed bay old new → DisturbedLess (spoilable tries) bay old new
 disturbed_less tries bay old new calm = record {
   faults = calm.faults;

@@ -9,5 +9,5 @@ mod verify_ends;
 
 pub use accesses::{copy_accesses, format_accesses, verify_accesses};
 pub use copy_ends::copy_ends_well;
-pub use format_ends::format_ends_well;
+pub use format_ends::{format_ends_well, formatted_disk_is_readable};
 pub use verify_ends::verify_ends_well;
