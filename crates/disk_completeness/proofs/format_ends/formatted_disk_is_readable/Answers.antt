@@ -1,0 +1,5 @@
+use Rattle.disk_completeness.proofs.FoundAll.{formatted_readable}
+use Rattle.disk_completeness.proofs.format_ends.formatted_disk_is_readable.Goals as goal
+
+pub returns : goal.returns
+returns c disk = formatted_readable c.args._rate c.args._cylinders disk
