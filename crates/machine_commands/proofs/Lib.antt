@@ -1,0 +1,9 @@
+pub mod Steps
+pub mod Accesses
+pub mod Bytes
+pub mod Runs
+pub mod Selecting
+pub mod Showing
+pub mod Questions
+pub mod Statuses
+pub mod Spinning
