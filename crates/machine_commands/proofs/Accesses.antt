@@ -23,7 +23,7 @@ use Rattle.machine_commands.proofs.Steps.{drive_none, speed_none, runs_idle, idl
 abbrev pub gapped : Board → Board
 gapped board = record board { bus = record board.bus { gaps = rest_of board.bus.gaps } }
 
-gap_taken : (board : Board) → Idles board (controller_of board) (gapped board)
+pub gap_taken : (board : Board) → Idles board (controller_of board) (gapped board)
 gap_taken board = record {
   stays = record {
     keeps = record {

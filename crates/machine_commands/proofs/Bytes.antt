@@ -138,3 +138,13 @@ whole_command first byte command old new listens none more whole fdc obeys quiet
     let quiets : Quiets (controller_of between) fdc = λ low. quiet (sym (ap (λ f. f.interrupt) before.controller_is) ∙ low) in
     let after = byte_last byte command between last here at fdc obeyed quiets rest access in
     subst (λ board. Idles old fdc board) (sym same) (idles_then old between last (with_bytes first c) fdc before after)
+
+-- the same of a controller that is known
+pub whole_at : (first : List ℕ) (byte : ℕ) (command : Command) (old new : Board) (fdc : Fdc) → controller_of old ≡ fdc → IsListening fdc → fdc.command ≡ []
+    → AreMore [] first → answer (first ++ byte ∷ []) ≡ Ready command → (target : Fdc)
+    → ((lines : Lines) (controller : Fdc) → Obeys command lines (with_bytes [] fdc) controller → controller ≡ target)
+    → Quiets fdc target → IsResting target → Sends (first ++ byte ∷ []) old new → Idles old target new
+whole_at first byte command old new fdc at listens none more whole target obeys quiet rest sends =
+    whole_command first byte command old new (subst IsListening (sym at) listens) (ap (λ f. f.command) at ∙ none) more whole target
+    (λ controller does. obeys (lines_of old) controller (subst (λ f. Obeys command (lines_of old) f controller) (ap (λ f. with_bytes [] f) at) does))
+    (λ low. quiet (sym (ap (λ f. f.interrupt) at) ∙ low)) rest sends

@@ -7,3 +7,6 @@ pub mod Showing
 pub mod Questions
 pub mod Statuses
 pub mod Spinning
+pub mod Settling
+pub mod Senses
+pub mod Resets

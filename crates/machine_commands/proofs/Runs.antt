@@ -7,7 +7,7 @@ use Rattle.pc_bus.specs.Handling.{irq_taken}
 use Rattle.pc_bus.specs.Steps.{Step, Runs, stirred}
 use Rattle.flop_base.specs.Counts.{last_count}
 use Rattle.machine_pace.specs.Holds.{counted}
-use Rattle.machine_commands.specs.Sending.{Sends, Settles}
+use Rattle.machine_commands.specs.Sending.{Sends, Settles, latch_taken}
 
 -- one byte more
 sends_more : (bytes : List ℕ) (byte : ℕ) (old between new : Board) → Sends bytes old between → Outputs 0x3F5 byte between new → Sends (bytes ++ byte ∷ []) old new
@@ -35,9 +35,14 @@ counted_if : (b : Bool) (count : ℕ) → count ≤ last_count → count ≤ (if
 counted_if true count small = omega arith
 counted_if false count small = omega arith
 
-pub settles_count : (old new : Board) → Settles old new → old.bus.taken ≤ last_count → old.bus.taken ≤ new.bus.taken
-settles_count old new settles small =
-    let same : settles.between.bus.taken ≡ old.bus.taken = runs_taken 1 (stirred old) settles.between settles.runs in
-    let after = ap (λ b. b.bus.taken) settles.taken in
-    let counts = counted_if settles.between.bus.latch.is_set settles.between.bus.taken (omega arith) in
-    subst (λ n. old.bus.taken ≤ n) (sym after) (subst (λ n. n ≤ (if settles.between.bus.latch.is_set then counted settles.between.bus.taken else settles.between.bus.taken)) same counts)
+pub settles_by : (old between new : Board) → Runs 1 (stirred old) between → new ≡ latch_taken between → old.bus.taken ≤ last_count → Settles old new
+settles_by old between new runs taken small =
+    let same : between.bus.taken ≡ old.bus.taken = runs_taken 1 (stirred old) between runs in
+    let after = ap (λ b. b.bus.taken) taken in
+    let counts = counted_if between.bus.latch.is_set between.bus.taken (omega arith) in
+    record {
+      between = between;
+      runs = runs;
+      taken = taken;
+      counts = subst (λ n. old.bus.taken ≤ n) (sym after) (subst (λ n. n ≤ (if between.bus.latch.is_set then counted between.bus.taken else between.bus.taken)) same counts);
+    }

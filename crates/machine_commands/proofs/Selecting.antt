@@ -31,7 +31,7 @@ pub record IsDor (motors : Motors) (bay dor : ℕ) : Type 0 where
 set_bit : (b : Bool) (n k : ℕ) → b ≡ true → bit_and n (2 ^ k) ≢ 0 → IsTrue b ↔ IsBitSet n k
 set_bit b n k on is = (λ _. is, λ _. on)
 
-clear_bit : (b : Bool) (n k : ℕ) → b ≡ false → bit_and n (2 ^ k) ≡ 0 → IsTrue b ↔ IsBitSet n k
+pub clear_bit : (b : Bool) (n k : ℕ) → b ≡ false → bit_and n (2 ^ k) ≡ 0 → IsTrue b ↔ IsBitSet n k
 clear_bit b n k off is = (λ on. absurd (false≢true (sym off ∙ on)), λ set. absurd (set is))
 
 is_dor_by : (a b : Bool) (bay : ℕ) → bay ≤ 1 → IsDor (motors_of a b) bay (dor_with (motors_of a b) bay)

@@ -16,7 +16,7 @@ use Rattle.fdc_core.specs.declared.phases.Phase.{Phase}
 use Rattle.fdc_core.specs.declared.phases.Phase.TheVariants.{Command, Execute, Result}
 use Rattle.machine_pace.specs.Holds.{looked, is_due}
 use Rattle.machine_pace.specs.declared.holding.Request.TheVariants.{Low}
-use Rattle.pc_bus.specs.Boards.{Board, controller_of, selected_of, holds_of}
+use Rattle.pc_bus.specs.Boards.{Board, controller_of, channel_of, selected_of}
 use Rattle.pc_bus.specs.Steps.{Works, Turns, Step, Runs, RunsUnset, stirred, Passes}
 use Rattle.pc_bus.specs.Transfers.{granted, looked_at, dma_stepped}
 use Rattle.pc_bus.specs.declared.chips.Chips.{Chips}
@@ -98,10 +98,11 @@ rests_in Command old track0 new idle is = is
 rests_in (Execute execution) old track0 new busy is = absurd cc
 rests_in (Result answer) old track0 new idle is = is
 
-stays_same : (old : Fdc) (track0 : Bool) (new : Fdc) → IsResting old → RestsIn (polled old).phase (polled old) track0 new → new ≡ old
-stays_same old track0 new rest is =
-    let here = subst (λ fdc. RestsIn fdc.phase fdc track0 new) (unpolled old rest.no_poll) is in
-    rests_in old.phase old track0 new rest.no_command here ∙ still_seeks old track0 rest.no_seek
+-- the controller behind the poll rests: it stays so
+stays_same : (old polled_to : Fdc) (track0 : Bool) (new : Fdc) → polled old ≡ polled_to → IsResting polled_to → RestsIn (polled old).phase (polled old) track0 new → new ≡ polled_to
+stays_same old polled_to track0 new poll rest is =
+    let here = subst (λ fdc. RestsIn fdc.phase fdc track0 new) poll is in
+    rests_in polled_to.phase polled_to track0 new rest.no_command here ∙ still_seeks polled_to track0 rest.no_seek
 
 -- ---- the drives
 
@@ -151,17 +152,17 @@ moves_in Command fdc before after idle is = is
 moves_in (Execute execution) fdc before after busy is = absurd cc
 moves_in (Result answer) fdc before after idle is = is
 
-moves_turn : (old : Fdc) (before after : DriveState) → IsResting old → MovesIn (polled old).phase (polled old) before after → OnlyTurns before after
-moves_turn old before after rest is =
-    let here = subst (λ fdc. MovesIn fdc.phase fdc before after) (unpolled old rest.no_poll) is in
-    let moves = moves_in old.phase old before after rest.no_command here in
-    gate_turns before after (subst (λ pulse. Moves pulse before after) (no_pulse old.seeks (before.cylinder == 0) rest.no_seek) moves)
+moves_turn : (old polled_to : Fdc) (before after : DriveState) → polled old ≡ polled_to → IsResting polled_to → MovesIn (polled old).phase (polled old) before after → OnlyTurns before after
+moves_turn old polled_to before after poll rest is =
+    let here = subst (λ fdc. MovesIn fdc.phase fdc before after) poll is in
+    let moves = moves_in polled_to.phase polled_to before after rest.no_command here in
+    gate_turns before after (subst (λ pulse. Moves pulse before after) (no_pulse polled_to.seeks (before.cylinder == 0) rest.no_seek) moves)
 
 -- ---- a device step
 
 -- the word time of a step
-record TurnsIdle (old : Board) (between : Fdc) (first second : DriveState) : Type 0 where
-  pub same : between ≡ controller_of old
+record TurnsIdle (old : Board) (fdc between : Fdc) (first second : DriveState) : Type 0 where
+  pub same : between ≡ fdc
   pub first_turns : OnlyTurns old.first first
   pub second_turns : OnlyTurns old.second second
 
@@ -170,68 +171,76 @@ first_second_or_none zero = inl refl
 first_second_or_none (suc zero) = inr (inl refl)
 first_second_or_none (suc (suc n)) = inr (inr (omega arith))
 
-turns_idle : (old new : Board) (between : Fdc) → Turns (selected_of old) (controller_of old) old.first old.second between new.first new.second → IsResting (controller_of old)
-    → TurnsIdle old between new.first new.second
-turns_idle old new between turn rest = elim (first_second_or_none (selected_of old)) [
+turns_idle : (old new : Board) (fdc between : Fdc) → Turns (selected_of old) (controller_of old) old.first old.second between new.first new.second
+    → polled (controller_of old) ≡ fdc → IsResting fdc → TurnsIdle old fdc between new.first new.second
+turns_idle old new fdc between turn poll rest = elim (first_second_or_none (selected_of old)) [
   | inl at ↦ (let (works, passes) = turn.at_first at in record {
-    same = stays_same (controller_of old) (old.first.cylinder == 0) between rest works.rests;
-    first_turns = moves_turn (controller_of old) old.first new.first rest works.drive;
+    same = stays_same (controller_of old) fdc (old.first.cylinder == 0) between poll rest works.rests;
+    first_turns = moves_turn (controller_of old) fdc old.first new.first poll rest works.drive;
     second_turns = passes_turn old.second new.second passes;
   })
   | inr (inl at) ↦ (let (works, passes) = turn.at_second at in record {
-    same = stays_same (controller_of old) (old.second.cylinder == 0) between rest works.rests;
+    same = stays_same (controller_of old) fdc (old.second.cylinder == 0) between poll rest works.rests;
     first_turns = passes_turn old.first new.first passes;
-    second_turns = moves_turn (controller_of old) old.second new.second rest works.drive;
+    second_turns = moves_turn (controller_of old) fdc old.second new.second poll rest works.drive;
   })
   | inr (inr at) ↦ (let (works, first, second) = turn.at_none at in record {
-    same = stays_same (controller_of old) false between rest works.rests;
+    same = stays_same (controller_of old) fdc false between poll rest works.rests;
     first_turns = passes_turn old.first new.first first;
     second_turns = passes_turn old.second new.second second;
   })
 ]
 
--- what stays of the chips
-record ChipsRest (fdc : Fdc) (old new : Chips) : Type 0 where
-  pub is : new ≡ record old { controller = fdc; holding = record old.holding { request = Low } }
+-- a device step behind whose poll the controller rests
+pub record StepsTo (old : Board) (fdc : Fdc) (new : Board) : Type 0 where
+  pub keeps : KeepsAll old new
+  pub first : OnlyTurns old.first new.first
+  pub second : OnlyTurns old.second new.second
+  pub controller_is : controller_of new ≡ fdc
+  pub channel : channel_of new ≡ channel_of old
+  -- the level that the latch saw is that of the line
+  pub level : is_up new ≡ interrupts fdc
 
--- in a device step of a resting controller only the drives turn
-pub step_idles : (old new : Board) → Step old new → IsResting (controller_of old) → Idles old (controller_of old) new
-step_idles old new step rest =
-    let turned = turns_idle old new step.between step.turns rest in
-    let calm = subst (λ fdc. asks fdc ≡ false) (sym turned.same) (calm_asks (controller_of old) rest.not_asking) in
+pub step_to : (old new : Board) (fdc : Fdc) → Step old new → polled (controller_of old) ≡ fdc → IsResting fdc → StepsTo old fdc new
+step_to old new fdc step poll rest =
+    let turned = turns_idle old new fdc step.between step.turns poll rest in
+    let calm = subst (λ c. asks c ≡ false) (sym turned.same) (calm_asks fdc rest.not_asking) in
     let worked : Chips = record old.bus.chips { controller = step.between } in
     let rested : Chips = record worked { holding = record worked.holding { request = Low } } in
     let moved : dma_stepped worked ≡ rested = calm_dma worked calm in
     let chips : new.bus.chips ≡ rested = ap (λ bus. bus.chips) step.bus ∙ moved in
-    let controller : controller_of new ≡ controller_of old = ap (λ c. c.controller) chips ∙ turned.same in
-    let level : is_up new ≡ interrupts (controller_of old) = ap (λ bus. bus.latch.level) step.bus ∙ (ap (λ c. interrupts c.controller) moved ∙ ap interrupts turned.same) in
     record {
-      stays = record {
-        keeps = record {
-          memory = ap (λ c. c.memory) chips;
-          entries = ap (λ c. c.holding.entries) chips;
-          stalls = ap (λ c. c.holding.stalls) chips;
-          first = turned.first_turns.keeps;
-          second = turned.second_turns.keeps;
-          direct = ap (λ bus. bus.direct) step.bus;
-          taken = let same : new.bus.taken ≡ old.bus.taken = ap (λ bus. bus.taken) step.bus in omega arith;
-        };
-        first = turned.first_turns.speed;
-        second = turned.second_turns.speed;
-        quiet = λ low. ap (λ fdc. fdc.interrupt) controller ∙ low;
-        low = λ quiet _. level ∙ low_line (controller_of old) quiet;
+      keeps = record {
+        memory = ap (λ c. c.memory) chips;
+        entries = ap (λ c. c.holding.entries) chips;
+        stalls = ap (λ c. c.holding.stalls) chips;
+        first = turned.first_turns.keeps;
+        second = turned.second_turns.keeps;
+        direct = ap (λ bus. bus.direct) step.bus;
+        taken = let same : new.bus.taken ≡ old.bus.taken = ap (λ bus. bus.taken) step.bus in omega arith;
       };
-      controller_is = controller;
+      first = turned.first_turns;
+      second = turned.second_turns;
+      controller_is = ap (λ c. c.controller) chips ∙ turned.same;
       channel = ap (λ c. c.channel) chips;
+      level = ap (λ bus. bus.latch.level) step.bus ∙ (ap (λ c. interrupts c.controller) moved ∙ ap interrupts turned.same);
     }
 
--- the level that the latch saw is that of the line
-pub step_level : (old new : Board) → Step old new → IsResting (controller_of old) → is_up new ≡ interrupts (controller_of old)
-step_level old new step rest =
-    let turned = turns_idle old new step.between step.turns rest in
-    let calm = subst (λ fdc. asks fdc ≡ false) (sym turned.same) (calm_asks (controller_of old) rest.not_asking) in
-    let worked : Chips = record old.bus.chips { controller = step.between } in
-    ap (λ bus. bus.latch.level) step.bus ∙ (ap (λ c. interrupts c.controller) (calm_dma worked calm) ∙ ap interrupts turned.same)
+-- in a device step of a resting controller only the drives turn
+pub step_idles : (old new : Board) → Step old new → IsResting (controller_of old) → Idles old (controller_of old) new
+step_idles old new step rest =
+    let to = step_to old new (controller_of old) step (unpolled (controller_of old) rest.no_poll) rest in
+    record {
+      stays = record {
+        keeps = to.keeps;
+        first = to.first.speed;
+        second = to.second.speed;
+        quiet = λ low. ap (λ fdc. fdc.interrupt) to.controller_is ∙ low;
+        low = λ quiet _. to.level ∙ low_line (controller_of old) quiet;
+      };
+      controller_is = to.controller_is;
+      channel = to.channel;
+    }
 
 -- ---- several
 
@@ -322,7 +331,7 @@ runs_idle (suc n) old new (between, runs, step) rest =
 pub step_spins : (old new : Board) → Step old new → IsResting (controller_of old)
     → (turns old.first ≡ true → min (old.first.spin + 1) 6250 ≤ new.first.spin) × (turns old.second ≡ true → min (old.second.spin + 1) 6250 ≤ new.second.spin)
 step_spins old new step rest =
-    let turned = turns_idle old new step.between step.turns rest in (turned.first_turns.spins, turned.second_turns.spins)
+    let to = step_to old new (controller_of old) step (unpolled (controller_of old) rest.no_poll) rest in (to.first.spins, to.second.spins)
 
 same_turning : (old new : DriveState) → KeepsDrive old new → KeepsSpeed old new → turns new ≡ turns old
 same_turning old new keeps speed = ap (λ m. new.motor && is_some m) keeps.medium ∙ ap (λ m. m && is_some old.medium) speed.motor

@@ -1,5 +1,5 @@
 -- Bytes to and from the controller.
-use Rattle.std.specs.Prelude.{◌≡◌, ◌==◌, ℕ, Bool, true, false, List, [], ◌∷◌}
+use Rattle.std.specs.Prelude.{◌≡◌, ◌≤◌, ◌==◌, ℕ, Bool, true, false, List, [], ◌∷◌}
 use Rattle.pc_bus.specs.Boards.{Board}
 use Rattle.pc_bus.specs.Handling.{irq_taken}
 use Rattle.pc_bus.specs.Ports.{Inputs, Outputs}
@@ -19,6 +19,7 @@ pub record Settles (old new : Board) : Type 0 where
   pub between : Board
   pub runs : Runs 1 (stirred old) between
   pub taken : new ≡ latch_taken between
+  pub counts : old.bus.taken ≤ new.bus.taken
 
 -- the cylinder number that follows status register 0, where a result was pending
 abbrev pub TakesNumber : Bool → Board → Board → Type 0

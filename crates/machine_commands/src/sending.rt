@@ -41,7 +41,6 @@ impl<D: Drive> CommandedMachine<D> {
     /// Lets the latch see the interrupt line, which fell as a result was read, and takes what is left in it.
     pub(crate) fn settle(&mut self)
         ensures settles { Settles (board_of D.state self.old) (board_of D.state self.new) }
-        ensures counts { (board_of D.state self.old).bus.taken ≤ (board_of D.state self.new).bus.taken }
         ensures motors { self.new.motors ≡ self.old.motors }
     {
         let _taken = self.machine.taken();
