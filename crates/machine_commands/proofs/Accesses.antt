@@ -1,0 +1,151 @@
+-- Port accesses behind which the controller rests.
+use Rattle.std.proofs.Common.{◌≡◌, ℕ, ◌+◌, ◌≤◌, ◌==◌, ◌&&◌, Bool, true, false, if◌then◌else◌, refl, sym, ◌∙◌, ap, subst, arith}
+use Rattle.drive_model.specs.Drive.{DriveState}
+use Rattle.dma_8237.specs.Channel.{after_read}
+use Rattle.fdc_core.specs.Answers.{is_fresh}
+use Rattle.fdc_core.specs.Ports.{Writes, after_read as controller_after, given, interrupt_after}
+use Rattle.fdc_core.specs.State.{asks}
+use Rattle.fdc_core.specs.declared.controller.Fdc.{Fdc}
+use Rattle.fdc_core.specs.declared.phases.Phase.{Phase}
+use Rattle.fdc_core.specs.declared.phases.Phase.TheVariants.{Command, Execute, Result}
+use Rattle.machine_pace.specs.Entries.{next_entry, rest_of}
+use Rattle.machine_pace.specs.Holds.{Holds, shown}
+use Rattle.pc_bus.specs.Boards.{Board, controller_of, channel_of, lines_of}
+use Rattle.pc_bus.specs.Ports.{is_controllers, port_read, Inputs, Outputs, RunsGap, WritesPort}
+use Rattle.pc_bus.specs.Transfers.{shown_again}
+use Rattle.pc_bus.specs.declared.bus.Bus.{Bus}
+use Rattle.pc_bus.specs.declared.chips.Chips.{Chips}
+use Rattle.machine_commands.specs.Idling.{IsResting, KeepsDrive, KeepsSpeed, KeepsAll, StaysIdle, Idles}
+use Rattle.machine_commands.proofs.Steps.{drive_none, speed_none, runs_idle, idles_then, idles_none}
+
+-- ---- the gap
+
+abbrev pub gapped : Board → Board
+gapped board = record board { bus = record board.bus { gaps = rest_of board.bus.gaps } }
+
+pub gap_taken : (board : Board) → Idles board (controller_of board) (gapped board)
+gap_taken board = record {
+  stays = record {
+    keeps = record {
+      memory = refl;
+      entries = refl;
+      stalls = refl;
+      first = drive_none board.first;
+      second = drive_none board.second;
+      direct = refl;
+      taken = omega arith;
+    };
+    first = speed_none board.first;
+    second = speed_none board.second;
+    quiet = λ low. low;
+    low = λ _ low. low;
+  };
+  controller_is = refl;
+  channel = refl;
+}
+
+pub gap_idles : (old new : Board) → RunsGap old new → IsResting (controller_of old) → Idles old (controller_of old) new
+gap_idles old new gap rest =
+    idles_then old (gapped old) new (controller_of old) (controller_of old) (gap_taken old) (runs_idle (next_entry old.bus.gaps) (gapped old) new gap.runs rest)
+
+-- ---- the access
+
+shown_entries : (asked : Bool) (holds : Holds) → (shown asked holds).entries ≡ holds.entries
+shown_entries true holds = refl
+shown_entries false holds = refl
+
+shown_stalls : (asked : Bool) (holds : Holds) → (shown asked holds).stalls ≡ holds.stalls
+shown_stalls true holds = refl
+shown_stalls false holds = refl
+
+-- what the chips are behind an access to the controller that leaves it so
+abbrev pub accessed : Fdc → Bus → Bus
+accessed fdc old = record old { chips = shown_again (record old.chips { controller = fdc }); fresh = false }
+
+pub same_drive : (old new : DriveState) → new ≡ old → KeepsDrive old new
+same_drive old new same = subst (λ drive. KeepsDrive old drive) (sym same) (drive_none old)
+
+pub same_speed : (old new : DriveState) → new ≡ old → KeepsSpeed old new
+same_speed old new same = subst (λ drive. KeepsSpeed old drive) (sym same) (speed_none old)
+
+-- an interrupt line that is low stays so
+abbrev pub Quiets : Fdc → Fdc → Type 0
+Quiets old new = old.interrupt ≡ false → new.interrupt ≡ false
+
+-- the access leaves all but the drives' speed
+pub accessed_keeps : (fdc : Fdc) (old between : Board) → between.bus ≡ accessed fdc old.bus → KeepsDrive old.first between.first → KeepsDrive old.second between.second
+    → KeepsAll old between
+accessed_keeps fdc old between bus first second = record {
+  memory = ap (λ b. b.chips.memory) bus;
+  entries = ap (λ b. b.chips.holding.entries) bus ∙ shown_entries (asks fdc) old.bus.chips.holding;
+  stalls = ap (λ b. b.chips.holding.stalls) bus ∙ shown_stalls (asks fdc) old.bus.chips.holding;
+  first = first;
+  second = second;
+  direct = ap (λ b. b.direct) bus;
+  taken = let same : between.bus.taken ≡ old.bus.taken = ap (λ b. b.taken) bus in omega arith;
+}
+
+accessed_idles : (fdc : Fdc) (old between : Board) → between.bus ≡ accessed fdc old.bus → between.first ≡ old.first → between.second ≡ old.second
+    → Quiets (controller_of old) fdc → Idles old fdc between
+accessed_idles fdc old between bus first second quiet = record {
+  stays = record {
+    keeps = accessed_keeps fdc old between bus (same_drive old.first between.first first) (same_drive old.second between.second second);
+    first = same_speed old.first between.first first;
+    second = same_speed old.second between.second second;
+    quiet = λ low. ap (λ b. b.chips.controller.interrupt) bus ∙ quiet low;
+    low = λ _ low. ap (λ b. b.latch.level) bus ∙ low;
+  };
+  controller_is = ap (λ b. b.chips.controller) bus;
+  channel = ap (λ b. b.chips.channel) bus;
+}
+
+-- an access, and then the gap
+pub access_idles : (fdc : Fdc) (old between new : Board) → between.bus ≡ accessed fdc old.bus → between.first ≡ old.first → between.second ≡ old.second
+    → Quiets (controller_of old) fdc → RunsGap between new → IsResting fdc → Idles old fdc new
+access_idles fdc old between new bus first second quiet gap rest =
+    let one = accessed_idles fdc old between bus first second quiet in
+    let two = gap_idles between new gap (subst IsResting (sym one.controller_is) rest) in
+    idles_then old between new fdc fdc one (subst (λ c. Idles between c new) one.controller_is two)
+
+-- ---- reading
+
+read_by : (port : ℕ) (chips : Chips) (b : Bool) → b ≡ true
+    → (if b then shown_again (record chips { controller = controller_after port chips.controller }) else record chips { channel = after_read port chips.channel })
+    ≡ shown_again (record chips { controller = controller_after port chips.controller })
+read_by port chips true _ = refl
+read_by port chips false wrong = absurd cc
+
+quiet_answer : (fresh interrupt : Bool) → interrupt ≡ false → (if fresh then false else interrupt) ≡ false
+quiet_answer true interrupt low = refl
+quiet_answer false interrupt low = low
+
+quiet_after : (phase : Phase) (interrupt : Bool) → interrupt ≡ false → interrupt_after phase interrupt ≡ false
+quiet_after Command interrupt low = low
+quiet_after (Execute execution) interrupt low = low
+quiet_after (Result answer) interrupt low = quiet_answer (is_fresh answer) interrupt low
+
+quiet_read : (data_port : Bool) (fdc : Fdc) → Quiets fdc (if data_port then given fdc else fdc)
+quiet_read true fdc low = quiet_after fdc.phase fdc.interrupt low
+quiet_read false fdc low = low
+
+-- a port of the controller is read
+pub input_idles : (port value : ℕ) (old new : Board) → Inputs port value old new → is_controllers port ≡ true
+    → IsResting (controller_after port (controller_of old)) → Idles old (controller_after port (controller_of old)) new
+input_idles port value old new access its rest =
+    let fdc = controller_after port (controller_of old) in
+    let between : Board = record old { bus = record old.bus { chips = port_read port old.bus.chips; fresh = false } } in
+    let bus : between.bus ≡ accessed fdc old.bus = ap (λ chips. let b : Bus = record old.bus { chips = chips; fresh = false } in b) (read_by port old.bus.chips (is_controllers port) its) in
+    access_idles fdc old between new bus refl refl (quiet_read (port == 0x3F5) (controller_of old)) access.gap rest
+
+-- ---- writing
+
+-- a port of the controller other than DOR is written
+pub output_idles : (port value : ℕ) (old new : Board) → Outputs port value old new → is_controllers port ≡ true → (port == 0x3F2) ≡ false → (fdc : Fdc)
+    → ((controller : Fdc) → Writes port value (lines_of old) (controller_of old) controller → controller ≡ fdc)
+    → Quiets (controller_of old) fdc → IsResting fdc → Idles old fdc new
+output_idles port value old new access its other fdc only quiet rest =
+    let (controller, writes, chips) = access.writes.writes.controllers its in
+    let is = only controller writes in
+    let bus : access.between.bus ≡ accessed fdc old.bus = access.writes.bus
+    ∙ (ap (λ c. let b : Bus = record old.bus { chips = c; fresh = false } in b) chips ∙ ap (λ c. accessed c old.bus) is) in
+    access_idles fdc old access.between new bus (access.writes.motors.first_stays other) (access.writes.motors.second_stays other) quiet access.gap rest

@@ -1,0 +1,150 @@
+-- Bytes of commands, while the controller rests.
+use Rattle.std.proofs.Common.{◌≡◌, ℕ, ◌+◌, ◌%◌, ◌==◌, ◌&&◌, not, Bool, true, false, List, [], ◌∷◌, ◌++◌, if◌then◌else◌, refl, sym, ◌∙◌, ap, subst, append_assoc, arith}
+use Rattle.std.proofs.lemmas.List.{append-nil}
+use Rattle.drive_model.specs.Drive.{DriveState, is_protected}
+use Rattle.fdc_commands.specs.Table.{answer, kept}
+use Rattle.fdc_commands.specs.declared.bytes.Accepted.{Accepted}
+use Rattle.fdc_commands.specs.declared.bytes.Accepted.TheVariants.{More, Ready}
+use Rattle.fdc_commands.specs.declared.command.Command.{Command}
+use Rattle.fdc_core.specs.Commands.{TakesAs, Obeys}
+use Rattle.fdc_core.specs.Listening.{is_executing}
+use Rattle.fdc_core.specs.Ports.{Writes, takes_in, is_taking}
+use Rattle.fdc_core.specs.State.{is_held, dor_of}
+use Rattle.fdc_core.specs.declared.controller.Fdc.{Fdc}
+use Rattle.fdc_core.specs.declared.controller.Lines.{Lines}
+use Rattle.fdc_core.specs.declared.phases.Phase.{Phase}
+use Rattle.fdc_core.specs.declared.phases.Phase.TheVariants as phase
+use Rattle.pc_bus.specs.Boards.{Board, controller_of, lines_of, lines_of_drive, absent_lines}
+use Rattle.pc_bus.specs.Ports.{Outputs}
+use Rattle.machine_commands.specs.Idling.{IsResting, KeepsDrive, KeepsAll, Idles}
+use Rattle.machine_commands.specs.Sending.{Sends}
+use Rattle.machine_commands.proofs.Steps.{idles_then, idles_none, idles_as}
+use Rattle.machine_commands.proofs.Accesses.{Quiets, output_idles}
+
+-- the controller rests, and takes bytes
+pub record IsListening (fdc : Fdc) : Type 0 where
+  pub rests : IsResting fdc
+  pub phase_is : fdc.phase ≡ phase.Command
+  pub not_held : is_held fdc ≡ false
+
+taking_in : (p : Phase) (held : Bool) → p ≡ phase.Command → held ≡ false → takes_in p held ≡ true
+taking_in p held command free = ap (λ q. takes_in q held) command ∙ ap not free
+
+taking : (fdc : Fdc) → IsListening fdc → is_taking fdc ≡ true
+taking fdc listens = taking_in fdc.phase (is_held fdc) listens.phase_is listens.not_held
+
+-- the same with other bytes of a command
+abbrev pub with_bytes : List ℕ → Fdc → Fdc
+with_bytes bytes fdc = record fdc { command = bytes }
+
+rests_with : (bytes : List ℕ) (fdc : Fdc) → IsResting fdc → IsResting (with_bytes bytes fdc)
+rests_with bytes fdc rests =
+    record { no_command = rests.no_command; no_seek = rests.no_seek; not_asking = rests.not_asking; no_poll = rests.no_poll }
+
+pub listens_with : (bytes : List ℕ) (fdc : Fdc) → IsListening fdc → IsListening (with_bytes bytes fdc)
+listens_with bytes fdc listens =
+    record { rests = rests_with bytes fdc listens.rests; phase_is = listens.phase_is; not_held = listens.not_held }
+
+-- a byte comes behind which more are to come
+pub byte_more : (byte : ℕ) (bytes : List ℕ) (old new : Board) → IsListening (controller_of old) → (controller_of old).command ++ byte ∷ [] ≡ bytes → answer bytes ≡ More
+    → Outputs 0x3F5 byte old new → Idles old (with_bytes bytes (controller_of old)) new
+byte_more byte bytes old new listens whole more access =
+    let fdc = controller_of old in
+    output_idles 0x3F5 byte old new access refl refl (with_bytes bytes fdc) only (λ low. low) (rests_with bytes fdc listens.rests)
+  where
+    only : (controller : Fdc) → Writes 0x3F5 byte (lines_of old) (controller_of old) controller → controller ≡ with_bytes bytes (controller_of old)
+    only controller writes =
+        let takes = (writes.bytes refl).0 (taking (controller_of old) listens) in
+        let at : TakesAs (answer bytes) (lines_of old) (record (controller_of old) { command = kept (answer bytes) bytes }) controller =
+        subst (λ b. TakesAs (answer b) (lines_of old) (record (controller_of old) { command = kept (answer b) b }) controller) whole takes in
+        subst (λ a. TakesAs a (lines_of old) (record (controller_of old) { command = kept a bytes }) controller) more at
+
+-- each of these bytes has more behind it
+abbrev pub AreMore : List ℕ → List ℕ → Type 0
+AreMore done [] = Unit {0}
+AreMore done (byte ∷ rest) = (answer (done ++ byte ∷ []) ≡ More) × AreMore (done ++ byte ∷ []) rest
+
+pub first_bytes : (done rest : List ℕ) (old new : Board) → (controller_of old).command ≡ done → IsListening (controller_of old) → AreMore done rest
+    → Sends rest old new → Idles old (with_bytes (done ++ rest) (controller_of old)) new
+first_bytes done [] old new begun listens more same =
+    let all : (controller_of old).command ≡ done ++ [] = begun ∙ sym (append-nil done) in
+    subst (λ board. Idles old (with_bytes (done ++ []) (controller_of old)) board) (sym same)
+    (idles_as old old (controller_of old) (with_bytes (done ++ []) (controller_of old)) (ap (λ bytes. with_bytes bytes (controller_of old)) all) (idles_none old))
+first_bytes done (byte ∷ rest) old new begun listens (more, others) (between, access, sends) =
+    let fdc = controller_of old in
+    let next = done ++ byte ∷ [] in
+    let one = byte_more byte next old between listens (ap (λ bytes. bytes ++ byte ∷ []) begun) more access in
+    let here = subst IsListening (sym one.controller_is) (listens_with next fdc listens) in
+    let two = first_bytes next rest between new (ap (λ c. c.command) one.controller_is) here others sends in
+    let same : with_bytes (next ++ rest) (controller_of between) ≡ with_bytes (done ++ byte ∷ rest) fdc =
+    ap (λ c. with_bytes (next ++ rest) c) one.controller_is ∙ ap (λ bytes. with_bytes bytes fdc) (append_assoc done (byte ∷ []) rest) in
+    idles_as old new (with_bytes (next ++ rest) (controller_of between)) (with_bytes (done ++ byte ∷ rest) fdc) same
+    (idles_then old between new (with_bytes next fdc) (with_bytes (next ++ rest) (controller_of between)) one two)
+
+-- the last byte comes, and the command is obeyed
+pub byte_last : (byte : ℕ) (command : Command) (old new : Board) → IsListening (controller_of old) → answer ((controller_of old).command ++ byte ∷ []) ≡ Ready command
+    → (fdc : Fdc) → ((controller : Fdc) → Obeys command (lines_of old) (with_bytes [] (controller_of old)) controller → controller ≡ fdc)
+    → Quiets (controller_of old) fdc → IsResting fdc → Outputs 0x3F5 byte old new → Idles old fdc new
+byte_last byte command old new listens whole fdc obeys quiet rest access = output_idles 0x3F5 byte old new access refl refl fdc only quiet rest
+  where
+    only : (controller : Fdc) → Writes 0x3F5 byte (lines_of old) (controller_of old) controller → controller ≡ fdc
+    only controller writes =
+        let takes = (writes.bytes refl).0 (taking (controller_of old) listens) in
+        let bytes = (controller_of old).command ++ byte ∷ [] in
+        obeys controller (subst (λ a. TakesAs a (lines_of old) (record (controller_of old) { command = kept a bytes }) controller) whole takes)
+
+-- ---- a whole command
+
+-- the bytes sent in two parts
+pub sends_parts : (first rest : List ℕ) (old new : Board) → Sends (first ++ rest) old new → (between : Board) × Sends first old between × Sends rest between new
+sends_parts [] rest old new sends = (old, refl, sends)
+sends_parts (byte ∷ first) rest old new (next, access, sends) =
+    let (between, one, two) = sends_parts first rest next new sends in (between, (next, access, one), two)
+
+lines_by : (n : ℕ) (a b c : Lines) (x y : Lines) → a ≡ x → b ≡ y → (if n == 0 then a else (if n == 1 then b else c)) ≡ (if n == 0 then x else (if n == 1 then y else c))
+lines_by n a b c x y one two = ap (λ first. if n == 0 then first else (if n == 1 then b else c)) one ∙ ap (λ second. if n == 0 then x else (if n == 1 then second else c)) two
+
+pub lines_kept : (old new : DriveState) → KeepsDrive old new → lines_of_drive new ≡ lines_of_drive old
+lines_kept old new keeps =
+    ap (λ cylinder. let l : Lines = record { track0 = cylinder == 0; protected = is_protected new.medium; changed = new.change } in l) keeps.cylinder
+    ∙ (ap (λ medium. let l : Lines = record { track0 = old.cylinder == 0; protected = is_protected medium; changed = new.change } in l) keeps.medium
+    ∙ ap (λ change. let l : Lines = record { track0 = old.cylinder == 0; protected = is_protected old.medium; changed = change } in l) keeps.change)
+
+-- the selected drive has the same lines
+pub same_lines : (old new : Board) → KeepsAll old new → dor_of (controller_of new) ≡ dor_of (controller_of old) → lines_of new ≡ lines_of old
+same_lines old new keeps dor =
+    let a = lines_of_drive new.first in
+    let b = lines_of_drive new.second in
+    ap (λ d. if d % 4 == 0 then a else (if d % 4 == 1 then b else absent_lines)) dor
+    ∙ lines_by (dor_of (controller_of old) % 4) a b absent_lines (lines_of_drive old.first) (lines_of_drive old.second)
+    (lines_kept old.first new.first keeps.first) (lines_kept old.second new.second keeps.second)
+
+-- a command whose bytes are sent is obeyed by a controller that listens
+pub whole_command : (first : List ℕ) (byte : ℕ) (command : Command) (old new : Board) → IsListening (controller_of old) → (controller_of old).command ≡ []
+    → AreMore [] first → answer (first ++ byte ∷ []) ≡ Ready command → (fdc : Fdc)
+    → ((controller : Fdc) → Obeys command (lines_of old) (with_bytes [] (controller_of old)) controller → controller ≡ fdc)
+    → Quiets (controller_of old) fdc → IsResting fdc → Sends (first ++ byte ∷ []) old new → Idles old fdc new
+whole_command first byte command old new listens none more whole fdc obeys quiet rest sends =
+    let c = controller_of old in
+    let (between, one, (last, access, same)) = sends_parts first (byte ∷ []) old new sends in
+    let before = first_bytes [] first old between none listens more one in
+    let here = subst IsListening (sym before.controller_is) (listens_with first c listens) in
+    let lines = same_lines old between before.stays.keeps (ap dor_of before.controller_is) in
+    let bare : with_bytes [] (controller_of between) ≡ with_bytes [] c = ap (λ f. with_bytes [] f) before.controller_is in
+    let obeyed : (controller : Fdc) → Obeys command (lines_of between) (with_bytes [] (controller_of between)) controller → controller ≡ fdc =
+    λ controller does. obeys controller (subst (λ l. Obeys command l (with_bytes [] c) controller) lines
+    (subst (λ f. Obeys command (lines_of between) f controller) bare does)) in
+    let at : answer ((controller_of between).command ++ byte ∷ []) ≡ Ready command = ap (λ f. answer (f.command ++ byte ∷ [])) before.controller_is ∙ whole in
+    let quiets : Quiets (controller_of between) fdc = λ low. quiet (sym (ap (λ f. f.interrupt) before.controller_is) ∙ low) in
+    let after = byte_last byte command between last here at fdc obeyed quiets rest access in
+    subst (λ board. Idles old fdc board) (sym same) (idles_then old between last (with_bytes first c) fdc before after)
+
+-- the same of a controller that is known
+pub whole_at : (first : List ℕ) (byte : ℕ) (command : Command) (old new : Board) (fdc : Fdc) → controller_of old ≡ fdc → IsListening fdc → fdc.command ≡ []
+    → AreMore [] first → answer (first ++ byte ∷ []) ≡ Ready command → (target : Fdc)
+    → ((lines : Lines) (controller : Fdc) → Obeys command lines (with_bytes [] fdc) controller → controller ≡ target)
+    → Quiets fdc target → IsResting target → Sends (first ++ byte ∷ []) old new → Idles old target new
+whole_at first byte command old new fdc at listens none more whole target obeys quiet rest sends =
+    whole_command first byte command old new (subst IsListening (sym at) listens) (ap (λ f. f.command) at ∙ none) more whole target
+    (λ controller does. obeys (lines_of old) controller (subst (λ f. Obeys command (lines_of old) f controller) (ap (λ f. with_bytes [] f) at) does))
+    (λ low. quiet (sym (ap (λ f. f.interrupt) at) ∙ low)) rest sends

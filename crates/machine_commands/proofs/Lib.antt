@@ -1,0 +1,12 @@
+pub mod Steps
+pub mod Accesses
+pub mod Bytes
+pub mod Runs
+pub mod Selecting
+pub mod Showing
+pub mod Questions
+pub mod Statuses
+pub mod Spinning
+pub mod Settling
+pub mod Senses
+pub mod Resets

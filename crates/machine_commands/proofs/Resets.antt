@@ -1,0 +1,253 @@
+-- A reset and set-up, from any state of the machine.
+use Rattle.std.proofs.Common.{◌≡◌, ◌⊎◌, inl, inr, ℕ, ◌+◌, ◌≤◌, ◌==◌, Bool, true, false, List, [], ◌∷◌, ◌++◌, Some, refl, sym, ◌∙◌, ap, subst, arith}
+use Rattle.drive_model.specs.Drive.{DriveState, InRange}
+use Rattle.fdc_commands.specs.Table.{answer}
+use Rattle.fdc_commands.specs.declared.bytes.Accepted.TheVariants.{Ready}
+use Rattle.fdc_commands.specs.declared.command.Command.TheVariants.{Specify, Configure}
+use Rattle.fdc_seek.specs.Seeking.{at_rest, with_polls}
+use Rattle.fdc_core.specs.Commands.{specified, configured}
+use Rattle.fdc_core.specs.Ports.{dor_written, ccr_written, Writes}
+use Rattle.fdc_core.specs.State.{dor_of, reset, data_commands_of}
+use Rattle.fdc_core.specs.Steps.{polled}
+use Rattle.fdc_core.specs.declared.controller.Fdc.{Fdc}
+use Rattle.machine_pace.specs.Entries.{next_entry}
+use Rattle.pc_bus.specs.Boards.{Board, controller_of, lines_of}
+use Rattle.single_commands.specs.Rigs.{IsReset}
+use Rattle.machine_commands.specs.Asked.{TakesPolls, Resets, none_on}
+use Rattle.machine_commands.specs.Idling.{IsResting, KeepsSpeed, KeepsAll, Idles, is_up}
+use Rattle.machine_commands.specs.Ready.{dor_with, IsReady, IsIdle}
+use Rattle.machine_commands.specs.Shown.{rig_of}
+use Rattle.machine_commands.proofs.Accesses.{accessed_keeps, gap_idles, gapped, gap_taken, output_idles}
+use Rattle.machine_commands.proofs.Bytes.{IsListening, AreMore, with_bytes, whole_at}
+use Rattle.machine_commands.proofs.Selecting.{with_dor, clear_bit, dor_access}
+use Rattle.machine_commands.proofs.Senses.{sensed_to, senses_pending}
+use Rattle.machine_commands.proofs.Settling.{settles_to, polls_next, runs_polled}
+use Rattle.machine_commands.proofs.Showing.{keeps_reset}
+use Rattle.machine_commands.proofs.Steps.{keeps_then, speed_then}
+
+-- ---- the controller, stage by stage
+
+abbrev held_at : Fdc → Fdc
+held_at fdc = reset (with_dor 0x00 fdc)
+
+abbrev released_at : Fdc → Fdc
+released_at fdc = with_dor 0x0C (held_at fdc)
+
+abbrev polled_at : Fdc → Fdc
+polled_at fdc = record (released_at fdc) { poll_due = false; interrupt = true; seeks = with_polls at_rest }
+
+abbrev sensed_at : Fdc → Fdc
+sensed_at fdc = sensed_to (sensed_to (sensed_to (sensed_to (polled_at fdc))))
+
+abbrev specified_at : Fdc → Fdc
+specified_at fdc = specified 0x02 (with_bytes [] (sensed_at fdc))
+
+abbrev configured_at : Fdc → Fdc
+configured_at fdc = configured 0x07 (with_bytes [] (specified_at fdc))
+
+abbrev pub set_up_at : Fdc → Fdc
+set_up_at fdc = ccr_written 0x00 (configured_at fdc)
+
+rests_held : (fdc : Fdc) → IsResting (held_at fdc)
+rests_held fdc = record { no_command = refl; no_seek = refl; not_asking = refl; no_poll = refl }
+
+listens_polled : (fdc : Fdc) → IsListening (polled_at fdc)
+listens_polled fdc = record { rests = record { no_command = refl; no_seek = refl; not_asking = refl; no_poll = refl }; phase_is = refl; not_held = refl }
+
+listens_one : (fdc : Fdc) → IsListening (sensed_to (polled_at fdc))
+listens_one fdc = record { rests = record { no_command = refl; no_seek = refl; not_asking = refl; no_poll = refl }; phase_is = refl; not_held = refl }
+
+listens_two : (fdc : Fdc) → IsListening (sensed_to (sensed_to (polled_at fdc)))
+listens_two fdc = record { rests = record { no_command = refl; no_seek = refl; not_asking = refl; no_poll = refl }; phase_is = refl; not_held = refl }
+
+listens_three : (fdc : Fdc) → IsListening (sensed_to (sensed_to (sensed_to (polled_at fdc))))
+listens_three fdc = record { rests = record { no_command = refl; no_seek = refl; not_asking = refl; no_poll = refl }; phase_is = refl; not_held = refl }
+
+listens_sensed : (fdc : Fdc) → IsListening (sensed_at fdc)
+listens_sensed fdc = record { rests = record { no_command = refl; no_seek = refl; not_asking = refl; no_poll = refl }; phase_is = refl; not_held = refl }
+
+listens_specified : (fdc : Fdc) → IsListening (specified_at fdc)
+listens_specified fdc = record { rests = record { no_command = refl; no_seek = refl; not_asking = refl; no_poll = refl }; phase_is = refl; not_held = refl }
+
+rests_configured : (fdc : Fdc) → IsResting (configured_at fdc)
+rests_configured fdc = record { no_command = refl; no_seek = refl; not_asking = refl; no_poll = refl }
+
+rests_set_up : (fdc : Fdc) → IsResting (set_up_at fdc)
+rests_set_up fdc = record { no_command = refl; no_seek = refl; not_asking = refl; no_poll = refl }
+
+ready_set_up : (fdc : Fdc) → IsReady (set_up_at fdc)
+ready_set_up fdc = record {
+  phase = refl;
+  no_bytes = refl;
+  seeks = record { no_seek = refl; no_result = refl; four = refl; first = omega arith; second = omega arith };
+  by_dma = refl;
+  polled = refl;
+  no_interrupt = refl;
+  not_asking = refl;
+  fifo_on = refl;
+  threshold = refl;
+}
+
+-- ---- a part of the way
+
+-- all is kept, the motors stay as they are, and the controller is this
+record Goes (old : Board) (fdc : Fdc) (new : Board) : Type 0 where
+  pub keeps : KeepsAll old new
+  pub first : KeepsSpeed old.first new.first
+  pub second : KeepsSpeed old.second new.second
+  pub controller_is : controller_of new ≡ fdc
+
+goes_then : (a b c : Board) (one two : Fdc) → Goes a one b → Goes b two c → Goes a two c
+goes_then a b c one two first second = record {
+  keeps = keeps_then a b c first.keeps second.keeps;
+  first = speed_then a.first b.first c.first first.first second.first;
+  second = speed_then a.second b.second c.second first.second second.second;
+  controller_is = second.controller_is;
+}
+
+idles_go : (old new : Board) (fdc : Fdc) → Idles old fdc new → Goes old fdc new
+idles_go old new fdc idles = record { keeps = idles.stays.keeps; first = idles.stays.first; second = idles.stays.second; controller_is = idles.controller_is }
+
+-- the reset pulse
+record Held (old : Board) (new : Board) : Type 0 where
+  pub keeps : KeepsAll old new
+  pub controller_is : controller_of new ≡ held_at (controller_of old)
+
+holds : (old new : Board) → (resets : Resets old new) → Held old resets.held
+holds old new resets =
+    let fdc = held_at (controller_of old) in
+    let access = resets.holds in
+    let written = dor_access 0x00 fdc false false old resets.held access refl refl (clear_bit false 0x00 4 refl refl) (clear_bit false 0x00 5 refl refl) in
+    let here : controller_of access.between ≡ fdc = ap (λ b. b.chips.controller) written.bus in
+    let gap = gap_idles access.between resets.held access.gap (subst IsResting (sym here) (rests_held (controller_of old))) in
+    record {
+      keeps = keeps_then old access.between resets.held (accessed_keeps fdc old access.between written.bus written.first_is.keeps written.second_is.keeps) gap.stays.keeps;
+      controller_is = gap.controller_is ∙ here;
+    }
+
+-- the motors are off, and the poll may have come
+record Released (fdc : Fdc) (old new : Board) : Type 0 where
+  pub keeps : KeepsAll old new
+  pub first_off : new.first.motor ≡ false
+  pub second_off : new.second.motor ≡ false
+  pub controller : (controller_of new ≡ released_at fdc) ⊎ (controller_of new ≡ polled_at fdc)
+
+releases : (old new : Board) → (resets : Resets old new) → Released (controller_of old) resets.held resets.released
+releases old new resets =
+    let fdc = released_at (controller_of old) in
+    let access = resets.releases in
+    let at = (holds old new resets).controller_is in
+    let written = dor_access 0x0C fdc false false resets.held resets.released access (ap (dor_written 0x0C) at) refl (clear_bit false 0x0C 4 refl refl) (clear_bit false 0x0C 5 refl refl) in
+    let between = access.between in
+    let here : controller_of between ≡ fdc = ap (λ b. b.chips.controller) written.bus in
+    let runs = runs_polled (next_entry between.bus.gaps) fdc (polled_at (controller_of old)) (gapped between) resets.released access.gap.runs here refl (listens_polled (controller_of old)).rests in
+    let kept = keeps_then between (gapped between) resets.released (gap_taken between).stays.keeps runs.keeps in
+    record {
+      keeps = keeps_then resets.held between resets.released (accessed_keeps fdc resets.held between written.bus written.first_is.keeps written.second_is.keeps) kept;
+      first_off = runs.first.motor ∙ written.first_is.motor;
+      second_off = runs.second.motor ∙ written.second_is.motor;
+      controller = runs.controller;
+    }
+
+polls : (old new : Board) → (resets : Resets old new) → Goes resets.released (sensed_at (controller_of old)) resets.polled
+polls old new resets =
+    let c = controller_of old in
+    let rel = releases old new resets in
+    let p = resets.polls in
+    let settled = settles_to resets.released p.polled (polled_at c) p.settles (polls_next (released_at c) (polled_at c) resets.released refl (listens_polled c).rests rel.controller) (listens_polled c).rests in
+    let start : Goes resets.released (polled_at c) p.polled = record { keeps = settled.keeps; first = settled.first; second = settled.second; controller_is = settled.controller_is } in
+    let one = (senses_pending p.status_0 p.polled p.one (polled_at c) 0xC0 0 start.controller_is (listens_polled c) refl refl refl refl p.first).1 in
+    let two = (senses_pending p.status_1 p.one p.two (sensed_to (polled_at c)) 0xC1 0 one.controller_is (listens_one c) refl refl refl refl p.second).1 in
+    let three = (senses_pending p.status_2 p.two p.three (sensed_to (sensed_to (polled_at c))) 0xC2 0 two.controller_is (listens_two c) refl refl refl refl p.third).1 in
+    let four = (senses_pending p.status_3 p.three resets.polled (sensed_to (sensed_to (sensed_to (polled_at c)))) 0xC3 0 three.controller_is (listens_three c) refl refl refl refl p.fourth).1 in
+    let so_far = goes_then resets.released p.polled p.one (polled_at c) (sensed_to (polled_at c)) start (idles_go p.polled p.one (sensed_to (polled_at c)) one) in
+    let more = goes_then resets.released p.one p.two (sensed_to (polled_at c)) (sensed_to (sensed_to (polled_at c))) so_far (idles_go p.one p.two (sensed_to (sensed_to (polled_at c))) two) in
+    let most = goes_then resets.released p.two p.three (sensed_to (sensed_to (polled_at c))) (sensed_to (sensed_to (sensed_to (polled_at c)))) more (idles_go p.two p.three (sensed_to (sensed_to (sensed_to (polled_at c)))) three) in
+    goes_then resets.released p.three resets.polled (sensed_to (sensed_to (sensed_to (polled_at c)))) (sensed_at c) most (idles_go p.three resets.polled (sensed_at c) four)
+
+-- ---- SPECIFY and CONFIGURE
+
+specify_more : AreMore [] (0x03 ∷ 0xAF ∷ [])
+unfolding answer
+specify_more = (refl, (refl, tt))
+
+specify_whole : answer ((0x03 ∷ 0xAF ∷ []) ++ 0x02 ∷ []) ≡ Ready (Specify 0xAF 0x02)
+unfolding answer
+specify_whole = refl
+
+configure_more : AreMore [] (0x13 ∷ 0x00 ∷ 0x07 ∷ [])
+unfolding answer
+configure_more = (refl, (refl, (refl, tt)))
+
+configure_whole : answer ((0x13 ∷ 0x00 ∷ 0x07 ∷ []) ++ 0x00 ∷ []) ≡ Ready (Configure 0x00 0x07 0x00)
+unfolding answer
+configure_whole = refl
+
+specifies : (old new : Board) → (resets : Resets old new) → Idles resets.polled (specified_at (controller_of old)) resets.specified
+specifies old new resets =
+    let c = controller_of old in
+    whole_at (0x03 ∷ 0xAF ∷ []) 0x02 (Specify 0xAF 0x02) resets.polled resets.specified (sensed_at c) (polls old new resets).controller_is (listens_sensed c) refl
+    specify_more specify_whole (specified_at c) (λ lines controller does. does.0 refl) (λ low. low) (listens_specified c).rests resets.specifies
+
+configures : (old new : Board) → (resets : Resets old new) → Idles resets.specified (configured_at (controller_of old)) resets.configured
+configures old new resets =
+    let c = controller_of old in
+    whole_at (0x13 ∷ 0x00 ∷ 0x07 ∷ []) 0x00 (Configure 0x00 0x07 0x00) resets.specified resets.configured (specified_at c) (specifies old new resets).controller_is (listens_specified c) refl
+    configure_more configure_whole (configured_at c) (λ lines controller does. does.0 refl) (λ low. low) (rests_configured c) resets.configures
+
+rates : (old new : Board) → (resets : Resets old new) → Idles resets.configured (set_up_at (controller_of old)) resets.rated
+rates old new resets =
+    let c = controller_of old in
+    let at = (configures old new resets).controller_is in
+    let only : (controller : Fdc) → Writes 0x3F7 0x00 (lines_of resets.configured) (controller_of resets.configured) controller → controller ≡ set_up_at c =
+    λ controller writes. writes.control refl ∙ ap (ccr_written 0x00) at in
+    output_idles 0x3F7 0x00 resets.configured resets.rated resets.rates refl refl (set_up_at c) only (λ low. refl) (rests_set_up c)
+
+-- ---- all of it
+
+-- behind the reset the motors are off, and the controller is ready
+record IsSetUp (old new : Board) : Type 0 where
+  pub keeps : KeepsAll old new
+  pub first_off : new.first.motor ≡ false
+  pub second_off : new.second.motor ≡ false
+  pub controller_is : controller_of new ≡ set_up_at (controller_of old)
+  pub low : is_up new ≡ false
+
+sets_up : (old new : Board) → Resets old new → IsSetUp old new
+sets_up old new resets =
+    let c = controller_of old in
+    let held = holds old new resets in
+    let released = releases old new resets in
+    let polled_on = polls old new resets in
+    let specified_on = idles_go resets.polled resets.specified (specified_at c) (specifies old new resets) in
+    let configured_on = idles_go resets.specified resets.configured (configured_at c) (configures old new resets) in
+    let rated_on = idles_go resets.configured resets.rated (set_up_at c) (rates old new resets) in
+    let settled = settles_to resets.rated new (set_up_at c) resets.settles (ap polled rated_on.controller_is) (rests_set_up c) in
+    let last : Goes resets.rated (set_up_at c) new = record { keeps = settled.keeps; first = settled.first; second = settled.second; controller_is = settled.controller_is } in
+    let one = goes_then resets.released resets.polled resets.specified (sensed_at c) (specified_at c) polled_on specified_on in
+    let two = goes_then resets.released resets.specified resets.configured (specified_at c) (configured_at c) one configured_on in
+    let three = goes_then resets.released resets.configured resets.rated (configured_at c) (set_up_at c) two rated_on in
+    let all = goes_then resets.released resets.rated new (set_up_at c) (set_up_at c) three last in
+    record {
+      keeps = keeps_then old resets.held new held.keeps (keeps_then resets.held resets.released new released.keeps all.keeps);
+      first_off = all.first.motor ∙ released.first_off;
+      second_off = all.second.motor ∙ released.second_off;
+      controller_is = settled.controller_is;
+      low = settled.level;
+    }
+
+pub resets_all : (old new : Board) → Resets old new → IsReset (rig_of old) (rig_of new)
+resets_all old new resets =
+    let is = sets_up old new resets in
+    keeps_reset old new is.keeps (ap data_commands_of is.controller_is)
+
+pub resets_idle : (old new : Board) → Resets old new → InRange new.first → InRange new.second → IsIdle none_on new
+resets_idle old new resets first second =
+    let is = sets_up old new resets in
+    record {
+      ready = subst IsReady (sym is.controller_is) (ready_set_up (controller_of old));
+      motors_are = record { bay = 0; bay_in = omega arith; dor = ap dor_of is.controller_is; first = is.first_off; second = is.second_off };
+      low = is.low;
+      first = first;
+      second = second;
+    }

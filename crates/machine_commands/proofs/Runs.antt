@@ -1,0 +1,48 @@
+-- Bytes that are sent one by one.
+use Rattle.std.proofs.Common.{◌≡◌, ℕ, ◌+◌, ◌<◌, ◌≤◌, List, [], ◌∷◌, ◌++◌, length, take, get_or, zero, suc, Bool, true, false, if◌then◌else◌, min, refl, sym, ◌∙◌, ap, subst, arith}
+use Rattle.std.proofs.lemmas.List.{take_more, take_all}
+use Rattle.pc_bus.specs.Boards.{Board}
+use Rattle.pc_bus.specs.Ports.{Outputs}
+use Rattle.pc_bus.specs.Handling.{irq_taken}
+use Rattle.pc_bus.specs.Steps.{Step, Runs, stirred}
+use Rattle.flop_base.specs.Counts.{last_count}
+use Rattle.machine_pace.specs.Holds.{counted}
+use Rattle.machine_commands.specs.Sending.{Sends, Settles, latch_taken}
+
+-- one byte more
+sends_more : (bytes : List ℕ) (byte : ℕ) (old between new : Board) → Sends bytes old between → Outputs 0x3F5 byte between new → Sends (bytes ++ byte ∷ []) old new
+sends_more [] byte old between new same access = (new, subst (λ b. Outputs 0x3F5 byte b new) same access, refl)
+sends_more (first ∷ rest) byte old between new (next, one, others) access = (next, one, sends_more rest byte next between new others access)
+
+pub sends_next : (bytes : List ℕ) (i byte : ℕ) (old between new : Board) → i < length bytes → get_or bytes i 0 ≡ byte → Sends (take i bytes) old between
+    → Outputs 0x3F5 byte between new → Sends (take (i + 1) bytes) old new
+sends_next bytes i byte old between new below is sends access =
+    let all : take (i + 1) bytes ≡ take i bytes ++ byte ∷ [] = take_more bytes i 0 below ∙ ap (λ b. take i bytes ++ b ∷ []) is in
+    subst (λ list. Sends list old new) (sym all) (sends_more (take i bytes) byte old between new sends access)
+
+pub all_taken : (bytes : List ℕ) (n : ℕ) → length bytes ≤ n → take n bytes ≡ bytes
+all_taken bytes n all = take_all n bytes all
+
+-- ---- interrupts that are taken
+
+-- no device step takes the latch
+runs_taken : (n : ℕ) (old new : Board) → Runs n old new → new.bus.taken ≡ old.bus.taken
+unfolding Runs
+runs_taken zero old new same = ap (λ b. b.bus.taken) same
+runs_taken (suc n) old new (between, runs, step) = ap (λ bus. bus.taken) step.bus ∙ runs_taken n old between runs
+
+counted_if : (b : Bool) (count : ℕ) → count ≤ last_count → count ≤ (if b then counted count else count)
+counted_if true count small = omega arith
+counted_if false count small = omega arith
+
+pub settles_by : (old between new : Board) → Runs 1 (stirred old) between → new ≡ latch_taken between → old.bus.taken ≤ last_count → Settles old new
+settles_by old between new runs taken small =
+    let same : between.bus.taken ≡ old.bus.taken = runs_taken 1 (stirred old) between runs in
+    let after = ap (λ b. b.bus.taken) taken in
+    let counts = counted_if between.bus.latch.is_set between.bus.taken (omega arith) in
+    record {
+      between = between;
+      runs = runs;
+      taken = taken;
+      counts = subst (λ n. old.bus.taken ≤ n) (sym after) (subst (λ n. n ≤ (if between.bus.latch.is_set then counted between.bus.taken else between.bus.taken)) same counts);
+    }

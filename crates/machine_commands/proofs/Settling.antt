@@ -1,0 +1,89 @@
+-- One device step behind results, and polls.
+use Rattle.std.proofs.Common.{◌≡◌, ◌⊎◌, inl, inr, ℕ, zero, suc, ◌≤◌, Bool, true, false, refl, sym, ◌∙◌, ap, subst, arith}
+use Rattle.fdc_core.specs.State.{interrupts}
+use Rattle.fdc_core.specs.Steps.{polled}
+use Rattle.fdc_core.specs.declared.controller.Fdc.{Fdc}
+use Rattle.pc_bus.specs.Boards.{Board, controller_of, channel_of}
+use Rattle.pc_bus.specs.Steps.{Step, Runs, stirred}
+use Rattle.machine_commands.specs.Idling.{IsResting, KeepsSpeed, KeepsAll, is_up}
+use Rattle.machine_commands.specs.Sending.{Settles, latch_taken}
+use Rattle.machine_commands.proofs.Steps.{StepsTo, step_to, unpolled, keeps_none, keeps_then, speed_none, speed_then, drive_none}
+
+pub runs_one : (old new : Board) → Runs 1 old new → Step old new
+unfolding Runs
+runs_one old new (between, same, step) = subst (λ board. Step board new) same step
+
+-- a device step and a look at the latch behind whose poll the controller rests
+pub record SettlesTo (old : Board) (fdc : Fdc) (new : Board) : Type 0 where
+  pub keeps : KeepsAll old new
+  pub first : KeepsSpeed old.first new.first
+  pub second : KeepsSpeed old.second new.second
+  pub controller_is : controller_of new ≡ fdc
+  pub level : is_up new ≡ interrupts fdc
+
+pub settles_to : (old new : Board) (fdc : Fdc) → Settles old new → polled (controller_of old) ≡ fdc → IsResting fdc → SettlesTo old fdc new
+settles_to old new fdc settles poll rest =
+    let to = step_to (stirred old) settles.between fdc (runs_one (stirred old) settles.between settles.runs) poll rest in
+    let is = settles.taken in
+    record {
+      keeps = record {
+        memory = ap (λ b. b.bus.chips.memory) is ∙ to.keeps.memory;
+        entries = ap (λ b. b.bus.chips.holding.entries) is ∙ to.keeps.entries;
+        stalls = ap (λ b. b.bus.chips.holding.stalls) is ∙ to.keeps.stalls;
+        first = record {
+          medium = ap (λ b. b.first.medium) is ∙ to.keeps.first.medium;
+          cylinder = ap (λ b. b.first.cylinder) is ∙ to.keeps.first.cylinder;
+          change = ap (λ b. b.first.change) is ∙ to.keeps.first.change;
+          never_falls = let same : new.first.faults ≡ settles.between.first.faults = ap (λ b. b.first.faults) is in let more = to.keeps.first.never_falls in omega arith;
+        };
+        second = record {
+          medium = ap (λ b. b.second.medium) is ∙ to.keeps.second.medium;
+          cylinder = ap (λ b. b.second.cylinder) is ∙ to.keeps.second.cylinder;
+          change = ap (λ b. b.second.change) is ∙ to.keeps.second.change;
+          never_falls = let same : new.second.faults ≡ settles.between.second.faults = ap (λ b. b.second.faults) is in let more = to.keeps.second.never_falls in omega arith;
+        };
+        direct = ap (λ b. b.bus.direct) is ∙ to.keeps.direct;
+        taken = settles.counts;
+      };
+      first = record {
+        motor = ap (λ b. b.first.motor) is ∙ to.first.speed.motor;
+        spin = λ on. let same : new.first.spin ≡ settles.between.first.spin = ap (λ b. b.first.spin) is in let more = to.first.speed.spin on in omega arith;
+      };
+      second = record {
+        motor = ap (λ b. b.second.motor) is ∙ to.second.speed.motor;
+        spin = λ on. let same : new.second.spin ≡ settles.between.second.spin = ap (λ b. b.second.spin) is in let more = to.second.speed.spin on in omega arith;
+      };
+      controller_is = ap (λ b. b.bus.chips.controller) is ∙ to.controller_is;
+      level = ap (λ b. b.bus.latch.level) is ∙ to.level;
+    }
+
+-- ---- device steps in the first of which the poll comes
+
+pub record RunsPolled (before after : Fdc) (old new : Board) : Type 0 where
+  pub keeps : KeepsAll old new
+  pub first : KeepsSpeed old.first new.first
+  pub second : KeepsSpeed old.second new.second
+  pub controller : (controller_of new ≡ before) ⊎ (controller_of new ≡ after)
+
+-- whether the poll has come or not, the next device step has it behind it
+pub polls_next : (before after : Fdc) (board : Board) → polled before ≡ after → IsResting after → (controller_of board ≡ before) ⊎ (controller_of board ≡ after)
+    → polled (controller_of board) ≡ after
+polls_next before after board poll rest is = elim is [
+  | inl at ↦ ap polled at ∙ poll
+  | inr at ↦ ap polled at ∙ unpolled after rest.no_poll
+]
+
+pub runs_polled : (n : ℕ) (before after : Fdc) (old new : Board) → Runs n old new → controller_of old ≡ before → polled before ≡ after → IsResting after
+    → RunsPolled before after old new
+unfolding Runs
+runs_polled zero before after old new same at poll rest =
+    subst (λ board. RunsPolled before after old board) (sym same) (record { keeps = keeps_none old; first = speed_none old.first; second = speed_none old.second; controller = inl at })
+runs_polled (suc n) before after old new (between, runs, step) at poll rest =
+    let so_far = runs_polled n before after old between runs at poll rest in
+    let to = step_to between new after step (polls_next before after between poll rest so_far.controller) rest in
+    record {
+      keeps = keeps_then old between new so_far.keeps to.keeps;
+      first = speed_then old.first between.first new.first so_far.first to.first.speed;
+      second = speed_then old.second between.second new.second so_far.second to.second.speed;
+      controller = inr to.controller_is;
+    }

@@ -1,0 +1,95 @@
+-- What a driver sees of a board that keeps all.
+use Rattle.std.proofs.Common.{◌≡◌, ℕ, ◌+◌, ◌-◌, ◌<◌, ◌≤◌, ◌==◌, ◌&&◌, not, Bool, true, false, List, length, nat_le, min, get_or, slice_index, if◌then◌else◌, refl, sym, ◌∙◌, ap, subst, arith}
+use Rattle.std.proofs.lemmas.List.{get_or-take, get_or-drop}
+use Rattle.std.proofs.lemmas.Bool.{false≢true}
+use Rattle.std.proofs.lemmas.Bool.Decides.{nat_tests}
+use Rattle.flop_base.specs.Counts.{last_count}
+use Rattle.bay_model.specs.Bays.{Two}
+use Rattle.bay_model.specs.Counters.{GoesOn, IsDriven}
+use Rattle.bay_model.specs.Memory.{user_bytes}
+use Rattle.drive_model.specs.Drive.{DriveState}
+use Rattle.fdc_core.specs.State.{data_commands_of}
+use Rattle.pc_bus.specs.Boards.{Board, controller_of, holds_of}
+use Rattle.single_commands.specs.Rigs.{StaysSpun, HeadsStay, IsReset, OnlyAsks}
+use Rattle.machine_commands.specs.Idling.{KeepsDrive, KeepsSpeed, KeepsAll}
+use Rattle.machine_commands.specs.Shown.{is_spun, user_part, page_part, stalls_left, counters_of, rig_of}
+
+pub two_same : {T : Type 0} (a b c d : T) → a ≡ c → b ≡ d → (let x : Two T = record { first = a; second = b } in x) ≡ (let y : Two T = record { first = c; second = d } in y)
+two_same a b c d one two = ap (λ v. let x : Two _ = record { first = v; second = b } in x) one ∙ ap (λ v. let x : Two _ = record { first = c; second = v } in x) two
+
+-- ---- counts
+
+pub keeps_counting : (old new : Board) → KeepsAll old new → data_commands_of (controller_of new) ≡ data_commands_of (controller_of old) → GoesOn (counters_of old) (counters_of new)
+keeps_counting old new keeps sent = record {
+  first = record { never_falls = keeps.first.never_falls; spends = refl };
+  second = record { never_falls = keeps.second.never_falls; spends = refl };
+  spares = refl;
+  stalls = let same = keeps.stalls in omega arith;
+  stalls_spent = let same = keeps.stalls in let left : stalls_left (holds_of new).entries ≡ stalls_left (holds_of old).entries = ap stalls_left keeps.entries in omega arith;
+  data_commands = omega arith;
+  taken = keeps.taken;
+  direct = let same = keeps.direct in omega arith;
+}
+
+pub keeps_driven : (old new : Board) → KeepsAll old new → data_commands_of (controller_of new) ≡ data_commands_of (controller_of old) → IsDriven 0 (counters_of old) (counters_of new)
+keeps_driven old new keeps sent = record {
+  most_commands = omega arith;
+  interrupts = let more = keeps.taken in omega arith;
+  past_driver = keeps.direct;
+}
+
+-- ---- speed
+
+pub at_speed_on : (old new : DriveState) → (old.motor ≡ true → (new.motor ≡ true) × (old.spin ≤ new.spin)) → is_spun old ≡ true → is_spun new ≡ true
+at_speed_on old new on was = by_motor old.motor refl was
+  where
+    by_speed : (b : Bool) → b ≡ true → nat_le 6250 old.spin ≡ true → old.spin ≤ new.spin → (b && nat_le 6250 new.spin) ≡ true
+    by_speed true is fast more = grind (arith, nat_tests)
+    by_speed false is fast more = absurd (false≢true is)
+
+    by_motor : (b : Bool) → old.motor ≡ b → (b && nat_le 6250 old.spin) ≡ true → (new.motor && nat_le 6250 new.spin) ≡ true
+    by_motor true is spun = let (motor, more) = on is in by_speed new.motor motor spun more
+    by_motor false is spun = absurd (false≢true spun)
+
+pub speed_stays : (old new : DriveState) → KeepsSpeed old new → is_spun old ≡ true → is_spun new ≡ true
+speed_stays old new speed was = at_speed_on old new (λ on. (speed.motor ∙ on, speed.spin on)) was
+
+-- ---- the rig
+
+pub keeps_asking : (old new : Board) → KeepsAll old new → (controller_of new).seeks.cylinders ≡ (controller_of old).seeks.cylinders
+    → data_commands_of (controller_of new) ≡ data_commands_of (controller_of old)
+    → (is_spun old.first ≡ true → is_spun new.first ≡ true) → (is_spun old.second ≡ true → is_spun new.second ≡ true) → OnlyAsks (rig_of old) (rig_of new)
+keeps_asking old new keeps numbers sent first second = record {
+  heads = record {
+    cylinders = two_same new.first.cylinder new.second.cylinder old.first.cylinder old.second.cylinder keeps.first.cylinder keeps.second.cylinder;
+    numbers = ap (λ cylinders. let t : Two ℕ = record { first = slice_index cylinders 0; second = slice_index cylinders 1 } in t) numbers;
+    changes = two_same new.first.change new.second.change old.first.change old.second.change keeps.first.change keeps.second.change;
+    spun = record { first = first; second = second };
+  };
+  media = two_same new.first.medium new.second.medium old.first.medium old.second.medium keeps.first.medium keeps.second.medium;
+  memory = ap user_part keeps.memory;
+  page = ap page_part keeps.memory;
+  counts = keeps_counting old new keeps sent;
+  driven = keeps_driven old new keeps sent;
+}
+
+pub keeps_reset : (old new : Board) → KeepsAll old new → data_commands_of (controller_of new) ≡ data_commands_of (controller_of old) → IsReset (rig_of old) (rig_of new)
+keeps_reset old new keeps sent = record {
+  media = two_same new.first.medium new.second.medium old.first.medium old.second.medium keeps.first.medium keeps.second.medium;
+  cylinders = two_same new.first.cylinder new.second.cylinder old.first.cylinder old.second.cylinder keeps.first.cylinder keeps.second.cylinder;
+  changes = two_same new.first.change new.second.change old.first.change old.second.change keeps.first.change keeps.second.change;
+  memory = ap user_part keeps.memory;
+  page = ap page_part keeps.memory;
+  counts = keeps_counting old new keeps sent;
+  driven = keeps_driven old new keeps sent;
+}
+
+-- ---- bytes of memory
+
+pub user_byte : (memory : List ℕ) (address : ℕ) → address < user_bytes → slice_index (user_part memory) address ≡ slice_index memory address
+unfolding user_part
+user_byte memory address below = get_or-take user_bytes memory address 0 below
+
+pub page_byte : (memory : List ℕ) (i : ℕ) → slice_index (page_part memory) i ≡ slice_index memory (user_bytes + i)
+unfolding page_part
+page_byte memory i = get_or-drop user_bytes memory i 0

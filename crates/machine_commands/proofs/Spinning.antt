@@ -1,0 +1,160 @@
+-- A motor that goes on.
+use Rattle.std.proofs.Common.{◌≡◌, ℕ, zero, suc, ◌+◌, ◌≤◌, ◌==◌, ◌&&◌, ◌||◌, Bool, true, false, Option, min, nat_le, if◌then◌else◌, IsSome, is_some, refl, sym, ◌∙◌, ap, subst, arith}
+use Rattle.std.proofs.lemmas.Bool.Decides.{nat_tests}
+use Rattle.bay_model.specs.Bays.{in_bay}
+use Rattle.raw_image.specs.Disk.{Disk}
+use Rattle.drive_model.specs.Drive.{DriveState, InRange, turns}
+use Rattle.fdc_core.specs.State.{dor_of, data_commands_of}
+use Rattle.fdc_core.specs.declared.controller.Fdc.{Fdc}
+use Rattle.pc_bus.specs.Boards.{Board, controller_of}
+use Rattle.pc_bus.specs.Steps.{stirred}
+use Rattle.single_commands.specs.Rigs.{OnlyAsks}
+use Rattle.machine_commands.specs.Asked.{StartsMotor}
+use Rattle.machine_commands.specs.Idling.{IsResting, KeepsDrive, KeepsSpeed, KeepsAll, Idles, is_up}
+use Rattle.machine_commands.specs.Motored.{with_motor_of}
+use Rattle.machine_commands.specs.Ready.{dor_with, IsReady, IsIdle}
+use Rattle.machine_commands.specs.Shown.{is_spun, rig_of}
+use Rattle.machine_commands.specs.declared.motors.Motors.{Motors}
+use Rattle.machine_commands.proofs.Accesses.{accessed_keeps, gap_idles}
+use Rattle.machine_commands.proofs.Questions.{ready_rests, ready_with}
+use Rattle.machine_commands.proofs.Selecting.{IsDor, IsSwitched, IsDorWritten, is_dor, with_dor, dor_access, dor_is_written}
+use Rattle.machine_commands.proofs.Showing.{keeps_asking, at_speed_on}
+use Rattle.machine_commands.proofs.Steps.{keeps_then, idles_then, runs_idle, runs_spin, drive_none, speed_none}
+
+-- a call came
+pub stirred_idles : (board : Board) → Idles board (controller_of board) (stirred board)
+stirred_idles board = record {
+  stays = record {
+    keeps = record { memory = refl; entries = refl; stalls = refl; first = drive_none board.first; second = drive_none board.second; direct = refl; taken = omega arith };
+    first = speed_none board.first;
+    second = speed_none board.second;
+    quiet = λ low. low;
+    low = λ _ low. low;
+  };
+  controller_is = refl;
+  channel = refl;
+}
+
+-- the motor is on, behind the write of DOR and behind all
+pub record IsStarted (motors : Motors) (old on new : Board) (fdc : Fdc) : Type 0 where
+  pub written : IsDorWritten fdc motors.first motors.second old on
+  pub idles : Idles on fdc new
+  pub ready : IsReady fdc
+  pub spins : (turns on.first ≡ true → 6250 ≤ new.first.spin) × (turns on.second ≡ true → 6250 ≤ new.second.spin)
+
+spun_for : (from to : ℕ) → min (from + 6250) 6250 ≤ to → 6250 ≤ to
+spun_for from to long = omega arith
+
+turning : (old new : DriveState) → KeepsDrive old new → KeepsSpeed old new → turns old ≡ true → turns new ≡ true
+turning old new keeps speed on = ap (λ m. new.motor && is_some m) keeps.medium ∙ (ap (λ m. m && is_some old.medium) speed.motor ∙ on)
+
+pub starts : (motors : Motors) (bay : ℕ) (old new : Board) → IsIdle motors old → bay ≤ 1 → (start : StartsMotor motors bay old new)
+    → IsStarted (with_motor_of bay motors) old start.turns_on.between new (with_dor (dor_with (with_motor_of bay motors) bay) (controller_of old))
+starts motors bay old new idle small start =
+    let on = with_motor_of bay motors in
+    let byte = dor_with on bay in
+    let fdc = with_dor byte (controller_of old) in
+    let ready = ready_with byte (controller_of old) idle.ready in
+    let rests = ready_rests fdc ready in
+    let is = is_dor on bay small in
+    let access = start.turns_on in
+    let written = dor_access byte fdc on.first on.second old start.between access (dor_is_written (controller_of old) byte is.released) refl is.first is.second in
+    let here : controller_of access.between ≡ fdc = ap (λ b. b.chips.controller) written.bus in
+    let gap = gap_idles access.between start.between access.gap (subst IsResting (sym here) rests) in
+    let there : controller_of start.between ≡ fdc = gap.controller_is ∙ here in
+    let waiting = subst IsResting (sym there) rests in
+    let runs = runs_idle 6250 (stirred start.between) new start.runs waiting in
+    let (first, second) = runs_spin 6250 (stirred start.between) new start.runs waiting in
+    let last = idles_then start.between (stirred start.between) new (controller_of start.between) (controller_of start.between) (stirred_idles start.between) runs in
+    record {
+      written = written;
+      idles = idles_then access.between start.between new fdc fdc (subst (λ c. Idles access.between c start.between) here gap) (subst (λ c. Idles start.between c new) there last);
+      ready = ready;
+      spins = (
+        λ up. spun_for start.between.first.spin new.first.spin (first (turning access.between.first start.between.first gap.stays.keeps.first gap.stays.first up)),
+        λ up. spun_for start.between.second.spin new.second.spin (second (turning access.between.second start.between.second gap.stays.keeps.second gap.stays.second up)),
+      );
+    }
+
+pub started_keeps : (motors : Motors) (old on new : Board) (fdc : Fdc) → IsStarted motors old on new fdc → KeepsAll old new
+started_keeps motors old on new fdc is =
+    keeps_then old on new (accessed_keeps fdc old on is.written.bus is.written.first_is.keeps is.written.second_is.keeps) is.idles.stays.keeps
+
+pub started_idle : (motors : Motors) (bay : ℕ) (old on new : Board) (fdc : Fdc) → is_up old ≡ false → bay ≤ 1 → dor_of fdc ≡ dor_with motors bay → IsStarted motors old on new fdc
+    → InRange new.first → InRange new.second → IsIdle motors new
+started_idle motors bay old on new fdc low small dor is first second = record {
+  ready = subst IsReady (sym is.idles.controller_is) is.ready;
+  motors_are = record {
+    bay = bay;
+    bay_in = small;
+    dor = ap dor_of is.idles.controller_is ∙ dor;
+    first = is.idles.stays.first.motor ∙ is.written.first_is.motor;
+    second = is.idles.stays.second.motor ∙ is.written.second_is.motor;
+  };
+  low = is.idles.stays.low (ap (λ b. b.chips.controller.interrupt) is.written.bus ∙ is.ready.no_interrupt) (ap (λ b. b.latch.level) is.written.bus ∙ low);
+  first = first;
+  second = second;
+}
+
+-- ---- speed
+
+or_on : (a b : Bool) → a ≡ true → (a || b) ≡ true
+or_on true b on = refl
+or_on false b on = absurd cc
+
+or_that : (a : Bool) → (a || true) ≡ true
+or_that true = refl
+or_that false = refl
+
+-- a motor that was on is on still
+stays_on : (want : Bool) (was b : Bool) (old on new : DriveState) → old.motor ≡ was → want ≡ (was || b) → IsSwitched want old on → KeepsSpeed on new → is_spun old ≡ true → is_spun new ≡ true
+stays_on want was b old on new is wants switched speed spun = at_speed_on old new up spun
+  where
+    up : old.motor ≡ true → (new.motor ≡ true) × (old.spin ≤ new.spin)
+    up turned =
+        let wanted : want ≡ true = wants ∙ or_on was b (sym is ∙ turned) in
+        let same = switched.spin wanted in
+        let more = speed.spin (switched.motor ∙ wanted) in
+        (speed.motor ∙ (switched.motor ∙ wanted), omega arith)
+
+pub starts_asking : (motors : Motors) (bay : ℕ) (old new : Board) → IsIdle motors old → bay ≤ 1 → StartsMotor motors bay old new → OnlyAsks (rig_of old) (rig_of new)
+starts_asking motors bay old new idle small start =
+    let is = starts motors bay old new idle small start in
+    let fdc = with_dor (dor_with (with_motor_of bay motors) bay) (controller_of old) in
+    keeps_asking old new (started_keeps (with_motor_of bay motors) old start.turns_on.between new fdc is)
+    (ap (λ f. f.seeks.cylinders) is.idles.controller_is) (ap data_commands_of is.idles.controller_is)
+    (stays_on (motors.first || bay == 0) motors.first (bay == 0) old.first start.turns_on.between.first new.first idle.motors_are.first refl is.written.first_is is.idles.stays.first)
+    (stays_on (motors.second || bay == 1) motors.second (bay == 1) old.second start.turns_on.between.second new.second idle.motors_are.second refl is.written.second_is is.idles.stays.second)
+
+pub start_idle : (motors : Motors) (bay : ℕ) (old new : Board) → IsIdle motors old → bay ≤ 1 → StartsMotor motors bay old new → InRange new.first → InRange new.second
+    → IsIdle (with_motor_of bay motors) new
+start_idle motors bay old new idle small start first second =
+    let is = starts motors bay old new idle small start in
+    started_idle (with_motor_of bay motors) bay old start.turns_on.between new (with_dor (dor_with (with_motor_of bay motors) bay) (controller_of old)) idle.low small refl is first second
+
+at_speed : (drive : DriveState) → drive.motor ≡ true → 6250 ≤ drive.spin → is_spun drive ≡ true
+at_speed drive on fast = by_motor drive.motor on
+  where
+    by_motor : (b : Bool) → b ≡ true → (b && nat_le 6250 drive.spin) ≡ true
+    by_motor true is = grind (arith, nat_tests)
+    by_motor false is = absurd cc
+
+some_is : (medium : Option Disk) → IsSome medium → is_some medium ≡ true
+some_is medium is = is
+
+comes_up : (old on new : DriveState) → IsSwitched true old on → KeepsSpeed on new → (turns on ≡ true → 6250 ≤ new.spin) → IsSome old.medium → is_spun new ≡ true
+comes_up old on new switched speed spins some =
+    let turned : turns on ≡ true = ap (λ m. m && is_some on.medium) switched.motor ∙ (ap is_some switched.keeps.medium ∙ some_is old.medium some) in
+    at_speed new (speed.motor ∙ switched.motor) (spins turned)
+
+pub starts_spinning : (motors : Motors) (bay : ℕ) (old new : Board) → IsIdle motors old → bay ≤ 1 → StartsMotor motors bay old new
+    → IsSome (in_bay (rig_of old).media bay) → in_bay (rig_of new).spun bay ≡ true
+starts_spinning motors zero old new idle small start some =
+    let is = starts motors 0 old new idle small start in
+    let on = subst (λ b. IsSwitched b old.first start.turns_on.between.first) (or_that motors.first) is.written.first_is in
+    comes_up old.first start.turns_on.between.first new.first on is.idles.stays.first is.spins.0 some
+starts_spinning motors (suc zero) old new idle small start some =
+    let is = starts motors 1 old new idle small start in
+    let on = subst (λ b. IsSwitched b old.second start.turns_on.between.second) (or_that motors.second) is.written.second_is in
+    comes_up old.second start.turns_on.between.second new.second on is.idles.stays.second is.spins.1 some
+starts_spinning motors (suc (suc bay)) old new idle small start some = absurd (omega arith)

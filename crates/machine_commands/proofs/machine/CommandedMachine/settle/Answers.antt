@@ -1,0 +1,8 @@
+use Rattle.std.proofs.Common.{arith}
+use Rattle.machine_commands.specs.Shown.{board_of}
+use Rattle.machine_commands.proofs.Runs.{settles_by}
+use Rattle.machine_commands.proofs.machine.CommandedMachine.settle.Goals as goal
+
+pub returns-clause-settles : goal.returns-clause-settles
+returns-clause-settles g c =
+    settles_by (board_of g.D.Drive.state c.args.self.now) _ _ c.wait.ensures.runs c.take_irq.ensures.after (omega arith)

@@ -1,0 +1,55 @@
+-- Device steps in which no command and no seek goes on.
+use Rattle.std.specs.Prelude.{◌≡◌, ◌≤◌, ◌&&◌, ℕ, Bool, true, false, not}
+use Rattle.drive_model.specs.Drive.{DriveState}
+use Rattle.fdc_seek.specs.Seeking.{is_seeking}
+use Rattle.fdc_core.specs.Listening.{is_executing}
+use Rattle.fdc_core.specs.State.{is_held}
+use Rattle.fdc_core.specs.declared.controller.Fdc.{Fdc}
+use Rattle.pc_bus.specs.Boards.{Board, controller_of, channel_of, memory_of, holds_of, latch_of}
+
+-- no command is in execution, no seek runs, no byte is asked for, and no poll is to come
+pub record IsResting (fdc : Fdc) : Type 0 where
+  pub no_command : is_executing fdc.phase ≡ false
+  pub no_seek : is_seeking fdc.seeks ≡ false
+  pub not_asking : fdc.asking ≡ false
+  pub no_poll : (fdc.poll_due && not (is_held fdc)) ≡ false
+
+-- what device steps without pulses leave of a drive
+pub record KeepsDrive (old new : DriveState) : Type 0 where
+  pub medium : new.medium ≡ old.medium
+  pub cylinder : new.cylinder ≡ old.cylinder
+  pub change : new.change ≡ old.change
+  pub never_falls : old.faults ≤ new.faults
+
+-- its motor goes on as it did, and its speed doesn't fall
+pub record KeepsSpeed (old new : DriveState) : Type 0 where
+  pub motor : new.motor ≡ old.motor
+  pub spin : old.motor ≡ true → old.spin ≤ new.spin
+
+-- no medium, no memory and no place of heads was changed
+pub record KeepsAll (old new : Board) : Type 0 where
+  pub memory : memory_of new ≡ memory_of old
+  pub entries : (holds_of new).entries ≡ (holds_of old).entries
+  pub stalls : (holds_of new).stalls ≡ (holds_of old).stalls
+  pub first : KeepsDrive old.first new.first
+  pub second : KeepsDrive old.second new.second
+  pub direct : new.bus.direct ≡ old.bus.direct
+  pub taken : old.bus.taken ≤ new.bus.taken
+
+-- the level of the line that the latch saw last
+abbrev pub is_up : Board → Bool
+is_up board = (latch_of board).level
+
+-- and no motor; a line that is low stays so, and the latch sees no rise of it
+pub record StaysIdle (old new : Board) : Type 0 where
+  pub keeps : KeepsAll old new
+  pub first : KeepsSpeed old.first new.first
+  pub second : KeepsSpeed old.second new.second
+  pub quiet : (controller_of old).interrupt ≡ false → (controller_of new).interrupt ≡ false
+  pub low : (controller_of old).interrupt ≡ false → is_up old ≡ false → is_up new ≡ false
+
+-- the controller is then this, and the channel is as it was
+pub record Idles (old : Board) (controller : Fdc) (new : Board) : Type 0 where
+  pub stays : StaysIdle old new
+  pub controller_is : controller_of new ≡ controller
+  pub channel : channel_of new ≡ channel_of old

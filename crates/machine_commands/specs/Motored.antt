@@ -1,0 +1,7 @@
+-- Motors that go on.
+use Rattle.std.specs.Prelude.{◌==◌, ◌||◌, ℕ}
+use Rattle.machine_commands.specs.declared.motors.Motors.{Motors}
+
+-- these, with that of a bay on too
+abbrev pub with_motor_of : ℕ → Motors → Motors
+with_motor_of bay motors = record { first = motors.first || bay == 0; second = motors.second || bay == 1 }

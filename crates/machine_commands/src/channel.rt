@@ -1,0 +1,61 @@
+// DMA channel 2.
+ghost use Rattle.std.specs.Prelude.{◌≤◌, ◌<◌};
+
+use crate::machine::CommandedMachine;
+use crate::ports::{ADDRESS, CLEAR_FLIP_FLOP, COUNT, DMA_COMMAND, MASK, MODE, PAGE};
+use drive_model::Drive;
+
+/// Channel 2 is masked.
+const MASKED: u8 = 0x06;
+
+/// Channel 2 is let in.
+const UNMASKED: u8 = 0x02;
+
+/// Which way the bytes of a transfer go: single transfers of channel 2, the address going up.
+#[derive(Clone, Copy, Debug, PartialEq, Eq)]
+pub(crate) enum Way {
+    ToMemory,
+    FromMemory,
+}
+
+impl Way {
+    /// The mode of the channel.
+    fn mode(self) -> u8 {
+        match self {
+            Way::ToMemory => 0x46,
+            Way::FromMemory => 0x4A,
+        }
+    }
+}
+
+impl<D: Drive> CommandedMachine<D> {
+    /// Sets the channel to a range of memory inside one page of 65,536 bytes, given by its first address and one less than its
+    /// bytes.
+    pub(crate) fn set_channel(&mut self, way: Way, address: u32, last: u16)
+        requires { address < 1048576 }
+    {
+        self.machine.outb(MASK, MASKED);
+        self.machine.outb(DMA_COMMAND, 0);
+        self.machine.outb(MODE, way.mode());
+        self.set_address(address);
+        self.set_count(last);
+        self.machine.outb(MASK, UNMASKED);
+    }
+
+    /// The first address, by the low and the high byte and the page.
+    fn set_address(&mut self, address: u32)
+        requires { address < 1048576 }
+    {
+        self.machine.outb(CLEAR_FLIP_FLOP, 0);
+        self.machine.outb(ADDRESS, (address % 256) as u8);
+        self.machine.outb(ADDRESS, (address / 256 % 256) as u8);
+        self.machine.outb(PAGE, (address / 65_536) as u8);
+    }
+
+    /// One less than the bytes.
+    fn set_count(&mut self, last: u16) {
+        self.machine.outb(CLEAR_FLIP_FLOP, 0);
+        self.machine.outb(COUNT, (last % 256) as u8);
+        self.machine.outb(COUNT, (last / 256) as u8);
+    }
+}

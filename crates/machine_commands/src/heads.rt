@@ -1,0 +1,80 @@
+// Commands that move the heads.
+ghost use Rattle.std.specs.Prelude.{◌≡◌, ◌≤◌};
+ghost use Rattle.machine_commands.specs.Asked.{EndsSeek};
+ghost use Rattle.machine_commands.specs.Sending.{Senses, TakesNumber};
+ghost use Rattle.machine_commands.specs.Shown.{board_of};
+
+use crate::machine::CommandedMachine;
+use drive_model::Drive;
+
+/// RECALIBRATE.
+const RECALIBRATE: u8 = 0x07;
+
+/// SENSE INTERRUPT STATUS.
+const SENSE_INTERRUPT: u8 = 0x08;
+
+/// SEEK.
+const SEEK: u8 = 0x0F;
+
+/// Status register 0 where no result is pending.
+const NONE_PENDING: u8 = 0x80;
+
+/// Status register 0: track 0 was not reached.
+const EQUIPMENT_CHECK: u8 = 0x10;
+
+/// The device steps in which a seek of at most 79 pulses ends, one for each pulse and one for its end.
+const LONGEST_SEEK: u32 = 80;
+
+impl<D: Drive> CommandedMachine<D> {
+    /// Steps outward until track 0; false where it wasn't reached in 79 pulses.
+    pub fn recalibrate(&mut self, bay: u8) -> bool
+        requires { bay ≤ 1 }
+    {
+        self.select(bay);
+        self.send(&[RECALIBRATE, bay]);
+        self.end_seek() & EQUIPMENT_CHECK == 0
+    }
+
+    /// Steps to a cylinder by the controller's number.
+    pub fn seek(&mut self, bay: u8, target: u8)
+        requires bay { bay ≤ 1 }
+        requires target { target ≤ 79 }
+    {
+        self.select(bay);
+        self.send(&[SEEK, bay, target]);
+        let _ = self.end_seek();
+    }
+
+    /// Waits until the seek is over, and gives its status register 0.
+    fn end_seek(&mut self) -> u8
+        ensures ends { EndsSeek result (board_of D.state self.old) (board_of D.state self.new) }
+        ensures motors { self.new.motors ≡ self.old.motors }
+    {
+        self.machine.wait(LONGEST_SEEK);
+        let status = self.sense_interrupt();
+        self.settle();
+        status
+    }
+
+    /// SENSE INTERRUPT: status register 0 of the lowest drive with a pending result, 80 where there is none.
+    pub(crate) fn sense_interrupt(&mut self) -> u8
+        ensures senses { Senses result (board_of D.state self.old) (board_of D.state self.new) }
+        ensures motors { self.new.motors ≡ self.old.motors }
+    {
+        self.send(&[SENSE_INTERRUPT]);
+        let status = self.result_byte();
+        self.take_number(status == NONE_PENDING);
+        status
+    }
+
+    /// Reads the cylinder number behind status register 0, where a result was pending.
+    fn take_number(&mut self, is_none: bool)
+        ensures takes { TakesNumber is_none (board_of D.state self.old) (board_of D.state self.new) }
+        ensures motors { self.new.motors ≡ self.old.motors }
+    {
+        if is_none {
+            return;
+        }
+        let _cylinder = self.result_byte();
+    }
+}

@@ -1,0 +1,60 @@
+// Reset and set-up.
+ghost use Rattle.std.specs.Prelude.{◌≡◌};
+ghost use Rattle.single_commands.specs.Rigs.{IsReset};
+ghost use Rattle.machine_commands.specs.Asked.{TakesPolls, Resets, none_on};
+ghost use Rattle.machine_commands.specs.Shown.{board_of, rig_shown, is_idle};
+
+use crate::machine::CommandedMachine;
+use crate::motors::Motors;
+use crate::ports::{CCR, DOR};
+use drive_model::Drive;
+
+/// SPECIFY: step rate and head times, and DMA on.
+const SPECIFY: [u8; 3] = [0x03, 0xAF, 0x02];
+
+/// CONFIGURE: the FIFO on with threshold 8, polling on, no implied seek.
+const CONFIGURE: [u8; 4] = [0x13, 0x00, 0x07, 0x00];
+
+/// DOR that holds the controller in reset.
+const HELD: u8 = 0x00;
+
+/// CCR of 500 kbit/s.
+const FASTEST: u8 = 0x00;
+
+impl<D: Drive> CommandedMachine<D> {
+    /// Resets the controller and sets the machine up for the other calls. All motors are off then.
+    pub fn reset(&mut self)
+        ensures resets { IsReset (rig_shown D.state self.old) (rig_shown D.state self.new) }
+        ensures idle { is_idle D.state self.new }
+    {
+        self.set_up();
+        self.keep_ranges();
+    }
+
+    /// The accesses of a reset.
+    fn set_up(&mut self)
+        ensures resets { Resets (board_of D.state self.old) (board_of D.state self.new) }
+        ensures motors { self.new.motors ≡ none_on }
+    {
+        self.motors = Motors::OFF;
+        self.machine.outb(DOR, HELD);
+        self.select(0);
+        self.take_polls();
+        self.send(&SPECIFY);
+        self.send(&CONFIGURE);
+        self.machine.outb(CCR, FASTEST);
+        self.settle();
+    }
+
+    /// Takes the results of the poll that follows a reset, one for each of the four drives. It comes in the first device step.
+    fn take_polls(&mut self)
+        ensures polls { TakesPolls (board_of D.state self.old) (board_of D.state self.new) }
+        ensures motors { self.new.motors ≡ self.old.motors }
+    {
+        self.settle();
+        let _ = self.sense_interrupt();
+        let _ = self.sense_interrupt();
+        let _ = self.sense_interrupt();
+        let _ = self.sense_interrupt();
+    }
+}
