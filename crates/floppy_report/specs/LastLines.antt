@@ -1,5 +1,6 @@
 -- The last lines of the program that no job has.
 use Rattle.std.specs.Prelude.{ℕ, List, ◌++◌, codes}
+use Rattle.std.specs.Fmt.{decimal}
 use Rattle.floppy_jobs.specs.declared.request.Request.{Request}
 use Rattle.floppy_jobs.specs.Spelling.{spelling}
 use Rattle.sector_model.specs.declared.reply.Reason.{Reason}
@@ -8,6 +9,10 @@ use Rattle.sector_model.specs.Texts.{reason_text, line_end}
 -- the line where the words are no form of the program
 abbrev pub bad_words_text : List ℕ
 bad_words_text = codes "words not understood\n"
+
+-- the line where a track can't be had in another form
+unfoldable pub unfit_text : ℕ → ℕ → List ℕ
+unfit_text c h = codes "track " ++ (decimal c ++ (codes " " ++ (decimal h ++ codes " unfit\n")))
 
 -- the line where a refusal stopped a command
 unfoldable pub stopped_text : Request → Reason → List ℕ

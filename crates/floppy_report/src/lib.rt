@@ -5,5 +5,5 @@ mod lines;
 
 pub use lines::{
     put_last, put_last_absent, put_last_bad_line, put_last_bad_words, put_last_line,
-    put_last_stopped, put_line, put_reply, reason_word, stop_status,
+    put_last_stopped, put_last_unfit, put_line, put_reply, reason_word, stop_status,
 };

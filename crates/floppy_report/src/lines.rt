@@ -5,7 +5,7 @@ ghost use Rattle.flop_base.specs.Sink.{grown, GrowsByPart};
 ghost use Rattle.sector_model.specs.Texts.{reply_text, stop_text, stop_status, bad_line_text, absent_text, image_text, image_error_text, reason_text, dump_text, dump_line, dump_byte, line_end};
 ghost use Rattle.sector_model.specs.Plays.{IsPutFault, Prints};
 ghost use Rattle.sector_model.specs.Faults.{Blames};
-ghost use Rattle.floppy_report.specs.LastLines.{bad_words_text, stopped_text};
+ghost use Rattle.floppy_report.specs.LastLines.{bad_words_text, stopped_text, unfit_text};
 
 use flop_base::{PutError, Sink, Status};
 use floppy_jobs::{Address, MemoryByte, Request};
@@ -294,6 +294,22 @@ pub fn put_last_stopped<K: Sink>(
         stopped_line(alloc, request, reason),
         Status::SomeRefused,
     )
+}
+
+#[tactic(auto, unfolding(crate::specs::LastLines::unfit_text))]
+fn unfit_line(alloc: Global, c: u8, h: u8) -> Result<String, AllocError>
+    ensures { IfOk result (λ line. string_bytes line ≡ unfit_text c h) }
+{
+    format!(in alloc; "track {c} {h} unfit\n")
+}
+
+/// Puts the last line where the track of a cylinder and a head can't be had in another form, and gives the status.
+pub fn put_last_unfit<K: Sink>(alloc: Global, out: &mut K, c: u8, h: u8) -> Status
+    ensures prints { Prints (K.told out.old) (unfit_text c h) Status.SomeRefused (K.told out.new) result }
+    ensures only { result ≢ Status.SomeRefused → IsPutFault result }
+    ensures faults { Blames (result ≡ Status.SinkFault) (K.fault_count out.old) (K.fault_count out.new) }
+{
+    put_last_line(out, unfit_line(alloc, c, h), Status::SomeRefused)
 }
 
 /// Puts the last line of a command, and gives the status.

@@ -10,6 +10,18 @@ use Rattle.floppy_words.specs.declared.form.Form.{Form}
 use Rattle.floppy_words.specs.declared.form.Form.TheVariants as form
 use Rattle.disk_commands.specs.Commands.{Formats, Copies}
 use Rattle.disk_commands.specs.Verifies.{Verifies}
+use Rattle.archive_commands.specs.Files.{Desk}
+use Rattle.archive_commands.specs.Making.{FromImd, ToImd, Remaster}
+use Rattle.archive_commands.specs.Surveys.{Surveys}
+
+-- what a form on files alone leaves as it is: no request is asked, and the session stays as it was
+abbrev pub desk : World → Desk
+desk world = record { files = world.files; report = world.report }
+
+pub record OnFiles (Does : Desk → Desk → Status → Type 0) (old : World) (course : List Taken) (new : World) (ended : Status) : Type 0 where
+  pub nothing : course ≡ []
+  pub state : new.state ≡ old.state
+  pub does : Does (desk old) (desk new) ended
 
 -- what a form asks for
 abbrev pub DoesForm : Form → World → List Taken → World → Status → Type 0
@@ -18,6 +30,10 @@ DoesForm (form.Format name cylinders) old course new ended = Formats name cylind
 DoesForm (form.FormatDd name cylinders) old course new ended = Formats name cylinders R250 old course new ended
 DoesForm (form.Copy from to) old course new ended = Copies from to old course new ended
 DoesForm (form.Verify name) old course new ended = Verifies name old course new ended
+DoesForm (form.FromImd imd name) old course new ended = OnFiles (FromImd imd name) old course new ended
+DoesForm (form.ToImd name imd) old course new ended = OnFiles (ToImd name imd) old course new ended
+DoesForm (form.Survey name) old course new ended = OnFiles (Surveys name) old course new ended
+DoesForm (form.Remaster from to) old course new ended = OnFiles (Remaster from to) old course new ended
 
 -- the form is done, or memory for its words couldn't be had
 pub data DoesOrStarves (asked : Form) (old : World) (course : List Taken) (new : World) (ended : Status) : Type 0 where

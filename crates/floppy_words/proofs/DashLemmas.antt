@@ -7,7 +7,7 @@ use Rattle.flop_base.specs.declared.answers.NoMemory.{NoMemory}
 use Rattle.floppy_jobs.specs.Names.{is_name_text, name_of}
 use Rattle.floppy_jobs.specs.Numbers.{number_of}
 use Rattle.floppy_words.specs.declared.form.Form.{Form}
-use Rattle.floppy_words.specs.Forms.{Reads, begins_with_dash, cylinders_of, disk_of, play_of, format_of, formatdd_of, copy_of, verify_of, form_of}
+use Rattle.floppy_words.specs.Forms.{Reads, begins_with_dash, cylinders_of, disk_of, play_of, format_of, formatdd_of, copy_of, verify_of, names_of, fromimd_of, toimd_of, survey_of, remaster_of, form_of}
 
 some_true : {X : Type 0} (b : Bool) (x y : X) → (if b then Some x else None) ≡ Some y → b ≡ true
 some_true true x y e = refl
@@ -112,6 +112,37 @@ formatdd_none : (words : List (List ℕ)) → list_any begins_with_dash words �
 unfolding formatdd_of
 formatdd_none words e = let none = disk_none words e in rw none refl
 
+names_none : (words : List (List ℕ)) → list_any begins_with_dash words ≡ true → names_of words ≡ None
+unfolding names_of
+names_none [] e = refl
+names_none (source ∷ []) e = refl
+names_none (source ∷ target ∷ []) e = elim (either_dash _ _ e) [
+  | inl dash ↦ let none = dash_name source dash in rw none refl
+  | inr dash ↦ let none = dash_name target dash in elim (none_or (name_of source)) [
+    | inl other ↦ rw other refl
+    | inr found ↦ rw (found.1, none) refl
+  ]
+]
+names_none (source ∷ target ∷ next ∷ rest) e = refl
+
+fromimd_none : (words : List (List ℕ)) → list_any begins_with_dash words ≡ true → fromimd_of words ≡ None
+unfolding fromimd_of
+fromimd_none words e = let none = names_none words e in rw none refl
+
+toimd_none : (words : List (List ℕ)) → list_any begins_with_dash words ≡ true → toimd_of words ≡ None
+unfolding toimd_of
+toimd_none words e = let none = names_none words e in rw none refl
+
+survey_none : (words : List (List ℕ)) → list_any begins_with_dash words ≡ true → survey_of words ≡ None
+unfolding survey_of
+survey_none [] e = refl
+survey_none (word ∷ []) e = let none = dash_name word (any_one _ e) in rw none refl
+survey_none (word ∷ next ∷ rest) e = refl
+
+remaster_none : (words : List (List ℕ)) → list_any begins_with_dash words ≡ true → remaster_of words ≡ None
+unfolding remaster_of
+remaster_none words e = let none = names_none words e in rw none refl
+
 -- a choice between what gives nothing
 chosen_none : {X : Type 0} (b : Bool) (x y : Option X) → x ≡ None → y ≡ None → (if b then x else y) ≡ None
 chosen_none true x y e f = e
@@ -126,7 +157,9 @@ dash_none ((d ∷ rest) ∷ words) e = elim (either_or _ _ e) [
   | inl dash ↦ let is : d ≡ 45 = eqb-true d 45 dash in rw is refl
   | inr behind ↦ chosen_none _ _ _ (play_none words behind) (chosen_none _ _ _ (format_none words behind)
       (chosen_none _ _ _ (formatdd_none words behind) (chosen_none _ _ _ (copy_none words behind)
-      (chosen_none _ _ _ (verify_none words behind) refl))))
+      (chosen_none _ _ _ (verify_none words behind) (chosen_none _ _ _ (fromimd_none words behind)
+      (chosen_none _ _ _ (toimd_none words behind) (chosen_none _ _ _ (survey_none words behind)
+      (chosen_none _ _ _ (remaster_none words behind) refl))))))))
 ]
   where
     either_or : (a b : Bool) → (a || b) ≡ true → (a ≡ true) ⊎ (b ≡ true)

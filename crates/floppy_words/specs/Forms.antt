@@ -54,6 +54,39 @@ verify_of (word ∷ []) = do
   Some (form.Verify name)
 verify_of _ = None
 
+-- two names
+unfoldable pub names_of : List (List ℕ) → Option (List ℕ × List ℕ)
+names_of (one ∷ other ∷ []) = do
+  first ← name_of one
+  second ← name_of other
+  Some (first, second)
+names_of _ = None
+
+-- fromimd IMD NAME
+unfoldable pub fromimd_of : List (List ℕ) → Option Form
+fromimd_of words = do
+  names ← names_of words
+  Some (form.FromImd names.0 names.1)
+
+-- toimd NAME IMD
+unfoldable pub toimd_of : List (List ℕ) → Option Form
+toimd_of words = do
+  names ← names_of words
+  Some (form.ToImd names.0 names.1)
+
+-- survey NAME
+unfoldable pub survey_of : List (List ℕ) → Option Form
+survey_of (word ∷ []) = do
+  name ← name_of word
+  Some (form.Survey name)
+survey_of _ = None
+
+-- remaster FROM TO
+unfoldable pub remaster_of : List (List ℕ) → Option Form
+remaster_of words = do
+  names ← names_of words
+  Some (form.Remaster names.0 names.1)
+
 -- the form that the words spell, by the first of them
 unfoldable pub form_of : List (List ℕ) → Option Form
 form_of [] = None
@@ -63,7 +96,11 @@ form_of (verb ∷ words) =
     else (if bytes_eq verb (codes "formatdd") then formatdd_of words
     else (if bytes_eq verb (codes "copy") then copy_of words
     else (if bytes_eq verb (codes "verify") then verify_of words
-    else None))))
+    else (if bytes_eq verb (codes "fromimd") then fromimd_of words
+    else (if bytes_eq verb (codes "toimd") then toimd_of words
+    else (if bytes_eq verb (codes "survey") then survey_of words
+    else (if bytes_eq verb (codes "remaster") then remaster_of words
+    else None))))))))
 
 -- the words were read as the form that they spell; memory can be wanted only where they spell one
 abbrev pub Reads : {T : Type 0} → Result (Option T) NoMemory → Option T → Type 0

@@ -52,4 +52,12 @@ pub enum Form {
     Copy { from: Name, to: Name },
     /// Reads every sector of a disk, and lists those that can't be read.
     Verify { name: Name },
+    /// Stores the disk of an ImageDisk file.
+    FromImd { imd: Name, name: Name },
+    /// Stores the ImageDisk file of a disk.
+    ToImd { name: Name, imd: Name },
+    /// Lists the address fields of a disk.
+    Survey { name: Name },
+    /// Stores a disk laid out anew.
+    Remaster { from: Name, to: Name },
 }

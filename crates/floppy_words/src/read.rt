@@ -1,7 +1,7 @@
 // The form that the words of the command line spell.
 ghost use Rattle.std.specs.Prelude.{◌≡◌, map, string_bytes, true};
 ghost use Rattle.std.specs.List.{list_any};
-ghost use Rattle.floppy_words.specs.Forms.{Reads, begins_with_dash, cylinders_of, disk_of, play_of, format_of, formatdd_of, copy_of, verify_of, form_of};
+ghost use Rattle.floppy_words.specs.Forms.{Reads, begins_with_dash, cylinders_of, disk_of, play_of, format_of, formatdd_of, copy_of, verify_of, fromimd_of, toimd_of, survey_of, remaster_of, names_of, form_of};
 
 use crate::places::{one_place, two_places};
 use crate::{Cylinders, Form};
@@ -37,6 +37,14 @@ fn form(alloc: Global, words: &[String]) -> Result<Option<Form>, NoMemory>
         copy(alloc, behind)
     } else if is_verb(verb, "verify") {
         verify(alloc, behind)
+    } else if is_verb(verb, "fromimd") {
+        fromimd(alloc, behind)
+    } else if is_verb(verb, "toimd") {
+        toimd(alloc, behind)
+    } else if is_verb(verb, "survey") {
+        survey(alloc, behind)
+    } else if is_verb(verb, "remaster") {
+        remaster(alloc, behind)
     } else {
         Ok(None)
     }
@@ -99,6 +107,65 @@ fn verify(alloc: Global, words: &[String]) -> Result<Option<Form>, NoMemory>
     };
     let name = one_place(alloc, "verify", name)?;
     Ok(Some(Form::Verify { name }))
+}
+
+#[tactic(auto, unfolding(crate::specs::Forms::fromimd_of))]
+fn fromimd(alloc: Global, words: &[String]) -> Result<Option<Form>, NoMemory>
+    ensures { Reads result (fromimd_of (map string_bytes words.now)) }
+{
+    match two_names(alloc, "fromimd", words)? {
+        Some((imd, name)) => Ok(Some(Form::FromImd { imd, name })),
+        None => Ok(None),
+    }
+}
+
+#[tactic(auto, unfolding(crate::specs::Forms::toimd_of))]
+fn toimd(alloc: Global, words: &[String]) -> Result<Option<Form>, NoMemory>
+    ensures { Reads result (toimd_of (map string_bytes words.now)) }
+{
+    match two_names(alloc, "toimd", words)? {
+        Some((name, imd)) => Ok(Some(Form::ToImd { name, imd })),
+        None => Ok(None),
+    }
+}
+
+#[tactic(auto, unfolding(crate::specs::Forms::survey_of))]
+fn survey(alloc: Global, words: &[String]) -> Result<Option<Form>, NoMemory>
+    ensures { Reads result (survey_of (map string_bytes words.now)) }
+{
+    let [name] = words else { return Ok(None) };
+    let Some(name) = name_text(name.as_bytes()) else {
+        return Ok(None);
+    };
+    let name = one_place(alloc, "survey", name)?;
+    Ok(Some(Form::Survey { name }))
+}
+
+#[tactic(auto, unfolding(crate::specs::Forms::remaster_of))]
+fn remaster(alloc: Global, words: &[String]) -> Result<Option<Form>, NoMemory>
+    ensures { Reads result (remaster_of (map string_bytes words.now)) }
+{
+    match two_names(alloc, "remaster", words)? {
+        Some((from, to)) => Ok(Some(Form::Remaster { from, to })),
+        None => Ok(None),
+    }
+}
+
+/// The two names of a form that has no other words.
+#[tactic(auto, unfolding(crate::specs::Forms::names_of))]
+fn two_names(alloc: Global, verb: &str, words: &[String]) -> Result<Option<(Name, Name)>, NoMemory>
+    ensures { Reads result (names_of (map string_bytes words.now)) }
+{
+    let [first, second] = words else {
+        return Ok(None);
+    };
+    let Some(first) = name_text(first.as_bytes()) else {
+        return Ok(None);
+    };
+    let Some(second) = name_text(second.as_bytes()) else {
+        return Ok(None);
+    };
+    Ok(Some(two_places(alloc, verb, first, second)?))
 }
 
 /// The name and the cylinders of a disk that is to be formatted.

@@ -4,6 +4,11 @@ use Rattle.floppy_words.specs.declared.form.Form.TheVariants as form
 use Rattle.disk_commands.specs.Commands.{Runs, Formats}
 use Rattle.disk_commands.specs.Worlds.{world_of}
 use Rattle.floppy_tools.specs.Programs.{DoesForm}
+use Rattle.archive_commands.specs.Files.{desk_of}
+use Rattle.archive_commands.specs.Making.{FromImd, ToImd, Remaster}
+use Rattle.archive_commands.specs.Surveys.{Surveys}
+use Rattle.floppy_session.specs.Session.{state_of}
+use Rattle.floppy_tools.proofs.OnFiles.{on_files}
 use Rattle.floppy_tools.proofs.Turned.{form_runs, play_runs}
 use Rattle.floppy_tools.proofs.program.perform_form.Goals as goal
 
@@ -21,3 +26,23 @@ pub returns-in-FormatDd-clause-runs : goal.returns-in-FormatDd-clause-runs
 returns-in-FormatDd-clause-runs g c =
     form_runs c.args.form (form.FormatDd c.in-FormatDd.name c.in-FormatDd.cylinders) (world_of g.D.Station.shown g.S.Shelf.told g.K.Sink.told c.args.session.now c.args.shelf.now c.args.out.now) (world_of g.D.Station.shown g.S.Shelf.told g.K.Sink.told c.format_disk-in-FormatDd.new.session c.format_disk-in-FormatDd.new.shelf c.format_disk-in-FormatDd.new.out) c.format_disk-in-FormatDd.result c.in-FormatDd.is
     (subst (λ (n : ℕ). Runs (Formats c.in-FormatDd.name n R250) (world_of g.D.Station.shown g.S.Shelf.told g.K.Sink.told c.args.session.now c.args.shelf.now c.args.out.now) (world_of g.D.Station.shown g.S.Shelf.told g.K.Sink.told c.format_disk-in-FormatDd.new.session c.format_disk-in-FormatDd.new.shelf c.format_disk-in-FormatDd.new.out) c.format_disk-in-FormatDd.result) c.count-in-FormatDd.ensures.value c.format_disk-in-FormatDd.ensures.formats)
+
+pub returns-in-FromImd-clause-runs : goal.returns-in-FromImd-clause-runs
+returns-in-FromImd-clause-runs g c =
+    form_runs c.args.form (form.FromImd c.in-FromImd.imd c.in-FromImd.name) (world_of g.D.Station.shown g.S.Shelf.told g.K.Sink.told c.args.session.now c.args.shelf.now c.args.out.now) (world_of g.D.Station.shown g.S.Shelf.told g.K.Sink.told c.args.session.now c.from_imd.new.shelf c.from_imd.new.out) c.from_imd.result c.in-FromImd.is
+    (on_files (FromImd c.in-FromImd.imd c.in-FromImd.name) (state_of g.D.Station.shown c.args.session.now) (desk_of g.S.Shelf.told g.K.Sink.told c.args.shelf.now c.args.out.now) (desk_of g.S.Shelf.told g.K.Sink.told c.from_imd.new.shelf c.from_imd.new.out) c.from_imd.result c.from_imd.ensures.does)
+
+pub returns-in-ToImd-clause-runs : goal.returns-in-ToImd-clause-runs
+returns-in-ToImd-clause-runs g c =
+    form_runs c.args.form (form.ToImd c.in-ToImd.name c.in-ToImd.imd) (world_of g.D.Station.shown g.S.Shelf.told g.K.Sink.told c.args.session.now c.args.shelf.now c.args.out.now) (world_of g.D.Station.shown g.S.Shelf.told g.K.Sink.told c.args.session.now c.to_imd.new.shelf c.to_imd.new.out) c.to_imd.result c.in-ToImd.is
+    (on_files (ToImd c.in-ToImd.name c.in-ToImd.imd) (state_of g.D.Station.shown c.args.session.now) (desk_of g.S.Shelf.told g.K.Sink.told c.args.shelf.now c.args.out.now) (desk_of g.S.Shelf.told g.K.Sink.told c.to_imd.new.shelf c.to_imd.new.out) c.to_imd.result c.to_imd.ensures.does)
+
+pub returns-in-Survey-clause-runs : goal.returns-in-Survey-clause-runs
+returns-in-Survey-clause-runs g c =
+    form_runs c.args.form (form.Survey c.in-Survey.name) (world_of g.D.Station.shown g.S.Shelf.told g.K.Sink.told c.args.session.now c.args.shelf.now c.args.out.now) (world_of g.D.Station.shown g.S.Shelf.told g.K.Sink.told c.args.session.now c.survey_disk.new.shelf c.survey_disk.new.out) c.survey_disk.result c.in-Survey.is
+    (on_files (Surveys c.in-Survey.name) (state_of g.D.Station.shown c.args.session.now) (desk_of g.S.Shelf.told g.K.Sink.told c.args.shelf.now c.args.out.now) (desk_of g.S.Shelf.told g.K.Sink.told c.survey_disk.new.shelf c.survey_disk.new.out) c.survey_disk.result c.survey_disk.ensures.does)
+
+pub returns-in-Remaster-clause-runs : goal.returns-in-Remaster-clause-runs
+returns-in-Remaster-clause-runs g c =
+    form_runs c.args.form (form.Remaster c.in-Remaster.from c.in-Remaster.to) (world_of g.D.Station.shown g.S.Shelf.told g.K.Sink.told c.args.session.now c.args.shelf.now c.args.out.now) (world_of g.D.Station.shown g.S.Shelf.told g.K.Sink.told c.args.session.now c.remaster_disk.new.shelf c.remaster_disk.new.out) c.remaster_disk.result c.in-Remaster.is
+    (on_files (Remaster c.in-Remaster.from c.in-Remaster.to) (state_of g.D.Station.shown c.args.session.now) (desk_of g.S.Shelf.told g.K.Sink.told c.args.shelf.now c.args.out.now) (desk_of g.S.Shelf.told g.K.Sink.told c.remaster_disk.new.shelf c.remaster_disk.new.out) c.remaster_disk.result c.remaster_disk.ensures.does)

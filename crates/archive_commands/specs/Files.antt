@@ -1,0 +1,49 @@
+-- The files of a command: what the one that it loads holds, and why it can't be had.
+use Rattle.std.specs.Prelude.{◌≡◌, ◌≤◌, ℕ, List, length, Option, Result, Err, IfSome, IsSomeAnd}
+use Rattle.flop_base.specs.Shelf.{Files, file_at}
+use Rattle.flop_base.specs.declared.answers.LoadError.{LoadError}
+use Rattle.flop_base.specs.declared.answers.LoadError.TheVariants as load
+use Rattle.flop_base.specs.declared.answers.StoreError.{StoreError}
+use Rattle.flop_base.specs.declared.answers.StoreError.TheVariants as store
+use Rattle.raw_image.specs.declared.error.ImageError.{ImageError}
+use Rattle.sector_model.specs.declared.reply.Stop.{Stop}
+use Rattle.sector_model.specs.declared.reply.Stop.TheVariants as stop
+use Rattle.sector_model.specs.Steps.{most_image_bytes, IsAbsent, IsLonger}
+
+-- all that a command may change: the told files, and the told report
+pub record Desk : Type 0 where
+  pub files : Option Files
+  pub report : Option (List ℕ)
+
+abbrev pub desk_of : {S K : Type 0} → (S → Option Files) → (K → Option (List ℕ)) → S → K → Desk
+desk_of files report shelf out = record { files = files shelf; report = report out }
+
+-- the told file of this name isn't too long, and reading its bytes gives this
+abbrev pub ReadsAs : {T : Type 0} → (List ℕ → Result T ImageError) → Option Files → List ℕ → Result T ImageError → Type 0
+ReadsAs reading told name read =
+    IfSome told (λ files. IsSomeAnd (file_at files name) (λ bytes. (length bytes ≤ most_image_bytes) × (reading bytes ≡ read)))
+
+-- why the bytes of the file of this name aren't had; that the shelf failed, its count of faults tells
+abbrev pub IsMissed : Option Files → List ℕ → Stop → Type 0
+IsMissed told from (stop.Absent name) = (name ≡ from) × IsAbsent told from
+IsMissed told from (stop.TooLong name most) = (name ≡ from) × (most ≡ most_image_bytes) × IsLonger told from most
+IsMissed told from (stop.BadImage name error) = ⊥
+IsMissed told from stop.FileFault = Unit {0}
+IsMissed told from stop.NoMemory = Unit {0}
+
+-- why a command stops that reads the file of this name: reading it gives an error, or its bytes aren't had
+abbrev pub StopsAt : {T : Type 0} → (List ℕ → Result T ImageError) → Option Files → List ℕ → Stop → Type 0
+StopsAt reading told from (stop.BadImage name error) = (name ≡ from) × ReadsAs reading told from (Err error)
+StopsAt reading told from cause = IsMissed told from cause
+
+-- a refused load of the file of this name, and what stops the command
+abbrev pub LoadStops : LoadError → List ℕ → Stop → Type 0
+LoadStops load.Absent name ended = ended ≡ stop.Absent name
+LoadStops load.TooLong name ended = ended ≡ stop.TooLong name most_image_bytes
+LoadStops load.Failed name ended = ended ≡ stop.FileFault
+LoadStops load.NoMemory name ended = ended ≡ stop.NoMemory
+
+-- a refused store, and what stops the command
+abbrev pub StoreStops : StoreError → Stop → Type 0
+StoreStops store.Failed ended = ended ≡ stop.FileFault
+StoreStops store.NoMemory ended = ended ≡ stop.NoMemory

@@ -1,0 +1,4 @@
+pub mod Files
+pub mod Halts
+pub mod Making
+pub mod Surveys

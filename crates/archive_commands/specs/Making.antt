@@ -1,0 +1,98 @@
+-- The commands that make a file of another.
+use Rattle.std.specs.Prelude.{◌≡◌, ℕ, List, ◌++◌, length, codes, Option, Result, Ok, Err}
+use Rattle.std.specs.Fmt.{decimal}
+use Rattle.flop_base.specs.Shelf.{Files, stored}
+use Rattle.flop_base.specs.declared.answers.Status.{Status}
+use Rattle.flop_base.specs.declared.answers.Status.TheVariants as status
+use Rattle.raw_image.specs.Disk.{Disk}
+use Rattle.raw_image.specs.Image.{image_of, file_of}
+use Rattle.raw_image.specs.declared.error.ImageError.{ImageError}
+use Rattle.imd_files.specs.declared.image.ImdImage.{ImdImage}
+use Rattle.imd_files.specs.Reading.{image_of as imd_of}
+use Rattle.imd_files.specs.Writing.{file_of as imd_file_of}
+use Rattle.imagedisk.specs.declared.error.ImdError.TheVariants as imd
+use Rattle.imagedisk.specs.Made.{MakesDisk}
+use Rattle.imagedisk.specs.Taken.{TakesDisk}
+use Rattle.remaster.specs.declared.error.RemasterError.TheVariants as remaster
+use Rattle.remaster.specs.Remastered.{Remasters}
+use Rattle.sector_model.specs.Texts.{stop_text, stop_status}
+use Rattle.sector_model.specs.Plays.{Prints}
+use Rattle.floppy_report.specs.LastLines.{unfit_text}
+use Rattle.archive_commands.specs.declared.halt.Halt.{Halt}
+use Rattle.archive_commands.specs.declared.halt.Halt.TheVariants as halt
+use Rattle.archive_commands.specs.Files.{Desk, ReadsAs, StopsAt}
+use Rattle.archive_commands.specs.Surveys.{IsSectorCount}
+
+-- what comes of the file `from`: it is stored under `to` as what it becomes, with the number that is told; or one of its tracks
+-- is unfit; or the command stops. Only the first stores anything
+abbrev pub Makes : {T : Type 0} → (List ℕ → Result T ImageError) → (T → List ℕ → ℕ → Type 0) → (T → ℕ → ℕ → Type 0) → List ℕ → List ℕ → Option Files → Result ℕ Halt → Option Files → Type 0
+Makes {T} reading Becomes IsUnfit from to told (Ok count) after =
+    (source : T) × (file : List ℕ) × ReadsAs reading told from (Ok source) × Becomes source file count × (after ≡ stored told to file)
+Makes {T} reading Becomes IsUnfit from to told (Err (halt.Unfit c h)) after =
+    ((source : T) × ReadsAs reading told from (Ok source) × IsUnfit source c h) × (after ≡ told)
+Makes reading Becomes IsUnfit from to told (Err (halt.Stopped cause)) after = StopsAt reading told from cause × (after ≡ told)
+
+-- the last line where the file was made
+unfoldable pub made_text : List ℕ → ℕ → List ℕ
+made_text verb count = verb ++ (codes " ok " ++ (decimal count ++ codes "\n"))
+
+-- the last line and the status, by what came of it
+abbrev pub outcome_text : List ℕ → Result ℕ Halt → List ℕ
+outcome_text verb (Ok count) = made_text verb count
+outcome_text verb (Err (halt.Unfit c h)) = unfit_text c h
+outcome_text verb (Err (halt.Stopped cause)) = stop_text cause
+
+abbrev pub outcome_status : Result ℕ Halt → Status
+outcome_status (Ok count) = status.AllOk
+outcome_status (Err (halt.Unfit c h)) = status.SomeRefused
+outcome_status (Err (halt.Stopped cause)) = stop_status cause
+
+abbrev pub Tells : List ℕ → Result ℕ Halt → Option (List ℕ) → Option (List ℕ) → Status → Type 0
+Tells verb outcome old new ended = Prints old (outcome_text verb outcome) (outcome_status outcome) new ended
+
+-- ---- fromimd: the disk of an ImageDisk file; the tracks of that file are told
+
+abbrev pub IsDiskFile : ImdImage → List ℕ → ℕ → Type 0
+IsDiskFile image file tracks = (disk : Disk) × MakesDisk image (Ok disk) × (file ≡ file_of disk) × (tracks ≡ length image.tracks)
+
+abbrev pub HasNoDisk : ImdImage → ℕ → ℕ → Type 0
+HasNoDisk image c h = MakesDisk image (Err (imd.Unfit c h))
+
+abbrev pub MakesFromImd : List ℕ → List ℕ → Option Files → Result ℕ Halt → Option Files → Type 0
+MakesFromImd imd name told outcome after = Makes imd_of IsDiskFile HasNoDisk imd name told outcome after
+
+abbrev pub FromImd : List ℕ → List ℕ → Desk → Desk → Status → Type 0
+FromImd imd name old new ended =
+    (outcome : Result ℕ Halt) × MakesFromImd imd name old.files outcome new.files × Tells (codes "fromimd") outcome old.report new.report ended
+
+-- ---- toimd: the ImageDisk file of a disk, whose tracks are told
+
+abbrev pub IsImdFile : Disk → List ℕ → ℕ → Type 0
+IsImdFile disk file tracks =
+    (image : ImdImage) × TakesDisk disk (Ok image) × (file ≡ imd_file_of image) × (tracks ≡ length image.tracks)
+
+abbrev pub HasNoImd : Disk → ℕ → ℕ → Type 0
+HasNoImd disk c h = TakesDisk disk (Err (imd.Unfit c h))
+
+abbrev pub MakesToImd : List ℕ → List ℕ → Option Files → Result ℕ Halt → Option Files → Type 0
+MakesToImd name imd told outcome after = Makes image_of IsImdFile HasNoImd name imd told outcome after
+
+abbrev pub ToImd : List ℕ → List ℕ → Desk → Desk → Status → Type 0
+ToImd name imd old new ended =
+    (outcome : Result ℕ Halt) × MakesToImd name imd old.files outcome new.files × Tells (codes "toimd") outcome old.report new.report ended
+
+-- ---- remaster: a disk laid out anew, whose sectors are told
+
+abbrev pub IsRemasterFile : Disk → List ℕ → ℕ → Type 0
+IsRemasterFile disk file sectors =
+    (after : Disk) × Remasters disk (Ok after) × (file ≡ file_of after) × IsSectorCount disk sectors
+
+abbrev pub HasNoRemaster : Disk → ℕ → ℕ → Type 0
+HasNoRemaster disk c h = Remasters disk (Err (remaster.Unfit c h))
+
+abbrev pub MakesRemaster : List ℕ → List ℕ → Option Files → Result ℕ Halt → Option Files → Type 0
+MakesRemaster from to told outcome after = Makes image_of IsRemasterFile HasNoRemaster from to told outcome after
+
+abbrev pub Remaster : List ℕ → List ℕ → Desk → Desk → Status → Type 0
+Remaster from to old new ended =
+    (outcome : Result ℕ Halt) × MakesRemaster from to old.files outcome new.files × Tells (codes "remaster") outcome old.report new.report ended

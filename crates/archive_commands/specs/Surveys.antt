@@ -1,0 +1,61 @@
+-- The survey of a disk as it is told, and what it counts.
+use Rattle.std.specs.Prelude.{◌≡◌, ℕ, Bool, true, false, List, ◌++◌, length, filter, Option, Result, Ok, Err}
+use Rattle.std.specs.List.{flat_map}
+use Rattle.flop_base.specs.Shelf.{Files}
+use Rattle.flop_base.specs.declared.answers.Status.{Status}
+use Rattle.flop_base.specs.declared.answers.Status.TheVariants as status
+use Rattle.raw_image.specs.Disk.{Disk}
+use Rattle.raw_image.specs.Image.{image_of}
+use Rattle.track_model.specs.declared.Look.{Look}
+use Rattle.track_model.specs.declared.Look.TheVariants.{Found, NoMark, NoSector, NoData, BadCrc}
+use Rattle.remaster.specs.declared.lines.SurveyLine.{SurveyLine}
+use Rattle.remaster.specs.Survey.{IsSurvey, line_text, end_text}
+use Rattle.sector_model.specs.declared.reply.Stop.{Stop}
+use Rattle.sector_model.specs.Texts.{stop_text, stop_status, line_end}
+use Rattle.sector_model.specs.Plays.{Prints}
+use Rattle.archive_commands.specs.Files.{Desk, ReadsAs, StopsAt}
+
+-- a line for each address field
+abbrev pub field_line : SurveyLine → List ℕ
+field_line line = line_text line ++ line_end
+
+abbrev pub field_lines : List SurveyLine → List ℕ
+field_lines lines = flat_map field_line lines
+
+-- all that is printed: the lines of the fields, and how many there are
+abbrev pub end_line : ℕ → List ℕ
+end_line count = end_text count ++ line_end
+
+abbrev pub survey_text : List SurveyLine → List ℕ
+survey_text lines = field_lines lines ++ end_line (length lines)
+
+-- what comes of a survey of the file of this name
+abbrev pub SurveysFile : Option Files → List ℕ → Result (List SurveyLine) Stop → Type 0
+SurveysFile told name (Ok lines) = (disk : Disk) × ReadsAs image_of told name (Ok disk) × IsSurvey disk lines
+SurveysFile told name (Err cause) = StopsAt image_of told name cause
+
+abbrev pub TellsSurvey : Result (List SurveyLine) Stop → Option (List ℕ) → Option (List ℕ) → Status → Type 0
+TellsSurvey (Ok lines) old new ended = Prints old (survey_text lines) status.AllOk new ended
+TellsSurvey (Err cause) old new ended = Prints old (stop_text cause) (stop_status cause) new ended
+
+-- a survey: it stores nothing
+abbrev pub Surveys : List ℕ → Desk → Desk → Status → Type 0
+Surveys name old new ended =
+    (outcome : Result (List SurveyLine) Stop) × SurveysFile old.files name outcome × (new.files ≡ old.files)
+    × TellsSurvey outcome old.report new.report ended
+
+-- the look found a sector
+abbrev pub is_found : Look → Bool
+is_found (Found deleted place) = true
+is_found NoMark = false
+is_found NoSector = false
+is_found NoData = false
+is_found BadCrc = false
+
+-- how many sectors these lines tell of
+abbrev pub found_count : List SurveyLine → ℕ
+found_count lines = length (filter (λ (line : SurveyLine). is_found line.look) lines)
+
+-- how many sectors the disk has: as many as are found in its survey
+abbrev pub IsSectorCount : Disk → ℕ → Type 0
+IsSectorCount disk count = (lines : List SurveyLine) × IsSurvey disk lines × (count ≡ found_count lines)

@@ -1,0 +1,118 @@
+// The files that commands load and store.
+ghost use Rattle.std.specs.Prelude.{◌≡◌, ◌≤◌, Ok, Some, IfOk, IfErr, IfSome, OnOk, OnErr, IsErrOf, length};
+ghost use Rattle.flop_base.specs.Shelf.{file_at, stored};
+ghost use Rattle.raw_image.specs.Image.{image_of};
+ghost use Rattle.imd_files.specs.Images.{IsImdImage};
+ghost use Rattle.imd_files.specs.Reading.{image_of as imd_of};
+ghost use Rattle.sector_model.specs.Faults.{Blames};
+ghost use Rattle.sector_model.specs.Runs.{IsEndStop};
+ghost use Rattle.sector_model.specs.Steps.{most_image_bytes};
+ghost use Rattle.archive_commands.specs.Files.{ReadsAs, IsMissed, StopsAt, LoadStops, StoreStops};
+
+use flop_base::{LoadError, Name, NoMemory, Shelf, StoreError};
+use imagedisk::{ImdImage, read_imd};
+use raw_image::{ImageError, Medium, read_image};
+use sector_model::Stop;
+use std::alloc::Global;
+
+/// The longest file that is read as an image or an ImageDisk file, in bytes: 80 cylinders of 2 heads with 16,384 words a track.
+const MOST_IMAGE_BYTES: usize = 5_242_894;
+
+/// What a refused load stops a command with.
+fn stop_at_load(alloc: Global, name: &Name, error: LoadError) -> Result<Stop, NoMemory>
+    ensures { IfOk result (λ stop. LoadStops error name.now stop) }
+{
+    Ok(match error {
+        LoadError::Absent => Stop::Absent {
+            name: Name::copy(alloc, name.as_str())?,
+        },
+        LoadError::TooLong => Stop::TooLong {
+            name: Name::copy(alloc, name.as_str())?,
+            most: MOST_IMAGE_BYTES,
+        },
+        LoadError::Failed => Stop::FileFault,
+        LoadError::NoMemory => Stop::NoMemory,
+    })
+}
+
+/// The bytes of the file of this name.
+fn load<S: Shelf>(alloc: Global, shelf: &mut S, name: &Name) -> Result<Vec<u8>, Stop>
+    ensures had { IfOk result (λ bytes. IfSome (S.told shelf.old) (λ files.
+        (file_at files name.now ≡ Some bytes.items) × (length bytes.items ≤ most_image_bytes))) }
+    ensures missed { IfErr result (λ stop. IsMissed (S.told shelf.old) name.now stop) }
+    ensures stays { S.told shelf.new ≡ S.told shelf.old }
+    ensures faults { Blames (IsErrOf result Stop.FileFault) (S.fault_count shelf.old) (S.fault_count shelf.new) }
+{
+    match shelf.load(alloc, name.as_str(), MOST_IMAGE_BYTES) {
+        Ok(bytes) => Ok(bytes),
+        Err(error) => Err(stop_at_load(alloc, name, error)?),
+    }
+}
+
+/// The medium of the image file of this name.
+pub(crate) fn load_medium<S: Shelf>(
+    alloc: Global,
+    shelf: &mut S,
+    name: &Name,
+) -> Result<Medium, Stop>
+    ensures image { IfOk result (λ medium. ReadsAs image_of (S.told shelf.old) name.now (Ok medium)) }
+    ensures cause { IfErr result (λ stop. StopsAt image_of (S.told shelf.old) name.now stop) }
+    ensures stays { S.told shelf.new ≡ S.told shelf.old }
+    ensures faults { Blames (IsErrOf result Stop.FileFault) (S.fault_count shelf.old) (S.fault_count shelf.new) }
+{
+    let bytes = load(alloc, shelf, name)?;
+    match read_image(alloc, &bytes) {
+        Ok(medium) => Ok(medium),
+        Err(ImageError::NoMemory) => Err(Stop::NoMemory),
+        Err(error) => Err(Stop::BadImage {
+            name: Name::copy(alloc, name.as_str())?,
+            error,
+        }),
+    }
+}
+
+/// The image that the ImageDisk file of this name holds.
+pub(crate) fn load_imd<S: Shelf>(
+    alloc: Global,
+    shelf: &mut S,
+    name: &Name,
+) -> Result<ImdImage, Stop>
+    ensures image { IfOk result (λ image. ReadsAs imd_of (S.told shelf.old) name.now (Ok image)) }
+    ensures valid { IfOk result IsImdImage }
+    ensures cause { IfErr result (λ stop. StopsAt imd_of (S.told shelf.old) name.now stop) }
+    ensures stays { S.told shelf.new ≡ S.told shelf.old }
+    ensures faults { Blames (IsErrOf result Stop.FileFault) (S.fault_count shelf.old) (S.fault_count shelf.new) }
+{
+    let bytes = load(alloc, shelf, name)?;
+    match read_imd(alloc, &bytes) {
+        Ok(image) => Ok(image),
+        Err(ImageError::NoMemory) => Err(Stop::NoMemory),
+        Err(error) => Err(Stop::BadImage {
+            name: Name::copy(alloc, name.as_str())?,
+            error,
+        }),
+    }
+}
+
+/// What a refused store stops a command with.
+fn stop_at_store(error: StoreError) -> Stop
+    ensures { StoreStops error result }
+{
+    match error {
+        StoreError::Failed => Stop::FileFault,
+        StoreError::NoMemory => Stop::NoMemory,
+    }
+}
+
+/// Puts these bytes under the name.
+pub(crate) fn store<S: Shelf>(shelf: &mut S, name: &Name, bytes: &[u8]) -> Result<(), Stop>
+    ensures ok { OnOk result (S.told shelf.new ≡ stored (S.told shelf.old) name.now bytes.now) }
+    ensures cause { IfErr result IsEndStop }
+    ensures err { OnErr result (S.told shelf.new ≡ S.told shelf.old) }
+    ensures faults { Blames (IsErrOf result Stop.FileFault) (S.fault_count shelf.old) (S.fault_count shelf.new) }
+{
+    match shelf.store(name.as_str(), bytes) {
+        Ok(()) => Ok(()),
+        Err(error) => Err(stop_at_store(error)),
+    }
+}

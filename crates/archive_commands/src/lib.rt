@@ -1,0 +1,13 @@
+//! The commands that turn files into others, over a shelf and a sink alone: media from and to ImageDisk files, media laid out
+//! anew, and the survey of a medium. No session, bay or drive takes part.
+#![tactic(auto)]
+
+mod files;
+mod halt;
+mod making;
+mod surveying;
+mod telling;
+
+pub use halt::Halt;
+pub use making::{from_imd, remaster_disk, to_imd};
+pub use surveying::survey_disk;

@@ -1,0 +1,111 @@
+// The survey of a disk.
+ghost use Rattle.std.specs.Prelude.{◌≡◌, ◌≢◌, Ok, Err, IfOk, IfErr, OnOk, OnErr, IsErrOf, string_bytes};
+ghost use Rattle.flop_base.specs.Sink.{grown, GrowsByPart};
+ghost use Rattle.sector_model.specs.Faults.{Blames};
+ghost use Rattle.sector_model.specs.Plays.{IsPutFault, Prints};
+ghost use Rattle.archive_commands.specs.Files.{desk_of};
+ghost use Rattle.archive_commands.specs.Surveys.{field_line, field_lines, survey_text, end_line, is_found, found_count, IsSectorCount, SurveysFile, Surveys};
+
+use crate::files::load_medium;
+use flop_base::{Name, NoMemory, Shelf, Sink, Status};
+use floppy_report::{put_last, put_last_line, put_line};
+use raw_image::Medium;
+use remaster::{SurveyEnd, SurveyLine, survey};
+use sector_model::Stop;
+use std::alloc::{AllocError, Global};
+use track_fields::Look;
+
+/// Whether a look found a sector.
+fn is_found(look: Look) -> bool
+    ensures { result ≡ is_found look }
+{
+    match look {
+        Look::Found { .. } => true,
+        Look::NoMark | Look::NoSector | Look::NoData | Look::BadCrc => false,
+    }
+}
+
+/// How many sectors these lines tell of.
+fn found_count(lines: &[SurveyLine]) -> usize
+    ensures { result ≡ found_count lines.now }
+{
+    lines.iter().filter(|line| is_found(line.look)).count()
+}
+
+/// How many sectors a disk has.
+pub(crate) fn sector_count(alloc: Global, medium: &Medium) -> Result<usize, NoMemory>
+    ensures { IfOk result (λ count. IsSectorCount medium.now count) }
+{
+    let lines = survey(alloc, medium)?;
+    Ok(found_count(&lines))
+}
+
+/// The survey of the image file of this name.
+fn survey_file<S: Shelf>(alloc: Global, shelf: &mut S, name: &Name) -> Result<Vec<SurveyLine>, Stop>
+    ensures surveys { IfOk result (λ lines. SurveysFile (S.told shelf.old) name.now (Ok lines.items)) }
+    ensures stops { IfErr result (λ cause. SurveysFile (S.told shelf.old) name.now (Err cause)) }
+    ensures stays { S.told shelf.new ≡ S.told shelf.old }
+    ensures faults { Blames (IsErrOf result Stop.FileFault) (S.fault_count shelf.old) (S.fault_count shelf.new) }
+{
+    let medium = load_medium(alloc, shelf, name)?;
+    Ok(survey(alloc, &medium)?)
+}
+
+/// The line of an address field.
+fn field_line(alloc: Global, line: SurveyLine) -> Result<String, AllocError>
+    ensures { IfOk result (λ text. string_bytes text ≡ field_line line) }
+{
+    format!(in alloc; "{line}\n")
+}
+
+/// Puts the lines of address fields.
+fn put_fields<K: Sink>(alloc: Global, out: &mut K, lines: &[SurveyLine]) -> Result<(), Status>
+    ensures ok { OnOk result (K.told out.new ≡ grown (K.told out.old) (field_lines lines.now)) }
+    ensures err { OnErr result (GrowsByPart (K.told out.old) (field_lines lines.now) (K.told out.new)) }
+    ensures only { IfErr result IsPutFault }
+    ensures faults { Blames (IsErrOf result Status.SinkFault) (K.fault_count out.old) (K.fault_count out.new) }
+{
+    for line in lines {
+        put_line(out, field_line(alloc, *line))?;
+    }
+    Ok(())
+}
+
+/// The last line of a survey.
+fn end_line(alloc: Global, count: usize) -> Result<String, AllocError>
+    ensures { IfOk result (λ text. string_bytes text ≡ end_line count) }
+{
+    let end = SurveyEnd { count };
+    format!(in alloc; "{end}\n")
+}
+
+/// Puts a survey, and gives the status.
+fn put_survey<K: Sink>(alloc: Global, out: &mut K, lines: &[SurveyLine]) -> Status
+    ensures prints { Prints (K.told out.old) (survey_text lines.now) Status.AllOk (K.told out.new) result }
+    ensures only { result ≢ Status.AllOk → IsPutFault result }
+    ensures faults { Blames (result ≡ Status.SinkFault) (K.fault_count out.old) (K.fault_count out.new) }
+{
+    match put_fields(alloc, out, lines) {
+        Ok(()) => put_last_line(out, end_line(alloc, lines.len()), Status::AllOk),
+        Err(ended) => ended,
+    }
+}
+
+/// Prints a line for each address field of a disk, by cylinder, head and place, with what a look at it finds, and how many there
+/// are; or what stopped it.
+pub fn survey_disk<S: Shelf, K: Sink>(
+    alloc: Global,
+    name: Name,
+    shelf: &mut S,
+    out: &mut K,
+) -> Status
+    ensures does { Surveys name (desk_of S.told K.told shelf.old out.old) (desk_of S.told K.told shelf.new out.new) result }
+    ensures is_form { result ≢ Status.BadWords }
+    ensures shelf_faults { Blames (result ≡ Status.FileFault) (S.fault_count shelf.old) (S.fault_count shelf.new) }
+    ensures sink_faults { Blames (result ≡ Status.SinkFault) (K.fault_count out.old) (K.fault_count out.new) }
+{
+    match survey_file(alloc, shelf, &name) {
+        Ok(lines) => put_survey(alloc, out, &lines),
+        Err(stop) => put_last(alloc, out, &stop),
+    }
+}

@@ -1,0 +1,5 @@
+use Rattle.floppy_report.specs.LastLines.{unfit_text}
+use Rattle.floppy_report.proofs.lines.put_last_unfit.Goals as goal
+
+pub returns-clause-prints : goal.returns-clause-prints
+returns-clause-prints g c = c.put_last_line.ensures.prints (unfit_text c.args.c c.args.h) c.unfit_line.ensures
