@@ -96,7 +96,21 @@ impl Fdc {
     }
 
     /// A device step outside execution: a seek goes on, and a word passes.
+    #[inline(always)]
     fn rest<D: Drive>(&mut self, drive: &mut D)
+        ensures state { self.new ≡ seek_stepped ((D.state drive.old).cylinder == 0) self.old }
+        ensures drive { Moves (pulse_due self.old.seeks ((D.state drive.old).cylinder == 0)) (D.state drive.old) (D.state drive.new) }
+    {
+        if self.seeks.is_seeking() {
+            self.go_seeking(drive);
+        } else {
+            let_pass(drive);
+        }
+    }
+
+    /// The same while a seek runs: a pulse comes first.
+    #[inline(never)]
+    fn go_seeking<D: Drive>(&mut self, drive: &mut D)
         ensures state { self.new ≡ seek_stepped ((D.state drive.old).cylinder == 0) self.old }
         ensures drive { Moves (pulse_due self.old.seeks ((D.state drive.old).cylinder == 0)) (D.state drive.old) (D.state drive.new) }
     {
@@ -196,7 +210,8 @@ impl Fdc {
                         let key = reading.wanted.key;
                         let counted = reading.counted;
                         let heard = reading.stage.hear(key, turn.word, turn.index);
-                        self.follow(head_drive, key, counted, heard);
+                        let over = reading.is_over();
+                        self.follow(head_drive, key, counted, heard, over);
                     }
                     Task::Write { .. } | Task::Format { .. } => {}
                 }
