@@ -16,10 +16,12 @@ use Rattle.fdc_core.specs.Listening.{SeesUnder, StepsOn}
 use Rattle.fdc_core.specs.Phases.{head_of}
 use Rattle.fdc_core.specs.Rates.{rate_fits, seen_of}
 use Rattle.fdc_core.specs.Steps.{let_pass}
-use Rattle.fdc_core.specs.Tasks.{IsListenStep}
+use Rattle.fdc_core.specs.Tasks.{IsListenStep, TaskSteps, ExecutionSteps}
 use Rattle.fdc_core.specs.Times.{Saw, KeptOut, Wrote, Opens}
 use Rattle.fdc_core.specs.Writing.{after_next, IsWriteTime, HearsAWord, PutsByte, byte_taken, without_byte, is_ended}
 use Rattle.fdc_core.specs.declared.controller.Fdc.{Fdc}
+use Rattle.fdc_core.specs.declared.phases.Execution.{Execution}
+use Rattle.fdc_core.specs.declared.phases.Phase.TheVariants.{Execute}
 use Rattle.fdc_core.specs.declared.phases.Task.{Task}
 use Rattle.fdc_core.specs.declared.rates.DataRate.{DataRate}
 use Rattle.fdc_core.specs.declared.transfers.Formatting.{Formatting}
@@ -56,6 +58,11 @@ last_listens head_drive steps task old before after new passes does =
     let raw = word_under before (head_of head_drive) in
     let word = seen_of (rate_fits old.rate (rate_of before.medium)) raw in
     record { word = word; sees = (raw, inl refl, refl); passes = passes; does = does word }
+
+-- ---- a device step of what is in execution
+
+pub steps_are : (old new : Fdc) (before after : DriveState) (execution : Execution) → old.phase ≡ Execute execution → ExecutionSteps old.phase old before after new → TaskSteps execution.task execution.head_drive execution.steps old before after new
+steps_are old new before after execution is steps = subst (λ phase. ExecutionSteps phase old before after new) is steps
 
 -- ---- a write
 

@@ -1,5 +1,5 @@
 -- READ ID and READ DATA, word by word.
-use Rattle.std.specs.Prelude.{ℕ, Bool, false, ◌==◌, [], ◌∷◌, ◌++◌, length, Option, Some, None, if◌then◌else◌}
+use Rattle.std.specs.Prelude.{◌≡◌, ℕ, Bool, false, ◌==◌, [], ◌∷◌, ◌++◌, length, Option, Some, None, if◌then◌else◌}
 use Rattle.fdc_fifo.specs.Fifo.{room_of}
 use Rattle.fdc_stages.specs.declared.ending.Ending.{Ending}
 use Rattle.fdc_stages.specs.declared.ending.Ending.TheVariants.{Done, Overrun}
@@ -15,11 +15,14 @@ use Rattle.fdc_stages.specs.Searches.{SearchOutcome}
 use Rattle.fdc_stages.specs.Searches as searched
 use Rattle.fdc_core.specs.Answers.{key_after, no_key}
 use Rattle.fdc_core.specs.Dma.{gone_on, asked}
-use Rattle.fdc_core.specs.Phases.{ending_of, over_of}
+use Rattle.fdc_core.specs.Phases.{ending_of, is_over, over_of}
 use Rattle.fdc_core.specs.declared.phases.End.{End}
 use Rattle.fdc_core.specs.State.{finished}
 use Rattle.fdc_core.specs.declared.controller.Fdc.{Fdc}
 use Rattle.fdc_core.specs.declared.phases.Reading.{Reading}
+use Rattle.fdc_core.specs.declared.phases.Phase.{Phase}
+use Rattle.fdc_core.specs.declared.phases.Phase.TheVariants.{Execute}
+use Rattle.fdc_core.specs.declared.phases.Task.{Task}
 use Rattle.fdc_core.specs.declared.phases.Task.TheVariants.{ReadId, Read}
 
 -- the same command at a stage
@@ -73,6 +76,15 @@ after_heard head_drive steps reading (heard.Ended ending) old =
 abbrev pub settled_by : Option End → Bool → Fdc → Fdc
 settled_by None empty old = asked old
 settled_by (Some over) empty old = if empty then finished over.ending over.head_drive over.key old else asked old
+
+abbrev pub IsTaskTo : Bool → Task → Type 0
+IsTaskTo over (Read reading) = over ≡ is_over reading.stage
+IsTaskTo over _ = ⊥
+
+-- a READ DATA is in execution, whose field is over or isn't
+abbrev pub IsReadingTo : Bool → Phase → Type 0
+IsReadingTo over (Execute execution) = IsTaskTo over execution.task
+IsReadingTo over _ = ⊥
 
 abbrev pub settled : Fdc → Fdc
 settled old = settled_by (over_of old.phase) (length old.fifo.bytes == 0) old

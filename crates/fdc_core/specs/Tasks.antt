@@ -12,6 +12,8 @@ use Rattle.fdc_core.specs.Steps.{Moves}
 use Rattle.fdc_core.specs.Writing.{IsWriteStep, StageHearsWord, after_next}
 use Rattle.fdc_stages.specs.declared.ending.Ending.TheVariants.{Late}
 use Rattle.fdc_core.specs.declared.controller.Fdc.{Fdc}
+use Rattle.fdc_core.specs.declared.phases.Phase.{Phase}
+use Rattle.fdc_core.specs.declared.phases.Phase.TheVariants.{Execute}
 use Rattle.fdc_core.specs.declared.phases.Task.{Task}
 use Rattle.fdc_core.specs.declared.phases.Task.TheVariants.{ReadId, Read, Write, Format}
 use Rattle.fdc_core.specs.declared.transfers.Formatting.{Formatting}
@@ -33,6 +35,12 @@ TaskSteps (Read reading) head_drive steps old before after new =
 TaskSteps (Write writing) head_drive steps old before after new = IsWriteStep head_drive steps writing old before after new
 TaskSteps (Format formatting) head_drive steps old before after new =
     IsFormatStep head_drive steps formatting old before after new
+
+-- the same of what is in execution
+abbrev pub ExecutionSteps : Phase → Fdc → DriveState → DriveState → Fdc → Type 0
+ExecutionSteps (Execute execution) old before after new =
+    TaskSteps execution.task execution.head_drive execution.steps old before after new
+ExecutionSteps _ old before after new = Unit {0}
 
 -- the same where no drive is selected: words 0000 are heard, and no index
 abbrev pub WritesNowhere : ℕ → ℕ → Writing → Fdc → Fdc → Type 0

@@ -2,11 +2,12 @@
 use Rattle.std.specs.Prelude.{◌≡◌, ◌<◌, ℕ, ◌+◌, Bool, true, false, List, [], ◌∷◌, Option, Some, None, if◌then◌else◌, drop}
 use Rattle.drive_model.specs.Drive.{DriveState, is_protected, at_index, Writes, InRange}
 use Rattle.flop_base.specs.declared.key.Chrn.{Chrn}
-use Rattle.fdc_fifo.specs.Fifo.{Fifo}
+use Rattle.fdc_fifo.specs.Fifo.{Fifo, wants}
 use Rattle.fdc_stages.specs.History.{Past, wrote}
 use Rattle.fdc_stages.specs.declared.ending.Ending.{Ending}
 use Rattle.fdc_stages.specs.declared.ending.Ending.TheVariants.{Protected, Overrun, Late}
 use Rattle.fdc_writing.specs.Writings.{is_open, opens, is_due, needs_byte, handed_with, heard_where, IsWriting, IsNextWord, HasNext, FailsWell, EndsWell, LeadsOn, lead_of}
+use Rattle.fdc_writing.specs.declared.writing.WriteStage.{WriteStage}
 use Rattle.fdc_writing.specs.declared.writing.WriteNext.{WriteNext}
 use Rattle.fdc_writing.specs.declared.writing.WriteNext.TheVariants.{On, Ended}
 use Rattle.fdc_writing.specs.declared.writing.WriteWord.{WriteWord}
@@ -16,6 +17,10 @@ use Rattle.fdc_core.specs.Phases.{head_of, write_at}
 use Rattle.fdc_core.specs.State.{finished}
 use Rattle.fdc_core.specs.Times.{WordTime, Saw, KeptOut, Wrote, Stopped, IsTime, IsHeardTime, Opens, Closes}
 use Rattle.fdc_core.specs.declared.controller.Fdc.{Fdc}
+use Rattle.fdc_core.specs.declared.phases.End.{End}
+use Rattle.fdc_core.specs.declared.phases.Phase.{Phase}
+use Rattle.fdc_core.specs.declared.phases.Phase.TheVariants.{Execute}
+use Rattle.fdc_core.specs.declared.phases.Task.{Task}
 use Rattle.fdc_core.specs.declared.phases.Task.TheVariants.{Write}
 use Rattle.fdc_core.specs.declared.transfers.Writing.{Writing}
 
@@ -28,6 +33,24 @@ after_next head_drive steps writing (Ended ending) old =
 abbrev pub is_ended : WriteNext → Bool
 is_ended (Ended _) = true
 is_ended (On _) = false
+
+-- the same from how the command is over, where it is, and its stage as it then is
+abbrev pub write_over : WriteStage → Option End → WriteNext
+write_over after None = On after
+write_over after (Some over) = Ended over.ending
+
+abbrev pub write_end : Ending → ℕ → Writing → End
+write_end ending head_drive writing =
+    record { ending = ending; head_drive = head_drive; key = key_after ending writing.wanted.key writing.last_sector }
+
+-- a command that takes bytes goes on, and DRQ by the FIFO's rule, or is over
+abbrev pub gone_or_over : Bool → Option End → Fdc → Fdc
+gone_or_over counted None old = record old { asking = wants false old.asking counted old.fifo }
+gone_or_over counted (Some over) old = finished over.ending over.head_drive over.key old
+
+-- a write is in execution, behind so many steps
+abbrev pub IsWritingAt : ℕ → ℕ → Writing → Phase → Type 0
+IsWritingAt head_drive steps writing phase = phase ≡ Execute (record { head_drive = head_drive; steps = steps; task = Write writing })
 
 -- ---- bytes from the FIFO
 
@@ -59,6 +82,17 @@ pub record StageWritesWord (writing : Writing) (byte : ℕ) (index : Bool) (give
       → IsNextWord past key deleted handed given.word given.rest → HasNext (wrote index given.word past) key deleted handed next
   pub well : EndsWell next
   pub lead : is_due writing.stage ≡ true → LeadsOn (lead_of writing.stage) next
+
+-- a write in execution hears a word
+abbrev pub HearsToWriteTask : ℕ → ℕ → Task → Bool → ℕ → Fdc → Fdc → Type 0
+HearsToWriteTask head_drive steps (Write writing) index word old new =
+    (next : WriteNext) × StageHearsWord writing index word next × (new ≡ after_next head_drive steps writing next old)
+HearsToWriteTask head_drive steps _ index word old new = Unit {0}
+
+abbrev pub HearsToWrite : Phase → Bool → ℕ → Fdc → Fdc → Type 0
+HearsToWrite (Execute execution) index word old new =
+    HearsToWriteTask execution.head_drive (execution.steps + 1) execution.task index word old new
+HearsToWrite _ index word old new = Unit {0}
 
 -- ---- a device step, behind so many others, by what its word time is
 

@@ -84,6 +84,7 @@ impl Fdc {
     }
 
     /// The result phase of a data command begins: INT rises, the FIFO is emptied and DRQ falls.
+    #[inline(never)]
     pub(crate) fn finish(&mut self, ending: Ending, head_drive: u8, key: Chrn)
         ensures { self.new ≡ finished ending head_drive key self.old }
     {

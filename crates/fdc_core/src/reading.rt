@@ -1,7 +1,7 @@
 // READ ID and READ DATA, word by word. What a word changes is changed in place: a stage is large.
 ghost use Rattle.std.specs.Prelude.{◌≡◌};
 ghost use Rattle.fdc_core.specs.Dma.{gone_on};
-ghost use Rattle.fdc_core.specs.Reading.{followed_id, followed, failure_of, with_heard, settled};
+ghost use Rattle.fdc_core.specs.Reading.{followed_id, followed, failure_of, with_heard, settled, IsReadingTo};
 
 use crate::controller::Fdc;
 use crate::phases::{Execution, NO_KEY, Phase, Task};
@@ -22,19 +22,30 @@ impl Fdc {
         }
     }
 
-    /// READ DATA does what the word that it heard asks for.
-    pub(crate) fn follow(&mut self, head_drive: u8, key: Chrn, counted: bool, heard: ReadHeard)
+    /// READ DATA does what the word that it heard asks for. `over` says that its field is over.
+    #[inline(always)]
+    pub(crate) fn follow(
+        &mut self,
+        head_drive: u8,
+        key: Chrn,
+        counted: bool,
+        heard: ReadHeard,
+        over: bool,
+    )
+        requires { IsReadingTo over self.old.phase }
         ensures { self.new ≡ followed head_drive key counted heard self.old }
     {
         match self.take(counted, heard) {
-            None => self.settle(),
+            None => self.settle(over),
             Some(ending) => self.finish(ending, head_drive, key),
         }
     }
 
     /// A byte of the field goes to the FIFO, unless the terminal count came. How the command ends, where it failed: the byte
     /// may have found the FIFO full.
+    #[inline(always)]
     fn take(&mut self, counted: bool, heard: ReadHeard) -> Option<Ending>
+        ensures phase { self.new.phase ≡ self.old.phase }
         ensures failed { result ≡ failure_of counted heard self.old }
         ensures after { self.new ≡ with_heard counted heard self.old }
     {
@@ -54,7 +65,21 @@ impl Fdc {
     }
 
     /// The command goes on, unless the field is over and the FIFO is empty.
-    fn settle(&mut self)
+    #[inline(always)]
+    fn settle(&mut self, over: bool)
+        requires { IsReadingTo over self.old.phase }
+        ensures { self.new ≡ settled self.old }
+    {
+        if over {
+            self.end_or_ask();
+        } else {
+            self.asking = self.fifo.wants(true, self.asking, false);
+        }
+    }
+
+    /// The same, whatever is in execution.
+    #[inline(never)]
+    fn end_or_ask(&mut self)
         ensures { self.new ≡ settled self.old }
     {
         match self.phase.over() {

@@ -4,7 +4,7 @@ ghost use Rattle.drive_model.specs.Drive.{Becomes, at_index};
 ghost use Rattle.fdc_seek.specs.Seeking.{pulse_due};
 ghost use Rattle.fdc_core.specs.Listening.{Listens, ListensToNone, SeesUnder, HearsIn, HasStepsLeft};
 ghost use Rattle.fdc_core.specs.Steps.{polled, seek_stepped, let_pass, Rests, Moves, MovesDrive, Ends, Stays, Flows};
-ghost use Rattle.fdc_core.specs.Tasks.{IsListenStep, TaskSteps, TaskStepsNowhere};
+ghost use Rattle.fdc_core.specs.Tasks.{IsListenStep, ExecutionSteps, TaskStepsNowhere};
 ghost use Rattle.fdc_core.specs.Waiting.{LastsOn, Feeds};
 ghost use Rattle.fdc_core.specs.Writes.{WritesOn};
 
@@ -50,7 +50,7 @@ impl Fdc {
         ensures feeds { Feeds self.old → Feeds self.new }
     {
         match self.phase {
-            Phase::Execute { execution } => self.execute(execution, drive),
+            Phase::Execute { .. } => self.execute(drive),
             _ => self.rest(drive),
         }
     }
@@ -96,7 +96,21 @@ impl Fdc {
     }
 
     /// A device step outside execution: a seek goes on, and a word passes.
+    #[inline(always)]
     fn rest<D: Drive>(&mut self, drive: &mut D)
+        ensures state { self.new ≡ seek_stepped ((D.state drive.old).cylinder == 0) self.old }
+        ensures drive { Moves (pulse_due self.old.seeks ((D.state drive.old).cylinder == 0)) (D.state drive.old) (D.state drive.new) }
+    {
+        if self.seeks.is_seeking() {
+            self.go_seeking(drive);
+        } else {
+            let_pass(drive);
+        }
+    }
+
+    /// The same while a seek runs: a pulse comes first.
+    #[inline(never)]
+    fn go_seeking<D: Drive>(&mut self, drive: &mut D)
         ensures state { self.new ≡ seek_stepped ((D.state drive.old).cylinder == 0) self.old }
         ensures drive { Moves (pulse_due self.old.seeks ((D.state drive.old).cylinder == 0)) (D.state drive.old) (D.state drive.new) }
     {
@@ -123,24 +137,35 @@ impl Fdc {
         pulse
     }
 
-    /// A device step of a data command, by its task.
-    fn execute<D: Drive>(&mut self, execution: Execution, drive: &mut D)
-        requires { self.old.phase ≡ Phase.Execute execution }
-        ensures { TaskSteps execution.task execution.head_drive execution.steps self.old (D.state drive.old) (D.state drive.new) self.new }
+    /// A device step of a data command, by its task. The usual step of a write that searches hears a word in place.
+    #[inline(never)]
+    fn execute<D: Drive>(&mut self, drive: &mut D)
+        ensures { ExecutionSteps self.old.phase self.old (D.state drive.old) (D.state drive.new) self.new }
     {
-        let Execution {
-            head_drive,
-            steps,
-            task,
-        } = execution;
-        match task {
-            Task::ReadId { .. } | Task::Read { .. } => {
-                self.listen_on(head_drive, steps, task, drive);
+        match &self.phase {
+            Phase::Execute { execution } => {
+                let head_drive = execution.head_drive;
+                let steps = execution.steps;
+                match &execution.task {
+                    Task::ReadId { .. } | Task::Read { .. } => {
+                        let task = execution.task;
+                        self.listen_on(head_drive, steps, task, drive);
+                    }
+                    Task::Write { writing } => {
+                        if writing.only_hears(steps) {
+                            self.hear_writing(head_drive, drive);
+                        } else {
+                            let writing = *writing;
+                            self.step_writing(head_drive, steps, writing, drive);
+                        }
+                    }
+                    Task::Format { formatting } => {
+                        let formatting = *formatting;
+                        self.step_formatting(head_drive, steps, formatting, drive);
+                    }
+                }
             }
-            Task::Write { writing } => self.step_writing(head_drive, steps, writing, drive),
-            Task::Format { formatting } => {
-                self.step_formatting(head_drive, steps, formatting, drive);
-            }
+            _ => {}
         }
     }
 
@@ -160,12 +185,13 @@ impl Fdc {
         }
         match task {
             Task::ReadId { .. } | Task::Read { .. } => self.hear(NO_TURN),
-            Task::Write { writing } => self.hear_nothing(head_drive, steps + 1, writing),
+            Task::Write { .. } => self.hear_to_write(NO_TURN),
             Task::Format { formatting } => self.await_nothing(head_drive, steps + 1, formatting),
         }
     }
 
     /// A device step of a READ ID or READ DATA, behind `steps` others.
+    #[inline(always)]
     fn listen_on<D: Drive>(&mut self, head_drive: u8, steps: u16, task: Task, drive: &mut D)
         requires { self.old.phase ≡ Phase.Execute (record { head_drive = head_drive; steps = steps; task = task }) }
         ensures { IsListenStep head_drive steps task self.old (D.state drive.old) (D.state drive.new) self.new }
@@ -179,6 +205,7 @@ impl Fdc {
     }
 
     /// READ ID and READ DATA hear a word. It is heard in place, since a stage is large.
+    #[inline(always)]
     fn hear(&mut self, turn: Turn)
         requires { HasStepsLeft self.old.phase }
         ensures { HearsIn self.old.phase turn.index turn.word self.old self.new }
@@ -196,7 +223,8 @@ impl Fdc {
                         let key = reading.wanted.key;
                         let counted = reading.counted;
                         let heard = reading.stage.hear(key, turn.word, turn.index);
-                        self.follow(head_drive, key, counted, heard);
+                        let over = reading.is_over();
+                        self.follow(head_drive, key, counted, heard, over);
                     }
                     Task::Write { .. } | Task::Format { .. } => {}
                 }
@@ -206,6 +234,7 @@ impl Fdc {
     }
 
     /// The word that the controller sees in this word time: 0000 where its rate isn't the medium's. The gate is closed.
+    #[inline(always)]
     pub(crate) fn listen<D: Drive>(&self, head: u8, drive: &mut D) -> Turn
         ensures word { SeesUnder self.now.rate head (D.state drive.old) result.word (D.state drive.new) }
         ensures index { result.index ≡ at_index (D.state drive.old) }

@@ -1,18 +1,18 @@
 // WRITE DATA and WRITE DELETED, word by word.
-ghost use Rattle.std.specs.Prelude.{◌≡◌, ◌<◌, ◌+◌, true, false, Option};
+ghost use Rattle.std.specs.Prelude.{◌≡◌, ◌<◌, ◌+◌, ℕ, true, false};
 ghost use Rattle.drive_model.specs.Drive.{Becomes, rate_of};
 ghost use Rattle.fdc_writing.specs.Writings.{opens, is_due};
 ghost use Rattle.fdc_core.specs.Rates.{rate_fits};
 ghost use Rattle.fdc_core.specs.State.{finished};
 ghost use Rattle.fdc_core.specs.Steps.{let_pass};
 ghost use Rattle.fdc_core.specs.Times.{Opens, Closes};
-ghost use Rattle.fdc_core.specs.Writing.{IsWriteStep, IsWriteTime, HearsAWord, PutsByte, StageHearsWord, after_next, byte_taken, without_byte, is_ended};
-ghost use Rattle.fdc_writing.specs.declared.writing.WriteNext.{WriteNext};
+ghost use Rattle.fdc_core.specs.Listening.{HasStepsLeft};
+ghost use Rattle.fdc_core.specs.Writing.{IsWritingAt, HearsToWrite, gone_or_over, IsWriteStep, IsWriteTime, HearsAWord, PutsByte, after_next, byte_taken, without_byte, is_ended};
 
 use crate::controller::Fdc;
-use crate::phases::{LAST_STEP, Task, head_of};
+use crate::phases::{End, LAST_STEP, Phase, Task, head_of};
 use crate::transfers::Writing;
-use drive_model::Drive;
+use drive_model::{Drive, Turn};
 use fdc_stages::Ending;
 use fdc_writing::WriteNext;
 use flop_base::Chrn;
@@ -22,6 +22,7 @@ const NO_BYTE: u8 = 0x00;
 
 impl Fdc {
     /// A device step of a write, behind `steps` others. A protected medium is met in the first.
+    #[inline(never)]
     pub(crate) fn step_writing<D: Drive>(
         &mut self,
         head_drive: u8,
@@ -29,6 +30,7 @@ impl Fdc {
         writing: Writing,
         drive: &mut D,
     )
+        requires { IsWritingAt head_drive steps writing self.old.phase }
         ensures { IsWriteStep head_drive steps writing self.old (D.state drive.old) (D.state drive.new) self.new }
     {
         if steps == LAST_STEP {
@@ -42,7 +44,8 @@ impl Fdc {
 
     /// The word is heard or written.
     fn write_on<D: Drive>(&mut self, head_drive: u8, steps: u16, writing: Writing, drive: &mut D)
-        requires { steps < 65535 }
+        requires few { steps < 65535 }
+        requires at { IsWritingAt head_drive steps writing self.old.phase }
         ensures { IsWriteTime head_drive steps writing self.old (D.state drive.old) (D.state drive.new) self.new }
     {
         if writing.stage.opens() {
@@ -50,46 +53,65 @@ impl Fdc {
         } else if writing.stage.is_due() {
             self.go_on_window(head_drive, steps, writing, drive);
         } else {
-            self.hear_writing(head_drive, steps, writing, drive);
+            self.hear_writing(head_drive, drive);
         }
     }
 
     /// The word is heard.
-    fn hear_writing<D: Drive>(
-        &mut self,
-        head_drive: u8,
-        steps: u16,
-        writing: Writing,
-        drive: &mut D,
-    )
-        requires { steps < 65535 }
-        ensures { HearsAWord head_drive steps writing self.old (D.state drive.old) (D.state drive.new) self.new }
+    #[inline(always)]
+    pub(crate) fn hear_writing<D: Drive>(&mut self, head_drive: u8, drive: &mut D)
+        requires { HasStepsLeft self.old.phase }
+        ensures { (steps : ℕ) (writing : Writing) → IsWritingAt head_drive steps writing self.old.phase
+            → HearsAWord head_drive steps writing self.old (D.state drive.old) (D.state drive.new) self.new }
     {
         let turn = self.listen(head_of(head_drive), drive);
-        let next = writing
-            .stage
-            .hear(writing.wanted.key, turn.word, turn.index);
-        self.follow_writing(head_drive, steps + 1, writing, next);
+        self.hear_to_write(turn);
     }
 
-    /// Where no drive is selected, a word 0000 is heard.
-    pub(crate) fn hear_nothing(&mut self, head_drive: u8, steps: u16, writing: Writing)
-        ensures { (next : WriteNext) × StageHearsWord writing false 0 next × (self.new ≡ after_next head_drive steps writing next self.old) }
+    /// A write hears a word, in place.
+    pub(crate) fn hear_to_write(&mut self, turn: Turn)
+        requires { HasStepsLeft self.old.phase }
+        ensures { HearsToWrite self.old.phase turn.index turn.word self.old self.new }
     {
-        let next = writing.stage.hear(writing.wanted.key, 0, false);
-        self.follow_writing(head_drive, steps, writing, next);
+        match &mut self.phase {
+            Phase::Execute { execution } => {
+                let head_drive = execution.head_drive;
+                execution.steps += 1;
+                match &mut execution.task {
+                    Task::Write { writing } => {
+                        let counted = writing.counted;
+                        let over = writing.hear(head_drive, turn);
+                        self.follow_over(counted, over);
+                    }
+                    _ => {}
+                }
+            }
+            _ => {}
+        }
+    }
+
+    /// The command goes on, unless it is over.
+    #[inline(always)]
+    fn follow_over(&mut self, counted: bool, over: Option<End>)
+        ensures { self.new ≡ gone_or_over counted over self.old }
+    {
+        match over {
+            None => self.asking = self.fifo.wants(false, self.asking, counted),
+            Some(over) => self.finish(over.ending, over.head_drive, over.key),
+        }
     }
 
     /// The first word of the window is written, where the rate is the medium's.
     fn open_window<D: Drive>(&mut self, head_drive: u8, steps: u16, writing: Writing, drive: &mut D)
         requires few { steps < 65535 }
+        requires at { IsWritingAt head_drive steps writing self.old.phase }
         requires opens { opens writing.stage ≡ true }
         ensures { IsWriteTime head_drive steps writing self.old (D.state drive.old) (D.state drive.new) self.new }
     {
         if self.rate.fits(drive.rate()) {
             self.go_on_window(head_drive, steps, writing, drive);
         } else {
-            self.hear_writing(head_drive, steps, writing, drive);
+            self.hear_writing(head_drive, drive);
         }
     }
 
@@ -167,6 +189,7 @@ impl Fdc {
     }
 
     /// The command ends in this step: the gate is closed, and no word is read or written.
+    #[inline(never)]
     pub(crate) fn stop<D: Drive>(
         &mut self,
         ending: Ending,

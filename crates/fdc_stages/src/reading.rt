@@ -58,6 +58,7 @@ impl ReadStage {
     }
 
     /// Hears a word of the track with the sector of this key. `index` says that the index follows it.
+    #[inline(always)]
     pub fn hear(&mut self, key: Chrn, word: u16, index: bool) -> ReadHeard
         requires { IsSizeCode key.n }
         ensures hears { (past : Past) (told : List ℕ) → IsReading past key told self.old
@@ -97,6 +98,7 @@ impl ReadStage {
     }
 
     /// Begins to wait for the data field of the address field that was met; one that ended with its turn has none.
+    #[inline(never)]
     fn meet(&mut self, found: Separator, key: Chrn, index: bool) -> ReadHeard
         requires { IsSizeCode key.n }
         ensures hears { (past : Past) → IsMet index past key found → HasHeard past key [] (read_outcome self.new result) }

@@ -30,6 +30,7 @@ pub enum Searched {
 }
 
 /// Whether an address field of this key is searched for; without a wanted key each one is.
+#[inline(never)]
 fn is_wanted(wanted: Option<Chrn>, key: Chrn) -> bool
     ensures { IsTrue result ↔ Wants wanted key }
 {
@@ -93,6 +94,7 @@ impl Search {
     }
 
     /// Hears a word. `index` says that the index follows it. Without a wanted key any intact address field is met.
+    #[inline(always)]
     pub fn hear(&mut self, wanted: Option<Chrn>, word: u16, index: bool) -> Searched
         ensures hears { (past : Past) → IsSearching past wanted self.old → HasSearched index (heard index word past) wanted (search_outcome self.new result) }
         ensures well { MissesWell (search_outcome self.new result) }

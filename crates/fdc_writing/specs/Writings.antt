@@ -1,5 +1,5 @@
 -- What a writing has heard and written.
-use Rattle.std.specs.Prelude.{◌≡◌, ◌⊎◌, ℕ, zero, suc, ◌+◌, ◌<◌, ◌≤◌, Bool, true, false, Option, Some, List, [], ◌++◌, length, replicate}
+use Rattle.std.specs.Prelude.{◌≡◌, ◌⊎◌, ℕ, zero, suc, ◌+◌, ◌<◌, ◌≤◌, Bool, true, false, Option, None, Some, List, [], ◌++◌, length, replicate}
 use Rattle.flop_base.specs.declared.key.Chrn.{Chrn}
 use Rattle.track_model.specs.Fields.{IsAddressAt, content_size}
 use Rattle.track_model.specs.Windows.{window_word, window_words, with_words, IsFieldFor, IsCut}
@@ -163,6 +163,11 @@ HasCause past key deleted handed BadCheck = ⊥
 pub record HasWritten (past : Past) (key : Chrn) (deleted : Bool) (handed : List ℕ) (ending : Ending) : Type 0 where
   pub begun : HasBegun past key deleted handed
   pub cause : HasCause past key deleted handed ending
+
+-- what a word that was heard gave a writing, from its stage as it then is, and how it ended
+abbrev pub write_heard : WriteStage → Option Ending → WriteNext
+write_heard after None = next.On after
+write_heard after (Some ending) = next.Ended ending
 
 -- what a word gave a writing
 abbrev pub HasNext : Past → Chrn → Bool → List ℕ → WriteNext → Type 0

@@ -7,7 +7,7 @@ ghost use Rattle.fdc_windows.specs.Windows as windows;
 ghost use Rattle.fdc_windows.specs.Windows.{lead_left, lead_behind};
 ghost use Rattle.fdc_stages.specs.History.{Past, begun, heard, wrote};
 ghost use Rattle.fdc_stages.specs.Searches.{IsMet};
-ghost use Rattle.fdc_writing.specs.Writings.{is_open, opens, is_due, needs_byte, lead_of, handed_with, heard_where, IsInWindow, IsWriting, IsNextWord, HasBegun, HasWhole, HasWritten, HasNext, FailsWell, EndsWell, IsEnd, LeadsOn};
+ghost use Rattle.fdc_writing.specs.Writings.{is_open, opens, is_due, needs_byte, lead_of, handed_with, heard_where, IsInWindow, IsWriting, IsNextWord, HasBegun, HasWhole, HasWritten, HasNext, FailsWell, EndsWell, IsEnd, LeadsOn, write_heard};
 
 use fdc_stages::{Ending, Search, Searched};
 use fdc_windows::Window;
@@ -78,20 +78,63 @@ impl WriteStage {
         }
     }
 
-    /// Hears a word of the track. `index` says that the index follows it. A word that is heard where the first of the window
-    /// is due says that the gate could not be opened. While the gate is open no word is heard.
-    pub fn hear(self, key: Chrn, word: u16, index: bool) -> WriteNext
-        ensures hears { (past : Past) (deleted : Bool) (handed : List ℕ) → is_open self ≡ false
-            → IsWriting past key deleted handed self
-            → HasNext (heard_where (opens self) index word past) key deleted handed result }
-        ensures well { FailsWell result }
-        ensures lead { LeadsOn (lead_of self) result }
+    /// Hears a word of the track, and tells how the writing ended, where it did. `index` says that the index follows the word.
+    /// A word that is heard where the first of the window is due says that the gate could not be opened. While the gate is
+    /// open no word is heard.
+    #[inline(always)]
+    pub fn hear(&mut self, key: Chrn, word: u16, index: bool) -> Option<Ending>
+        ensures hears { (past : Past) (deleted : Bool) (handed : List ℕ) → is_open self.old ≡ false
+            → IsWriting past key deleted handed self.old
+            → HasNext (heard_where (opens self.old) index word past) key deleted handed (write_heard self.new result) }
+        ensures well { FailsWell (write_heard self.new result) }
+        ensures lead { LeadsOn (lead_of self.old) (write_heard self.new result) }
     {
         match self {
-            WriteStage::Search(searching) => search_on(searching, key, word, index),
-            WriteStage::Gap { left } => wait_on(left, index),
-            WriteStage::Window(_) => WriteNext::On(self),
+            WriteStage::Search(search) => match search.hear(Some(key), word, index) {
+                Searched::On => None,
+                Searched::Met { .. } => self.meet(index),
+                Searched::Missed(ending) => Some(ending),
+            },
+            WriteStage::Gap { left } => {
+                let left = *left;
+                self.wait_on(left, index)
+            }
+            WriteStage::Window(_) => None,
         }
+    }
+
+    /// Begins to count the words behind the address field. Where the index follows it there is no window.
+    #[inline(never)]
+    fn meet(&mut self, index: bool) -> Option<Ending>
+        ensures hears { (past : Past) (key : Chrn) (deleted : Bool) (separator : Separator) → past.place ≡ length past.seen
+            → past.words ≡ [] → IsMet index past key separator → HasNext past key deleted [] (write_heard self.new result) }
+        ensures well { FailsWell (write_heard self.new result) }
+        ensures lead { LeadsOn 39 (write_heard self.new result) }
+    {
+        if index {
+            return Some(Ending::NoField);
+        }
+        *self = WriteStage::Gap { left: GAP_WORDS };
+        None
+    }
+
+    /// Hears a word behind the address field. Where the index follows it, or where it stands in place of the first of the
+    /// window, there is no window.
+    fn wait_on(&mut self, left: u8, index: bool) -> Option<Ending>
+        ensures hears { (past : Past) (word : ℕ) (key : Chrn) (deleted : Bool) (handed : List ℕ)
+            → IsWriting past key deleted handed (WriteStage.Gap left)
+            → HasNext (heard_where (opens (WriteStage.Gap left)) index word past) key deleted handed (write_heard self.new result) }
+        ensures well { FailsWell (write_heard self.new result) }
+        ensures lead { LeadsOn (left + 16) (write_heard self.new result) }
+    {
+        if left == 0 {
+            return Some(Ending::NoField);
+        }
+        if index {
+            return Some(Ending::NoField);
+        }
+        *self = WriteStage::Gap { left: left - 1 };
+        None
     }
 
     /// The word that is written next, where one is due. Where `needs_byte` says so, `byte` is the byte that it records.
@@ -145,52 +188,6 @@ impl WriteWord {
             }
         }
     }
-}
-
-/// Hears a word while the address field is searched for. Where the index follows the field there is no window.
-fn search_on(searching: Search, key: Chrn, word: u16, index: bool) -> WriteNext
-    ensures hears { (past : Past) (deleted : Bool) → IsWriting past key deleted [] (WriteStage.Search searching)
-        → HasNext (heard index word past) key deleted [] result }
-    ensures well { FailsWell result }
-    ensures lead { LeadsOn 39 result }
-{
-    let mut after = searching;
-    match after.hear(Some(key), word, index) {
-        Searched::On => WriteNext::On(WriteStage::Search(after)),
-        Searched::Met { .. } => meet(index),
-        Searched::Missed(ending) => WriteNext::Ended(ending),
-    }
-}
-
-/// Begins to count the words behind the address field.
-fn meet(index: bool) -> WriteNext
-    ensures hears { (past : Past) (key : Chrn) (deleted : Bool) (separator : Separator) → past.place ≡ length past.seen
-        → past.words ≡ [] → IsMet index past key separator → HasNext past key deleted [] result }
-    ensures well { FailsWell result }
-    ensures lead { LeadsOn 39 result }
-{
-    if index {
-        return WriteNext::Ended(Ending::NoField);
-    }
-    WriteNext::On(WriteStage::Gap { left: GAP_WORDS })
-}
-
-/// Hears a word behind the address field. Where the index follows it, or where it stands in place of the first of the
-/// window, there is no window.
-fn wait_on(left: u8, index: bool) -> WriteNext
-    ensures hears { (past : Past) (word : ℕ) (key : Chrn) (deleted : Bool) (handed : List ℕ)
-        → IsWriting past key deleted handed (WriteStage.Gap left)
-        → HasNext (heard_where (opens (WriteStage.Gap left)) index word past) key deleted handed result }
-    ensures well { FailsWell result }
-    ensures lead { LeadsOn (left + 16) result }
-{
-    if left == 0 {
-        return WriteNext::Ended(Ending::NoField);
-    }
-    if index {
-        return WriteNext::Ended(Ending::NoField);
-    }
-    WriteNext::On(WriteStage::Gap { left: left - 1 })
 }
 
 /// How a writing ends whose whole window was written. The result of a write never says that data were deleted.

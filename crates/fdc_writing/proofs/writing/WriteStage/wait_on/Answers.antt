@@ -1,6 +1,6 @@
 use Rattle.std.proofs.Common.{◌≤◌, arith}
 use Rattle.fdc_writing.proofs.Gaps.{gap_over, gap_on}
-use Rattle.fdc_writing.proofs.writing.wait_on.Goals as goal
+use Rattle.fdc_writing.proofs.writing.WriteStage.wait_on.Goals as goal
 
 pub returns-then-index-clause-hears : goal.returns-then-index-clause-hears
 returns-then-index-clause-hears c = λ past word key deleted handed was.
