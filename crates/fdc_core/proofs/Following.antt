@@ -7,7 +7,7 @@ use Rattle.fdc_stages.specs.declared.reading.ReadHeard.{ReadHeard}
 use Rattle.fdc_stages.specs.declared.reading.ReadHeard.TheVariants as answer
 use Rattle.fdc_stages.specs.declared.reading.ReadStage.{ReadStage}
 use Rattle.fdc_core.specs.Phases.{ending_of, over_with}
-use Rattle.fdc_core.specs.Reading.{at_stage, over_or_on, gone_on_reading, settled_by, settled, pushed, is_full, failure_of, with_heard, followed_by, followed, after_heard, byte_taken}
+use Rattle.fdc_core.specs.Reading.{at_stage, over_or_on, gone_on_reading, settled_by, settled, pushed, is_full, followed_by, followed, after_heard}
 use Rattle.fdc_core.specs.State.{finished}
 use Rattle.fdc_core.specs.declared.controller.Fdc.{Fdc}
 use Rattle.fdc_core.specs.declared.phases.Phase.TheVariants.{Execute}

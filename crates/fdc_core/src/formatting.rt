@@ -16,7 +16,6 @@ use fdc_writing::FormatNext;
 
 impl Fdc {
     /// A device step of a FORMAT, behind `steps` others. A protected medium is met in the first.
-    #[inline(never)]
     pub(crate) fn step_formatting<D: Drive>(
         &mut self,
         head_drive: u8,

@@ -22,7 +22,6 @@ const NO_BYTE: u8 = 0x00;
 
 impl Fdc {
     /// A device step of a write, behind `steps` others. A protected medium is met in the first.
-    #[inline(never)]
     pub(crate) fn step_writing<D: Drive>(
         &mut self,
         head_drive: u8,

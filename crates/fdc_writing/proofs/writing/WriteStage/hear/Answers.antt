@@ -19,11 +19,11 @@ returns-in-Met-clause-hears c = λ past deleted handed closed.
     subst (λ now. IsWriting past c.args.key deleted handed now → HasNext (heard_where (opens now) c.args.index c.args.word past) c.args.key deleted handed given) (sym c.in-Search.is)
     (search_none c.args.index c.args.word past c.args.key deleted handed c.in-Search.search given
     (λ was.
-        let met = c.in-Met.ensures.hears past was.1.0 in
-        c.meet.ensures.hears (heard c.args.index c.args.word past) c.args.key deleted c.hear.new.self.separator
-        (heard_alone c.args.index c.args.word past was.0 was.1.1.0)
-        was.1.1.0
-        (subst (λ key. IsMet c.args.index (heard c.args.index c.args.word past) key c.hear.new.self.separator) met.0 met.1)))
+    let met = c.in-Met.ensures.hears past was.1.0 in
+    c.meet.ensures.hears (heard c.args.index c.args.word past) c.args.key deleted c.hear.new.self.separator
+    (heard_alone c.args.index c.args.word past was.0 was.1.1.0)
+    was.1.1.0
+    (subst (λ key. IsMet c.args.index (heard c.args.index c.args.word past) key c.hear.new.self.separator) met.0 met.1)))
 
 pub returns-in-Missed-clause-hears : goal.returns-in-Missed-clause-hears
 returns-in-Missed-clause-hears c = λ past deleted handed closed.
