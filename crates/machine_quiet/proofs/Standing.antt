@@ -46,7 +46,7 @@ record StaysLow (new : Fdc) : Type 0 where
   low : new.interrupt ≡ false
   polled : new.poll_due ≡ false
 
-polled_same : (old : Fdc) → old.poll_due ≡ false → polled old ≡ old
+pub polled_same : (old : Fdc) → old.poll_due ≡ false → polled old ≡ old
 polled_same old none = rw none refl
 
 low_or : (seeking : Bool) → seeking ≡ false → (interrupt rest : Bool) → interrupt ≡ false → (interrupt || (seeking && rest)) ≡ false
