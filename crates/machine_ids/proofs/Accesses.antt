@@ -111,7 +111,7 @@ pub record HasBegun (scene : Scene) (old new : Fdc) : Type 0 where
   pub identifies : MayReadIdIn new_past scene.sent.head_drive (Execute (record { head_drive = scene.sent.head_drive; steps = 0; task = task }))
   pub after : new ≡ begun scene.sent.head_drive task (record old { command = command })
 
-has_begun : (scene : Scene) (byte : ℕ) (old : Board) (controller : Fdc) → CanBeginId scene byte old → Writes 0x3F5 byte (lines_of old) (controller_of old) controller
+pub has_begun : (scene : Scene) (byte : ℕ) (old : Board) (controller : Fdc) → CanBeginId scene byte old → Writes 0x3F5 byte (lines_of old) (controller_of old) controller
     → HasBegun scene (controller_of old) controller
 has_begun scene byte old controller can writes =
     let fdc = controller_of old in

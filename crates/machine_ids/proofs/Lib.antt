@@ -1,4 +1,4 @@
-mod Words
+pub mod Words
 mod Steps
-mod Accesses
+pub mod Accesses
 mod Results

@@ -5,10 +5,10 @@ use Rattle.std.proofs.lemmas.Bool.Decides.{nat_tests}
 use Rattle.dma_8237.specs.Channel.{after_write, after_read}
 use Rattle.fdc_commands.specs.Table.{answer, kept}
 use Rattle.fdc_commands.specs.declared.bytes.Accepted.TheVariants.{More}
-use Rattle.fdc_core.specs.Answers.{after_byte}
+use Rattle.fdc_core.specs.Answers.{after_byte, is_fresh}
 use Rattle.fdc_core.specs.Commands.{TakesAs}
 use Rattle.fdc_core.specs.Listening.{is_executing}
-use Rattle.fdc_core.specs.Ports.{given, phase_after, takes_in, is_taking, ccr_written, result_byte}
+use Rattle.fdc_core.specs.Ports.{given, interrupt_after, phase_after, takes_in, is_taking, ccr_written, result_byte}
 use Rattle.fdc_core.specs.State.{is_held}
 use Rattle.fdc_core.specs.declared.answers.Answer.{Answer}
 use Rattle.fdc_core.specs.declared.answers.Answer.TheVariants.{Short, Long}
@@ -21,7 +21,7 @@ use Rattle.pc_bus.specs.Boards.{Board, controller_of, lines_of}
 use Rattle.pc_bus.specs.Ports.{is_controllers, port_read, WritesPort, RunsGap, Inputs, Outputs}
 use Rattle.pc_bus.specs.Transfers.{shown_again}
 use Rattle.pc_bus.specs.declared.chips.Chips.{Chips}
-use Rattle.machine_quiet.specs.Quiet.{only_listens, HoldsOn, HaveTurned}
+use Rattle.machine_quiet.specs.Quiet.{only_listens, HoldsOn, HaveTurned, IsHushed}
 use Rattle.machine_quiet.specs.Settings.{Setting, ChipsStand, Stands, with_byte, with_rate, with_write, with_read}
 use Rattle.machine_quiet.proofs.Steps.{drives_on}
 use Rattle.machine_quiet.proofs.Standing.{still_stands, runs_stand}
@@ -33,14 +33,15 @@ gap_stands : (start : Board) (set : Setting) (between new : Board) → RunsGap b
 gap_stands start set between new gap was =
     runs_stand (next_entry between.bus.gaps) start set (record between { bus = record between.bus { gaps = rest_of between.bus.gaps } }) new gap.runs
     (still_stands start set between (record between { bus = record between.bus { gaps = rest_of between.bus.gaps } })
-    (record { chips = refl; first = refl; second = refl; direct = refl }) was)
+    (record { chips = refl; first = refl; second = refl; direct = refl; level = refl }) was)
 
 -- ---- writes
 
 -- a port that isn't the output register's leaves the drives
 written_stands : (start : Board) (set : Setting) (port value : ℕ) (old between : Board) (chips : Chips) → (port == 0x3F2) ≡ false → (writes : WritesPort port value old between)
-    → writes.chips ≡ chips → is_executing set.phase ≡ false → ChipsStand start.bus.chips set chips → HaveTurned start old → Stands start set between
-written_stands start set port value old between chips other writes is idle stand drives = record {
+    → writes.chips ≡ chips → is_executing set.phase ≡ false → ChipsStand start.bus.chips set chips → HaveTurned start old → (IsHushed start → IsHushed old)
+    → chips.controller.interrupt ≡ (controller_of old).interrupt → chips.controller.poll_due ≡ (controller_of old).poll_due → Stands start set between
+written_stands start set port value old between chips other writes is idle stand drives hush interrupt poll = record {
   idle = idle;
   chips = subst (ChipsStand start.bus.chips set) (sym (ap (λ bus. bus.chips) writes.bus ∙ is)) stand;
   drives = drives_on start old between drives (record {
@@ -48,6 +49,11 @@ written_stands start set port value old between chips other writes is idle stand
     second = turned_still old.second between.second (writes.motors.second_stays other);
     direct = ap (λ bus. bus.direct) writes.bus;
   });
+  hush = λ first. let before = hush first in record {
+    low = ap (λ bus. bus.chips.controller.interrupt) writes.bus ∙ (ap (λ c. c.controller.interrupt) is ∙ (interrupt ∙ before.low));
+    polled = ap (λ bus. bus.chips.controller.poll_due) writes.bus ∙ (ap (λ c. c.controller.poll_due) is ∙ (poll ∙ before.polled));
+    level = ap (λ bus. bus.latch.level) writes.bus ∙ before.level;
+  };
 }
 
 equal_of : (a b : ℕ) → (a == b) ≡ true → a ≡ b
@@ -79,7 +85,7 @@ channel_stands start set port value old new beside access was =
     gap_stands start (with_write port value set) access.between new access.gap
     (written_stands start (with_write port value set) port value old access.between (record old.bus.chips { channel = after_write port value old.bus.chips.channel })
     (not_output port beside) access.writes (access.writes.writes.channels beside) was.idle
-    (with_channel start.bus.chips set old.bus.chips port value was.chips) was.drives)
+    (with_channel start.bus.chips set old.bus.chips port value was.chips) was.drives was.hush refl refl)
 
 -- ---- the controller's ports
 
@@ -153,7 +159,7 @@ byte_stands start set byte old new command free more access was =
     (with_controller start.bus.chips set old.bus.chips (with_byte byte set) controller was.chips
     (like_holds (controller_of start).data_commands (controller_of start) fdc controller was.chips.controller like listens)
     phase (ap (λ c. c.command) after ∙ ap (λ bytes. bytes ++ byte ∷ []) was.chips.command) (ap (λ c. c.rate) after ∙ was.chips.rate) (ap (λ c. c.asking) after ∙ was.chips.low) refl)
-    was.drives)
+    was.drives was.hush (ap (λ c. c.interrupt) after) (ap (λ c. c.poll_due) after))
 
 pub rate_stands : (start : Board) (set : Setting) (byte : ℕ) (old new : Board) → Outputs 0x3F7 byte old new → Stands start set old → Stands start (with_rate byte set) new
 rate_stands start set byte old new access was =
@@ -175,7 +181,7 @@ rate_stands start set byte old new access was =
     (with_controller start.bus.chips set old.bus.chips (with_rate byte set) controller was.chips
     (like_holds (controller_of start).data_commands (controller_of start) fdc controller was.chips.controller like listens)
     phase (ap (λ c. c.command) after ∙ was.chips.command) (ap (λ c. c.rate) after) (ap (λ c. c.asking) after ∙ was.chips.low) refl)
-    was.drives)
+    was.drives was.hush (ap (λ c. c.interrupt) after) (ap (λ c. c.poll_due) after))
 
 -- ---- reads
 
@@ -232,6 +238,27 @@ read_idle set port idle true true = idle_read set.phase idle
 read_idle set port idle true false = idle
 read_idle set port idle false data_port = idle
 
+low_after : (phase : Phase) (interrupt : Bool) → interrupt ≡ false → interrupt_after phase interrupt ≡ false
+low_after Command interrupt low = low
+low_after (Execute execution) interrupt low = low
+low_after (Result answer) interrupt low = by_first (is_fresh answer)
+  where
+    by_first : (b : Bool) → (if b then false else interrupt) ≡ false
+    by_first true = refl
+    by_first false = low
+
+read_low : (chips : Chips) (port : ℕ) → chips.controller.interrupt ≡ false → (controllers data_port : Bool)
+    → (if controllers then shown_again (record chips { controller = if data_port then given chips.controller else chips.controller }) else record chips { channel = after_read port chips.channel }).controller.interrupt ≡ false
+read_low chips port low true true = low_after chips.controller.phase chips.controller.interrupt low
+read_low chips port low true false = low
+read_low chips port low false data_port = low
+
+read_polled : (chips : Chips) (port : ℕ) → chips.controller.poll_due ≡ false → (controllers data_port : Bool)
+    → (if controllers then shown_again (record chips { controller = if data_port then given chips.controller else chips.controller }) else record chips { channel = after_read port chips.channel }).controller.poll_due ≡ false
+read_polled chips port none true true = none
+read_polled chips port none true false = none
+read_polled chips port none false data_port = none
+
 pub input_stands : (start : Board) (set : Setting) (port value : ℕ) (old new : Board) → Inputs port value old new → Stands start set old → Stands start (with_read port set) new
 input_stands start set port value old new access was =
     let between : Board = record old { bus = record old.bus { chips = port_read port old.bus.chips; fresh = false } } in
@@ -239,6 +266,11 @@ input_stands start set port value old new access was =
       idle = read_idle set port was.idle (is_controllers port) (port == 0x3F5);
       chips = read_chips start.bus.chips set old.bus.chips port was.idle was.chips (is_controllers port) (port == 0x3F5);
       drives = drives_on start old between was.drives (record { first = turned_still old.first old.first refl; second = turned_still old.second old.second refl; direct = refl });
+      hush = λ first. let before = was.hush first in record {
+        low = read_low old.bus.chips port before.low (is_controllers port) (port == 0x3F5);
+        polled = read_polled old.bus.chips port before.polled (is_controllers port) (port == 0x3F5);
+        level = before.level;
+      };
     })
 
 -- what the data port gives

@@ -1,5 +1,5 @@
 -- Between two data commands: device steps leave a setting.
-use Rattle.std.proofs.Common.{◌≡◌, inl, inr, ℕ, zero, suc, ◌==◌, Bool, false, refl, sym, ◌∙◌, ap, subst}
+use Rattle.std.proofs.Common.{◌≡◌, ◌⊎◌, inl, inr, ℕ, zero, suc, ◌≤◌, ◌==◌, ◌&&◌, ◌||◌, not, Bool, true, false, None, if◌then◌else◌, refl, sym, ◌∙◌, ap, subst}
 use Rattle.std.proofs.lemmas.Bool.{false≢true}
 use Rattle.machine_pace.specs.declared.holding.Request.{Request}
 use Rattle.machine_pace.specs.declared.holding.Request.TheVariants.{Low}
@@ -12,7 +12,9 @@ use Rattle.pc_bus.specs.Boards.{Board, controller_of, selected_of}
 use Rattle.pc_bus.specs.Steps.{Step, Runs, RunsUnset, Waits, stirred}
 use Rattle.pc_bus.specs.Transfers.{dma_stepped}
 use Rattle.pc_bus.specs.declared.chips.Chips.{Chips}
-use Rattle.machine_quiet.specs.Quiet.{IsQuiet, HoldsOn, StandsStill}
+use Rattle.fdc_seek.specs.Seeking.{Seeking, is_seeking}
+use Rattle.fdc_core.specs.State.{interrupts, is_gated}
+use Rattle.machine_quiet.specs.Quiet.{IsQuiet, HoldsOn, StandsStill, IsHushed}
 use Rattle.machine_quiet.specs.Settings.{Setting, setting_of, ChipsStand, Stands}
 use Rattle.machine_quiet.proofs.Listening.{polled_phase, polled_asking}
 use Rattle.machine_quiet.proofs.Steps.{step_works, drives_on, drives_still, starts_quietly, first_second_or_none, stirred_still}
@@ -36,6 +38,63 @@ rests_stayed (Execute execution) old new track0 idle rests = absurd (false≢tru
 
 rested : (old new : Fdc) (track0 : Bool) → is_executing old.phase ≡ false → RestsIn (polled old).phase (polled old) track0 new → Stayed old new
 rested old new track0 idle rests = rests_stayed old.phase old new track0 idle (subst (λ phase. RestsIn phase (polled old) track0 new) (polled_phase old) rests)
+
+-- ---- INT
+
+-- INT stays low where no seek runs and no poll is to come
+record StaysLow (new : Fdc) : Type 0 where
+  low : new.interrupt ≡ false
+  polled : new.poll_due ≡ false
+
+pub polled_same : (old : Fdc) → old.poll_due ≡ false → polled old ≡ old
+polled_same old none = rw none refl
+
+low_or : (seeking : Bool) → seeking ≡ false → (interrupt rest : Bool) → interrupt ≡ false → (interrupt || (seeking && rest)) ≡ false
+low_or seeking none interrupt rest low = rw (low, none) refl
+
+stepped_low : (old new : Fdc) (track0 : Bool) → old.seeks.seek ≡ None → old.poll_due ≡ false → old.interrupt ≡ false → new ≡ seek_stepped track0 (polled old) → StaysLow new
+stepped_low old new track0 none unpolled low is =
+    let same : new ≡ seek_stepped track0 old = is ∙ ap (seek_stepped track0) (polled_same old unpolled) in
+    record {
+      low = ap (λ fdc. fdc.interrupt) same ∙ low_or (is_seeking old.seeks) (not_seeking old.seeks none) old.interrupt _ low;
+      polled = ap (λ fdc. fdc.poll_due) same ∙ unpolled;
+    }
+  where
+    not_seeking : (seeks : Seeking) → seeks.seek ≡ None → is_seeking seeks ≡ false
+    not_seeking seeks none = rw none refl
+
+rests_low : (phase : Phase) (old new : Fdc) (track0 : Bool) → is_executing phase ≡ false → old.seeks.seek ≡ None → old.poll_due ≡ false → old.interrupt ≡ false
+    → RestsIn phase (polled old) track0 new → StaysLow new
+rests_low Command old new track0 idle none unpolled low rests = stepped_low old new track0 none unpolled low rests
+rests_low (Result answer) old new track0 idle none unpolled low rests = stepped_low old new track0 none unpolled low rests
+rests_low (Execute execution) old new track0 idle none unpolled low rests = absurd (false≢true (sym idle))
+
+low_rested : (old new : Fdc) (track0 : Bool) → is_executing old.phase ≡ false → old.seeks.seek ≡ None → old.poll_due ≡ false → old.interrupt ≡ false
+    → RestsIn (polled old).phase (polled old) track0 new → StaysLow new
+low_rested old new track0 idle none unpolled low rests =
+    rests_low old.phase old new track0 idle none unpolled low (subst (λ phase. RestsIn phase (polled old) track0 new) (polled_phase old) rests)
+
+step_low : (old new : Board) → is_executing (controller_of old).phase ≡ false → (controller_of old).seeks.seek ≡ None → IsHushed old → (step : Step old new) → StaysLow step.between
+step_low old new idle none hushed step = elim (first_second_or_none (selected_of old)) [
+  | inl at ↦ low_rested (controller_of old) step.between (old.first.cylinder == 0) idle none hushed.polled hushed.low (step.turns.at_first at).0.rests
+  | inr (inl at) ↦ low_rested (controller_of old) step.between (old.second.cylinder == 0) idle none hushed.polled hushed.low (step.turns.at_second at).0.rests
+  | inr (inr at) ↦ low_rested (controller_of old) step.between false idle none hushed.polled hushed.low (step.turns.at_none at).0.rests
+]
+
+gate_low : (gated interrupt : Bool) → interrupt ≡ false → (gated && interrupt) ≡ false
+gate_low true interrupt low = low
+gate_low false interrupt low = refl
+
+step_hushed : (old new : Board) → (step : Step old new) → step.between.asking ≡ false → StaysLow step.between → IsHushed new
+step_hushed old new step quiet low =
+    let chips : Chips = record old.bus.chips { controller = step.between } in
+    let same : (dma_stepped chips).controller ≡ step.between = ap (λ c. c.controller) (idle_dma chips quiet) in
+    let now : controller_of new ≡ step.between = ap (λ bus. bus.chips.controller) step.bus ∙ same in
+    record {
+      low = ap (λ fdc. fdc.interrupt) now ∙ low.low;
+      polled = ap (λ fdc. fdc.poll_due) now ∙ low.polled;
+      level = ap (λ bus. bus.latch.level) step.bus ∙ (ap interrupts same ∙ gate_low (is_gated step.between) step.between.interrupt low.low);
+    }
 
 step_stayed : (old new : Board) → is_executing (controller_of old).phase ≡ false → (step : Step old new) → Stayed (controller_of old) step.between × Stays (controller_of old) step.between
 step_stayed old new idle step = elim (first_second_or_none (selected_of old)) [
@@ -83,6 +142,8 @@ step_stands start set old new step was =
           (stands_dma start.bus.chips set (record old.bus.chips { controller = step.between })
           (stands_word start.bus.chips set old.bus.chips step.between was.chips works.controller stayed stays));
       drives = drives_on start old new was.drives works.drives;
+      hush = λ first. step_hushed old new step (stayed.asking ∙ was.chips.low)
+          (step_low old new (ap is_executing was.chips.phase ∙ was.idle) was.chips.controller.quiet.no_seek (was.hush first) step);
     }
 
 pub still_stands : (start : Board) (set : Setting) (old new : Board) → StandsStill old new → Stands start set old → Stands start set new
@@ -90,6 +151,11 @@ still_stands start set old new still was = record {
   idle = was.idle;
   chips = subst (ChipsStand start.bus.chips set) (sym still.chips) was.chips;
   drives = drives_on start old new was.drives (drives_still old new still);
+  hush = λ first. let before = was.hush first in record {
+    low = ap (λ chips. chips.controller.interrupt) still.chips ∙ before.low;
+    polled = ap (λ chips. chips.controller.poll_due) still.chips ∙ before.polled;
+    level = still.level ∙ before.level;
+  };
 }
 
 pub starts_standing : (board : Board) → IsQuiet (controller_of board) → is_executing (controller_of board).phase ≡ false → (controller_of board).asking ≡ false
@@ -100,6 +166,7 @@ starts_standing board quiet idle low =
       idle = idle;
       chips = record { controller = all.controller; phase = refl; command = refl; rate = refl; low = low; channel = refl; memory = refl; stalls = refl };
       drives = all.drives;
+      hush = λ first. first;
     }
 
 pub runs_stand : (n : ℕ) (start : Board) (set : Setting) (old new : Board) → Runs n old new → Stands start set old → Stands start set new

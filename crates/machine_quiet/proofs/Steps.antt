@@ -198,7 +198,7 @@ still_quietly begun start old new still was = record {
 pub starts_quietly : (board : Board) → IsQuiet (controller_of board) → GoesQuietly (controller_of board).data_commands board board
 starts_quietly board quiet = record {
   controller = record { quiet = quiet; dor = refl; non_dma = refl; polling = refl; cylinders = refl; on = refl; threshold = refl; data_commands = refl };
-  drives = drives_still board board (record { chips = refl; first = refl; second = refl; direct = refl });
+  drives = drives_still board board (record { chips = refl; first = refl; second = refl; direct = refl; level = refl });
 }
 
 pub runs_quietly : (n begun : ℕ) (start old new : Board) → Runs n old new → GoesQuietly begun start old → GoesQuietly begun start new
@@ -212,7 +212,7 @@ unset_quietly zero begun start old new same was = subst (GoesQuietly begun start
 unset_quietly (suc n) begun start old new (between, runs, unset, step) was = step_quietly begun start between new step (unset_quietly n begun start old between runs was)
 
 pub stirred_still : (old : Board) → StandsStill old (stirred old)
-stirred_still old = record { chips = refl; first = refl; second = refl; direct = refl }
+stirred_still old = record { chips = refl; first = refl; second = refl; direct = refl; level = refl }
 
 pub waits_quietly : (most begun : ℕ) (set : Bool) (start old new : Board) → Waits most old set new → GoesQuietly begun start old → GoesQuietly begun start new
 waits_quietly most begun set start old new waits was =

@@ -9,7 +9,7 @@ use Rattle.fdc_core.specs.declared.rates.DataRate.{DataRate}
 use Rattle.pc_bus.specs.Boards.{Board, controller_of, channel_of}
 use Rattle.pc_bus.specs.Ports.{is_controllers}
 use Rattle.pc_bus.specs.declared.chips.Chips.{Chips}
-use Rattle.machine_quiet.specs.Quiet.{HoldsOn, HaveTurned}
+use Rattle.machine_quiet.specs.Quiet.{HoldsOn, HaveTurned, IsHushed}
 
 -- what the accesses set: the phase, the bytes of the command that has begun, the rate, and the channel
 pub record Setting : Type 0 where
@@ -54,8 +54,10 @@ pub record ChipsStand (old : Chips) (set : Setting) (now : Chips) : Type 0 where
   pub memory : now.memory ≡ old.memory
   pub stalls : now.holding.stalls ≡ old.holding.stalls
 
--- between two data commands the board has this setting; all else is as it was at the start, but that the drives turned on
+-- between two data commands the board has this setting; all else is as it was at the start, but that the drives turned on;
+-- and INT stays low
 pub record Stands (start : Board) (set : Setting) (now : Board) : Type 0 where
   pub idle : is_executing set.phase ≡ false
   pub chips : ChipsStand start.bus.chips set now.bus.chips
   pub drives : HaveTurned start now
+  pub hush : IsHushed start → IsHushed now

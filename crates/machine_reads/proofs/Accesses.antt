@@ -74,7 +74,7 @@ busy_before Command busy = busy
 busy_before (Execute execution) busy = refl
 busy_before (Result answer) busy = absurd (false≢true (sym (idle_after answer) ∙ busy))
 
-still_busy : (phase : Phase) → is_executing phase ≡ true → is_executing (phase_after phase) ≡ true
+pub still_busy : (phase : Phase) → is_executing phase ≡ true → is_executing (phase_after phase) ≡ true
 still_busy Command busy = busy
 still_busy (Execute execution) busy = refl
 still_busy (Result answer) busy = absurd (false≢true busy)

@@ -1,6 +1,7 @@
 mod Bytes
 pub mod Transfers
 pub mod Words
+mod TrackMet
 pub mod Steps
 pub mod Results
 pub mod Commands

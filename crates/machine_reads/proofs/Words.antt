@@ -24,7 +24,7 @@ use Rattle.machine_reads.specs.Underway.{IsUnder, IsHearing}
 le_true : (a b : ℕ) → a ≤ b → nat_le a b ≡ true
 le_true a b h = grind (arith, nat_tests)
 
-lt_of : (a b : ℕ) → nat_lt a b ≡ true → a < b
+pub lt_of : (a b : ℕ) → nat_lt a b ≡ true → a < b
 lt_of a b h = grind (arith, nat_tests)
 
 different : (a b : ℕ) → (a == b) ≡ false → a ≡ b → ⊥

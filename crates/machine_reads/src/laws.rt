@@ -1,12 +1,12 @@
 // What follows of the machine's steps. The bodies are empty.
-ghost use Rattle.std.specs.Prelude.{◌≡◌, ◌⊎◌, ℕ, ◌+◌, ◌%◌, ◌<◌, ◌≤◌, Bool, false, length};
+ghost use Rattle.std.specs.Prelude.{◌≡◌, ◌⊎◌, ℕ, ◌+◌, ◌%◌, ◌<◌, ◌≤◌, Bool, false, length, Some};
 ghost use Rattle.dma_8237.specs.Channel.{Channel};
 ghost use Rattle.dma_8237.specs.SetUp.{IsSetUp};
 ghost use Rattle.fdc_core.specs.Heard.{Sent};
 ghost use Rattle.fdc_core.specs.Listening.{is_executing};
 ghost use Rattle.machine_pace.specs.Holds.{counted};
 ghost use Rattle.raw_image.specs.Disk.{Disk};
-ghost use Rattle.track_model.specs.Fields.{IsSizeCode, content_size};
+ghost use Rattle.track_model.specs.Fields.{IsAddressAt, IsSizeCode, content_size};
 ghost use Rattle.pc_bus.specs.Boards.{Board, controller_of, memory_of};
 ghost use Rattle.pc_bus.specs.Ports.{Inputs, Outputs};
 ghost use Rattle.pc_bus.specs.Steps.{Step, Runs, RunsUnset, Waits};
@@ -15,7 +15,10 @@ ghost use Rattle.machine_quiet.specs.Quiet.{GoesQuietly, StandsStill};
 ghost use Rattle.machine_quiet.specs.Settings.{Setting, Stands};
 ghost use Rattle.machine_reads.specs.Begins.{CanBegin, IsReadyIn, IsSetFor, scene_of};
 ghost use Rattle.machine_reads.specs.Results.{ReadEnded, StaysOutside};
-ghost use Rattle.machine_reads.specs.Scenes.{Scene};
+ghost use Rattle.flop_base.specs.declared.answers.Rate.{Rate};
+ghost use Rattle.flop_base.specs.declared.key.Chrn.{Chrn};
+ghost use Rattle.machine_reads.specs.Scenes.{IsRecorded, Scene, data_rate, head_sent, track_met};
+ghost use Rattle.sector_map.specs.Met.{met_in};
 ghost use Rattle.machine_reads.specs.Underway.{IsSet, KeepsRead, ReadUnderway};
 
 use fdc_core::read_data_tells;
@@ -46,6 +49,14 @@ pub fn a_read_begins()
         → IsSetFor sent address left byte set → address + (left + 1) ≤ length (memory_of start) → CanBegin (scene_of sent bay disk address (left + 1) board) byte board }
     ensures counts { (begun : ℕ) (start : Board) (scene : Scene) (byte : ℕ) (old new : Board) → Outputs 0x3F5 byte old new → CanBegin scene byte old
         → GoesQuietly begun start old → GoesQuietly (counted begun) start new }
+{}
+
+/// The track under the head is the one that a command meets at the rate that the controller is set to; one with an address
+/// field is a track of the medium, at its own rate.
+pub fn the_track_is_met()
+    ensures met { (scene : Scene) (rate : Rate) → scene.rate ≡ data_rate rate → track_met scene ≡ met_in (Some scene.disk) rate scene.cylinder (head_sent scene.sent) }
+    ensures recorded { (scene : Scene) (p : ℕ) (key : Chrn) → IsAddressAt (track_met scene) p key → IsRecorded scene }
+    ensures rate { (scene : Scene) (rate : Rate) → scene.rate ≡ data_rate rate → IsRecorded scene → scene.disk.rate ≡ rate }
 {}
 
 /// What the results of a READ DATA say of the track under the head, where the channel was set to as many bytes as the

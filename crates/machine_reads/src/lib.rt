@@ -6,4 +6,5 @@ mod laws;
 
 pub use laws::{
     a_read_begins, a_read_tells_of_the_track, device_steps_keep_a_read, port_accesses_keep_a_read,
+    the_track_is_met,
 };
