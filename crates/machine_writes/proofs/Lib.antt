@@ -11,3 +11,5 @@ pub mod Results
 mod Filling
 pub mod OnTime
 mod Beginning
+mod Stillness
+mod Idle
