@@ -13,3 +13,4 @@ pub mod OnTime
 mod Beginning
 mod Stillness
 mod Idle
+mod IdlePorts

@@ -52,7 +52,7 @@ still_further a b c one two = record {
   never_falls = let first = one.never_falls in let second = two.never_falls in omega arith;
 }
 
-still_same : (a b : DriveState) → b ≡ a → IsStill a b
+pub still_same : (a b : DriveState) → b ≡ a → IsStill a b
 still_same a b same = record {
   cylinder = ap (λ s. s.cylinder) same;
   change = ap (λ s. s.change) same;
@@ -308,7 +308,7 @@ step_still old new step was =
       | inr (inr at) ↦ absurd (omega arith)
     ]
 
-stays_further : (old between new : Board) → StaysStill old between → StaysStill between new → StaysStill old new
+pub stays_further : (old between new : Board) → StaysStill old between → StaysStill between new → StaysStill old new
 stays_further old between new one two = record {
   no_seek = two.no_seek;
   first = still_further old.first between.first new.first one.first two.first;

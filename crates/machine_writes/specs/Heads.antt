@@ -42,3 +42,11 @@ pub record StaysIdle (old new : Board) : Type 0 where
   pub first : new.first.medium ≡ old.first.medium
   pub second : new.second.medium ≡ old.second.medium
   pub request : (holds_of old).request ≡ Low → (holds_of new).request ≡ Low
+
+-- the same behind a port access, which may set the channel or read a result byte
+pub record RestsIdle (old new : Board) : Type 0 where
+  pub idle : IsIdle new
+  pub memory : memory_of new ≡ memory_of old
+  pub first : new.first.medium ≡ old.first.medium
+  pub second : new.second.medium ≡ old.second.medium
+  pub request : (holds_of old).request ≡ Low → (holds_of new).request ≡ Low
