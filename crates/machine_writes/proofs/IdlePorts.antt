@@ -18,8 +18,10 @@ use Rattle.pc_bus.specs.Ports.{FollowsMotor, Inputs, Outputs, SetsMotors, is_con
 use Rattle.pc_bus.specs.Transfers.{shown_again}
 use Rattle.pc_bus.specs.declared.chips.Chips.{Chips}
 use Rattle.machine_reads.proofs.Accesses.{gapped}
+use Rattle.machine_writes.specs.Guards.{LeavesOthers}
 use Rattle.machine_writes.specs.Heads.{HasNoSeek, IsIdle, RestsIdle, StaysStill}
 use Rattle.machine_writes.proofs.Accesses.{idle_after}
+use Rattle.machine_writes.proofs.Guards.{leaves_on, runs_leave}
 use Rattle.machine_writes.proofs.Idle.{runs_idle}
 use Rattle.machine_writes.proofs.Stillness.{runs_still, stays_further, still_same}
 
@@ -87,6 +89,12 @@ inputs_still port value old new access was =
       numbers = ap (λ (s : Seeking). s.cylinders) leaves.seeks;
     } in
     stays_further old (read_board port old) new between (runs_still (next_entry old.bus.gaps) (read_board port old) new access.gap.runs between.no_seek)
+
+pub inputs_leave : (port value : ℕ) (old new : Board) → Inputs port value old new → LeavesOthers old new
+inputs_leave port value old new access =
+    let leaves = by_port old.bus.chips port (is_controllers port) in
+    leaves_on old (read_board port old) new (record { dor = ap (λ dor. dor.0) leaves.dor; first = λ _. refl; second = λ _. refl })
+    (runs_leave (next_entry old.bus.gaps) (read_board port old) new access.gap.runs)
 
 -- ---- writes
 

@@ -1,6 +1,7 @@
 // What device steps leave of heads, and of an idle machine. The bodies are empty.
 ghost use Rattle.std.specs.Prelude.{◌≡◌, ℕ, None};
 ghost use Rattle.fdc_seek.specs.Seeking.{Seeking, seek_bits};
+ghost use Rattle.machine_writes.specs.Guards.{LeavesOthers};
 ghost use Rattle.machine_writes.specs.Heads.{HasNoSeek, IsIdle, RestsIdle, StaysIdle, StaysStill};
 ghost use Rattle.pc_bus.specs.Ports.{Inputs, Outputs};
 ghost use Rattle.pc_bus.specs.Boards.{Board};
@@ -26,6 +27,7 @@ pub fn an_idle_machine_stays()
 /// request is left for the next command.
 pub fn port_accesses_leave_an_idle_machine()
     ensures still { (port value : ℕ) (old new : Board) → Inputs port value old new → HasNoSeek old → StaysStill old new }
+    ensures others { (port value : ℕ) (old new : Board) → Inputs port value old new → LeavesOthers old new }
     ensures inputs { (port value : ℕ) (old new : Board) → Inputs port value old new → IsIdle old → RestsIdle old new }
     ensures outputs { (port value : ℕ) (old new : Board) (access : Outputs port value old new) → IsIdle old → IsIdle access.between → RestsIdle old new }
 {}

@@ -11,6 +11,8 @@ ghost use Rattle.fdc_commands.specs.declared.results.Results.{Results};
 ghost use Rattle.track_written.specs.Written.{IsCalm};
 ghost use Rattle.machine_reads.specs.Scenes.{Scene, head_sent};
 ghost use Rattle.machine_writes.specs.Begins.{CanBegin};
+ghost use Rattle.machine_writes.specs.Guards.{LeavesOthers};
+ghost use Rattle.machine_writes.specs.Heads.{StaysStill};
 ghost use Rattle.machine_writes.specs.Results.{ChangesTo, WriteEnded, WritesOnly, WritesWell, written_in};
 ghost use Rattle.machine_writes.specs.Underway.{KeepsWrite, WriteUnderway};
 ghost use Rattle.pc_bus.specs.Boards.{Board, controller_of, drive_in};
@@ -25,11 +27,13 @@ pub fn device_steps_keep_a_write()
     ensures unset { (n : ℕ) (old new : Board) → RunsUnset n old new → KeepsWrite old new }
 {}
 
-/// The port write that completes the bytes of a WRITE DATA or WRITE DELETED begins it, and a read of a port keeps what is known
+/// The port write that completes the bytes of a WRITE DATA or WRITE DELETED begins it, and moves no heads; and a read of a port keeps what is known
 /// of it until the last result byte was read; whatever gaps follow the accesses.
 pub fn port_accesses_keep_a_write()
     ensures begins { (scene : Scene) (deleted : Bool) (byte : ℕ) (old new : Board) → Outputs 0x3F5 byte old new → CanBegin scene deleted byte old
         → WriteUnderway scene deleted new }
+    ensures still { (scene : Scene) (deleted : Bool) (byte : ℕ) (old new : Board) → Outputs 0x3F5 byte old new → CanBegin scene deleted byte old → StaysStill old new }
+    ensures leaves { (scene : Scene) (deleted : Bool) (byte : ℕ) (old new : Board) → Outputs 0x3F5 byte old new → CanBegin scene deleted byte old → LeavesOthers old new }
     ensures keeps { (port value : ℕ) (old new : Board) → Inputs port value old new → (scene : Scene) (deleted : Bool) → WriteUnderway scene deleted old
         → WriteUnderway scene deleted new ⊎ ((controller_of new).phase ≡ Command) }
 {}
