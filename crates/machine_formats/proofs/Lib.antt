@@ -3,3 +3,4 @@ mod Words
 mod Steps
 mod Accesses
 mod Results
+mod Beginning

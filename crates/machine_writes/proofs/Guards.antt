@@ -167,7 +167,7 @@ step_leaves old new step = elim (first_second_or_none (selected_of old)) [
   }
 ]
 
-leaves_on : (old between new : Board) → LeavesOthers old between → LeavesOthers between new → LeavesOthers old new
+pub leaves_on : (old between new : Board) → LeavesOthers old between → LeavesOthers between new → LeavesOthers old new
 leaves_on old between new one two =
     let same : selected_of between ≡ selected_of old = ap (λ byte. byte % 4) one.dor in
     record {

@@ -11,3 +11,7 @@ pub mod Results
 mod Filling
 pub mod OnTime
 mod Beginning
+pub mod Stillness
+mod Idle
+mod IdlePorts
+pub mod Begun

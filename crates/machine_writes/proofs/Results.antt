@@ -1,13 +1,16 @@
 -- From the words that were written to the medium.
-use Rattle.std.proofs.Common.{◌≡◌, ◌⊎◌, inl, inr, ℕ, ◌+◌, ◌*◌, ◌≤◌, Bool, List, [], ◌∷◌, ◌++◌, Some, length, get_or, take, drop, refl, sym, ◌∙◌, ap, subst, arith, length-append}
+use Rattle.std.proofs.Common.{false, ◌≡◌, ◌⊎◌, inl, inr, ℕ, ◌+◌, ◌*◌, ◌≤◌, Bool, List, [], ◌∷◌, ◌++◌, Some, length, get_or, take, drop, refl, sym, ◌∙◌, ap, subst, arith, length-append}
 use Rattle.std.proofs.Math.ListN.{get_or-append}
 use Rattle.std.proofs.lemmas.Bool.{false≢true}
 use Rattle.std.proofs.lemmas.List.{append-nil, ext_get_or, get_or-take, length-take}
 use Rattle.raw_image.specs.Disk.{Disk, HasTrack, IsWithTrack, track_of}
+use Rattle.flop_base.specs.declared.key.Chrn.{Chrn}
 use Rattle.track_model.specs.Fields.{IsAddressAt, content_size}
 use Rattle.track_model.specs.Looks.{HasAddressMark}
 use Rattle.track_model.specs.Windows.{IsCuttable, cut_of, window_word, with_words}
 use Rattle.track_model.specs.Writing.{window}
+use Rattle.track_model.proofs.Frames.{same_address_at}
+use Rattle.track_model.proofs.Splices.{same_before}
 use Rattle.track_model.proofs.Written.{length-window}
 use Rattle.sector_map.proofs.RegularTracks.{length-track_of}
 use Rattle.sector_map.specs.Changes.{Change, IsChange}
@@ -22,6 +25,8 @@ use Rattle.fdc_stages.specs.declared.ending.Ending.TheVariants.{Done, NoMark, No
 use Rattle.fdc_writing.specs.Writings.{HasBegun, HasNoWindow, HasWritten, IsFirstOf, IsWhole, IsWriting}
 use Rattle.fdc_writing.specs.declared.writing.WriteStage.{WriteStage}
 use Rattle.fdc_writing.specs.declared.writing.WriteStage.TheVariants as stage
+use Rattle.fdc_commands.specs.declared.results.Results.{Results}
+use Rattle.fdc_core.specs.Phases.{is_overrun, overran}
 use Rattle.fdc_core.specs.Written.{IsContent, MayWriteIn, MayWriteTask}
 use Rattle.fdc_core.specs.declared.answers.Answer.TheVariants.{Short, Long}
 use Rattle.fdc_core.specs.declared.phases.Phase.{Phase}
@@ -34,7 +39,7 @@ use Rattle.track_heard.proofs.Fields.{address_heard, mark_heard, turn_is}
 use Rattle.track_written.specs.Written.{IsCalm}
 use Rattle.machine_reads.specs.Scenes.{Scene, IsScene, head_sent, track_met}
 use Rattle.machine_reads.proofs.Words.{length-met}
-use Rattle.machine_writes.specs.Results.{ChangesTo, ChangesWhole, EndedIn, EndsAs, HasChanged, IsUnchanged, window_in, written_in}
+use Rattle.machine_writes.specs.Results.{ChangesTo, ChangesWhole, EndedIn, EndsAs, HasChanged, IsUnchanged, WritesWell, window_in, written_in}
 use Rattle.machine_writes.specs.Underway.{IsAtDrive, IsTaken, range_of}
 use Rattle.machine_writes.proofs.Content.{handed_all, handed_rest, not_all}
 use Rattle.machine_writes.proofs.Words.{heard_met}
@@ -121,6 +126,14 @@ take_less words whole others count is few =
     get_or-take count words k 0 (omega arith)
     ∙ (sym (get_or-append words others 0 k (omega arith)) ∙ (sym (ap (λ list. get_or list k 0) is) ∙ sym (get_or-take count whole k 0 (omega arith)))))
 
+-- the address field before the words stays
+address_kept : (track : List ℕ) (p k : ℕ) (words : List ℕ) (key : Chrn) → IsCuttable track p k words → IsAddressAt track p key → IsAddressAt (cut_of track p k words) p key
+address_kept track p k words key cuttable address =
+    let most = cuttable.most in
+    let inside = cuttable.inside in
+    let long = length-take k words in
+    same_address_at track (cut_of track p k words) p key (same_before track (window_word p) (take k words) (omega arith) p 160 (omega arith)) address
+
 made : (scene : Scene) (deleted executes : Bool) (past : Past) (drive : DriveState) → IsScene scene → IsAtDrive scene past executes drive → (of : IsOfWindow scene deleted past) → MakesChange scene deleted past drive of.p
 made scene deleted executes past drive whole was of =
     let start = start_of scene.from past.turns in
@@ -140,6 +153,9 @@ made scene deleted executes past drive whole was of =
     let row : with_words track (start + length past.seen) (take put.count past.words) ≡ cut_of track (of.p + 16 * start) put.count (window_in scene deleted) =
     ap (with_words track (start + length past.seen)) (take_less past.words (window_in scene deleted) others put.count is few)
     ∙ ap (λ n. with_words track n (take put.count (window_in scene deleted))) (sym at) in
+    let cuttable : IsCuttable track (of.p + 16 * start) put.count (window_in scene deleted) = record { most = omega arith; inside = omega arith } in
+    let cut : IsWithTrack scene.disk scene.cylinder (head_sent scene.sent) (cut_of track (of.p + 16 * start) put.count (window_in scene deleted)) put.now =
+    subst (λ r. IsWithTrack scene.disk scene.cylinder (head_sent scene.sent) r put.now) row put.stands.track in
     record {
       changed = record {
         change = record { cylinder = scene.cylinder; place = of.p + 16 * start; words = put.count };
@@ -151,8 +167,10 @@ made scene deleted executes past drive whole was of =
           unprotected = was.unprotected of.some;
           track = met.has;
           address = address;
-          cuttable = record { most = omega arith; inside = omega arith };
-          cut = subst (λ r. IsWithTrack scene.disk scene.cylinder (head_sent scene.sent) r put.now) row put.stands.track;
+          cuttable = cuttable;
+          cut = cut;
+          stays = subst (λ t. IsAddressAt t (of.p + 16 * start) scene.sent.key) (sym cut.has)
+              (address_kept track (of.p + 16 * start) put.count (window_in scene deleted) scene.sent.key cuttable address);
         };
       };
       whole = put.whole;
@@ -275,6 +293,24 @@ module _ (scene : Scene) (deleted executes : Bool) (past : Past) (drive : DriveS
   ended (Execute execution) asking fifo may = tt
   ended (Result (Short next last)) asking fifo may = tt
   ended (Result (Long ending results taken)) asking fifo (low, are, (handed, has)) = (are, ends handed has.content ending has.written)
+
+-- undisturbed, the whole window stands where it is inside the track
+pub well : (scene : Scene) (deleted : Bool) (drive : DriveState) (ending : Ending) → IsCalm scene.faults drive.faults → overran ending ≡ false → EndsAs scene deleted drive ending → WritesWell scene deleted drive
+well scene deleted drive (Done marked) calm on_time ends = inr (ends.changed, λ inside. ends.whole calm)
+well scene deleted drive NoMark calm on_time ends = inl ends.0
+well scene deleted drive NoSector calm on_time ends = inl ends.0
+well scene deleted drive NoField calm on_time (inl same, out) = inl same
+well scene deleted drive NoField calm on_time (inr short, out) = inr (short.changed, λ inside. absurd (short.out inside))
+well scene deleted drive Overrun calm on_time ends = absurd (false≢true (sym on_time))
+well scene deleted drive Protected calm on_time ends = inl ends
+well scene deleted drive BadCheck calm on_time ends = absurd ends
+well scene deleted drive NoCount calm on_time ends = absurd ends
+well scene deleted drive Late calm on_time ends = absurd ends
+
+pub ended_well : (scene : Scene) (deleted : Bool) (drive : DriveState) (phase : Phase) (ending : Ending) (results : Results) (read : ℕ) → phase ≡ Result (Long ending results read)
+    → IsCalm scene.faults drive.faults → is_overrun phase ≡ false → EndedIn scene deleted drive phase → WritesWell scene deleted drive
+ended_well scene deleted drive phase ending results read is calm on_time ends =
+    well scene deleted drive ending calm (sym (ap is_overrun is) ∙ on_time) (subst (EndedIn scene deleted drive) is ends).1
 
 -- ---- a change of the disk
 

@@ -29,7 +29,7 @@ abbrev pub window_in : Scene → Bool → List ℕ
 window_in scene deleted = window deleted (range_of scene)
 
 -- behind an address field of the key on the track under the head, the first words of the window stand on the disk, and
--- nothing else on it changed
+-- nothing else on it changed: the address field is there still
 pub record ChangesTo (scene : Scene) (deleted : Bool) (change : Change) (after : Disk) : Type 0 where
   pub cylinder : change.cylinder ≡ scene.cylinder
   pub rate : rate_fits scene.rate scene.disk.rate ≡ true
@@ -39,6 +39,7 @@ pub record ChangesTo (scene : Scene) (deleted : Bool) (change : Change) (after :
   pub cuttable : IsCuttable (track_of scene.disk scene.cylinder (head_sent scene.sent)) change.place change.words (window_in scene deleted)
   pub cut : IsWithTrack scene.disk scene.cylinder (head_sent scene.sent)
       (cut_of (track_of scene.disk scene.cylinder (head_sent scene.sent)) change.place change.words (window_in scene deleted)) after
+  pub stays : IsAddressAt (track_of after scene.cylinder (head_sent scene.sent)) change.place scene.sent.key
 
 -- the whole window stands
 abbrev pub IsWholeWindow : Scene → Bool → Change → Type 0
@@ -72,6 +73,12 @@ pub record ChangesWhole (scene : Scene) (deleted : Bool) (drive : DriveState) : 
 pub record ChangesOut (scene : Scene) (deleted : Bool) (drive : DriveState) : Type 0 where
   pub changed : HasChanged scene deleted drive
   pub out : IsInsideTrack scene changed.change → ⊥
+
+-- the medium is as it was, or was changed, and the whole window stands where it is inside the track
+abbrev pub WritesWell : Scene → Bool → DriveState → Type 0
+WritesWell scene deleted drive =
+    IsUnchanged scene drive
+    ⊎ ((changed : HasChanged scene deleted drive) × (IsInsideTrack scene changed.change → IsWholeWindow scene deleted changed.change))
 
 -- what an ending says of the medium and of the track as it was: IC 00 that the whole window stands; MA and ND, that nothing was
 -- written; MA with MD that a window isn't inside the track; NW, that nothing was written. EN, the last step and DE don't come

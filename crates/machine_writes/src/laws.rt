@@ -1,14 +1,21 @@
 // What follows of the machine's steps. The bodies are empty.
-ghost use Rattle.std.specs.Prelude.{◌≡◌, ◌⊎◌, Bool, ℕ};
+ghost use Rattle.std.specs.Prelude.{◌≡◌, ◌⊎◌, Bool, ℕ, false};
 ghost use Rattle.track_model.specs.Fields.{content_size};
 ghost use Rattle.raw_image.specs.Disk.{Disk};
 ghost use Rattle.sector_map.specs.Changes.{Change, IsChange};
-ghost use Rattle.fdc_core.specs.declared.phases.Phase.TheVariants.{Command};
+ghost use Rattle.fdc_core.specs.declared.phases.Phase.TheVariants.{Command, Result};
+ghost use Rattle.fdc_core.specs.Phases.{is_overrun};
+ghost use Rattle.fdc_core.specs.declared.answers.Answer.TheVariants.{Long};
+ghost use Rattle.fdc_stages.specs.declared.ending.Ending.{Ending};
+ghost use Rattle.fdc_commands.specs.declared.results.Results.{Results};
+ghost use Rattle.track_written.specs.Written.{IsCalm};
 ghost use Rattle.machine_reads.specs.Scenes.{Scene, head_sent};
 ghost use Rattle.machine_writes.specs.Begins.{CanBegin};
-ghost use Rattle.machine_writes.specs.Results.{ChangesTo, WriteEnded, WritesOnly, written_in};
+ghost use Rattle.machine_writes.specs.Guards.{LeavesOthers};
+ghost use Rattle.machine_writes.specs.Heads.{StaysStill};
+ghost use Rattle.machine_writes.specs.Results.{ChangesTo, WriteEnded, WritesOnly, WritesWell, written_in};
 ghost use Rattle.machine_writes.specs.Underway.{KeepsWrite, WriteUnderway};
-ghost use Rattle.pc_bus.specs.Boards.{Board, controller_of};
+ghost use Rattle.pc_bus.specs.Boards.{Board, controller_of, drive_in};
 ghost use Rattle.pc_bus.specs.Ports.{Inputs, Outputs};
 ghost use Rattle.pc_bus.specs.Steps.{Runs, RunsUnset, Step};
 
@@ -20,24 +27,30 @@ pub fn device_steps_keep_a_write()
     ensures unset { (n : ℕ) (old new : Board) → RunsUnset n old new → KeepsWrite old new }
 {}
 
-/// The port write that completes the bytes of a WRITE DATA or WRITE DELETED begins it, and a read of a port keeps what is known
+/// The port write that completes the bytes of a WRITE DATA or WRITE DELETED begins it, and moves no heads; and a read of a port keeps what is known
 /// of it until the last result byte was read; whatever gaps follow the accesses.
 pub fn port_accesses_keep_a_write()
     ensures begins { (scene : Scene) (deleted : Bool) (byte : ℕ) (old new : Board) → Outputs 0x3F5 byte old new → CanBegin scene deleted byte old
         → WriteUnderway scene deleted new }
+    ensures still { (scene : Scene) (deleted : Bool) (byte : ℕ) (old new : Board) → Outputs 0x3F5 byte old new → CanBegin scene deleted byte old → StaysStill old new }
+    ensures leaves { (scene : Scene) (deleted : Bool) (byte : ℕ) (old new : Board) → Outputs 0x3F5 byte old new → CanBegin scene deleted byte old → LeavesOthers old new }
     ensures keeps { (port value : ℕ) (old new : Board) → Inputs port value old new → (scene : Scene) (deleted : Bool) → WriteUnderway scene deleted old
         → WriteUnderway scene deleted new ⊎ ((controller_of new).phase ≡ Command) }
 {}
 
 /// What a write leaves, where the channel was set to as many bytes as the sector has: at any time memory is as it was, and the
 /// medium is, or has one change, a first part of the window of those bytes behind an address field of the key; and its results
-/// say how much of it stands, or what the track under the head is. Where the command's head is that of the key, that is a
+/// say how much of it stands, or what the track under the head is; with no fault of the drive and no OR the whole window stands
+/// wherever it is inside the track. Where the command's head is that of the key, that is a
 /// change of the disk.
 pub fn a_write_tells_of_the_medium()
     ensures only { (scene : Scene) (deleted : Bool) (board : Board) → scene.size ≡ content_size scene.sent.key.n → WriteUnderway scene deleted board
         → WritesOnly scene deleted board }
     ensures ended { (scene : Scene) (deleted : Bool) (board : Board) → scene.size ≡ content_size scene.sent.key.n → WriteUnderway scene deleted board
         → WriteEnded scene deleted board }
+    ensures undisturbed { (scene : Scene) (deleted : Bool) (board : Board) (ending : Ending) (results : Results) (read : ℕ)
+        → scene.size ≡ content_size scene.sent.key.n → WriteUnderway scene deleted board → (controller_of board).phase ≡ Result (Long ending results read)
+        → IsCalm scene.faults (drive_in board scene.bay).faults → is_overrun (controller_of board).phase ≡ false → WritesWell scene deleted (drive_in board scene.bay) }
     ensures change { (scene : Scene) (deleted : Bool) (change : Change) (after : Disk) → head_sent scene.sent ≡ scene.sent.key.h
         → ChangesTo scene deleted change after → IsChange (written_in scene deleted) scene.disk change after }
 {}
