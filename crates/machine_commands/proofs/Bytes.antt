@@ -93,6 +93,14 @@ byte_last byte command old new listens whole fdc obeys quiet rest access = outpu
         let bytes = (controller_of old).command ++ byte ∷ [] in
         obeys controller (subst (λ a. TakesAs a (lines_of old) (record (controller_of old) { command = kept a bytes }) controller) whole takes)
 
+-- a controller that was given the last byte
+pub last_written : (byte : ℕ) (command : Command) (fdc controller : Fdc) (lines : Lines) → IsListening fdc → answer (fdc.command ++ byte ∷ []) ≡ Ready command
+    → Writes 0x3F5 byte lines fdc controller → Obeys command lines (with_bytes [] fdc) controller
+last_written byte command fdc controller lines listens whole writes =
+    let takes = (writes.bytes refl).0 (taking fdc listens) in
+    let bytes = fdc.command ++ byte ∷ [] in
+    subst (λ a. TakesAs a lines (record fdc { command = kept a bytes }) controller) whole takes
+
 -- ---- a whole command
 
 -- the bytes sent in two parts

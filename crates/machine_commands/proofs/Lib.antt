@@ -10,3 +10,7 @@ pub mod Spinning
 pub mod Settling
 pub mod Senses
 pub mod Resets
+pub mod Seeking
+pub mod Moving
+pub mod SeekEnds
+pub mod SeekRigs

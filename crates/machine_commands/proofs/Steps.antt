@@ -80,7 +80,7 @@ still_by fdc seeks true ended same wrong = absurd cc
 still_by fdc seeks false ended same _ =
     ap (λ s. let f : Fdc = record fdc { seeks = s; interrupt = fdc.interrupt || false } in f) same ∙ ap (λ i. let f : Fdc = record fdc { interrupt = i } in f) (or_false fdc.interrupt)
 
-still_seeks : (fdc : Fdc) (track0 : Bool) → is_seeking fdc.seeks ≡ false → seek_stepped track0 fdc ≡ fdc
+pub still_seeks : (fdc : Fdc) (track0 : Bool) → is_seeking fdc.seeks ≡ false → seek_stepped track0 fdc ≡ fdc
 still_seeks fdc track0 over =
     still_by fdc (stepped fdc.seeks track0) (is_seeking fdc.seeks) (not (is_seeking (stepped fdc.seeks track0))) (still_seek fdc.seeks fdc.seeks.seek track0 over) over
 
@@ -93,7 +93,7 @@ unpolled_by fdc false _ = refl
 pub unpolled : (fdc : Fdc) → (fdc.poll_due && not (is_held fdc)) ≡ false → polled fdc ≡ fdc
 unpolled fdc wrong = unpolled_by fdc (fdc.poll_due && not (is_held fdc)) wrong
 
-rests_in : (phase : Phase) (old : Fdc) (track0 : Bool) (new : Fdc) → is_executing phase ≡ false → RestsIn phase old track0 new → new ≡ seek_stepped track0 old
+pub rests_in : (phase : Phase) (old : Fdc) (track0 : Bool) (new : Fdc) → is_executing phase ≡ false → RestsIn phase old track0 new → new ≡ seek_stepped track0 old
 rests_in Command old track0 new idle is = is
 rests_in (Execute execution) old track0 new busy is = absurd cc
 rests_in (Result answer) old track0 new idle is = is
@@ -146,7 +146,7 @@ passes_turn before after becomes = turned_by before before after becomes refl re
 pub gate_turns : (before after : DriveState) → Becomes before (let_pass before) after → OnlyTurns before after
 gate_turns before after becomes = turned_by before (with_gate false before) after becomes refl refl refl refl refl
 
-moves_in : (phase : Phase) (fdc : Fdc) (before after : DriveState) → is_executing phase ≡ false → MovesIn phase fdc before after
+pub moves_in : (phase : Phase) (fdc : Fdc) (before after : DriveState) → is_executing phase ≡ false → MovesIn phase fdc before after
     → Moves (pulse_due fdc.seeks (before.cylinder == 0)) before after
 moves_in Command fdc before after idle is = is
 moves_in (Execute execution) fdc before after busy is = absurd cc

@@ -1,0 +1,282 @@
+-- A seek from its first byte to the end of its result.
+use Rattle.std.proofs.Common.{◌≡◌, ◌⊎◌, inl, inr, ℕ, zero, suc, ◌+◌, ◌-◌, ◌%◌, ◌≤◌, ◌==◌, Bool, true, false, List, [], ◌∷◌, ◌++◌, Option, Some, None, slice_index, slice_set, if◌then◌else◌, refl, sym, ◌∙◌, ap, subst, arith}
+use Rattle.drive_model.specs.Drive.{DriveState}
+use Rattle.fdc_commands.specs.Table.{answer}
+use Rattle.fdc_commands.specs.declared.bytes.Accepted.TheVariants.{Ready}
+use Rattle.fdc_commands.specs.declared.command.Command.{Command}
+use Rattle.fdc_seek.specs.Seeking.{Seeking, ended, sensed, after_sense, is_seeking, has_ended, with_motion}
+use Rattle.fdc_seek.specs.declared.motion.Motion.{Motion}
+use Rattle.fdc_seek.specs.declared.motion.Motion.TheVariants.{Ended}
+use Rattle.fdc_core.specs.Commands.{Obeys}
+use Rattle.fdc_core.specs.State.{dor_of, interrupts}
+use Rattle.fdc_core.specs.Steps.{polled}
+use Rattle.fdc_core.specs.declared.controller.Fdc.{Fdc}
+use Rattle.fdc_core.specs.declared.controller.Lines.{Lines}
+use Rattle.machine_pace.specs.Entries.{next_entry}
+use Rattle.pc_bus.specs.Boards.{Board, controller_of, memory_of, holds_of, drive_in, lines_of}
+use Rattle.pc_bus.specs.Ports.{Outputs, RunsGap}
+use Rattle.pc_bus.specs.Steps.{stirred}
+use Rattle.pc_bus.specs.declared.bus.Bus.{Bus}
+use Rattle.machine_commands.specs.Asked.{EndsSeek}
+use Rattle.machine_commands.specs.Idling.{IsResting, KeepsDrive, KeepsSpeed, KeepsAll, StaysIdle, Idles, is_up}
+use Rattle.machine_commands.specs.Ready.{dor_with, none_pending, IsReady, IsIdle}
+use Rattle.machine_commands.specs.Sending.{Sends}
+use Rattle.machine_commands.specs.declared.motors.Motors.{Motors}
+use Rattle.machine_commands.proofs.Accesses.{accessed, accessed_keeps, gapped, same_drive, same_speed}
+use Rattle.machine_commands.proofs.Bytes.{IsListening, AreMore, with_bytes, listens_with, first_bytes, sends_parts, last_written}
+use Rattle.machine_commands.proofs.Questions.{ready_rests, ready_with, not_held, drive_kept}
+use Rattle.machine_commands.proofs.Seeking.{CanSeek, IsRule, IsOnWay, IsOver, Beside, Sought, RunsSeek, on_way, at_end, runs_seek}
+use Rattle.machine_commands.proofs.Selecting.{with_dor, is_dor, selects_idle}
+use Rattle.machine_commands.proofs.Senses.{sensed_to, senses_pending}
+use Rattle.machine_commands.proofs.Settling.{SettlesTo, settles_to}
+use Rattle.machine_commands.proofs.Steps.{keeps_then, speed_then, drive_then, idles_then, unpolled, low_line}
+
+-- ---- what a seek leaves, but for its drive
+
+pub record Leaves (bay : ℕ) (old new : Board) : Type 0 where
+  pub memory : memory_of new ≡ memory_of old
+  pub entries : (holds_of new).entries ≡ (holds_of old).entries
+  pub stalls : (holds_of new).stalls ≡ (holds_of old).stalls
+  pub direct : new.bus.direct ≡ old.bus.direct
+  pub taken : old.bus.taken ≤ new.bus.taken
+  pub keeps : KeepsDrive (drive_in old (1 - bay)) (drive_in new (1 - bay))
+  pub speed : KeepsSpeed (drive_in old (1 - bay)) (drive_in new (1 - bay))
+
+leaves_then : (bay : ℕ) (a b c : Board) → Leaves bay a b → Leaves bay b c → Leaves bay a c
+leaves_then bay a b c one two = record {
+  memory = two.memory ∙ one.memory;
+  entries = two.entries ∙ one.entries;
+  stalls = two.stalls ∙ one.stalls;
+  direct = two.direct ∙ one.direct;
+  taken = let before = one.taken in let after = two.taken in omega arith;
+  keeps = drive_then (drive_in a (1 - bay)) (drive_in b (1 - bay)) (drive_in c (1 - bay)) one.keeps two.keeps;
+  speed = speed_then (drive_in a (1 - bay)) (drive_in b (1 - bay)) (drive_in c (1 - bay)) one.speed two.speed;
+}
+
+speed_kept : (old new : Board) (bay : ℕ) → KeepsSpeed old.first new.first → KeepsSpeed old.second new.second → KeepsSpeed (drive_in old bay) (drive_in new bay)
+speed_kept old new bay first second = by_bay (bay == 0)
+  where
+    by_bay : (b : Bool) → KeepsSpeed (if b then old.first else old.second) (if b then new.first else new.second)
+    by_bay true = first
+    by_bay false = second
+
+all_leave : (bay : ℕ) (old new : Board) → KeepsAll old new → KeepsSpeed old.first new.first → KeepsSpeed old.second new.second → Leaves bay old new
+all_leave bay old new keeps first second = record {
+  memory = keeps.memory;
+  entries = keeps.entries;
+  stalls = keeps.stalls;
+  direct = keeps.direct;
+  taken = keeps.taken;
+  keeps = drive_kept old new (1 - bay) keeps;
+  speed = speed_kept old new (1 - bay) first second;
+}
+
+beside_leaves : (bay : ℕ) (old new : Board) → Beside bay old new → Leaves bay old new
+beside_leaves bay old new beside = record {
+  memory = beside.carries.memory;
+  entries = beside.carries.entries;
+  stalls = beside.carries.stalls;
+  direct = beside.carries.direct;
+  taken = let same = beside.carries.taken in omega arith;
+  keeps = beside.keeps;
+  speed = beside.speed;
+}
+
+-- ---- the result of a seek
+
+abbrev over_at : Seeking → ℕ → ℕ → Seeking
+over_at seeks bay number = record { cylinders = slice_set seeks.cylinders bay number; seek = None; pending = none_pending }
+
+pub sensed_of : (bay number status : ℕ) (seeks : Seeking) → bay ≤ 1 → seeks.pending ≡ none_pending
+    → sensed (ended seeks bay number status) ≡ Some (status, slice_index (slice_set seeks.cylinders bay number) bay)
+sensed_of zero number status seeks small none =
+    ap (λ p. let s : Seeking = record { cylinders = slice_set seeks.cylinders 0 number; seek = Some (record { drive = 0; motion = Ended }); pending = slice_set p 0 (Some status) } in sensed s) none
+sensed_of (suc zero) number status seeks small none =
+    ap (λ p. let s : Seeking = record { cylinders = slice_set seeks.cylinders 1 number; seek = Some (record { drive = 1; motion = Ended }); pending = slice_set p 1 (Some status) } in sensed s) none
+sensed_of (suc (suc bay)) number status seeks small none = absurd (omega arith)
+
+pub after_sense_of : (bay number status : ℕ) (seeks : Seeking) → bay ≤ 1 → seeks.pending ≡ none_pending → after_sense (ended seeks bay number status) ≡ over_at seeks bay number
+after_sense_of zero number status seeks small none =
+    ap (λ p. let s : Seeking = record { cylinders = slice_set seeks.cylinders 0 number; seek = Some (record { drive = 0; motion = Ended }); pending = slice_set p 0 (Some status) } in after_sense s) none
+after_sense_of (suc zero) number status seeks small none =
+    ap (λ p. let s : Seeking = record { cylinders = slice_set seeks.cylinders 1 number; seek = Some (record { drive = 1; motion = Ended }); pending = slice_set p 1 (Some status) } in after_sense s) none
+after_sense_of (suc (suc bay)) number status seeks small none = absurd (omega arith)
+
+-- ---- the way
+
+stirred_sought : (fdc : Fdc) (bay n : ℕ) (Way : ℕ → Motion → DriveState → Type 0) (Over : ℕ → ℕ → DriveState → Type 0) (board : Board)
+    → Sought fdc bay Way Over n board → Sought fdc bay Way Over n (stirred board)
+stirred_sought fdc bay n Way Over board sought = elim sought [
+  | inl way ↦ inl (record { motion = way.motion; runs = way.runs; controller_is = way.controller_is; way = way.way })
+  | inr over ↦ inr (record { number = over.number; status = over.status; controller_is = over.controller_is; over = over.over })
+]
+
+-- a command of a seek
+pub record SeekCommand (bay : ℕ) (fdc : Fdc) (drive : DriveState) (Way : ℕ → Motion → DriveState → Type 0) (Over : ℕ → ℕ → DriveState → Type 0) : Type 0 where
+  pub first : List ℕ
+  pub last : ℕ
+  pub command : Command
+  pub more : AreMore [] first
+  pub whole : answer (first ++ last ∷ []) ≡ Ready command
+  pub motion : Motion
+  pub obeys : (lines : Lines) (controller : Fdc) → Obeys command lines fdc controller → controller ≡ on_way fdc bay motion
+  pub runs : has_ended motion ≡ false
+  pub rule : IsRule bay Way Over
+  pub begins : (now : DriveState) → KeepsDrive drive now → KeepsSpeed drive now → Way 0 motion now
+  -- it doesn't take as many steps as are waited for
+  pub ends : (n : ℕ) (m : Motion) (now : DriveState) → 80 ≤ n → Way n m now → ⊥
+  pub told : (number status : ℕ) (now : DriveState) → Over number status now → (status == 0x80) ≡ false
+
+-- what it leaves
+pub record SeekDone (bay : ℕ) (fdc : Fdc) (Over : ℕ → ℕ → DriveState → Type 0) (status : ℕ) (old new : Board) : Type 0 where
+  pub number : ℕ
+  pub code : ℕ
+  pub status_is : status ≡ code
+  pub over : Over number code (drive_in new bay)
+  pub leaves : Leaves bay old new
+  pub controller_is : controller_of new ≡ sensed_to (at_end fdc bay number code)
+  pub low : is_up new ≡ false
+
+-- the command is begun: its last byte is written, and the gap is to come
+record Begun (bay : ℕ) (fdc : Fdc) (Way : ℕ → Motion → DriveState → Type 0) (old between : Board) : Type 0 where
+  pub on_its_way : IsOnWay fdc bay 0 Way between
+  pub leaves : Leaves bay old between
+
+begins : (bay : ℕ) (fdc : Fdc) (Way : ℕ → Motion → DriveState → Type 0) (Over : ℕ → ℕ → DriveState → Type 0) (old mid sent : Board)
+    → (does : SeekCommand bay fdc (drive_in old bay) Way Over) → Idles old (with_bytes does.first fdc) mid → IsListening fdc → fdc.command ≡ []
+    → (access : Outputs 0x3F5 does.last mid sent) → Begun bay fdc Way old (gapped access.between)
+begins bay fdc Way Over old mid sent does idles listens none access =
+    let (controller, writes, chips) = access.writes.writes.controllers refl in
+    let at = idles.controller_is in
+    let here = subst IsListening (sym at) (listens_with does.first fdc listens) in
+    let whole : answer ((controller_of mid).command ++ does.last ∷ []) ≡ Ready does.command = ap (λ f. answer (f.command ++ does.last ∷ [])) at ∙ does.whole in
+    let obeyed = last_written does.last does.command (controller_of mid) controller (lines_of mid) here whole writes in
+    let bare : with_bytes [] (controller_of mid) ≡ fdc = ap (λ f. with_bytes [] f) at ∙ ap (λ bytes. with_bytes bytes fdc) (sym none) in
+    let is = does.obeys (lines_of mid) controller (subst (λ f. Obeys does.command (lines_of mid) f controller) bare obeyed) in
+    let target = on_way fdc bay does.motion in
+    let between = access.between in
+    let bus : between.bus ≡ accessed target mid.bus = access.writes.bus
+    ∙ (ap (λ c. let b : Bus = record mid.bus { chips = c; fresh = false } in b) chips ∙ ap (λ c. accessed c mid.bus) is) in
+    let first = access.writes.motors.first_stays refl in
+    let second = access.writes.motors.second_stays refl in
+    let keeps = accessed_keeps target mid between bus (same_drive mid.first between.first first) (same_drive mid.second between.second second) in
+    let all = keeps_then old mid between idles.stays.keeps keeps in
+    let speed_first = speed_then old.first mid.first between.first idles.stays.first (same_speed mid.first between.first first) in
+    let speed_second = speed_then old.second mid.second between.second idles.stays.second (same_speed mid.second between.second second) in
+    let left = all_leave bay old between all speed_first speed_second in
+    record {
+      on_its_way = record {
+        motion = does.motion;
+        runs = does.runs;
+        controller_is = ap (λ b. b.chips.controller) bus;
+        way = does.begins (drive_in between bay) (drive_kept old between bay all) (speed_kept old between bay speed_first speed_second);
+      };
+      leaves = record {
+        memory = left.memory;
+        entries = left.entries;
+        stalls = left.stalls;
+        direct = left.direct;
+        taken = left.taken;
+        keeps = left.keeps;
+        speed = left.speed;
+      };
+    }
+
+-- it is over behind the wait
+record Waited (bay : ℕ) (fdc : Fdc) (Over : ℕ → ℕ → DriveState → Type 0) (old waited : Board) : Type 0 where
+  pub over : IsOver fdc bay Over waited
+  pub leaves : Leaves bay old waited
+
+stirred_leaves : (bay : ℕ) (old new : Board) → Leaves bay old new → Leaves bay old (stirred new)
+stirred_leaves bay old new left = record {
+  memory = left.memory;
+  entries = left.entries;
+  stalls = left.stalls;
+  direct = left.direct;
+  taken = left.taken;
+  keeps = left.keeps;
+  speed = left.speed;
+}
+
+never_on : (fdc : Fdc) (bay n : ℕ) (Way : ℕ → Motion → DriveState → Type 0) (Over : ℕ → ℕ → DriveState → Type 0) (board : Board)
+    → ((m : Motion) (now : DriveState) → Way n m now → ⊥) → Sought fdc bay Way Over n board → IsOver fdc bay Over board
+never_on fdc bay n Way Over board never sought = elim sought [
+  | inl way ↦ absurd (never way.motion (drive_in board bay) way.way)
+  | inr over ↦ over
+]
+
+waits : (bay : ℕ) (fdc : Fdc) (Way : ℕ → Motion → DriveState → Type 0) (Over : ℕ → ℕ → DriveState → Type 0) (status : ℕ) (old between sent new : Board) → bay ≤ 1 → CanSeek bay fdc
+    → (does : SeekCommand bay fdc (drive_in old bay) Way Over) → Begun bay fdc Way old (gapped between) → RunsGap between sent → (ends : EndsSeek status sent new)
+    → Waited bay fdc Over old ends.waited
+waits bay fdc Way Over status old between sent new small can does begun gap ends =
+    let n = next_entry between.bus.gaps in
+    let one = runs_seek n 0 fdc bay Way Over (gapped between) sent small can does.rule gap.runs (inl begun.on_its_way) in
+    let two = runs_seek 80 (0 + n) fdc bay Way Over (stirred sent) ends.waited small can does.rule ends.runs (stirred_sought fdc bay (0 + n) Way Over sent one.sought) in
+    let left = leaves_then bay old (gapped between) sent begun.leaves (beside_leaves bay (gapped between) sent one.beside) in
+    record {
+      over = never_on fdc bay ((0 + n) + 80) Way Over ends.waited (λ m now. does.ends ((0 + n) + 80) m now (omega arith)) two.sought;
+      leaves = leaves_then bay old (stirred sent) ends.waited (stirred_leaves bay old sent left) (beside_leaves bay (stirred sent) ends.waited two.beside);
+    }
+
+-- ---- its result
+
+idles_leave : (bay : ℕ) (old new : Board) (fdc : Fdc) → Idles old fdc new → Leaves bay old new
+idles_leave bay old new fdc idles = all_leave bay old new idles.stays.keeps idles.stays.first idles.stays.second
+
+takes_result : (bay : ℕ) (fdc : Fdc) (Way : ℕ → Motion → DriveState → Type 0) (Over : ℕ → ℕ → DriveState → Type 0) (status : ℕ) (old sent new : Board) → bay ≤ 1 → CanSeek bay fdc
+    → IsListening fdc → fdc.command ≡ [] → fdc.seeks.pending ≡ none_pending
+    → (does : SeekCommand bay fdc (drive_in old bay) Way Over) → (ends : EndsSeek status sent new) → Waited bay fdc Over old ends.waited → SeekDone bay fdc Over status old new
+takes_result bay fdc Way Over status old sent new small can listens none pending does ends was =
+    let number = was.over.number in
+    let code = was.over.status in
+    let over = at_end fdc bay number code in
+    let after = sensed_to over in
+    let released : after_sense over.seeks ≡ over_at fdc.seeks bay number = after_sense_of bay number code fdc.seeks small pending in
+    let idle_after : is_seeking (after_sense over.seeks) ≡ false = ap is_seeking released in
+    let listening : IsListening over = record {
+      rests = record { no_command = can.no_command; no_seek = refl; not_asking = can.not_asking; no_poll = can.no_poll };
+      phase_is = listens.phase_is;
+      not_held = listens.not_held;
+    } in
+    let resting : IsResting after = record { no_command = refl; no_seek = idle_after; not_asking = can.not_asking; no_poll = can.no_poll } in
+    let told = does.told number code (drive_in ends.waited bay) was.over.over in
+    let (status_is, idles) = senses_pending status ends.waited ends.sensed over code (slice_index (slice_set fdc.seeks.cylinders bay number) bay)
+    was.over.controller_is listening none (sensed_of bay number code fdc.seeks small pending) told idle_after ends.senses in
+    let settled = settles_to ends.sensed new after ends.settles (ap polled idles.controller_is ∙ unpolled after resting.no_poll) resting in
+    let one = does.rule.stays number code (drive_in ends.waited bay) (drive_in ends.sensed bay) (drive_kept ends.waited ends.sensed bay idles.stays.keeps)
+    (speed_kept ends.waited ends.sensed bay idles.stays.first idles.stays.second) was.over.over in
+    record {
+      number = number;
+      code = code;
+      status_is = status_is;
+      over = does.rule.stays number code (drive_in ends.sensed bay) (drive_in new bay) (drive_kept ends.sensed new bay settled.keeps)
+          (speed_kept ends.sensed new bay settled.first settled.second) one;
+      leaves = leaves_then bay old ends.waited new was.leaves
+          (leaves_then bay ends.waited ends.sensed new (idles_leave bay ends.waited ends.sensed after idles) (all_leave bay ends.sensed new settled.keeps settled.first settled.second));
+      controller_is = settled.controller_is;
+      low = settled.level ∙ low_line after refl;
+    }
+
+-- ---- all of it
+
+pub seek_done : (motors : Motors) (bay : ℕ) (Way : ℕ → Motion → DriveState → Type 0) (Over : ℕ → ℕ → DriveState → Type 0) (status : ℕ) (old selected sent new : Board)
+    → IsIdle motors old → bay ≤ 1
+    → (does : SeekCommand bay (with_dor (dor_with motors bay) (controller_of old)) (drive_in old bay) Way Over)
+    → Outputs 0x3F2 (dor_with motors bay) old selected → Sends (does.first ++ does.last ∷ []) selected sent → EndsSeek status sent new
+    → SeekDone bay (with_dor (dor_with motors bay) (controller_of old)) Over status old new
+seek_done motors bay Way Over status old selected sent new idle small does selects sends ends =
+    let byte = dor_with motors bay in
+    let fdc = with_dor byte (controller_of old) in
+    let ready = ready_with byte (controller_of old) idle.ready in
+    let rests = ready_rests fdc ready in
+    let one = selects_idle motors bay old selected small idle.motors_are (ready_rests (controller_of old) idle.ready) rests selects in
+    let listens : IsListening fdc = record { rests = rests; phase_is = ready.phase; not_held = not_held motors bay fdc small refl } in
+    let can : CanSeek bay fdc = record { no_command = rests.no_command; not_asking = rests.not_asking; no_poll = rests.no_poll; selects = (is_dor motors bay small).selects } in
+    let (mid, before, (last, access, same)) = sends_parts does.first (does.last ∷ []) selected sent sends in
+    let sends_first = first_bytes [] does.first selected mid (ap (λ f. f.command) one.controller_is ∙ ready.no_bytes) (subst IsListening (sym one.controller_is) listens) does.more before in
+    let idles : Idles old (with_bytes does.first fdc) mid = idles_then old selected mid fdc (with_bytes does.first fdc) one
+    (subst (λ f. Idles selected f mid) (ap (λ f. with_bytes does.first f) one.controller_is) sends_first) in
+    let begun = begins bay fdc Way Over old mid last does idles listens ready.no_bytes access in
+    let here : EndsSeek status last new = subst (λ board. EndsSeek status board new) same ends in
+    let waited = waits bay fdc Way Over status old access.between last new small can does begun access.gap here in
+    takes_result bay fdc Way Over status old last new small can listens ready.no_bytes ready.seeks.no_result does here waited

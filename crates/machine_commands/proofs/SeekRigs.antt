@@ -1,0 +1,399 @@
+-- RECALIBRATE and SEEK, as a driver sees them.
+use Rattle.std.proofs.Common.{◌≡◌, ◌≢◌, ◌⊎◌, inl, inr, ℕ, zero, suc, ◌+◌, ◌-◌, ◌%◌, ◌<◌, ◌≤◌, ◌==◌, Bool, true, false, List, [], ◌∷◌, ◌++◌, Option, Some, None, IsSome, is_some, length, slice_index, slice_set, nat_lt, min, if◌then◌else◌, refl, sym, ◌∙◌, ap, subst, arith}
+use Rattle.std.specs.Prelude.{bit_and}
+use Rattle.std.proofs.Math.ListN.{length-set}
+use Rattle.std.proofs.lemmas.List.{get_or-set_other}
+use Rattle.std.proofs.lemmas.Grind.{get_or-set_at}
+use Rattle.std.proofs.lemmas.Bool.{false≢true}
+use Rattle.std.proofs.lemmas.Bool.Decides.{nat_tests}
+use Rattle.flop_base.specs.Counts.{last_count, RoseBy, RoseLess, Rose}
+use Rattle.bay_model.specs.Bays.{Two, in_bay, with_bay}
+use Rattle.bay_model.specs.Counters.{GoesOn, IsDriven}
+use Rattle.drive_model.specs.Drive.{DriveState, InRange}
+use Rattle.fdc_commands.specs.Table.{answer}
+use Rattle.fdc_commands.specs.declared.bytes.Accepted.TheVariants.{Ready}
+use Rattle.fdc_commands.specs.declared.command.Command.TheVariants.{Recalibrate, Seek}
+use Rattle.fdc_seek.specs.Seeking.{Seeking, seek_bits, ended, after_sense, sought, recalibrated, has_ended}
+use Rattle.fdc_seek.specs.declared.motion.Motion.{Motion}
+use Rattle.fdc_seek.specs.declared.motion.Motion.TheVariants.{Outward, Toward, Ended}
+use Rattle.fdc_core.specs.State.{dor_of, data_commands_of}
+use Rattle.fdc_core.specs.declared.controller.Fdc.{Fdc}
+use Rattle.pc_bus.specs.Boards.{Board, controller_of, holds_of, drive_in}
+use Rattle.single_commands.specs.Heads.{MovesHeads, Recalibrates, Seeks}
+use Rattle.machine_commands.specs.Asked.{SendsRecalibrate, SendsSeek}
+use Rattle.machine_commands.specs.Idling.{KeepsDrive, KeepsSpeed}
+use Rattle.machine_commands.specs.Ready.{dor_with, none_pending, IsReady, IsIdle, AreSeeksOver}
+use Rattle.machine_commands.specs.Shown.{user_part, page_part, stalls_left, counters_of, number_of, rig_of}
+use Rattle.machine_commands.specs.declared.motors.Motors.{Motors}
+use Rattle.machine_commands.proofs.Bytes.{AreMore}
+use Rattle.machine_commands.proofs.Moving.{MovesDrive, HasStepped, HasSought, OutwardWay, OutwardOver, TowardWay, TowardOver, turns_move, outward_rule, toward_rule}
+use Rattle.machine_commands.proofs.Seeking.{on_way, at_end}
+use Rattle.machine_commands.proofs.SeekEnds.{Leaves, SeekCommand, SeekDone, after_sense_of, seek_done}
+use Rattle.machine_commands.proofs.Selecting.{with_dor}
+use Rattle.machine_commands.proofs.Senses.{sensed_to}
+use Rattle.machine_commands.proofs.Showing.{two_same, speed_stays}
+use Rattle.machine_commands.proofs.Statuses.{no_bits}
+
+same_drive_number : (bay : ℕ) → bay ≤ 1 → bay % 4 ≡ bay
+same_drive_number bay small = omega arith
+
+-- ---- the commands
+
+recalibrate_more : AreMore [] (0x07 ∷ [])
+unfolding answer
+recalibrate_more = (refl, tt)
+
+recalibrate_whole : (bay : ℕ) → answer ((0x07 ∷ []) ++ bay ∷ []) ≡ Ready (Recalibrate bay)
+unfolding answer
+recalibrate_whole bay = refl
+
+seek_more : (bay : ℕ) → AreMore [] (0x0F ∷ bay ∷ [])
+unfolding answer
+seek_more bay = (refl, (refl, tt))
+
+seek_whole : (bay target : ℕ) → answer ((0x0F ∷ bay ∷ []) ++ target ∷ []) ≡ Ready (Seek bay target)
+unfolding answer
+seek_whole bay target = refl
+
+-- a result that is pending isn't read as none
+recalibrated_told : (bay : ℕ) (reached : Bool) → bay ≤ 1 → (recalibrated bay reached == 0x80) ≡ false
+recalibrated_told zero true small = refl
+recalibrated_told zero false small = refl
+recalibrated_told (suc zero) true small = refl
+recalibrated_told (suc zero) false small = refl
+recalibrated_told (suc (suc bay)) reached small = absurd (omega arith)
+
+sought_told : (bay : ℕ) → bay ≤ 1 → (sought bay == 0x80) ≡ false
+sought_told zero small = refl
+sought_told (suc zero) small = refl
+sought_told (suc (suc bay)) small = absurd (omega arith)
+
+-- equipment check tells that track 0 was not reached
+reached_told : (bay : ℕ) (reached : Bool) → bay ≤ 1 → (bit_and (recalibrated bay reached) 0x10 == 0) ≡ reached
+reached_told zero true small = refl
+reached_told zero false small = refl
+reached_told (suc zero) true small = refl
+reached_told (suc zero) false small = refl
+reached_told (suc (suc bay)) reached small = absurd (omega arith)
+
+outward_ends : (drive : DriveState) (n : ℕ) (m : Motion) (now : DriveState) → 80 ≤ n → OutwardWay drive n m now → ⊥
+outward_ends drive n (Outward pulses) now long (left, stepped) = absurd (omega arith)
+outward_ends drive n (Toward cylinder target) now long way = way
+outward_ends drive n Ended now long way = way
+
+recalibrate_command : (bay : ℕ) (fdc : Fdc) (drive : DriveState) → bay ≤ 1 → seek_bits fdc.seeks ≡ 0 → SeekCommand bay fdc drive (OutwardWay drive) (OutwardOver bay drive)
+recalibrate_command bay fdc drive small none = record {
+  first = 0x07 ∷ [];
+  last = bay;
+  command = Recalibrate bay;
+  more = recalibrate_more;
+  whole = recalibrate_whole bay;
+  motion = Outward 79;
+  obeys = λ lines controller does. does.0 none ∙ ap (λ d. on_way fdc d (Outward 79)) (same_drive_number bay small);
+  runs = refl;
+  rule = outward_rule bay drive;
+  begins = λ now keeps speed. (
+    omega arith,
+    record {
+      lost = 0;
+      far = let same = keeps.cylinder in omega arith;
+      rose = let more = keeps.never_falls in omega arith;
+      moves = turns_move drive now keeps speed;
+    },
+  );
+  ends = outward_ends drive;
+  told = λ number status now over. ap (λ s. s == 0x80) over.status_is ∙ recalibrated_told bay over.reached small;
+}
+
+toward_ends : (drive : DriveState) (from target : ℕ) (n : ℕ) (m : Motion) (now : DriveState) → target ≤ 79 → from ≤ 79 → 80 ≤ n → TowardWay drive from target n m now → ⊥
+toward_ends drive from target n (Toward cylinder to) now small near long (aim, was) = elim was.way [
+  | inl (up, low) ↦ absurd (omega arith)
+  | inr (down, high) ↦ absurd (omega arith)
+]
+toward_ends drive from target n (Outward pulses) now small near long way = way
+toward_ends drive from target n Ended now small near long way = way
+
+at_first : (from target : ℕ) → ((from + 0 ≡ from) × (from ≤ target)) ⊎ ((from + 0 ≡ from) × (target ≤ from))
+at_first from target = by_less (nat_lt target from) refl
+  where
+    by_less : (b : Bool) → nat_lt target from ≡ b → ((from + 0 ≡ from) × (from ≤ target)) ⊎ ((from + 0 ≡ from) × (target ≤ from))
+    by_less true is = let less : target < from = grind (arith, nat_tests) in inr (omega arith, omega arith)
+    by_less false is = let more : from ≤ target = grind (arith, nat_tests) in inl (omega arith, more)
+
+seek_command : (bay target : ℕ) (fdc : Fdc) (drive : DriveState) → bay ≤ 1 → seek_bits fdc.seeks ≡ 0 → target ≤ 79 → slice_index fdc.seeks.cylinders bay ≤ 79
+    → SeekCommand bay fdc drive (TowardWay drive (slice_index fdc.seeks.cylinders bay) target) (TowardOver bay drive (slice_index fdc.seeks.cylinders bay) target)
+seek_command bay target fdc drive small none within near =
+    let from = slice_index fdc.seeks.cylinders bay in
+    record {
+      first = 0x0F ∷ bay ∷ [];
+      last = target;
+      command = Seek bay target;
+      more = seek_more bay;
+      whole = seek_whole bay target;
+      motion = Toward from target;
+      obeys = λ lines controller does. does.0 none ∙ ap (λ d. on_way fdc d (Toward (slice_index fdc.seeks.cylinders d) target)) (same_drive_number bay small);
+      runs = refl;
+      rule = toward_rule bay drive from target within near;
+      begins = λ now keeps speed. (
+        refl,
+        record {
+          way = at_first from target;
+          follows = λ known calm. keeps.cylinder ∙ known;
+          clears = λ one. absurd (omega arith);
+          moves = turns_move drive now keeps speed;
+        },
+      );
+      ends = λ n m now. toward_ends drive from target n m now within near;
+      told = λ number status now over. ap (λ s. s == 0x80) over.status_is ∙ sought_told bay small;
+    }
+
+-- ---- the numbers of cylinders
+
+abbrev numbers_at : List ℕ → ℕ → ℕ → List ℕ
+numbers_at cylinders bay number = slice_set cylinders bay number
+
+number_here : (cylinders : List ℕ) (bay number : ℕ) → bay ≤ 1 → length cylinders ≡ 4 → slice_index (numbers_at cylinders bay number) bay ≡ number
+number_here cylinders bay number small four = get_or-set_at cylinders bay bay number 0 refl (omega arith)
+
+number_there : (cylinders : List ℕ) (bay other number : ℕ) → (bay ≡ other → ⊥) → slice_index (numbers_at cylinders bay number) other ≡ slice_index cylinders other
+number_there cylinders bay other number apart = get_or-set_other cylinders bay other number 0 (λ same. apart (sym same))
+
+-- ---- the machine is idle again
+
+seeks_over : (seeks : Seeking) (bay number code : ℕ) → bay ≤ 1 → number ≤ 79 → AreSeeksOver seeks → AreSeeksOver (after_sense (ended seeks bay number code))
+seeks_over seeks bay number code small within over =
+    subst AreSeeksOver (sym (after_sense_of bay number code seeks small over.no_result)) (record {
+      no_seek = refl;
+      no_result = refl;
+      four = length-set seeks.cylinders bay number ∙ over.four;
+      first = first_small bay small;
+      second = second_small bay small;
+    })
+  where
+    first_small : (b : ℕ) → b ≤ 1 → slice_index (numbers_at seeks.cylinders b number) 0 ≤ 79
+    first_small zero one = let is = number_here seeks.cylinders 0 number one over.four in omega arith
+    first_small (suc zero) one = let is = number_there seeks.cylinders 1 0 number (λ same. absurd (omega arith)) in let was = over.first in omega arith
+    first_small (suc (suc b)) one = absurd (omega arith)
+
+    second_small : (b : ℕ) → b ≤ 1 → slice_index (numbers_at seeks.cylinders b number) 1 ≤ 79
+    second_small zero one = let is = number_there seeks.cylinders 0 1 number (λ same. absurd (omega arith)) in let was = over.second in omega arith
+    second_small (suc zero) one = let is = number_here seeks.cylinders 1 number one over.four in omega arith
+    second_small (suc (suc b)) one = absurd (omega arith)
+
+motors_kept : (old new : Board) (bay : ℕ) → bay ≤ 1 → KeepsSpeed (drive_in old bay) (drive_in new bay) → KeepsSpeed (drive_in old (1 - bay)) (drive_in new (1 - bay))
+    → (new.first.motor ≡ old.first.motor) × (new.second.motor ≡ old.second.motor)
+motors_kept old new zero small here there = (here.motor, there.motor)
+motors_kept old new (suc zero) small here there = (there.motor, here.motor)
+motors_kept old new (suc (suc bay)) small here there = absurd (omega arith)
+
+sought_idle : (motors : Motors) (bay number code : ℕ) (old new : Board) → IsIdle motors old → bay ≤ 1 → number ≤ 79 → MovesDrive (drive_in old bay) (drive_in new bay) → Leaves bay old new
+    → controller_of new ≡ sensed_to (at_end (with_dor (dor_with motors bay) (controller_of old)) bay number code) → (new.bus.latch.level ≡ false) → InRange new.first → InRange new.second → IsIdle motors new
+sought_idle motors bay number code old new idle small within moves left at low first second =
+    let was = idle.ready in
+    let (one, two) = motors_kept old new bay small moves.speed left.speed in
+    let ready : IsReady (sensed_to (at_end (with_dor (dor_with motors bay) (controller_of old)) bay number code)) = record {
+      phase = refl;
+      no_bytes = refl;
+      seeks = seeks_over (controller_of old).seeks bay number code small within was.seeks;
+      by_dma = was.by_dma;
+      polled = was.polled;
+      no_interrupt = refl;
+      not_asking = was.not_asking;
+      fifo_on = was.fifo_on;
+      threshold = was.threshold;
+    } in
+    record {
+      ready = subst IsReady (sym at) ready;
+      motors_are = record {
+        bay = bay;
+        bay_in = small;
+        dor = ap dor_of at;
+        first = one ∙ idle.motors_are.first;
+        second = two ∙ idle.motors_are.second;
+      };
+      low = low;
+      first = first;
+      second = second;
+    }
+
+-- ---- the rig
+
+counting : (old new : Board) → old.first.faults ≤ new.first.faults → old.second.faults ≤ new.second.faults → (holds_of new).entries ≡ (holds_of old).entries
+    → (holds_of new).stalls ≡ (holds_of old).stalls → new.bus.direct ≡ old.bus.direct → old.bus.taken ≤ new.bus.taken
+    → data_commands_of (controller_of new) ≡ data_commands_of (controller_of old) → GoesOn (counters_of old) (counters_of new) × IsDriven 0 (counters_of old) (counters_of new)
+counting old new first second entries stalls direct taken sent =
+    let left : stalls_left (holds_of new).entries ≡ stalls_left (holds_of old).entries = ap stalls_left entries in (
+      record {
+        first = record { never_falls = first; spends = refl };
+        second = record { never_falls = second; spends = refl };
+        spares = refl;
+        stalls = omega arith;
+        stalls_spent = omega arith;
+        data_commands = omega arith;
+        taken = taken;
+        direct = omega arith;
+      },
+      record { most_commands = omega arith; interrupts = omega arith; past_driver = direct },
+    )
+
+some_or_none : {T : Type 0} (medium : Option T) → is_some medium ≡ true → medium ≡ None → ⊥
+some_or_none medium some none = false≢true (sym (ap is_some none) ∙ some)
+
+moves_heads : (bay : ℕ) (old new : Board) → bay ≤ 1 → MovesDrive (drive_in old bay) (drive_in new bay) → Leaves bay old new → number_of new (1 - bay) ≡ number_of old (1 - bay)
+    → data_commands_of (controller_of new) ≡ data_commands_of (controller_of old) → MovesHeads (rig_of old) bay (rig_of new)
+moves_heads zero old new small moves left number sent =
+    let (counts, driven) = counting old new moves.never_falls left.keeps.never_falls left.entries left.stalls left.direct left.taken sent in
+    let same : new.first.change ≡ old.first.change → (rig_of new).changes ≡ (rig_of old).changes =
+    λ is. two_same new.first.change new.second.change old.first.change old.second.change is left.keeps.change in
+    record {
+      media = two_same new.first.medium new.second.medium old.first.medium old.second.medium moves.medium left.keeps.medium;
+      memory = ap user_part left.memory;
+      page = ap page_part left.memory;
+      spun = record { first = speed_stays old.first new.first moves.speed; second = speed_stays old.second new.second left.speed };
+      other_cylinder = left.keeps.cylinder;
+      other_number = number;
+      changes = elim moves.change [
+        | inl is ↦ inl (same is)
+        | inr (some, cleared) ↦ inr (two_same new.first.change new.second.change false old.second.change cleared left.keeps.change)
+      ];
+      empty = λ none. elim moves.change [
+        | inl is ↦ same is
+        | inr (some, cleared) ↦ absurd (some_or_none old.first.medium some none)
+      ];
+      counts = counts;
+      driven = driven;
+    }
+moves_heads (suc zero) old new small moves left number sent =
+    let (counts, driven) = counting old new left.keeps.never_falls moves.never_falls left.entries left.stalls left.direct left.taken sent in
+    let same : new.second.change ≡ old.second.change → (rig_of new).changes ≡ (rig_of old).changes =
+    λ is. two_same new.first.change new.second.change old.first.change old.second.change left.keeps.change is in
+    record {
+      media = two_same new.first.medium new.second.medium old.first.medium old.second.medium left.keeps.medium moves.medium;
+      memory = ap user_part left.memory;
+      page = ap page_part left.memory;
+      spun = record { first = speed_stays old.first new.first left.speed; second = speed_stays old.second new.second moves.speed };
+      other_cylinder = left.keeps.cylinder;
+      other_number = number;
+      changes = elim moves.change [
+        | inl is ↦ inl (same is)
+        | inr (some, cleared) ↦ inr (two_same new.first.change new.second.change old.first.change false left.keeps.change cleared)
+      ];
+      empty = λ none. elim moves.change [
+        | inl is ↦ same is
+        | inr (some, cleared) ↦ absurd (some_or_none old.second.medium some none)
+      ];
+      counts = counts;
+      driven = driven;
+    }
+moves_heads (suc (suc bay)) old new small moves left number sent = absurd (omega arith)
+
+-- ---- what is known behind a seek
+
+number_new : (motors : Motors) (bay number code : ℕ) (old new : Board) → IsIdle motors old → bay ≤ 1
+    → controller_of new ≡ sensed_to (at_end (with_dor (dor_with motors bay) (controller_of old)) bay number code) → number_of new bay ≡ number
+number_new motors bay number code old new idle small at =
+    let seeks = (controller_of old).seeks in
+    ap (λ c. slice_index c.seeks.cylinders bay) at
+    ∙ (ap (λ s. slice_index s.cylinders bay) (after_sense_of bay number code seeks small idle.ready.seeks.no_result)
+    ∙ number_here seeks.cylinders bay number small idle.ready.seeks.four)
+
+other_apart : (bay : ℕ) → bay ≤ 1 → bay ≡ 1 - bay → ⊥
+other_apart zero small same = absurd (omega arith)
+other_apart (suc zero) small same = absurd (omega arith)
+other_apart (suc (suc bay)) small same = absurd (omega arith)
+
+number_other : (motors : Motors) (bay number code : ℕ) (old new : Board) → IsIdle motors old → bay ≤ 1
+    → controller_of new ≡ sensed_to (at_end (with_dor (dor_with motors bay) (controller_of old)) bay number code) → number_of new (1 - bay) ≡ number_of old (1 - bay)
+number_other motors bay number code old new idle small at =
+    let seeks = (controller_of old).seeks in
+    ap (λ c. slice_index c.seeks.cylinders (1 - bay)) at
+    ∙ (ap (λ s. slice_index s.cylinders (1 - bay)) (after_sense_of bay number code seeks small idle.ready.seeks.no_result)
+    ∙ number_there seeks.cylinders bay (1 - bay) number (other_apart bay small))
+
+-- ---- RECALIBRATE
+
+recalibrated_to : (motors : Motors) (bay status : ℕ) (old new : Board) → IsIdle motors old → bay ≤ 1 → SendsRecalibrate motors bay status old new
+    → SeekDone bay (with_dor (dor_with motors bay) (controller_of old)) (OutwardOver bay (drive_in old bay)) status old new
+unfolding recalibrate_command
+recalibrated_to motors bay status old new idle small sends =
+    let fdc = with_dor (dor_with motors bay) (controller_of old) in
+    seek_done motors bay (OutwardWay (drive_in old bay)) (OutwardOver bay (drive_in old bay)) status old sends.selected sends.sent new idle small
+    (recalibrate_command bay fdc (drive_in old bay) small (no_bits fdc.seeks idle.ready.seeks)) sends.selects sends.sends sends.ends
+
+-- the facts of the drive, as the rig shows them
+record OutwardShown (bay : ℕ) (reached : Bool) (old new : DriveState) : Type 0 where
+  pub arrives : reached ≡ true → new.cylinder ≡ 0
+  pub away : reached ≡ false → 1 ≤ new.cylinder
+  pub lost : reached ≡ false → RoseBy (new.cylinder + 79 - old.cylinder) old.faults new.faults
+
+outward_shown : (bay status number code : ℕ) (old new : DriveState) → bay ≤ 1 → status ≡ code → OutwardOver bay old number code new → OutwardShown bay (bit_and status 0x10 == 0) old new
+outward_shown bay status number code old new small is over =
+    let told : (bit_and status 0x10 == 0) ≡ over.reached = ap (λ s. bit_and s 0x10 == 0) (is ∙ over.status_is) ∙ reached_told bay over.reached small in
+    record {
+      arrives = λ yes. over.arrives (sym told ∙ yes);
+      away = λ short. over.away (sym told ∙ short);
+      lost = λ short. over.lost (sym told ∙ short);
+    }
+
+recalibrates_rig : (bay : ℕ) (reached : Bool) (old new : Board) → bay ≤ 1 → MovesHeads (rig_of old) bay (rig_of new) → number_of new bay ≡ 0
+    → OutwardShown bay reached (drive_in old bay) (drive_in new bay) → Recalibrates (rig_of old) bay reached (rig_of new)
+recalibrates_rig zero reached old new small moves number is = record { moves = moves; number = number; arrives = is.arrives; away = is.away; lost = is.lost }
+recalibrates_rig (suc zero) reached old new small moves number is = record { moves = moves; number = number; arrives = is.arrives; away = is.away; lost = is.lost }
+recalibrates_rig (suc (suc bay)) reached old new small moves number is = absurd (omega arith)
+
+pub recalibrates : (motors : Motors) (bay status : ℕ) (old new : Board) → IsIdle motors old → bay ≤ 1 → SendsRecalibrate motors bay status old new
+    → Recalibrates (rig_of old) bay (bit_and status 0x10 == 0) (rig_of new)
+recalibrates motors bay status old new idle small sends =
+    let done = recalibrated_to motors bay status old new idle small sends in
+    let moves = moves_heads bay old new small done.over.moves done.leaves (number_other motors bay done.number done.code old new idle small done.controller_is)
+    (ap data_commands_of done.controller_is) in
+    recalibrates_rig bay (bit_and status 0x10 == 0) old new small moves
+    (number_new motors bay done.number done.code old new idle small done.controller_is ∙ done.over.number_is)
+    (outward_shown bay status done.number done.code (drive_in old bay) (drive_in new bay) small done.status_is done.over)
+
+pub recalibrate_idle : (motors : Motors) (bay status : ℕ) (old new : Board) → IsIdle motors old → bay ≤ 1 → SendsRecalibrate motors bay status old new
+    → InRange new.first → InRange new.second → IsIdle motors new
+recalibrate_idle motors bay status old new idle small sends first second =
+    let done = recalibrated_to motors bay status old new idle small sends in
+    let is = done.over.number_is in
+    sought_idle motors bay done.number done.code old new idle small (omega arith) done.over.moves done.leaves done.controller_is done.low first second
+
+-- ---- SEEK
+
+near_by : (motors : Motors) (bay : ℕ) (old : Board) → IsIdle motors old → bay ≤ 1 → number_of old bay ≤ 79
+near_by motors zero old idle small = idle.ready.seeks.first
+near_by motors (suc zero) old idle small = idle.ready.seeks.second
+near_by motors (suc (suc bay)) old idle small = absurd (omega arith)
+
+sought_to : (motors : Motors) (bay target : ℕ) (old new : Board) → IsIdle motors old → bay ≤ 1 → target ≤ 79 → (sends : SendsSeek motors bay target old new)
+    → SeekDone bay (with_dor (dor_with motors bay) (controller_of old)) (TowardOver bay (drive_in old bay) (number_of old bay) target) sends.status old new
+unfolding seek_command
+sought_to motors bay target old new idle small within sends =
+    let fdc = with_dor (dor_with motors bay) (controller_of old) in
+    seek_done motors bay (TowardWay (drive_in old bay) (number_of old bay) target) (TowardOver bay (drive_in old bay) (number_of old bay) target) sends.status
+    old sends.selected sends.sent new idle small
+    (seek_command bay target fdc (drive_in old bay) small (no_bits fdc.seeks idle.ready.seeks) within (near_by motors bay old idle small)) sends.selects sends.sends sends.ends
+
+seeks_rig : (bay target number code : ℕ) (old new : Board) → bay ≤ 1 → MovesHeads (rig_of old) bay (rig_of new) → number_of new bay ≡ target
+    → TowardOver bay (drive_in old bay) (number_of old bay) target number code (drive_in new bay) → Seeks (rig_of old) bay target (rig_of new)
+seeks_rig zero target number code old new small moves now over =
+    record { moves = moves; number = now; arrives = over.follows; clears = λ some apart. over.clears apart some }
+seeks_rig (suc zero) target number code old new small moves now over =
+    record { moves = moves; number = now; arrives = over.follows; clears = λ some apart. over.clears apart some }
+seeks_rig (suc (suc bay)) target number code old new small moves now over = absurd (omega arith)
+
+pub seeks : (motors : Motors) (bay target : ℕ) (old new : Board) → IsIdle motors old → bay ≤ 1 → target ≤ 79 → SendsSeek motors bay target old new
+    → Seeks (rig_of old) bay target (rig_of new)
+seeks motors bay target old new idle small within sends =
+    let done = sought_to motors bay target old new idle small within sends in
+    let moves = moves_heads bay old new small done.over.moves done.leaves (number_other motors bay done.number done.code old new idle small done.controller_is)
+    (ap data_commands_of done.controller_is) in
+    seeks_rig bay target done.number done.code old new small moves
+    (number_new motors bay done.number done.code old new idle small done.controller_is ∙ done.over.number_is) done.over
+
+pub seek_idle : (motors : Motors) (bay target : ℕ) (old new : Board) → IsIdle motors old → bay ≤ 1 → target ≤ 79 → SendsSeek motors bay target old new
+    → InRange new.first → InRange new.second → IsIdle motors new
+seek_idle motors bay target old new idle small within sends first second =
+    let done = sought_to motors bay target old new idle small within sends in
+    let is = done.over.number_is in
+    sought_idle motors bay done.number done.code old new idle small (omega arith) done.over.moves done.leaves done.controller_is done.low first second

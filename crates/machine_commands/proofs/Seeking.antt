@@ -1,0 +1,274 @@
+-- Device steps of a seek, whatever it does.
+use Rattle.std.proofs.Common.{◌≡◌, ◌⊎◌, inl, inr, ℕ, zero, suc, ◌+◌, ◌-◌, ◌%◌, ◌≤◌, ◌==◌, ◌&&◌, ◌||◌, not, Bool, true, false, Option, Some, None, if◌then◌else◌, add-one, refl, sym, ◌∙◌, ap, subst, arith}
+use Rattle.std.proofs.lemmas.Bool.{false≢true}
+use Rattle.drive_model.specs.Drive.{DriveState}
+use Rattle.fdc_seek.specs.Seeking.{Seeking, with_motion, ended, stepped, stepped_seek, is_seeking, has_ended, pulse_due, pulse_of}
+use Rattle.fdc_seek.specs.declared.motion.Motion.{Motion}
+use Rattle.fdc_core.specs.Listening.{is_executing}
+use Rattle.fdc_core.specs.State.{asks, is_held, dor_of}
+use Rattle.fdc_core.specs.Steps.{polled, seek_stepped, RestsIn, MovesIn, Moves}
+use Rattle.fdc_core.specs.declared.controller.Fdc.{Fdc}
+use Rattle.machine_pace.specs.declared.holding.Request.TheVariants.{Low}
+use Rattle.pc_bus.specs.Boards.{Board, controller_of, memory_of, holds_of, drive_in, selected_of}
+use Rattle.pc_bus.specs.Steps.{Turns, Step, Runs}
+use Rattle.pc_bus.specs.Transfers.{dma_stepped}
+use Rattle.pc_bus.specs.declared.chips.Chips.{Chips}
+use Rattle.machine_commands.specs.Idling.{IsResting, KeepsDrive, KeepsSpeed, StaysIdle, Idles}
+use Rattle.machine_commands.proofs.Steps.{OnlyTurns, passes_turn, calm_asks, calm_dma, unpolled, rests_in, moves_in, or_false, still_seeks, gate_turns, drive_none, drive_then, speed_none, speed_then}
+
+-- ---- one device step
+
+-- no command is in execution, no byte is asked for, no poll is to come, and this bay is selected
+pub record CanSeek (bay : ℕ) (fdc : Fdc) : Type 0 where
+  pub no_command : is_executing fdc.phase ≡ false
+  pub not_asking : fdc.asking ≡ false
+  pub no_poll : (fdc.poll_due && not (is_held fdc)) ≡ false
+  pub selects : dor_of fdc % 4 ≡ bay
+
+-- what a seek leaves but for the drive that seeks
+pub record Carries (old new : Board) : Type 0 where
+  pub memory : memory_of new ≡ memory_of old
+  pub entries : (holds_of new).entries ≡ (holds_of old).entries
+  pub stalls : (holds_of new).stalls ≡ (holds_of old).stalls
+  pub direct : new.bus.direct ≡ old.bus.direct
+  pub taken : new.bus.taken ≡ old.bus.taken
+
+pub record SeekStep (bay : ℕ) (old new : Board) : Type 0 where
+  pub controller_is : controller_of new ≡ seek_stepped ((drive_in old bay).cylinder == 0) (controller_of old)
+  pub moves : Moves (pulse_due (controller_of old).seeks ((drive_in old bay).cylinder == 0)) (drive_in old bay) (drive_in new bay)
+  pub other : OnlyTurns (drive_in old (1 - bay)) (drive_in new (1 - bay))
+  pub carries : Carries old new
+
+-- the word time of a step
+record SeekTurn (bay : ℕ) (old : Board) (between : Fdc) (new : Board) : Type 0 where
+  pub controller_is : between ≡ seek_stepped ((drive_in old bay).cylinder == 0) (controller_of old)
+  pub moves : Moves (pulse_due (controller_of old).seeks ((drive_in old bay).cylinder == 0)) (drive_in old bay) (drive_in new bay)
+  pub other : OnlyTurns (drive_in old (1 - bay)) (drive_in new (1 - bay))
+
+seek_rests : (fdc : Fdc) (bay : ℕ) (track0 : Bool) (between : Fdc) → CanSeek bay fdc → RestsIn (polled fdc).phase (polled fdc) track0 between → between ≡ seek_stepped track0 fdc
+seek_rests fdc bay track0 between can is =
+    rests_in fdc.phase fdc track0 between can.no_command (subst (λ f. RestsIn f.phase f track0 between) (unpolled fdc can.no_poll) is)
+
+seek_moves : (fdc : Fdc) (bay : ℕ) (before after : DriveState) → CanSeek bay fdc → MovesIn (polled fdc).phase (polled fdc) before after
+    → Moves (pulse_due fdc.seeks (before.cylinder == 0)) before after
+seek_moves fdc bay before after can is =
+    moves_in fdc.phase fdc before after can.no_command (subst (λ f. MovesIn f.phase f before after) (unpolled fdc can.no_poll) is)
+
+seek_turn : (bay : ℕ) (old new : Board) (between : Fdc) → bay ≤ 1 → CanSeek bay (controller_of old)
+    → Turns (selected_of old) (controller_of old) old.first old.second between new.first new.second → SeekTurn bay old between new
+seek_turn zero old new between small can turn =
+    let (works, passes) = turn.at_first can.selects in record {
+      controller_is = seek_rests (controller_of old) 0 (old.first.cylinder == 0) between can works.rests;
+      moves = seek_moves (controller_of old) 0 old.first new.first can works.drive;
+      other = passes_turn old.second new.second passes;
+    }
+seek_turn (suc zero) old new between small can turn =
+    let (works, passes) = turn.at_second can.selects in record {
+      controller_is = seek_rests (controller_of old) 1 (old.second.cylinder == 0) between can works.rests;
+      moves = seek_moves (controller_of old) 1 old.second new.second can works.drive;
+      other = passes_turn old.first new.first passes;
+    }
+seek_turn (suc (suc bay)) old new between small can turn = absurd (omega arith)
+
+pub seek_step : (bay : ℕ) (old new : Board) → bay ≤ 1 → CanSeek bay (controller_of old) → Step old new → SeekStep bay old new
+seek_step bay old new small can step =
+    let turned = seek_turn bay old new step.between small can step.turns in
+    let calm = calm_asks step.between (ap (λ f. f.asking) turned.controller_is ∙ can.not_asking) in
+    let worked : Chips = record old.bus.chips { controller = step.between } in
+    let rested : Chips = record worked { holding = record worked.holding { request = Low } } in
+    let chips : new.bus.chips ≡ rested = ap (λ bus. bus.chips) step.bus ∙ calm_dma worked calm in
+    record {
+      controller_is = ap (λ c. c.controller) chips ∙ turned.controller_is;
+      moves = turned.moves;
+      other = turned.other;
+      carries = record {
+        memory = ap (λ c. c.memory) chips;
+        entries = ap (λ c. c.holding.entries) chips;
+        stalls = ap (λ c. c.holding.stalls) chips;
+        direct = ap (λ bus. bus.direct) step.bus;
+        taken = ap (λ bus. bus.taken) step.bus;
+      };
+    }
+
+-- ---- a rule for what a motion does
+
+-- with this motion the step ends the seek
+pub record EndsNow (bay : ℕ) (motion : Motion) (drive : DriveState) (Over : ℕ → ℕ → DriveState → Type 0) : Type 0 where
+  pub number : ℕ
+  pub status : ℕ
+  pub no_pulse : pulse_of motion (drive.cylinder == 0) ≡ None
+  pub ends : (seeks : Seeking) → stepped_seek seeks bay motion (drive.cylinder == 0) ≡ ended seeks bay number status
+  pub leaves : (after : DriveState) → Moves None drive after → Over number status after
+
+-- or it gives a pulse
+pub record GivesPulse (bay n : ℕ) (motion : Motion) (drive : DriveState) (Way : ℕ → Motion → DriveState → Type 0) : Type 0 where
+  pub inward : Bool
+  pub next : Motion
+  pub runs : has_ended next ≡ false
+  pub pulse : pulse_of motion (drive.cylinder == 0) ≡ Some inward
+  pub goes : (seeks : Seeking) → stepped_seek seeks bay motion (drive.cylinder == 0) ≡ with_motion seeks bay next
+  pub leaves : (after : DriveState) → Moves (Some inward) drive after → Way (n + 1) next after
+
+-- the seek of a bay goes by this rule: after so many steps it is on its way, or over
+pub record IsRule (bay : ℕ) (Way : ℕ → Motion → DriveState → Type 0) (Over : ℕ → ℕ → DriveState → Type 0) : Type 0 where
+  pub steps : (n : ℕ) (motion : Motion) (drive : DriveState) → has_ended motion ≡ false → Way n motion drive
+      → EndsNow bay motion drive Over ⊎ GivesPulse bay n motion drive Way
+  pub stays : (number status : ℕ) (before after : DriveState) → KeepsDrive before after → KeepsSpeed before after → Over number status before → Over number status after
+
+-- ---- runs of it
+
+abbrev pub on_way : Fdc → ℕ → Motion → Fdc
+on_way fdc bay motion = record fdc { seeks = with_motion fdc.seeks bay motion }
+
+abbrev pub at_end : Fdc → ℕ → ℕ → ℕ → Fdc
+at_end fdc bay number status = record fdc { seeks = ended fdc.seeks bay number status; interrupt = true }
+
+-- how it is after so many steps
+pub record IsOnWay (fdc : Fdc) (bay n : ℕ) (Way : ℕ → Motion → DriveState → Type 0) (board : Board) : Type 0 where
+  pub motion : Motion
+  pub runs : has_ended motion ≡ false
+  pub controller_is : controller_of board ≡ on_way fdc bay motion
+  pub way : Way n motion (drive_in board bay)
+
+pub record IsOver (fdc : Fdc) (bay : ℕ) (Over : ℕ → ℕ → DriveState → Type 0) (board : Board) : Type 0 where
+  pub number : ℕ
+  pub status : ℕ
+  pub controller_is : controller_of board ≡ at_end fdc bay number status
+  pub over : Over number status (drive_in board bay)
+
+-- what is left beside
+pub record Beside (bay : ℕ) (old new : Board) : Type 0 where
+  pub carries : Carries old new
+  pub keeps : KeepsDrive (drive_in old (1 - bay)) (drive_in new (1 - bay))
+  pub speed : KeepsSpeed (drive_in old (1 - bay)) (drive_in new (1 - bay))
+
+or_that : (b : Bool) → (b || true) ≡ true
+or_that true = refl
+or_that false = refl
+
+running : (motion : Motion) → has_ended motion ≡ false → not (has_ended motion) ≡ true
+running motion runs = ap not runs
+
+ends_by : (fdc : Fdc) (seeks : Seeking) (bay number status : ℕ) (seeking : Bool) → seeks ≡ ended fdc.seeks bay number status → seeking ≡ true
+    → record fdc { seeks = seeks; interrupt = fdc.interrupt || (seeking && not (is_seeking seeks)) } ≡ at_end fdc bay number status
+ends_by fdc seeks bay number status false same on = absurd cc
+ends_by fdc seeks bay number status true same on =
+    ap (λ s. let f : Fdc = record fdc { seeks = s; interrupt = fdc.interrupt || (true && not (is_seeking s)) } in f) same
+    ∙ ap (λ i. let f : Fdc = record fdc { seeks = ended fdc.seeks bay number status; interrupt = i } in f) (or_that fdc.interrupt)
+
+goes_by : (fdc : Fdc) (seeks : Seeking) (bay : ℕ) (next : Motion) (seeking : Bool) → seeks ≡ with_motion fdc.seeks bay next → has_ended next ≡ false → seeking ≡ true
+    → record fdc { seeks = seeks; interrupt = fdc.interrupt || (seeking && not (is_seeking seeks)) } ≡ on_way fdc bay next
+goes_by fdc seeks bay next false same runs on = absurd cc
+goes_by fdc seeks bay next true same runs on =
+    ap (λ s. let f : Fdc = record fdc { seeks = s; interrupt = fdc.interrupt || (true && not (is_seeking s)) } in f) same
+    ∙ (ap (λ b. let f : Fdc = record fdc { seeks = with_motion fdc.seeks bay next; interrupt = fdc.interrupt || not (not b) } in f) runs
+    ∙ ap (λ i. let f : Fdc = record fdc { seeks = with_motion fdc.seeks bay next; interrupt = i } in f) (or_false fdc.interrupt))
+
+can_seek_on : (bay : ℕ) (fdc : Fdc) (motion : Motion) → CanSeek bay fdc → CanSeek bay (on_way fdc bay motion)
+can_seek_on bay fdc motion can = record { no_command = can.no_command; not_asking = can.not_asking; no_poll = can.no_poll; selects = can.selects }
+
+rests_over : (bay : ℕ) (fdc : Fdc) (number status : ℕ) → CanSeek bay fdc → IsResting (at_end fdc bay number status)
+rests_over bay fdc number status can = record { no_command = can.no_command; no_seek = refl; not_asking = can.not_asking; no_poll = can.no_poll }
+
+pub beside_none : (bay : ℕ) (board : Board) → Beside bay board board
+beside_none bay board = record {
+  carries = record { memory = refl; entries = refl; stalls = refl; direct = refl; taken = refl };
+  keeps = drive_none (drive_in board (1 - bay));
+  speed = speed_none (drive_in board (1 - bay));
+}
+
+pub beside_then : (bay : ℕ) (a b c : Board) → Beside bay a b → Beside bay b c → Beside bay a c
+beside_then bay a b c one two = record {
+  carries = record {
+    memory = two.carries.memory ∙ one.carries.memory;
+    entries = two.carries.entries ∙ one.carries.entries;
+    stalls = two.carries.stalls ∙ one.carries.stalls;
+    direct = two.carries.direct ∙ one.carries.direct;
+    taken = two.carries.taken ∙ one.carries.taken;
+  };
+  keeps = drive_then (drive_in a (1 - bay)) (drive_in b (1 - bay)) (drive_in c (1 - bay)) one.keeps two.keeps;
+  speed = speed_then (drive_in a (1 - bay)) (drive_in b (1 - bay)) (drive_in c (1 - bay)) one.speed two.speed;
+}
+
+step_beside : (bay : ℕ) (old new : Board) → SeekStep bay old new → Beside bay old new
+step_beside bay old new step = record { carries = step.carries; keeps = step.other.keeps; speed = step.other.speed }
+
+-- the seek is on its way after so many steps, or over
+abbrev pub Sought : Fdc → ℕ → (ℕ → Motion → DriveState → Type 0) → (ℕ → ℕ → DriveState → Type 0) → ℕ → Board → Type 0
+Sought fdc bay Way Over n board = IsOnWay fdc bay n Way board ⊎ IsOver fdc bay Over board
+
+way_steps : (fdc : Fdc) (bay n : ℕ) (Way : ℕ → Motion → DriveState → Type 0) (Over : ℕ → ℕ → DriveState → Type 0) (old new : Board) → IsRule bay Way Over
+    → SeekStep bay old new → IsOnWay fdc bay n Way old → Sought fdc bay Way Over (n + 1) new
+way_steps fdc bay n Way Over old new rule step was =
+    let drive = drive_in old bay in
+    let t = drive.cylinder == 0 in
+    let running = ap not was.runs in
+    let stepped_at : controller_of new ≡ seek_stepped t (on_way fdc bay was.motion) = step.controller_is ∙ ap (seek_stepped t) was.controller_is in
+    let moved : Moves (pulse_of was.motion t) drive (drive_in new bay) = subst (λ f. Moves (pulse_due f.seeks t) drive (drive_in new bay)) was.controller_is step.moves in
+    elim (rule.steps n was.motion drive was.runs was.way) [
+      | inl ends ↦ inr (record {
+        number = ends.number;
+        status = ends.status;
+        controller_is = stepped_at ∙ ends_by fdc (stepped_seek (with_motion fdc.seeks bay was.motion) bay was.motion t) bay ends.number ends.status (not (has_ended was.motion))
+            (ends.ends (with_motion fdc.seeks bay was.motion)) running;
+        over = ends.leaves (drive_in new bay) (subst (λ pulse. Moves pulse drive (drive_in new bay)) ends.no_pulse moved);
+      })
+      | inr gives ↦ inl (record {
+        motion = gives.next;
+        runs = gives.runs;
+        controller_is = stepped_at ∙ goes_by fdc (stepped_seek (with_motion fdc.seeks bay was.motion) bay was.motion t) bay gives.next (not (has_ended was.motion))
+            (gives.goes (with_motion fdc.seeks bay was.motion)) gives.runs running;
+        way = gives.leaves (drive_in new bay) (subst (λ pulse. Moves pulse drive (drive_in new bay)) gives.pulse moved);
+      })
+    ]
+
+turned_in : (bay : ℕ) (old new : Board) → SeekStep bay old new → pulse_due (controller_of old).seeks ((drive_in old bay).cylinder == 0) ≡ None → OnlyTurns (drive_in old bay) (drive_in new bay)
+turned_in bay old new step none =
+    gate_turns (drive_in old bay) (drive_in new bay) (subst (λ pulse. Moves pulse (drive_in old bay) (drive_in new bay)) none step.moves)
+
+over_steps : (fdc : Fdc) (bay : ℕ) (Way : ℕ → Motion → DriveState → Type 0) (Over : ℕ → ℕ → DriveState → Type 0) (old new : Board) → IsRule bay Way Over
+    → SeekStep bay old new → IsOver fdc bay Over old → IsOver fdc bay Over new
+over_steps fdc bay Way Over old new rule step was =
+    let t = (drive_in old bay).cylinder == 0 in
+    record {
+      number = was.number;
+      status = was.status;
+      controller_is = step.controller_is ∙ (ap (seek_stepped t) was.controller_is ∙ still_seeks (at_end fdc bay was.number was.status) t refl);
+      over = let turned = turned_in bay old new step (ap (λ f. pulse_due f.seeks t) was.controller_is) in
+          rule.stays was.number was.status (drive_in old bay) (drive_in new bay) turned.keeps turned.speed was.over;
+    }
+
+can_seek_now : (fdc : Fdc) (bay n : ℕ) (Way : ℕ → Motion → DriveState → Type 0) (Over : ℕ → ℕ → DriveState → Type 0) (board : Board) → CanSeek bay fdc
+    → Sought fdc bay Way Over n board → CanSeek bay (controller_of board)
+can_seek_now fdc bay n Way Over board can sought = elim sought [
+  | inl way ↦ subst (CanSeek bay) (sym way.controller_is) (can_seek_on bay fdc way.motion can)
+  | inr over ↦ subst (CanSeek bay) (sym over.controller_is) (record { no_command = can.no_command; not_asking = can.not_asking; no_poll = can.no_poll; selects = can.selects })
+]
+
+one_more : (fdc : Fdc) (bay n : ℕ) (Way : ℕ → Motion → DriveState → Type 0) (Over : ℕ → ℕ → DriveState → Type 0) (old new : Board) → IsRule bay Way Over
+    → SeekStep bay old new → Sought fdc bay Way Over n old → Sought fdc bay Way Over (n + 1) new
+one_more fdc bay n Way Over old new rule step sought = elim sought [
+  | inl way ↦ way_steps fdc bay n Way Over old new rule step way
+  | inr over ↦ inr (over_steps fdc bay Way Over old new rule step over)
+]
+
+-- a seek over device steps
+pub record RunsSeek (fdc : Fdc) (bay n : ℕ) (Way : ℕ → Motion → DriveState → Type 0) (Over : ℕ → ℕ → DriveState → Type 0) (old new : Board) : Type 0 where
+  pub sought : Sought fdc bay Way Over n new
+  pub beside : Beside bay old new
+
+pub runs_seek : (n from : ℕ) (fdc : Fdc) (bay : ℕ) (Way : ℕ → Motion → DriveState → Type 0) (Over : ℕ → ℕ → DriveState → Type 0) (old new : Board) → bay ≤ 1 → CanSeek bay fdc
+    → IsRule bay Way Over → Runs n old new → Sought fdc bay Way Over from old → RunsSeek fdc bay (from + n) Way Over old new
+unfolding Runs
+runs_seek zero from fdc bay Way Over old new small can rule same sought =
+    let here : from ≡ from + 0 = omega arith in
+    subst (λ board. RunsSeek fdc bay (from + 0) Way Over old board) (sym same)
+    (record { sought = subst (λ k. Sought fdc bay Way Over k old) here sought; beside = beside_none bay old })
+runs_seek (suc n) from fdc bay Way Over old new small can rule (between, runs, step) sought =
+    let so_far = runs_seek n from fdc bay Way Over old between small can rule runs sought in
+    let stepped = seek_step bay between new small (can_seek_now fdc bay (from + n) Way Over between can so_far.sought) step in
+    let here : (from + n) + 1 ≡ from + suc n = omega arith in
+    record {
+      sought = subst (λ k. Sought fdc bay Way Over k new) here (one_more fdc bay (from + n) Way Over between new rule stepped so_far.sought);
+      beside = beside_then bay old between new so_far.beside (step_beside bay between new stepped);
+    }
