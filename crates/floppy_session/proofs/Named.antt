@@ -69,7 +69,7 @@ keeps_set old new n bay set same =
     }
 
 -- what holds with a refusal and without one
-by_refusal : {A C : Type 0} (o : Option A) (P : Type 0) (Q : A → Type 0) → MatchOption o P Q → (P → C) → ((a : A) → Q a → C) → C
+pub by_refusal : {A C : Type 0} (o : Option A) (P : Type 0) (Q : A → Type 0) → MatchOption o P Q → (P → C) → ((a : A) → Q a → C) → C
 by_refusal None P Q h p q = p h
 by_refusal (Some a) P Q h p q = q a h
 

@@ -1,5 +1,6 @@
 pub mod Blanks
 pub mod Loads
+pub mod Services
 pub mod Session
 pub mod Shapes
 pub mod Tries

@@ -1,8 +1,9 @@
 // The requests that are calls of the driver.
-ghost use Rattle.std.specs.Prelude.{◌≡◌, ◌≤◌, Option};
+ghost use Rattle.std.specs.Prelude.{◌≡◌, ◌+◌, ◌≤◌, length, Option, IfErr};
 ghost use Rattle.flop_base.specs.Shelf.{Files};
 ghost use Rattle.sector_model.specs.Stations.{bay_of};
 ghost use Rattle.flop_base.specs.Standard.{gap_at};
+ghost use Rattle.bay_model.specs.Memory.{SameOutside};
 ghost use Rattle.sector_model.specs.Steps.{Step, reply_of, read_reply};
 
 use crate::session::Session;
@@ -21,7 +22,18 @@ impl<D: Station> Session<D> {
             → Step (state_of D.shown self.old) told (Request.Ack bay) result (state_of D.shown self.new) told }
         ensures running { IsRunning D.shown D.is_ready self.new }
     {
-        reply(self.station.ack(bay))
+        reply(self.acknowledge(bay))
+    }
+
+    /// Acknowledges a change of the medium.
+    pub(crate) fn acknowledge(&mut self, bay: u8) -> Result<(), Code>
+        requires { IsRunning D.shown D.is_ready self.old }
+        ensures step { (told : Option Files)
+            → Step (state_of D.shown self.old) told (Request.Ack bay) (reply_of result) (state_of D.shown self.new) told }
+        ensures answers { bay ≤ 1 → IfErr result (λ code. code ≡ Code.NotReady) }
+        ensures running { IsRunning D.shown D.is_ready self.new }
+    {
+        self.station.ack(bay)
     }
 
     /// Reads the record with this key to memory.
@@ -31,7 +43,20 @@ impl<D: Station> Session<D> {
             result (state_of D.shown self.new) told }
         ensures running { IsRunning D.shown D.is_ready self.new }
     {
-        reply_to_read(self.station.read(bay, key, address))
+        reply_to_read(self.read_record(bay, key, address))
+    }
+
+    /// Reads the record with this key to memory.
+    pub(crate) fn read_record(&mut self, bay: u8, key: Chrn, address: u32) -> Result<bool, Code>
+        requires { IsRunning D.shown D.is_ready self.old }
+        ensures step { (told : Option Files) → Step (state_of D.shown self.old) told (Request.Read bay key address)
+            (read_reply result) (state_of D.shown self.new) told }
+        ensures outside { key.n ≡ 2 → address + 512 ≤ length (state_of D.shown self.old).station.memory
+            → SameOutside (state_of D.shown self.old).station.memory address 512
+            (state_of D.shown self.new).station.memory }
+        ensures running { IsRunning D.shown D.is_ready self.new }
+    {
+        self.station.read(bay, key, address)
     }
 
     /// Writes memory to the record with this key.
@@ -41,7 +66,17 @@ impl<D: Station> Session<D> {
             result (state_of D.shown self.new) told }
         ensures running { IsRunning D.shown D.is_ready self.new }
     {
-        reply(self.station.write(bay, key, address, false))
+        reply(self.write_record(bay, key, address))
+    }
+
+    /// Writes memory to the record with this key.
+    pub(crate) fn write_record(&mut self, bay: u8, key: Chrn, address: u32) -> Result<(), Code>
+        requires { IsRunning D.shown D.is_ready self.old }
+        ensures step { (told : Option Files) → Step (state_of D.shown self.old) told (Request.Write bay key address)
+            (reply_of result) (state_of D.shown self.new) told }
+        ensures running { IsRunning D.shown D.is_ready self.new }
+    {
+        self.station.write(bay, key, address, false)
     }
 
     /// Writes memory to the record with this key and marks it deleted.

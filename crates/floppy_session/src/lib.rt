@@ -5,6 +5,7 @@ mod driver;
 mod loading;
 mod media;
 mod memory;
+mod service;
 mod session;
 mod shape;
 

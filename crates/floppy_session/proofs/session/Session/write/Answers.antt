@@ -1,11 +1,7 @@
-use Rattle.std.proofs.Common.{refl}
-use Rattle.floppy_session.specs.Session.{state_of, shapes_of}
-use Rattle.floppy_session.proofs.Named.{named_still, shaped_still, keeps_writes}
+use Rattle.floppy_session.specs.Session.{state_of}
+use Rattle.floppy_jobs.specs.declared.request.Request.TheVariants as request
+use Rattle.floppy_session.proofs.Serving.{replied}
 use Rattle.floppy_session.proofs.session.Session.write.Goals as goal
 
-pub returns-clause-running : goal.returns-clause-running
-returns-clause-running g c = record {
-  ready = c.write.ensures.ready;
-  named = named_still (state_of g.D.Station.shown c.args.self.now) _ refl (keeps_writes (g.D.Station.shown c.args.self.now.station) (g.D.Station.shown c.write.new.self) c.args.bay c.args.key c.args.address _ c.write.result c.write.ensures.step) c.requires.named;
-  shaped = shaped_still (shapes_of c.args.self.now) _ _ (keeps_writes (g.D.Station.shown c.args.self.now.station) (g.D.Station.shown c.write.new.self) c.args.bay c.args.key c.args.address _ c.write.result c.write.ensures.step) c.requires.shaped;
-}
+pub returns-clause-step : goal.returns-clause-step
+returns-clause-step g c = λ told. replied (state_of g.D.Station.shown c.args.self.now) (state_of g.D.Station.shown c.write_record.new.self) told (request.Write c.args.bay c.args.key c.args.address) c.reply.result _ c.reply.ensures (c.write_record.ensures.step told)

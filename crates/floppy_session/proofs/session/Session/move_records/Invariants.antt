@@ -1,0 +1,15 @@
+use Rattle.std.proofs.Common.{◌≡◌, ◌+◌, ◌≤◌, List, length, Option}
+use Rattle.flop_base.specs.Shelf.{Files}
+use Rattle.bay_model.specs.Memory.{SameOutside}
+use Rattle.sector_model.specs.Runs.{Taken}
+use Rattle.int13.specs.declared.work.Kind.TheVariants.{Verify}
+use Rattle.floppy_session.specs.Services.{AreDone, record_requests}
+use Rattle.floppy_session.specs.Session.{state_of, IsRunning}
+use Rattle.floppy_session.proofs.session.Session.move_records.Given as goal
+
+abbrev pub invariant-loop-i : goal.invariant-loop-i
+invariant-loop-i g l = record {
+  done : (told : Option Files) → (course : List Taken) × AreDone (record_requests l.fn.kind l.fn.bay l.fn.first l.fn.address l.i) (state_of g.D.Station.shown l.fn.self) told course (state_of g.D.Station.shown l.self);
+  outside : l.fn.kind ≡ Verify → l.fn.address + 512 ≤ length (g.D.Station.shown l.fn.self.station).memory → SameOutside (g.D.Station.shown l.fn.self.station).memory l.fn.address 512 (g.D.Station.shown l.self.station).memory;
+  running : IsRunning g.D.Station.shown g.D.Station.is_ready l.self;
+}

@@ -1,0 +1,272 @@
+// Calls of INT 13h: what each asks the station, request by request.
+ghost use Rattle.std.specs.Prelude.{◌≡◌, ◌+◌, ◌≤◌, not, if◌then◌else◌, List, length, Option};
+ghost use Rattle.flop_base.specs.Shelf.{Files};
+ghost use Rattle.bay_model.specs.Memory.{user_bytes, bytes_from, with_bytes, SameOutside};
+ghost use Rattle.sector_model.specs.Runs.{Taken};
+ghost use Rattle.sector_model.specs.Orders.{is_acknowledged};
+ghost use Rattle.sector_model.specs.States.{IsSame};
+ghost use Rattle.int13.specs.Table.{IsDoable, IsTransfer, IsAnswerTo};
+ghost use Rattle.floppy_session.specs.Services.{Serves, DoesWork, Transfers, MovesRecords, MovesRecord, VerifiesRecords, AcksAlone, AreDone, ack_code, record_request, record_requests, place_of_record, put_requests};
+
+use crate::session::Session;
+use flop_base::standard::SIZE_CODE;
+use flop_base::{Chrn, Code};
+use floppy_jobs::Request;
+use int13::{Int13, Kind, Regs, Work};
+use sector_model::Station;
+
+/// The bytes of a record.
+const RECORD_BYTES: usize = 512;
+
+/// What the work of a call came to.
+#[derive(Clone, Copy)]
+pub(crate) struct Outcome {
+    /// The code of INT 13h, 00 where nothing was refused.
+    code: u8,
+    /// The records that were moved without a refusal.
+    moved: u8,
+}
+
+/// Where a record lies in memory: the records lie one behind the other, and a verify reads each to the same place.
+fn place_of_record(kind: Kind, address: u32, i: u8) -> u32
+    requires { address ≤ user_bytes }
+    ensures { result ≡ place_of_record kind address i }
+{
+    match kind {
+        Kind::Read | Kind::Write => address + 512 * u32::from(i),
+        Kind::Verify => address,
+    }
+}
+
+/// The answer where a bay had to be acknowledged first.
+fn ack_code(called: Result<(), Code>) -> u8
+    ensures { result ≡ ack_code called }
+{
+    match called {
+        Ok(()) => Code::Changed.number(),
+        Err(code) => code.number(),
+    }
+}
+
+impl<D: Station> Session<D> {
+    ghost use Rattle.floppy_session.specs.Session.{state_of, IsRunning};
+
+    /// Serves a call of INT 13h (PC/AT), with the service that keeps the status. Records go one after the other by reads and
+    /// writes, up to the first that is refused. A bay that isn't acknowledged is acknowledged first, and the call then moves no
+    /// record. A verify leaves memory as it was. It takes no memory.
+    pub fn int13(&mut self, front: &mut Int13, regs: Regs) -> Regs
+        requires { IsRunning D.shown D.is_ready self.old }
+        ensures serves { (told : Option Files) → (course : List Taken) × Serves front.old regs (state_of D.shown self.old) told
+            result front.new course (state_of D.shown self.new) }
+        ensures running { IsRunning D.shown D.is_ready self.new }
+    {
+        let Outcome { code, moved } = self.do_work(front.plan(regs));
+        front.finish(regs, code, moved)
+    }
+
+    /// Does the work of a call.
+    fn do_work(&mut self, work: Work) -> Outcome
+        requires running { IsRunning D.shown D.is_ready self.old }
+        requires doable { IsDoable work }
+        ensures does { (told : Option Files) → (course : List Taken) × DoesWork work (state_of D.shown self.old) told course
+            result.code result.moved (state_of D.shown self.new) }
+        ensures answer { IsAnswerTo work result.code result.moved }
+        ensures running { IsRunning D.shown D.is_ready self.new }
+    {
+        match work {
+            Work::Answer { code } => Outcome { code, moved: 0 },
+            Work::Changed { bay } => Outcome {
+                code: self.change_code(bay),
+                moved: 0,
+            },
+            Work::Move {
+                kind,
+                bay,
+                c,
+                h,
+                r,
+                count,
+                address,
+            } => {
+                let first = Chrn {
+                    c,
+                    h,
+                    r,
+                    n: SIZE_CODE,
+                };
+                self.transfer(kind, bay, first, count, address)
+            }
+        }
+    }
+
+    /// Whether the bay isn't acknowledged.
+    fn is_changed(&mut self, bay: u8) -> bool
+        requires running { IsRunning D.shown D.is_ready self.old }
+        requires bay { bay ≤ 1 }
+        ensures value { result ≡ not (is_acknowledged (state_of D.shown self.old).station bay) }
+        ensures same { IsSame (state_of D.shown self.old) (state_of D.shown self.new) }
+        ensures running { IsRunning D.shown D.is_ready self.new }
+    {
+        self.station.changed(bay)
+    }
+
+    /// The code that tells whether the bay isn't acknowledged.
+    fn change_code(&mut self, bay: u8) -> u8
+        requires running { IsRunning D.shown D.is_ready self.old }
+        requires bay { bay ≤ 1 }
+        ensures value { result ≡ (if is_acknowledged (state_of D.shown self.old).station bay then 0x00 else 0x06) }
+        ensures same { IsSame (state_of D.shown self.old) (state_of D.shown self.new) }
+        ensures running { IsRunning D.shown D.is_ready self.new }
+    {
+        if self.is_changed(bay) {
+            Code::Changed.number()
+        } else {
+            0x00
+        }
+    }
+
+    /// Moves the records of a transfer, or acknowledges the bay where that has to come first.
+    fn transfer(&mut self, kind: Kind, bay: u8, first: Chrn, count: u8, address: u32) -> Outcome
+        requires running { IsRunning D.shown D.is_ready self.old }
+        requires transfer { IsTransfer kind bay first.c first.h first.r count address }
+        requires size { first.n ≡ 2 }
+        ensures transfers { (told : Option Files) → (course : List Taken) × Transfers kind bay first count address
+            (state_of D.shown self.old) told course result.code result.moved (state_of D.shown self.new) }
+        ensures running { IsRunning D.shown D.is_ready self.new }
+    {
+        if self.is_changed(bay) {
+            return self.acknowledge_alone(bay);
+        }
+        match kind {
+            Kind::Verify => self.verify_records(bay, first, count, address),
+            Kind::Read | Kind::Write => self.move_records(kind, bay, first, count, address),
+        }
+    }
+
+    /// Acknowledges a bay, for a call that moves no record.
+    fn acknowledge_alone(&mut self, bay: u8) -> Outcome
+        requires running { IsRunning D.shown D.is_ready self.old }
+        requires bay { bay ≤ 1 }
+        ensures acks { (told : Option Files) → (course : List Taken) × AcksAlone bay (state_of D.shown self.old) told course
+            result.code result.moved (state_of D.shown self.new) }
+        ensures running { IsRunning D.shown D.is_ready self.new }
+    {
+        Outcome {
+            code: ack_code(self.acknowledge(bay)),
+            moved: 0,
+        }
+    }
+
+    /// Reads a record, whatever its mark.
+    fn read_any(&mut self, bay: u8, key: Chrn, address: u32) -> Result<(), Code>
+        requires { IsRunning D.shown D.is_ready self.old }
+        ensures moves { (told : Option Files) → MovesRecord (Request.Read bay key address) (state_of D.shown self.old) told
+            result (state_of D.shown self.new) }
+        ensures outside { key.n ≡ 2 → address + 512 ≤ length (state_of D.shown self.old).station.memory
+            → SameOutside (state_of D.shown self.old).station.memory address 512
+            (state_of D.shown self.new).station.memory }
+        ensures running { IsRunning D.shown D.is_ready self.new }
+    {
+        match self.read_record(bay, key, address) {
+            Ok(_) => Ok(()),
+            Err(code) => Err(code),
+        }
+    }
+
+    /// Moves a record.
+    fn move_record(&mut self, kind: Kind, bay: u8, key: Chrn, address: u32) -> Result<(), Code>
+        requires { IsRunning D.shown D.is_ready self.old }
+        ensures moves { (told : Option Files) → MovesRecord (record_request kind bay key address) (state_of D.shown self.old) told
+            result (state_of D.shown self.new) }
+        ensures outside { kind ≡ Kind.Verify → key.n ≡ 2
+            → address + 512 ≤ length (state_of D.shown self.old).station.memory
+            → SameOutside (state_of D.shown self.old).station.memory address 512
+            (state_of D.shown self.new).station.memory }
+        ensures running { IsRunning D.shown D.is_ready self.new }
+    {
+        match kind {
+            Kind::Read | Kind::Verify => self.read_any(bay, key, address),
+            Kind::Write => self.write_record(bay, key, address),
+        }
+    }
+
+    /// Moves records one after the other, up to the first that is refused.
+    fn move_records(&mut self, kind: Kind, bay: u8, first: Chrn, count: u8, address: u32) -> Outcome
+        requires running { IsRunning D.shown D.is_ready self.old }
+        requires size { first.n ≡ 2 }
+        requires last { first.r + count ≤ 256 }
+        requires within { address ≤ user_bytes }
+        ensures moves { (told : Option Files) → (course : List Taken) × MovesRecords (record_requests kind bay first address count)
+            (state_of D.shown self.old) told course result.code result.moved (state_of D.shown self.new) }
+        ensures outside { kind ≡ Kind.Verify → address + 512 ≤ length (state_of D.shown self.old).station.memory
+            → SameOutside (state_of D.shown self.old).station.memory address 512
+            (state_of D.shown self.new).station.memory }
+        ensures running { IsRunning D.shown D.is_ready self.new }
+    {
+        for i in 0..count {
+            let key = Chrn {
+                r: first.r + i,
+                ..first
+            };
+            match self.move_record(kind, bay, key, place_of_record(kind, address, i)) {
+                Ok(()) => {}
+                Err(code) => {
+                    return Outcome {
+                        code: code.number(),
+                        moved: i,
+                    };
+                }
+            }
+        }
+        Outcome {
+            code: 0x00,
+            moved: count,
+        }
+    }
+
+    /// Reads records to an address one after the other, up to the first that is refused, and puts the bytes there back.
+    fn verify_records(&mut self, bay: u8, first: Chrn, count: u8, address: u32) -> Outcome
+        requires running { IsRunning D.shown D.is_ready self.old }
+        requires size { first.n ≡ 2 }
+        requires last { first.r + count ≤ 256 }
+        requires within { address + 512 ≤ user_bytes }
+        ensures verifies { (told : Option Files) → (course : List Taken)
+            × VerifiesRecords address (record_requests Kind.Verify bay first address count) (state_of D.shown self.old) told course
+            result.code result.moved (state_of D.shown self.new) }
+        ensures running { IsRunning D.shown D.is_ready self.new }
+    {
+        let kept = self.bytes_at(address);
+        let outcome = self.move_records(Kind::Verify, bay, first, count, address);
+        self.put_back(address, &kept);
+        outcome
+    }
+
+    /// The bytes of memory that a record takes from an address on.
+    fn bytes_at(&self, address: u32) -> [u8; RECORD_BYTES]
+        requires { address + 512 ≤ user_bytes }
+        ensures bytes { result ≡ bytes_from (state_of D.shown self.now).station.memory address 512 }
+        ensures room { address + 512 ≤ length (state_of D.shown self.now).station.memory }
+    {
+        let mut kept = [self.station.memory(address); RECORD_BYTES];
+        for i in 1..RECORD_BYTES {
+            kept[i] = self.station.memory(address + i as u32);
+        }
+        kept
+    }
+
+    /// Puts bytes to memory from an address on.
+    fn put_back(&mut self, address: u32, kept: &[u8; RECORD_BYTES])
+        requires running { IsRunning D.shown D.is_ready self.old }
+        requires within { address + 512 ≤ user_bytes }
+        requires room { address + 512 ≤ length (state_of D.shown self.old).station.memory }
+        ensures puts { (told : Option Files) → (course : List Taken) × AreDone (put_requests address kept.now)
+            (state_of D.shown self.old) told course (state_of D.shown self.new) }
+        ensures memory { (state_of D.shown self.new).station.memory
+            ≡ with_bytes (state_of D.shown self.old).station.memory address kept.now }
+        ensures running { IsRunning D.shown D.is_ready self.new }
+    {
+        for i in 0..RECORD_BYTES {
+            self.fill(address + i as u32, 1, kept[i]);
+        }
+    }
+}
