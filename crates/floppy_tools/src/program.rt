@@ -16,6 +16,7 @@ ghost use Rattle.floppy_tools.specs.Programs.{Does, DoesForm};
 
 use crate::play::play;
 use disk_commands::{copy_disk, format_disk, verify_disk};
+use flat_commands::{exercise_disk, export_disk, import_disk};
 use flop_base::{NoMemory, Rate, Shelf, Sink, Status};
 use floppy_report::put_last_bad_words;
 use floppy_session::Session;
@@ -24,7 +25,8 @@ use sector_model::Station;
 use std::alloc::Global;
 
 /// Does what the words after the program's name say, on a station that is as it comes: `play JOB` runs a job, `format NAME CYLS` and
-/// `formatdd NAME CYLS` store a formatted disk, `copy FROM TO` copies one, `verify NAME` reads all of one. It prints a report to the
+/// `formatdd NAME CYLS` store a formatted disk, `copy FROM TO` copies one, `verify NAME` reads all of one, `import FLAT NAME` and
+/// `export NAME FLAT` go between a flat file and a disk, `exercise SEED COUNT` runs a generated workload. It prints a report to the
 /// sink, and the status says how it ended. The station comes back in every case.
 pub fn floppy<S: Shelf, K: Sink, D: Station>(
     alloc: Global,
@@ -145,5 +147,8 @@ fn perform_form<S: Shelf, K: Sink, D: Station>(
         ),
         Form::Copy { from, to } => copy_disk(alloc, session, from, to, shelf, out),
         Form::Verify { name } => verify_disk(alloc, session, name, shelf, out),
+        Form::Import { flat, name } => import_disk(alloc, session, flat, name, shelf, out),
+        Form::Export { name, flat } => export_disk(alloc, session, name, flat, shelf, out),
+        Form::Exercise { seed, count } => exercise_disk(alloc, session, seed, count, shelf, out),
     }
 }

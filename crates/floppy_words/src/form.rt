@@ -52,4 +52,10 @@ pub enum Form {
     Copy { from: Name, to: Name },
     /// Reads every sector of a disk, and lists those that can't be read.
     Verify { name: Name },
+    /// Makes a disk from the bytes of a flat file.
+    Import { flat: Name, name: Name },
+    /// Stores the bytes of all records of a disk in a flat file.
+    Export { name: Name, flat: Name },
+    /// Runs a generated workload: so many requests, drawn from a seed.
+    Exercise { seed: u32, count: u16 },
 }

@@ -21,3 +21,7 @@ pub returns-in-FormatDd-clause-runs : goal.returns-in-FormatDd-clause-runs
 returns-in-FormatDd-clause-runs g c =
     form_runs c.args.form (form.FormatDd c.in-FormatDd.name c.in-FormatDd.cylinders) (world_of g.D.Station.shown g.S.Shelf.told g.K.Sink.told c.args.session.now c.args.shelf.now c.args.out.now) (world_of g.D.Station.shown g.S.Shelf.told g.K.Sink.told c.format_disk-in-FormatDd.new.session c.format_disk-in-FormatDd.new.shelf c.format_disk-in-FormatDd.new.out) c.format_disk-in-FormatDd.result c.in-FormatDd.is
     (subst (λ (n : ℕ). Runs (Formats c.in-FormatDd.name n R250) (world_of g.D.Station.shown g.S.Shelf.told g.K.Sink.told c.args.session.now c.args.shelf.now c.args.out.now) (world_of g.D.Station.shown g.S.Shelf.told g.K.Sink.told c.format_disk-in-FormatDd.new.session c.format_disk-in-FormatDd.new.shelf c.format_disk-in-FormatDd.new.out) c.format_disk-in-FormatDd.result) c.count-in-FormatDd.ensures.value c.format_disk-in-FormatDd.ensures.formats)
+
+pub returns-in-Import-clause-runs : goal.returns-in-Import-clause-runs
+returns-in-Import-clause-runs g c =
+    form_runs c.args.form (form.Import c.in-Import.flat c.in-Import.name) (world_of g.D.Station.shown g.S.Shelf.told g.K.Sink.told c.args.session.now c.args.shelf.now c.args.out.now) (world_of g.D.Station.shown g.S.Shelf.told g.K.Sink.told c.import_disk.new.session c.import_disk.new.shelf c.import_disk.new.out) c.import_disk.result c.in-Import.is c.import_disk.ensures.imports
