@@ -1,5 +1,7 @@
 -- Flat files: 80 cylinders, 2 heads, 9 or 18 sectors of 512 bytes on each track.
-use Rattle.std.specs.Prelude.{◌≡◌, ℕ, ◌+◌, ◌-◌, ◌*◌, ◌<◌, ◌≤◌, ◌⊎◌, List, replicate}
+use Rattle.std.specs.Prelude.{◌≡◌, ℕ, ◌+◌, ◌-◌, ◌*◌, ◌<◌, ◌≤◌, ◌==◌, ◌⊎◌, nat_lt, List, replicate, Result, Ok, Err, if◌then◌else◌}
+use Rattle.raw_image.specs.declared.error.ImageError.{ImageError}
+use Rattle.raw_image.specs.declared.error.ImageError.TheVariants.{TooShort, Trailing}
 
 -- the sectors on each track are 9 or 18
 abbrev pub IsDensity : ℕ → Type 0
@@ -15,6 +17,15 @@ pub record IsSector (sectors c h r : ℕ) : Type 0 where
 -- the bytes of such a file
 abbrev pub flat_length : ℕ → ℕ
 flat_length sectors = 80 * 2 * sectors * 512
+
+-- the sectors on each track of a file of so many bytes, or what is wrong with it
+abbrev pub sectors_told : ℕ → Result ℕ ImageError
+sectors_told have =
+    if have == 737280 then Ok 9
+    else (if have == 1474560 then Ok 18
+    else (if nat_lt have 737280 then Err (TooShort 737280 have)
+    else (if nat_lt have 1474560 then Err (TooShort 1474560 have)
+    else Err (Trailing 1474560))))
 
 -- where a sector begins: cylinder by cylinder, head by head, record by record
 abbrev pub sector_place : ℕ → ℕ → ℕ → ℕ → ℕ

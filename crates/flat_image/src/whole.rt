@@ -1,6 +1,6 @@
 // Files as a whole.
 ghost use Rattle.std.specs.Prelude.{◌≡◌, ◌<◌, ◌↔◌, length, vec_len, IfOk};
-ghost use Rattle.flat_image.specs.Flat.{IsDensity, flat_length, zeroes};
+ghost use Rattle.flat_image.specs.Flat.{IsDensity, flat_length, sectors_told, zeroes};
 
 use crate::sectors::{SECTOR_BYTES, TRACKS};
 use flop_base::NoMemory;
@@ -15,6 +15,7 @@ const LENGTH_OF_18: usize = TRACKS * 18 * SECTOR_BYTES;
 
 /// The sectors on each track of a flat file, 9 or 18, which its length tells.
 pub fn check(bytes: &[u8]) -> Result<u8, ImageError>
+    ensures told { result ≡ sectors_told (length bytes.now) }
     ensures ok { IfOk result (λ sectors. IsDensity sectors
         × (length bytes.now ≡ flat_length sectors)) }
     ensures nine { (result ≡ Ok 9) ↔ (length bytes.now ≡ 737280) }

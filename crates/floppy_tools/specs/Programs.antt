@@ -22,6 +22,8 @@ pub record OnFiles (Does : Desk → Desk → Status → Type 0) (old : World) (c
   pub nothing : course ≡ []
   pub state : new.state ≡ old.state
   pub does : Does (desk old) (desk new) ended
+use Rattle.flat_commands.specs.Commands.{Imports, Exports}
+use Rattle.flat_commands.specs.Exercises.{Exercises}
 
 -- what a form asks for
 abbrev pub DoesForm : Form → World → List Taken → World → Status → Type 0
@@ -34,6 +36,9 @@ DoesForm (form.FromImd imd name) old course new ended = OnFiles (FromImd imd nam
 DoesForm (form.ToImd name imd) old course new ended = OnFiles (ToImd name imd) old course new ended
 DoesForm (form.Survey name) old course new ended = OnFiles (Surveys name) old course new ended
 DoesForm (form.Remaster from to) old course new ended = OnFiles (Remaster from to) old course new ended
+DoesForm (form.Import flat name) old course new ended = Imports flat name old course new ended
+DoesForm (form.Export name flat) old course new ended = Exports name flat old course new ended
+DoesForm (form.Exercise seed count) old course new ended = Exercises seed count old course new ended
 
 -- the form is done, or memory for its words couldn't be had
 pub data DoesOrStarves (asked : Form) (old : World) (course : List Taken) (new : World) (ended : Status) : Type 0 where

@@ -17,6 +17,7 @@ ghost use Rattle.floppy_tools.specs.Programs.{Does, DoesForm};
 use crate::play::play;
 use archive_commands::{from_imd, remaster_disk, survey_disk, to_imd};
 use disk_commands::{copy_disk, format_disk, verify_disk};
+use flat_commands::{exercise_disk, export_disk, import_disk};
 use flop_base::{NoMemory, Rate, Shelf, Sink, Status};
 use floppy_report::put_last_bad_words;
 use floppy_session::Session;
@@ -25,9 +26,10 @@ use sector_model::Station;
 use std::alloc::Global;
 
 /// Does what the words after the program's name say, on a station that is as it comes: `play JOB` runs a job, `format NAME CYLS` and
-/// `formatdd NAME CYLS` store a formatted disk, `copy FROM TO` copies one, `verify NAME` reads all of one; `fromimd IMD NAME` and
-/// `toimd NAME IMD` turn ImageDisk files into disks and back, `survey NAME` lists the address fields of a disk, `remaster FROM TO` lays one out anew. It
-/// prints a report to the sink, and the status says how it ended. The station comes back in every case.
+/// `formatdd NAME CYLS` store a formatted disk, `copy FROM TO` copies one, `verify NAME` reads all of one; `import FLAT NAME` and
+/// `export NAME FLAT` go between a flat file and a disk, `exercise SEED COUNT` runs a generated workload; `fromimd IMD NAME` and
+/// `toimd NAME IMD` turn ImageDisk files into disks and back, `survey NAME` lists the address fields of a disk, `remaster FROM TO`
+/// lays one out anew. It prints a report to the sink, and the status says how it ended. The station comes back in every case.
 pub fn floppy<S: Shelf, K: Sink, D: Station>(
     alloc: Global,
     words: &[String],
@@ -151,5 +153,8 @@ fn perform_form<S: Shelf, K: Sink, D: Station>(
         Form::ToImd { name, imd } => to_imd(alloc, name, imd, shelf, out),
         Form::Survey { name } => survey_disk(alloc, name, shelf, out),
         Form::Remaster { from, to } => remaster_disk(alloc, from, to, shelf, out),
+        Form::Import { flat, name } => import_disk(alloc, session, flat, name, shelf, out),
+        Form::Export { name, flat } => export_disk(alloc, session, name, flat, shelf, out),
+        Form::Exercise { seed, count } => exercise_disk(alloc, session, seed, count, shelf, out),
     }
 }

@@ -7,7 +7,7 @@ use Rattle.flop_base.specs.declared.answers.NoMemory.{NoMemory}
 use Rattle.floppy_jobs.specs.Names.{is_name_text, name_of}
 use Rattle.floppy_jobs.specs.Numbers.{number_of}
 use Rattle.floppy_words.specs.declared.form.Form.{Form}
-use Rattle.floppy_words.specs.Forms.{Reads, begins_with_dash, cylinders_of, disk_of, play_of, format_of, formatdd_of, copy_of, verify_of, names_of, fromimd_of, toimd_of, survey_of, remaster_of, form_of}
+use Rattle.floppy_words.specs.Forms.{Reads, begins_with_dash, cylinders_of, disk_of, play_of, format_of, formatdd_of, copy_of, verify_of, names_of, fromimd_of, toimd_of, survey_of, remaster_of, form_of, import_of, export_of, seed_of, count_of, workload_of, exercise_of}
 
 some_true : {X : Type 0} (b : Bool) (x y : X) → (if b then Some x else None) ≡ Some y → b ≡ true
 some_true true x y e = refl
@@ -143,6 +143,35 @@ remaster_none : (words : List (List ℕ)) → list_any begins_with_dash words �
 unfolding remaster_of
 remaster_none words e = let none = names_none words e in rw none refl
 
+import_none : (words : List (List ℕ)) → list_any begins_with_dash words ≡ true → import_of words ≡ None
+unfolding import_of
+import_none words e = let none = names_none words e in rw none refl
+
+export_none : (words : List (List ℕ)) → list_any begins_with_dash words ≡ true → export_of words ≡ None
+unfolding export_of
+export_none words e = let none = names_none words e in rw none refl
+
+dash_number : (least greatest : ℕ) (word : List ℕ) → begins_with_dash word ≡ true → number_of 10 1 10 least greatest word ≡ None
+unfolding number_of
+dash_number least greatest word dash = let is = is_dash word dash in rw is.1 (no_digit _ _ _ _)
+  where
+    no_digit : (long d e : Bool) (v : ℕ) → (if long && false && d && e then Some v else None) ≡ None
+    no_digit true d e v = refl
+    no_digit false d e v = refl
+
+exercise_none : (words : List (List ℕ)) → list_any begins_with_dash words ≡ true → exercise_of words ≡ None
+unfolding exercise_of workload_of seed_of count_of
+exercise_none [] e = refl
+exercise_none (seed ∷ []) e = refl
+exercise_none (seed ∷ count ∷ []) e = elim (either_dash _ _ e) [
+  | inl dash ↦ let none = dash_number 0 2147483647 seed dash in rw none refl
+  | inr dash ↦ let none = dash_number 0 2000 count dash in elim (none_or (number_of 10 1 10 0 2147483647 seed)) [
+    | inl missing ↦ rw missing refl
+    | inr found ↦ rw (found.1, none) refl
+  ]
+]
+exercise_none (seed ∷ count ∷ next ∷ rest) e = refl
+
 -- a choice between what gives nothing
 chosen_none : {X : Type 0} (b : Bool) (x y : Option X) → x ≡ None → y ≡ None → (if b then x else y) ≡ None
 chosen_none true x y e f = e
@@ -157,9 +186,7 @@ dash_none ((d ∷ rest) ∷ words) e = elim (either_or _ _ e) [
   | inl dash ↦ let is : d ≡ 45 = eqb-true d 45 dash in rw is refl
   | inr behind ↦ chosen_none _ _ _ (play_none words behind) (chosen_none _ _ _ (format_none words behind)
       (chosen_none _ _ _ (formatdd_none words behind) (chosen_none _ _ _ (copy_none words behind)
-      (chosen_none _ _ _ (verify_none words behind) (chosen_none _ _ _ (fromimd_none words behind)
-      (chosen_none _ _ _ (toimd_none words behind) (chosen_none _ _ _ (survey_none words behind)
-      (chosen_none _ _ _ (remaster_none words behind) refl))))))))
+      (chosen_none _ _ _ (verify_none words behind) (chosen_none _ _ _ (fromimd_none words behind) (chosen_none _ _ _ (toimd_none words behind) (chosen_none _ _ _ (survey_none words behind) (chosen_none _ _ _ (remaster_none words behind) (chosen_none _ _ _ (import_none words behind) (chosen_none _ _ _ (export_none words behind) (chosen_none _ _ _ (exercise_none words behind) refl)))))))))))
 ]
   where
     either_or : (a b : Bool) → (a || b) ≡ true → (a ≡ true) ⊎ (b ≡ true)

@@ -87,6 +87,38 @@ remaster_of words = do
   names ← names_of words
   Some (form.Remaster names.0 names.1)
 
+-- import FLAT NAME
+unfoldable pub import_of : List (List ℕ) → Option Form
+import_of words = do
+  names ← names_of words
+  Some (form.Import names.0 names.1)
+
+-- export NAME FLAT
+unfoldable pub export_of : List (List ℕ) → Option Form
+export_of words = do
+  names ← names_of words
+  Some (form.Export names.0 names.1)
+
+-- one to ten decimal digits, at most 2,147,483,647
+unfoldable pub seed_of : List ℕ → Option ℕ
+seed_of word = number_of 10 1 10 0 2147483647 word
+
+-- one to ten decimal digits, at most 2,000
+unfoldable pub count_of : List ℕ → Option ℕ
+count_of word = number_of 10 1 10 0 2000 word
+
+-- the workload of a seed and a count
+unfoldable pub workload_of : List ℕ → List ℕ → Option Form
+workload_of seed count = do
+  first ← seed_of seed
+  most ← count_of count
+  Some (form.Exercise first most)
+
+-- exercise SEED COUNT
+unfoldable pub exercise_of : List (List ℕ) → Option Form
+exercise_of (seed ∷ count ∷ []) = workload_of seed count
+exercise_of _ = None
+
 -- the form that the words spell, by the first of them
 unfoldable pub form_of : List (List ℕ) → Option Form
 form_of [] = None
@@ -100,7 +132,10 @@ form_of (verb ∷ words) =
     else (if bytes_eq verb (codes "toimd") then toimd_of words
     else (if bytes_eq verb (codes "survey") then survey_of words
     else (if bytes_eq verb (codes "remaster") then remaster_of words
-    else None))))))))
+    else (if bytes_eq verb (codes "import") then import_of words
+    else (if bytes_eq verb (codes "export") then export_of words
+    else (if bytes_eq verb (codes "exercise") then exercise_of words
+    else None)))))))))))
 
 -- the words were read as the form that they spell; memory can be wanted only where they spell one
 abbrev pub Reads : {T : Type 0} → Result (Option T) NoMemory → Option T → Type 0

@@ -60,4 +60,10 @@ pub enum Form {
     Survey { name: Name },
     /// Stores a disk laid out anew.
     Remaster { from: Name, to: Name },
+    /// Makes a disk from the bytes of a flat file.
+    Import { flat: Name, name: Name },
+    /// Stores the bytes of all records of a disk in a flat file.
+    Export { name: Name, flat: Name },
+    /// Runs a generated workload: so many requests, drawn from a seed.
+    Exercise { seed: u32, count: u16 },
 }

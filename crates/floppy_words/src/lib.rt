@@ -4,6 +4,7 @@
 mod form;
 mod places;
 mod read;
+mod seed;
 
 pub use form::{Cylinders, Form};
 pub use read::form_named;

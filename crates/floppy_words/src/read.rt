@@ -1,9 +1,10 @@
 // The form that the words of the command line spell.
 ghost use Rattle.std.specs.Prelude.{◌≡◌, map, string_bytes, true};
 ghost use Rattle.std.specs.List.{list_any};
-ghost use Rattle.floppy_words.specs.Forms.{Reads, begins_with_dash, cylinders_of, disk_of, play_of, format_of, formatdd_of, copy_of, verify_of, fromimd_of, toimd_of, survey_of, remaster_of, names_of, form_of};
+ghost use Rattle.floppy_words.specs.Forms.{Reads, begins_with_dash, cylinders_of, disk_of, play_of, format_of, formatdd_of, copy_of, verify_of, fromimd_of, toimd_of, survey_of, remaster_of, names_of, form_of, import_of, export_of, count_of, workload_of, exercise_of};
 
 use crate::places::{one_place, two_places};
+use crate::seed::seed_number;
 use crate::{Cylinders, Form};
 use flop_base::{Name, NoMemory};
 use floppy_jobs::numbers::number;
@@ -45,6 +46,12 @@ fn form(alloc: Global, words: &[String]) -> Result<Option<Form>, NoMemory>
         survey(alloc, behind)
     } else if is_verb(verb, "remaster") {
         remaster(alloc, behind)
+    } else if is_verb(verb, "import") {
+        import(alloc, behind)
+    } else if is_verb(verb, "export") {
+        export(alloc, behind)
+    } else if is_verb(verb, "exercise") {
+        exercise(alloc, behind)
     } else {
         Ok(None)
     }
@@ -195,4 +202,56 @@ fn cylinders(word: &[u8]) -> Option<Cylinders>
 {
     let count = number(word, 10, 1, 10, 1, 80)?;
     Some(Cylinders::new(count as u8))
+}
+
+#[tactic(auto, unfolding(crate::specs::Forms::import_of))]
+fn import(alloc: Global, words: &[String]) -> Result<Option<Form>, NoMemory>
+    ensures { Reads result (import_of (map string_bytes words.now)) }
+{
+    match two_names(alloc, "import", words)? {
+        Some((flat, name)) => Ok(Some(Form::Import { flat, name })),
+        None => Ok(None),
+    }
+}
+
+#[tactic(auto, unfolding(crate::specs::Forms::export_of))]
+fn export(alloc: Global, words: &[String]) -> Result<Option<Form>, NoMemory>
+    ensures { Reads result (export_of (map string_bytes words.now)) }
+{
+    match two_names(alloc, "export", words)? {
+        Some((name, flat)) => Ok(Some(Form::Export { name, flat })),
+        None => Ok(None),
+    }
+}
+
+#[tactic(auto, unfolding(crate::specs::Forms::exercise_of))]
+fn exercise(alloc: Global, words: &[String]) -> Result<Option<Form>, NoMemory>
+    ensures { Reads result (exercise_of (map string_bytes words.now)) }
+{
+    let [seed, count] = words else {
+        return Ok(None);
+    };
+    if workload(seed.as_bytes(), count.as_bytes()).is_none() {
+        return Ok(None);
+    }
+    let (seed, count) = two_places(alloc, "exercise", seed.as_str(), count.as_str())?;
+    Ok(workload(seed.as_str().as_bytes(), count.as_str().as_bytes()))
+}
+
+/// The workload of a seed and a count.
+#[tactic(auto, unfolding(crate::specs::Forms::workload_of))]
+fn workload(seed: &[u8], count: &[u8]) -> Option<Form>
+    ensures { result ≡ workload_of seed.now count.now }
+{
+    let seed = seed_number(seed)?;
+    let count = request_count(count)?;
+    Some(Form::Exercise { seed, count })
+}
+
+#[tactic(auto, unfolding(crate::specs::Forms::count_of))]
+fn request_count(word: &[u8]) -> Option<u16>
+    ensures { result ≡ count_of word.now }
+{
+    let count = number(word, 10, 1, 10, 0, 2000)?;
+    Some(count as u16)
 }

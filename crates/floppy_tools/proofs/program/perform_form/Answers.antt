@@ -46,3 +46,7 @@ pub returns-in-Remaster-clause-runs : goal.returns-in-Remaster-clause-runs
 returns-in-Remaster-clause-runs g c =
     form_runs c.args.form (form.Remaster c.in-Remaster.from c.in-Remaster.to) (world_of g.D.Station.shown g.S.Shelf.told g.K.Sink.told c.args.session.now c.args.shelf.now c.args.out.now) (world_of g.D.Station.shown g.S.Shelf.told g.K.Sink.told c.args.session.now c.remaster_disk.new.shelf c.remaster_disk.new.out) c.remaster_disk.result c.in-Remaster.is
     (on_files (Remaster c.in-Remaster.from c.in-Remaster.to) (state_of g.D.Station.shown c.args.session.now) (desk_of g.S.Shelf.told g.K.Sink.told c.args.shelf.now c.args.out.now) (desk_of g.S.Shelf.told g.K.Sink.told c.remaster_disk.new.shelf c.remaster_disk.new.out) c.remaster_disk.result c.remaster_disk.ensures.does)
+
+pub returns-in-Import-clause-runs : goal.returns-in-Import-clause-runs
+returns-in-Import-clause-runs g c =
+    form_runs c.args.form (form.Import c.in-Import.flat c.in-Import.name) (world_of g.D.Station.shown g.S.Shelf.told g.K.Sink.told c.args.session.now c.args.shelf.now c.args.out.now) (world_of g.D.Station.shown g.S.Shelf.told g.K.Sink.told c.import_disk.new.session c.import_disk.new.shelf c.import_disk.new.out) c.import_disk.result c.in-Import.is c.import_disk.ensures.imports

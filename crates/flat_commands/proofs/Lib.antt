@@ -1,0 +1,5 @@
+mod Carrying
+mod Gathering
+mod Working
+mod Ending
+mod Tied
