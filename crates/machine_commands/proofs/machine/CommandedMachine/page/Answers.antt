@@ -8,4 +8,4 @@ use Rattle.machine_commands.proofs.machine.CommandedMachine.page.Goals as goal
 pub returns : goal.returns
 returns g c =
     let memory = memory_of (board_of g.D.Drive.state c.args.self.now) in
-    c.ram.ensures ∙ (ap (λ n. slice_index memory (user_bytes + n)) c.from.ensures ∙ sym (page_byte memory c.args.i))
+    c.ram.ensures.byte ∙ (ap (λ n. slice_index memory (user_bytes + n)) c.from.ensures ∙ sym (page_byte memory c.args.i))
