@@ -27,9 +27,10 @@ use Rattle.machine_reads.proofs.Words.{length-met}
 use Rattle.machine_reads.proofs.Accesses.{gapped}
 use Rattle.fdc_writing.specs.Formats.{Numbers}
 use Rattle.machine_formats.specs.Begins.{CanBegin, IsLastByte}
-use Rattle.machine_writes.specs.Underway.{IsTaken}
+use Rattle.machine_writes.specs.Underway.{IsTaken, refuses}
 use Rattle.machine_formats.specs.Underway.{IsAtDrive, IsFormattedBy, FormatUnderway}
 use Rattle.machine_writes.proofs.Accesses.{busy_before, none_taken, same_drive, taken_read}
+use Rattle.machine_writes.proofs.Covered.{read_refuses}
 use Rattle.machine_formats.proofs.Steps.{runs_keep}
 use Rattle.machine_writes.proofs.Resting.{runs_command}
 
@@ -50,6 +51,7 @@ given_writes past sent numbers (Result (Long ending results taken)) asking fifo 
 pub record IsReadOn (scene : Scene) (numbers : Numbers) (past : Past) (old new : Chips) : Type 0 where
   pub known : IsFormattedBy scene numbers past new
   pub busy : is_executing new.controller.phase ≡ true → is_executing old.controller.phase ≡ true
+  pub refused : refuses new.controller.phase ≡ true → refuses old.controller.phase ≡ true
 
 -- it is as before, or the controller takes commands
 abbrev Follows : Scene → Numbers → Past → Chips → Chips → Type 0
@@ -62,12 +64,14 @@ by_data scene numbers past chips known true =
       | inl writes ↦ inl (record {
         known = record { formats = writes; dor = known.dor; rate = known.rate; taken = known.taken };
         busy = busy_before chips.controller.phase;
+        refused = read_refuses chips.controller.phase;
       })
       | inr over ↦ inr over
     ]
 by_data scene numbers past chips known false = inl (record {
   known = record { formats = known.formats; dor = known.dor; rate = known.rate; taken = known.taken };
   busy = λ busy. busy;
+  refused = λ is. is;
 })
 
 by_port : (scene : Scene) (numbers : Numbers) (past : Past) (chips : Chips) (port : ℕ) → IsFormattedBy scene numbers past chips → (b : Bool)
@@ -81,6 +85,7 @@ by_port scene numbers past chips port known false = inl (record {
     taken = taken_read scene past.taken past.counted chips.memory port chips.channel known.taken;
   };
   busy = λ busy. busy;
+  refused = λ is. is;
 })
 
 drive_less : (scene : Scene) (past : Past) (before now : Bool) (drive : DriveState) → (now ≡ true → before ≡ true) → IsAtDrive scene past before drive → IsAtDrive scene past now drive
@@ -108,6 +113,7 @@ inputs_keep port value old new access scene numbers (past, was) =
         record {
           scene_is = was.scene_is;
           chips = on.known;
+          covered = λ is. was.covered (on.refused is);
           drive = drive_less scene past (is_executing (controller_of old).phase) (is_executing chips.controller.phase) (drive_in old scene.bay) on.busy was.drive;
         },
       ))
@@ -158,6 +164,14 @@ begun_by scene numbers chips byte old controller lines dor rate taken last write
       taken = taken;
     }
 
+-- no command begins with its results
+begun_not : (scene : Scene) (numbers : Numbers) (byte : ℕ) (old : Fdc) (controller : Fdc) (lines : Lines) → IsLastByte byte scene.sent.head_drive numbers old → Writes 0x3F5 byte lines old controller → refuses controller.phase ≡ false
+begun_not scene numbers byte old controller lines last writes =
+    let bytes = old.command ++ byte ∷ [] in
+    let takes = subst (λ accepted. TakesAs accepted lines (record old { command = kept accepted bytes }) controller) last.whole ((writes.bytes refl).0 last.taking) in
+    let (task, is, waits, after) = (takes.0 last.no_seek).1 last.dma in
+    ap (λ fdc. refuses fdc.phase) after
+
 pub begun_underway : (scene : Scene) (numbers : Numbers) (byte : ℕ) (old new : Board) → (access : Outputs 0x3F5 byte old new) → CanBegin scene numbers byte old → FormatUnderway scene numbers (gapped access.between)
 begun_underway scene numbers byte old new access can =
     let between = access.between in
@@ -170,6 +184,7 @@ begun_underway scene numbers byte old new access can =
       record {
         scene_is = can.scene_is;
         chips = subst (IsFormattedBy scene numbers new_past) (sym at) (begun_by scene numbers old.bus.chips byte (controller_of old) controller (lines_of old) can.dor can.rate taken can.last writes);
+        covered = λ is. absurd (false≢true (sym (ap (λ chips. refuses chips.controller.phase) at ∙ begun_not scene numbers byte (controller_of old) controller (lines_of old) can.last writes) ∙ is));
         drive = subst (IsAtDrive scene new_past (is_executing (controller_of between).phase)) (sym drive_is)
             (none_heard scene (is_executing (controller_of between).phase) (drive_in old scene.bay) can.scene_is can.drive);
       },

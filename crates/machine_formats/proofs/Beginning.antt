@@ -6,7 +6,6 @@ use Rattle.fdc_commands.specs.Table.{kept}
 use Rattle.fdc_commands.specs.declared.bytes.Accepted.{Accepted}
 use Rattle.fdc_commands.specs.declared.bytes.Accepted.TheVariants.{Ready}
 use Rattle.fdc_core.specs.Commands.{IsFormattingTrack, TakesAs}
-use Rattle.fdc_core.specs.Heard.{Sent}
 use Rattle.fdc_core.specs.State.{dor_of, is_gated}
 use Rattle.fdc_core.specs.declared.controller.Fdc.{Fdc}
 use Rattle.fdc_core.specs.declared.phases.Task.{Task}

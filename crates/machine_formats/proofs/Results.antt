@@ -1,5 +1,5 @@
 -- From the words that were laid to the medium.
-use Rattle.std.proofs.Common.{◌≡◌, ◌⊎◌, inl, inr, ℕ, ◌+◌, ◌*◌, ◌≤◌, Bool, false, List, [], ◌∷◌, length, take, drop, refl, sym, ◌∙◌, ap, subst, arith}
+use Rattle.std.proofs.Common.{true, ◌≡◌, ◌⊎◌, inl, inr, ℕ, ◌+◌, ◌*◌, ◌≤◌, Bool, false, List, [], ◌∷◌, length, take, drop, refl, sym, ◌∙◌, ap, subst, arith}
 use Rattle.std.specs.List.{flat_map}
 use Rattle.flop_base.specs.declared.key.Chrn.{Chrn}
 use Rattle.raw_image.specs.Disk.{Disk, HasTrack, IsWithTrack, track_of}
@@ -28,7 +28,7 @@ use Rattle.fdc_core.proofs.MayWrite.{content_of}
 use Rattle.track_heard.specs.Heard.{place_in}
 use Rattle.track_written.specs.Written.{IsCalm}
 use Rattle.machine_reads.specs.Scenes.{Scene, IsScene, head_sent}
-use Rattle.machine_writes.specs.Underway.{IsTaken, range_of, start_in}
+use Rattle.machine_writes.specs.Underway.{IsTaken, range_of, start_in, refuses, refuses_as}
 use Rattle.machine_writes.proofs.Content.{handed_rest, not_all}
 use Rattle.machine_writes.proofs.Results.{take_less}
 use Rattle.machine_writes.proofs.Words.{none_or_some}
@@ -169,33 +169,33 @@ module _ (scene : Scene) (numbers : Numbers) (keys : List Chrn) (executes : Bool
             (subst (λ count. laid_words count numbers.n numbers.gap3 ≤ length past.words) same is.fits),
       )
 
-  ends : (handed : List ℕ) → IsContent past.counted past.taken handed → (ending : Ending) → HasFormatted past numbers handed ending → EndsAs scene numbers keys drive ending
-  ends handed content (Done marked) has =
+  ends : (handed : List ℕ) → IsContent past.counted past.taken handed → (ending : Ending) → (refuses_as ending ≡ true → scene.disk.protected ≡ true) → HasFormatted past numbers handed ending → EndsAs scene numbers keys drive ending
+  ends handed content (Done marked) covered has =
       done_ends handed (of_laid scene numbers keys past memory channel handed whole taken size are content was.inside has.begun) has.cause.2.0 has.cause.2.1
-  ends handed content NoField has =
+  ends handed content NoField covered has =
       let cause = has.cause in
       let long = turn_long cause.behind cause.index cause.some in (
         turn_ends (of_laid scene numbers keys past memory channel handed whole taken size are content was.inside has.begun) cause.some long,
         λ fits. cause.misfit keys are.many (subst (λ words. laid_words (length keys) numbers.n numbers.gap3 ≤ words) (sym long) fits),
       )
-  ends handed content NoMark has = (was.medium.quiet has.cause.0, was.barred has.cause.1)
-  ends handed content NoSector has = has.cause
-  ends handed content BadCheck has = has.cause
-  ends handed content Overrun has = only scene numbers keys executes past drive was (of_laid scene numbers keys past memory channel handed whole taken size are content was.inside has.begun)
-  ends handed content NoCount has =
+  ends handed content NoMark covered has = (was.medium.quiet has.cause.0, was.barred has.cause.1)
+  ends handed content NoSector covered has = has.cause
+  ends handed content BadCheck covered has = has.cause
+  ends handed content Overrun covered has = only scene numbers keys executes past drive was (of_laid scene numbers keys past memory channel handed whole taken size are content was.inside has.begun)
+  ends handed content NoCount covered has =
       let (uncounted, (others, is)) = has.cause in
       let long = keys_long others in
       let bytes = ap length is.bytes in
       let many = is.many in
       not_all scene past.taken past.counted memory channel whole taken handed content (omega arith) uncounted
-  ends handed content Protected has = was.medium.quiet has.cause
-  ends handed content Late has = late_ends has.cause
+  ends handed content Protected covered has = (was.medium.quiet has.cause, covered refl)
+  ends handed content Late covered has = late_ends has.cause
 
-  pub ended : (phase : Phase) (asking : Bool) (fifo : Fifo) → MayFormatIn past scene.sent.head_drive numbers phase asking fifo → EndedIn scene numbers keys drive phase
-  ended Command asking fifo may = tt
-  ended (Execute execution) asking fifo may = tt
-  ended (Result (Short next last)) asking fifo may = tt
-  ended (Result (Long ending results taken)) asking fifo (low, same, (handed, has)) = (same, ends handed has.content ending has.formatted)
+  pub ended : (phase : Phase) (asking : Bool) (fifo : Fifo) → (refuses phase ≡ true → scene.disk.protected ≡ true) → MayFormatIn past scene.sent.head_drive numbers phase asking fifo → EndedIn scene numbers keys drive phase
+  ended Command asking fifo covered may = tt
+  ended (Execute execution) asking fifo covered may = tt
+  ended (Result (Short next last)) asking fifo covered may = tt
+  ended (Result (Long ending results taken)) asking fifo covered (low, same, (handed, has)) = (same, ends handed has.content ending covered has.formatted)
 
 -- ---- a laying of the disk
 

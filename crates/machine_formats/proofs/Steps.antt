@@ -34,6 +34,7 @@ use Rattle.machine_writes.proofs.Guards.{moves_same}
 use Rattle.machine_writes.proofs.Steps.{is_stopped, moves_faults, polled_rate}
 use Rattle.machine_formats.specs.Underway.{IsAtDrive, IsFormattedBy, IsFormatOf, FormatUnderway}
 use Rattle.machine_formats.proofs.Transfers.{retaken, dma_goes}
+use Rattle.machine_formats.proofs.Covered.{step_covered}
 use Rattle.machine_formats.proofs.Words.{kept_on, saw_on, wrote_on, stopped_on, rests_on}
 
 -- ---- parts
@@ -275,6 +276,7 @@ step_keeps old new step scene numbers (past, was) =
         scene_is = was.scene_is;
         chips = subst (λ chips. IsFormattedBy scene numbers then_is.past chips) (sym chips_are) then_is.known;
         drive = subst (λ chips. IsAtDrive scene then_is.past (is_executing chips.controller.phase) (drive_in new scene.bay)) (sym chips_are) then_is.is;
+        covered = step_covered scene numbers past old new step (ap (λ byte. byte % 4) was.chips.dor ∙ was.scene_is.selects) was.scene_is.bay was.chips was.drive was.covered;
       },
     )
 

@@ -69,13 +69,13 @@ abbrev pub FitsOn : Scene → Numbers → List Chrn → Type 0
 FitsOn scene numbers keys = Fits keys numbers.n numbers.gap3 scene.disk.words_per_track
 
 -- what an ending says: IC 00, that the turn was laid and the layout fits; MA with MD, that it was laid and the layout doesn't fit;
--- MA alone, that the medium has another rate; NW, that nothing was written. EN, ND, DE and the last step don't come
+-- MA alone, that the medium has another rate; NW, that it is protected. EN, ND, DE and the last step don't come
 abbrev pub EndsAs : Scene → Numbers → List Chrn → DriveState → Ending → Type 0
 EndsAs scene numbers keys drive (Done marked) = LaysTurn scene numbers keys drive × FitsOn scene numbers keys
 EndsAs scene numbers keys drive NoField = LaysTurn scene numbers keys drive × (FitsOn scene numbers keys → ⊥)
 EndsAs scene numbers keys drive NoMark = IsUnchanged scene drive × (rate_fits scene.rate scene.disk.rate ≡ false)
 EndsAs scene numbers keys drive Overrun = IsSameOrLaid scene numbers keys drive
-EndsAs scene numbers keys drive Protected = IsUnchanged scene drive
+EndsAs scene numbers keys drive Protected = IsUnchanged scene drive × (scene.disk.protected ≡ true)
 EndsAs scene numbers keys drive _ = ⊥
 
 -- the result bytes are those of an ending, and that is what it says

@@ -12,7 +12,7 @@ use Rattle.track_written.specs.Written.{IsOver}
 use Rattle.pc_bus.specs.Boards.{Board, controller_of, drive_in}
 use Rattle.pc_bus.specs.declared.chips.Chips.{Chips}
 use Rattle.machine_reads.specs.Scenes.{Scene, IsScene, head_sent}
-use Rattle.machine_writes.specs.Underway.{ArePut, ArePutOpen, HearsTrack, IsTaken, start_in}
+use Rattle.machine_writes.specs.Underway.{ArePut, ArePutOpen, HearsTrack, IsTaken, start_in, refuses}
 
 -- A FORMAT's scene is that of a command that sends a sector; of what was sent, the head and drive alone count.
 
@@ -66,6 +66,8 @@ pub record IsFormatOf (scene : Scene) (numbers : Numbers) (past : Past) (board :
   pub scene_is : IsScene scene
   pub chips : IsFormattedBy scene numbers past board.bus.chips
   pub drive : IsAtDrive scene past (is_executing (controller_of board).phase) (drive_in board scene.bay)
+  -- NW comes of a protected medium alone
+  pub covered : refuses (controller_of board).phase ≡ true → scene.disk.protected ≡ true
 
 -- a FORMAT that began in this scene is in execution, or gives its results
 abbrev pub FormatUnderway : Scene → Numbers → Board → Type 0

@@ -9,6 +9,8 @@ ghost use Rattle.fdc_core.specs.declared.phases.Phase.TheVariants.{Command};
 ghost use Rattle.machine_formats.specs.Begins.{CanBegin};
 ghost use Rattle.machine_formats.specs.Results.{AreKeysOf, FormatEnded, FormatsOnly, LaysTo};
 ghost use Rattle.machine_formats.specs.Underway.{FormatUnderway, KeepsFormat};
+ghost use Rattle.machine_writes.specs.Guards.{LeavesOthers};
+ghost use Rattle.machine_writes.specs.Heads.{StaysStill};
 ghost use Rattle.machine_reads.specs.Scenes.{Scene, head_sent};
 ghost use Rattle.pc_bus.specs.Boards.{Board, controller_of};
 ghost use Rattle.pc_bus.specs.Ports.{Inputs, Outputs};
@@ -21,11 +23,13 @@ pub fn device_steps_keep_a_format()
     ensures unset { (n : ℕ) (old new : Board) → RunsUnset n old new → KeepsFormat old new }
 {}
 
-/// The port write that completes the bytes of a FORMAT TRACK begins it, and a read of a port keeps what is known of it until the
+/// The port write that completes the bytes of a FORMAT TRACK begins it, and moves no heads; and a read of a port keeps what is known of it until the
 /// last result byte was read; whatever gaps follow the accesses.
 pub fn port_accesses_keep_a_format()
     ensures begins { (scene : Scene) (numbers : Numbers) (byte : ℕ) (old new : Board) → Outputs 0x3F5 byte old new → CanBegin scene numbers byte old
         → FormatUnderway scene numbers new }
+    ensures still { (scene : Scene) (numbers : Numbers) (byte : ℕ) (old new : Board) → Outputs 0x3F5 byte old new → CanBegin scene numbers byte old → StaysStill old new }
+    ensures leaves { (scene : Scene) (numbers : Numbers) (byte : ℕ) (old new : Board) → Outputs 0x3F5 byte old new → CanBegin scene numbers byte old → LeavesOthers old new }
     ensures keeps { (port value : ℕ) (old new : Board) → Inputs port value old new → (scene : Scene) (numbers : Numbers) → FormatUnderway scene numbers old
         → FormatUnderway scene numbers new ⊎ ((controller_of new).phase ≡ Command) }
 {}

@@ -31,7 +31,8 @@ use Rattle.machine_reads.specs.Scenes.{Scene, IsScene}
 use Rattle.machine_reads.proofs.Words.{length-met}
 use Rattle.machine_reads.proofs.Accesses.{gapped}
 use Rattle.machine_writes.specs.Begins.{CanBegin, IsLastByte, write_of}
-use Rattle.machine_writes.specs.Underway.{IsAtDrive, IsReadSet, IsTaken, IsWrittenBy, WriteUnderway}
+use Rattle.machine_writes.specs.Underway.{IsAtDrive, IsReadSet, IsTaken, IsWrittenBy, WriteUnderway, refuses}
+use Rattle.machine_writes.proofs.Covered.{read_refuses}
 use Rattle.machine_writes.proofs.Steps.{runs_keep}
 use Rattle.machine_writes.proofs.Resting.{runs_command}
 
@@ -97,6 +98,7 @@ given_writes past sent deleted (Result (Long ending results taken)) asking fifo 
 pub record IsReadOn (scene : Scene) (deleted : Bool) (past : Past) (old new : Chips) : Type 0 where
   pub known : IsWrittenBy scene deleted past new
   pub busy : is_executing new.controller.phase ≡ true → is_executing old.controller.phase ≡ true
+  pub refused : refuses new.controller.phase ≡ true → refuses old.controller.phase ≡ true
 
 -- it is as before, or the controller takes commands
 abbrev Follows : Scene → Bool → Past → Chips → Chips → Type 0
@@ -109,12 +111,14 @@ by_data scene deleted past chips known true =
       | inl writes ↦ inl (record {
         known = record { writes = writes; dor = known.dor; rate = known.rate; taken = known.taken };
         busy = busy_before chips.controller.phase;
+        refused = read_refuses chips.controller.phase;
       })
       | inr over ↦ inr over
     ]
 by_data scene deleted past chips known false = inl (record {
   known = record { writes = known.writes; dor = known.dor; rate = known.rate; taken = known.taken };
   busy = λ busy. busy;
+  refused = λ is. is;
 })
 
 by_port : (scene : Scene) (deleted : Bool) (past : Past) (chips : Chips) (port : ℕ) → IsWrittenBy scene deleted past chips → (b : Bool)
@@ -128,6 +132,7 @@ by_port scene deleted past chips port known false = inl (record {
     taken = taken_read scene past.taken past.counted chips.memory port chips.channel known.taken;
   };
   busy = λ busy. busy;
+  refused = λ is. is;
 })
 
 drive_less : (scene : Scene) (past : Past) (before now : Bool) (drive : DriveState) → (now ≡ true → before ≡ true) → IsAtDrive scene past before drive → IsAtDrive scene past now drive
@@ -153,6 +158,7 @@ inputs_keep port value old new access scene deleted (past, was) =
         record {
           scene_is = was.scene_is;
           chips = on.known;
+          covered = λ is. was.covered (on.refused is);
           drive = drive_less scene past (is_executing (controller_of old).phase) (is_executing chips.controller.phase) (drive_in old scene.bay) on.busy was.drive;
         },
       ))
@@ -216,6 +222,14 @@ begun_by scene deleted chips byte old controller lines dor rate taken last write
       taken = taken;
     }
 
+-- no command begins with its results
+begun_not : (scene : Scene) (deleted : Bool) (chips : Chips) (byte : ℕ) (old : Fdc) (controller : Fdc) (lines : Lines) → IsLastByte byte scene.sent deleted old → Writes 0x3F5 byte lines old controller → refuses controller.phase ≡ false
+begun_not scene deleted chips byte old controller lines last writes =
+    let bytes = old.command ++ byte ∷ [] in
+    let takes = subst (λ accepted. TakesAs accepted lines (record old { command = kept accepted bytes }) controller) last.whole ((writes.bytes refl).0 last.taking) in
+    let (task, is, waits, after) = begins_write deleted scene.sent last.gap last.length_code lines (record old { command = kept (Ready (write_of deleted scene.sent last.gap last.length_code)) bytes }) controller takes last.no_seek last.dma in
+    ap (λ fdc. refuses fdc.phase) after
+
 pub same_drive : (first second first_now second_now : DriveState) → first_now ≡ first → second_now ≡ second → (b : Bool)
     → (if b then first_now else second_now) ≡ (if b then first else second)
 same_drive first second first_now second_now one two true = one
@@ -233,6 +247,7 @@ begun_underway scene deleted byte old new access can =
       record {
         scene_is = can.scene_is;
         chips = subst (IsWrittenBy scene deleted new_past) (sym at) (begun_by scene deleted old.bus.chips byte (controller_of old) controller (lines_of old) can.dor can.rate taken can.last writes);
+        covered = λ is. absurd (false≢true (sym (ap (λ chips. refuses chips.controller.phase) at ∙ begun_not scene deleted old.bus.chips byte (controller_of old) controller (lines_of old) can.last writes) ∙ is));
         drive = subst (IsAtDrive scene new_past (is_executing (controller_of between).phase)) (sym drive_is)
             (none_heard scene (is_executing (controller_of between).phase) (drive_in old scene.bay) can.scene_is can.drive);
       },

@@ -1,10 +1,9 @@
 -- What the port write that begins a command leaves of the drives.
-use Rattle.std.proofs.Common.{◌≡◌, ◌⊎◌, ℕ, ◌+◌, ◌%◌, ◌≤◌, ◌==◌, ◌∷◌, ◌++◌, [], Bool, true, false, refl, sym, ◌∙◌, ap, subst, arith}
+use Rattle.std.proofs.Common.{◌≡◌, ℕ, ◌%◌, ◌∷◌, ◌++◌, [], Bool, refl, ◌∙◌, ap, subst, arith}
 use Rattle.fdc_commands.specs.Table.{kept}
 use Rattle.fdc_commands.specs.declared.bytes.Accepted.TheVariants.{Ready}
 use Rattle.fdc_seek.specs.Seeking.{Seeking}
 use Rattle.fdc_core.specs.Commands.{TakesAs}
-use Rattle.fdc_core.specs.State.{dor_of}
 use Rattle.fdc_core.specs.declared.controller.Fdc.{Fdc}
 use Rattle.machine_pace.specs.Entries.{next_entry}
 use Rattle.pc_bus.specs.Boards.{Board, controller_of, lines_of, selected_of}

@@ -3,6 +3,7 @@ pub mod Guards
 pub mod Bytes
 pub mod Transfers
 pub mod Words
+pub mod Covered
 pub mod Steps
 pub mod Resting
 pub mod Accesses

@@ -1,5 +1,5 @@
 -- From the words that were written to the medium.
-use Rattle.std.proofs.Common.{false, ◌≡◌, ◌⊎◌, inl, inr, ℕ, ◌+◌, ◌*◌, ◌≤◌, Bool, List, [], ◌∷◌, ◌++◌, Some, length, get_or, take, drop, refl, sym, ◌∙◌, ap, subst, arith, length-append}
+use Rattle.std.proofs.Common.{true, false, ◌≡◌, ◌⊎◌, inl, inr, ℕ, ◌+◌, ◌*◌, ◌≤◌, Bool, List, [], ◌∷◌, ◌++◌, Some, length, get_or, take, drop, refl, sym, ◌∙◌, ap, subst, arith, length-append}
 use Rattle.std.proofs.Math.ListN.{get_or-append}
 use Rattle.std.proofs.lemmas.Bool.{false≢true}
 use Rattle.std.proofs.lemmas.List.{append-nil, ext_get_or, get_or-take, length-take}
@@ -40,7 +40,7 @@ use Rattle.track_written.specs.Written.{IsCalm}
 use Rattle.machine_reads.specs.Scenes.{Scene, IsScene, head_sent, track_met}
 use Rattle.machine_reads.proofs.Words.{length-met}
 use Rattle.machine_writes.specs.Results.{ChangesTo, ChangesWhole, EndedIn, EndsAs, HasChanged, IsUnchanged, WritesWell, window_in, written_in}
-use Rattle.machine_writes.specs.Underway.{IsAtDrive, IsTaken, range_of}
+use Rattle.machine_writes.specs.Underway.{IsAtDrive, IsTaken, range_of, refuses, refuses_as}
 use Rattle.machine_writes.proofs.Content.{handed_all, handed_rest, not_all}
 use Rattle.machine_writes.proofs.Words.{heard_met}
 
@@ -274,43 +274,44 @@ module _ (scene : Scene) (deleted executes : Bool) (past : Past) (drive : DriveS
   late_ends : past.steps ≡ 65536 → ⊥
   late_ends last = let early = was.early in let few = whole.disk.words_per_track.1 in omega arith
 
-  ends : (handed : List ℕ) → IsContent past.counted past.taken handed → (ending : Ending) → HasWritten past scene.sent.key deleted handed ending → EndsAs scene deleted drive ending
-  ends handed content (Done marked) has = done_ends handed content has.cause.2.0 has.cause.2.1
-  ends handed content NoMark has = mark_ends has.cause.0 has.cause.1
-  ends handed content NoSector has = sector_ends has.cause.0 has.cause.1
-  ends handed content NoField has = field_ends (begun_of scene deleted past memory channel handed whole taken size content has.begun) has.cause
-  ends handed content BadCheck has = has.cause
-  ends handed content Overrun has = only scene deleted executes past drive whole was (begun_of scene deleted past memory channel handed whole taken size content has.begun)
-  ends handed content NoCount has =
+  ends : (handed : List ℕ) → IsContent past.counted past.taken handed → (ending : Ending) → (refuses_as ending ≡ true → scene.disk.protected ≡ true) → HasWritten past scene.sent.key deleted handed ending
+      → EndsAs scene deleted drive ending
+  ends handed content (Done marked) covered has = done_ends handed content has.cause.2.0 has.cause.2.1
+  ends handed content NoMark covered has = mark_ends has.cause.0 has.cause.1
+  ends handed content NoSector covered has = sector_ends has.cause.0 has.cause.1
+  ends handed content NoField covered has = field_ends (begun_of scene deleted past memory channel handed whole taken size content has.begun) has.cause
+  ends handed content BadCheck covered has = has.cause
+  ends handed content Overrun covered has = only scene deleted executes past drive whole was (begun_of scene deleted past memory channel handed whole taken size content has.begun)
+  ends handed content NoCount covered has =
       let (uncounted, (p, is)) = has.cause in
       let long = is.size in
       not_all scene past.taken past.counted memory channel whole taken handed content (omega arith) uncounted
-  ends handed content Protected has = was.medium.quiet has.cause
-  ends handed content Late has = late_ends has.cause
+  ends handed content Protected covered has = (was.medium.quiet has.cause, covered refl)
+  ends handed content Late covered has = late_ends has.cause
 
-  pub ended : (phase : Phase) (asking : Bool) (fifo : Fifo) → MayWriteIn past scene.sent deleted phase asking fifo → EndedIn scene deleted drive phase
-  ended Command asking fifo may = tt
-  ended (Execute execution) asking fifo may = tt
-  ended (Result (Short next last)) asking fifo may = tt
-  ended (Result (Long ending results taken)) asking fifo (low, are, (handed, has)) = (are, ends handed has.content ending has.written)
+  pub ended : (phase : Phase) (asking : Bool) (fifo : Fifo) → (refuses phase ≡ true → scene.disk.protected ≡ true) → MayWriteIn past scene.sent deleted phase asking fifo → EndedIn scene deleted drive phase
+  ended Command asking fifo covered may = tt
+  ended (Execute execution) asking fifo covered may = tt
+  ended (Result (Short next last)) asking fifo covered may = tt
+  ended (Result (Long ending results taken)) asking fifo covered (low, are, (handed, has)) = (are, ends handed has.content ending covered has.written)
 
 -- undisturbed, the whole window stands where it is inside the track
 pub well : (scene : Scene) (deleted : Bool) (drive : DriveState) (ending : Ending) → IsCalm scene.faults drive.faults → overran ending ≡ false → EndsAs scene deleted drive ending → WritesWell scene deleted drive
-well scene deleted drive (Done marked) calm on_time ends = inr (ends.changed, λ inside. ends.whole calm)
-well scene deleted drive NoMark calm on_time ends = inl ends.0
-well scene deleted drive NoSector calm on_time ends = inl ends.0
+well scene deleted drive (Done marked) calm on_time says = inr (says.changed, λ inside. says.whole calm)
+well scene deleted drive NoMark calm on_time says = inl says.0
+well scene deleted drive NoSector calm on_time says = inl says.0
 well scene deleted drive NoField calm on_time (inl same, out) = inl same
 well scene deleted drive NoField calm on_time (inr short, out) = inr (short.changed, λ inside. absurd (short.out inside))
-well scene deleted drive Overrun calm on_time ends = absurd (false≢true (sym on_time))
-well scene deleted drive Protected calm on_time ends = inl ends
-well scene deleted drive BadCheck calm on_time ends = absurd ends
-well scene deleted drive NoCount calm on_time ends = absurd ends
-well scene deleted drive Late calm on_time ends = absurd ends
+well scene deleted drive Overrun calm on_time says = absurd (false≢true (sym on_time))
+well scene deleted drive Protected calm on_time says = inl says.0
+well scene deleted drive BadCheck calm on_time says = absurd says
+well scene deleted drive NoCount calm on_time says = absurd says
+well scene deleted drive Late calm on_time says = absurd says
 
 pub ended_well : (scene : Scene) (deleted : Bool) (drive : DriveState) (phase : Phase) (ending : Ending) (results : Results) (read : ℕ) → phase ≡ Result (Long ending results read)
     → IsCalm scene.faults drive.faults → is_overrun phase ≡ false → EndedIn scene deleted drive phase → WritesWell scene deleted drive
-ended_well scene deleted drive phase ending results read is calm on_time ends =
-    well scene deleted drive ending calm (sym (ap is_overrun is) ∙ on_time) (subst (EndedIn scene deleted drive) is ends).1
+ended_well scene deleted drive phase ending results read is calm on_time says =
+    well scene deleted drive ending calm (sym (ap is_overrun is) ∙ on_time) (subst (EndedIn scene deleted drive) is says).1
 
 -- ---- a change of the disk
 

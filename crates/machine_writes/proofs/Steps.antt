@@ -36,6 +36,7 @@ use Rattle.pc_bus.specs.declared.chips.Chips.{Chips}
 use Rattle.machine_reads.specs.Scenes.{Scene, IsScene, head_sent}
 use Rattle.machine_reads.proofs.Steps.{polled_phase, first_or_second}
 use Rattle.machine_writes.specs.Underway.{IsAtDrive, IsTaken, IsWrittenBy, IsWriteOf, WriteUnderway}
+use Rattle.machine_writes.proofs.Covered.{step_covered}
 use Rattle.machine_writes.proofs.Guards.{moves_same}
 use Rattle.machine_writes.proofs.Transfers.{retaken, dma_goes}
 use Rattle.machine_writes.proofs.Words.{heard_met, saw_on, wrote_on, stopped_on, rests_on}
@@ -298,6 +299,7 @@ step_keeps old new step scene deleted (past, was) =
         scene_is = was.scene_is;
         chips = subst (λ chips. IsWrittenBy scene deleted then_is.past chips) (sym chips_are) then_is.known;
         drive = subst (λ chips. IsAtDrive scene then_is.past (is_executing chips.controller.phase) (drive_in new scene.bay)) (sym chips_are) then_is.is;
+        covered = step_covered scene deleted past old new step (ap (λ byte. byte % 4) was.chips.dor ∙ was.scene_is.selects) was.scene_is.bay was.chips was.drive was.covered;
       },
     )
 

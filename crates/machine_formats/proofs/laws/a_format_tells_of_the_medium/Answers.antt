@@ -16,7 +16,7 @@ pub returns-clause-ended : goal.returns-clause-ended
 returns-clause-ended c = λ scene numbers keys board size are (past, was).
     let fdc = controller_of board in
     ended scene numbers keys (is_executing fdc.phase) past (drive_in board scene.bay) (memory_of board) (channel_of board) was.scene_is was.drive was.chips.taken size are
-    fdc.phase fdc.asking fdc.fifo was.chips.formats
+    fdc.phase fdc.asking fdc.fifo was.covered was.chips.formats
 
 pub returns-clause-laying : goal.returns-clause-laying
 returns-clause-laying c = lays_disk
