@@ -1,5 +1,5 @@
 -- Counts, step by step and access by access.
-use Rattle.std.proofs.Common.{◌≡◌, ℕ, zero, suc, ◌+◌, ◌-◌, ◌≤◌, min, ◌==◌, ◌&&◌, nat_lt, Bool, true, false, List, [], ◌∷◌, if◌then◌else◌, refl, sym, ◌∙◌, ap, subst, arith}
+use Rattle.std.proofs.Common.{◌≡◌, ℕ, zero, suc, ◌+◌, ◌≤◌, min, nat_lt, Bool, true, false, List, [], ◌∷◌, if◌then◌else◌, refl, sym, ◌∙◌, ap, subst, arith}
 use Rattle.flop_base.specs.Counts.{last_count}
 use Rattle.dma_8237.specs.Channel.{grants, after_read}
 use Rattle.fdc_core.specs.Dma.{to_memory_of}

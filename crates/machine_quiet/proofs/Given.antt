@@ -1,6 +1,5 @@
 -- The result bytes of a data command.
-use Rattle.std.proofs.Common.{◌≡◌, ℕ, ◌+◌, true, false, List, [], ◌∷◌, length, refl, sym, ◌∙◌, ap, subst, arith}
-use Rattle.fdc_commands.specs.Results.{result_bytes}
+use Rattle.std.proofs.Common.{◌≡◌, ℕ, false, [], ◌∷◌, sym, ap, subst}
 use Rattle.fdc_commands.specs.declared.results.Results.{Results}
 use Rattle.fdc_core.specs.Listening.{is_executing}
 use Rattle.fdc_core.specs.declared.answers.Answer.TheVariants.{Long}

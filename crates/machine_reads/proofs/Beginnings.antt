@@ -1,9 +1,9 @@
 -- A READ DATA that begins behind port accesses.
-use Rattle.std.proofs.Common.{◌≡◌, ◌⊎◌, ℕ, zero, suc, ◌+◌, ◌*◌, ◌%◌, ◌<◌, ◌≤◌, ◌==◌, Bool, true, false, Some, None, List, [], ◌∷◌, ◌++◌, length, min, if◌then◌else◌, refl, sym, ◌∙◌, ap, subst, arith}
+use Rattle.std.proofs.Common.{◌≡◌, ℕ, ◌+◌, ◌%◌, ◌<◌, ◌≤◌, ◌==◌, Bool, true, false, List, [], ◌∷◌, ◌++◌, length, min, if◌then◌else◌, refl, sym, ◌∙◌, ap, subst, arith}
 use Rattle.flop_base.specs.Counts.{last_count}
 use Rattle.raw_image.specs.Disk.{Disk}
-use Rattle.drive_model.specs.Drive.{DriveState, track_words}
-use Rattle.dma_8237.specs.Channel.{Channel, grants, writes_memory}
+use Rattle.drive_model.specs.Drive.{track_words}
+use Rattle.dma_8237.specs.Channel.{Channel, writes_memory}
 use Rattle.dma_8237.specs.SetUp.{IsSetUp}
 use Rattle.fdc_commands.specs.Table.{answer, kept}
 use Rattle.fdc_commands.specs.declared.bytes.Accepted.{Accepted}
@@ -12,7 +12,6 @@ use Rattle.fdc_commands.specs.declared.command.Command.TheVariants.{ReadData}
 use Rattle.fdc_core.specs.Commands.{TakesAs, begun}
 use Rattle.fdc_core.specs.Heard.{Sent}
 use Rattle.fdc_core.specs.Phases.{is_listening}
-use Rattle.fdc_core.specs.State.{dor_of}
 use Rattle.fdc_core.specs.declared.controller.Fdc.{Fdc}
 use Rattle.fdc_core.specs.declared.phases.Task.{Task}
 use Rattle.machine_pace.specs.Entries.{next_entry}
@@ -20,7 +19,6 @@ use Rattle.machine_pace.specs.Holds.{counted}
 use Rattle.pc_bus.specs.Boards.{Board, controller_of, drive_in, lines_of, memory_of}
 use Rattle.pc_bus.specs.Ports.{Outputs}
 use Rattle.pc_bus.specs.Transfers.{shown_again}
-use Rattle.pc_bus.specs.declared.chips.Chips.{Chips}
 use Rattle.machine_quiet.specs.Quiet.{Turned, HaveTurned, HoldsOn, GoesQuietly}
 use Rattle.machine_quiet.specs.Settings.{Setting, Stands}
 use Rattle.machine_quiet.proofs.Accesses.{port_takes}
