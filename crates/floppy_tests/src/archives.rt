@@ -1,5 +1,5 @@
 // The commands on files alone: ImageDisk files, surveys, and disks laid out anew.
-use crate::disks::{formatted, patched, with_words};
+use crate::disks::{formatted, with_words};
 use crate::whole::answers;
 use flop_base::{MemShelf, MemSink, Rate, Status};
 use floppy_tools::floppy;
@@ -38,55 +38,6 @@ fn a_disk_to_an_imagedisk_file_and_back(rt: HostRuntime) -> Result<(), Fail> {
     answers(&rt, alloc, &mut shelf, "fromimd a.imd g.rt", wanted)?;
     assert!(rt; shelf.file("g.rt").ok_or("g.rt is stored")? == disk.as_slice());
     Ok(())
-}
-
-#[test]
-fn files_that_are_refused_store_nothing(rt: HostRuntime) -> Result<(), Fail> {
-    let alloc = rt.alloc();
-    let mut shelf = MemShelf::new(alloc, Vec::new(alloc));
-    let file = imagedisk_file(alloc)?;
-    shelf.put_file("x.imd", &patched(alloc, &file, 32, b"\x02")?)?;
-    let wanted = ("image x.imd: bad field at 32", Status::BadImage);
-    answers(&rt, alloc, &mut shelf, "fromimd x.imd g.rt", wanted)?;
-    let Some((_, short)) = file.split_last() else {
-        return Err("an empty file")?;
-    };
-    shelf.put_file("x.imd", short)?;
-    let wanted = (
-        "image x.imd: too short, 268 needed, 267 there",
-        Status::BadImage,
-    );
-    answers(&rt, alloc, &mut shelf, "fromimd x.imd g.rt", wanted)?;
-    let wanted = ("none.imd absent", Status::Absent);
-    answers(&rt, alloc, &mut shelf, "fromimd none.imd g.rt", wanted)?;
-    // A track with 40 sectors of 512 bytes, none of which has data.
-    let mut crowded = file[..32].to_vec(alloc)?;
-    crowded.extend_from_slice(&[3, 2, 0, 40, 2])?;
-    crowded.extend_from_slice(&[0; 80])?;
-    shelf.put_file("x.imd", &crowded)?;
-    let wanted = ("track 2 0 unfit", Status::SomeRefused);
-    answers(&rt, alloc, &mut shelf, "fromimd x.imd g.rt", wanted)?;
-    assert!(rt; shelf.file("g.rt").is_none(), "nothing is stored");
-    Ok(())
-}
-
-#[test]
-fn a_survey_of_one_track(rt: HostRuntime) -> Result<(), Fail> {
-    let alloc = rt.alloc();
-    let mut shelf = MemShelf::new(alloc, Vec::new(alloc));
-    let damaged = with_words(alloc, &formatted(alloc, Rate::R250)?, 300, &[0])?;
-    let one = patched(alloc, &damaged[..12_514], 9, b"\x01\x01")?;
-    shelf.put_file("x.rt", &one)?;
-    let lines = "0 0 2528 0 0 1 2 10;0 0 12992 0 0 2 2 ok;0 0 23456 0 0 3 2 ok;\
-        0 0 33920 0 0 4 2 ok;0 0 44384 0 0 5 2 ok;0 0 54848 0 0 6 2 ok;\
-        0 0 65312 0 0 7 2 ok;0 0 75776 0 0 8 2 ok;0 0 86240 0 0 9 2 ok;survey 9";
-    answers(
-        &rt,
-        alloc,
-        &mut shelf,
-        "survey x.rt",
-        (lines, Status::AllOk),
-    )
 }
 
 #[test]
