@@ -1,5 +1,5 @@
 -- A READ DATA that ends soon, through the port write that begins it, waits and port reads.
-use Rattle.std.proofs.Common.{◌≡◌, ◌⊎◌, inl, inr, ℕ, ◌+◌, ◌≤◌, ◌==◌, ◌&&◌, nat_le, Bool, true, false, Some, None, List, [], length, if◌then◌else◌, refl, sym, ◌∙◌, ap, subst, arith}
+use Rattle.std.proofs.Common.{◌≡◌, ◌⊎◌, inl, inr, ℕ, ◌+◌, ◌≤◌, ◌==◌, ◌&&◌, nat_le, Bool, true, false, Some, None, length, if◌then◌else◌, refl, sym, ◌∙◌, ap, subst, arith}
 use Rattle.std.proofs.lemmas.Bool.{false≢true}
 use Rattle.flop_base.specs.Counts.{Rose}
 use Rattle.dma_8237.specs.Channel.{after_read}
@@ -27,9 +27,9 @@ use Rattle.machine_quiet.proofs.Steps.{stirred_still}
 use Rattle.machine_reads.specs.Begins.{CanBegin}
 use Rattle.machine_reads.specs.Scenes.{Scene}
 use Rattle.machine_reads.proofs.Accesses.{gapped, read_board, busy_before}
-use Rattle.machine_holds.specs.Timely.{IsPunctual, ReadInTime, Stalled}
+use Rattle.machine_holds.specs.Timely.{IsPunctual, Stalled}
 use Rattle.machine_holds.proofs.Calls.{still_in_time, read_in_time, read_stalls, same_busy}
-use Rattle.machine_holds.proofs.InTime.{HasBegun, begun_in_time}
+use Rattle.machine_holds.proofs.InTime.{begun_in_time}
 use Rattle.machine_ends.specs.Ends.{is_late, lingers, steps_taken, IsGrantedSoon, IsSoonOver, ReadPrompt}
 use Rattle.machine_ends.proofs.Moves.{line_up}
 use Rattle.machine_ends.proofs.Steps.{runs_prompt, unset_prompt, soon_idle}
@@ -104,8 +104,8 @@ same_soon chips controller phase fifo asking dor punctual was = record {
       let over_before = sym (ap lingers phase) ∙ over in
       let some_before = sym (ap (λ f. length f.bytes == 0) fifo) ∙ some in
       let line : asks controller ≡ true = ap (λ a. is_gated controller && a) asking
-          ∙ (ap (λ d. is_gated (record chips.controller { dor = d }) && chips.controller.asking) dor
-          ∙ line_up chips (punctual.timely (busy_over chips.controller.phase over_before)) over_before some_before) in
+      ∙ (ap (λ d. is_gated (record chips.controller { dor = d }) && chips.controller.asking) dor
+      ∙ line_up chips (punctual.timely (busy_over chips.controller.phase over_before)) over_before some_before) in
       shown_soon (asks controller) chips.holding (steps_taken controller.phase) line
       (subst (λ p. IsGrantedSoon (steps_taken p) chips.holding.request) (sym phase) (was.soon over_before some_before));
   no_late = ap is_late phase ∙ was.no_late;
@@ -136,8 +136,8 @@ pub inputs_prompt : (port value : ℕ) (old new : Board) → Inputs port value o
 inputs_prompt port value old new access scene ((under, punctual), soon) = elim (read_in_time port value old new access scene (under, punctual)) [
   | inl on_time ↦ elim (runs_prompt (next_entry old.bus.gaps) (read_board port old) new access.gap.runs scene
       (on_time, read_soon old.bus.chips port punctual soon (is_controllers port) (port == 0x3F5))) [
-    | inl on ↦ inl on
-    | inr rose ↦ inr (inr (subst (λ stalls. Rose stalls (holds_of new).stalls) (read_stalls port old) rose))
-  ]
+        | inl on ↦ inl on
+        | inr rose ↦ inr (inr (subst (λ stalls. Rose stalls (holds_of new).stalls) (read_stalls port old) rose))
+      ]
   | inr over ↦ inr (inl over)
 ]

@@ -1,12 +1,12 @@
 -- The transfers behind the word time of a READ DATA that ends soon.
-use Rattle.std.proofs.Common.{◌≡◌, ◌⊎◌, inl, inr, ℕ, ◌+◌, ◌-◌, ◌<◌, ◌≤◌, ◌==◌, ◌&&◌, ◌||◌, not, nat_le, Bool, true, false, List, [], ◌∷◌, length, drop, if◌then◌else◌, refl, sym, ◌∙◌, ap, subst, arith}
+use Rattle.std.proofs.Common.{◌≡◌, ◌⊎◌, inl, inr, ℕ, ◌+◌, ◌-◌, ◌≤◌, ◌==◌, ◌&&◌, ◌||◌, not, nat_le, Bool, true, false, List, [], length, drop, if◌then◌else◌, refl, sym, ◌∙◌, ap, subst, arith}
 use Rattle.std.proofs.lemmas.Bool.{false≢true}
 use Rattle.flop_base.specs.Counts.{Rose}
 use Rattle.dma_8237.specs.Channel.{grants}
 use Rattle.fdc_fifo.specs.Fifo.{Fifo, room_of, worth_fetching}
 use Rattle.fdc_core.specs.Dma.{phase_asks, task_asks, phase_told, task_told, fifo_told, taken_out, taken_in, to_memory_of}
 use Rattle.fdc_core.specs.Listening.{is_executing}
-use Rattle.fdc_core.specs.Phases.{is_reading, is_over}
+use Rattle.fdc_core.specs.Phases.{is_reading}
 use Rattle.fdc_core.specs.State.{asks, is_gated}
 use Rattle.fdc_core.specs.Waiting.{phase_counted}
 use Rattle.fdc_core.specs.declared.controller.Fdc.{Fdc}
@@ -14,7 +14,7 @@ use Rattle.fdc_core.specs.declared.phases.Phase.{Phase}
 use Rattle.fdc_core.specs.declared.phases.Phase.TheVariants.{Command, Execute, Result}
 use Rattle.fdc_core.specs.declared.phases.Task.{Task}
 use Rattle.fdc_core.specs.declared.phases.Task.TheVariants.{ReadId, Read, Write, Format}
-use Rattle.machine_pace.specs.Holds.{Holds, IsReady, IsInTime, looked, is_due}
+use Rattle.machine_pace.specs.Holds.{IsReady, is_due}
 use Rattle.machine_pace.proofs.InTime.{in_time}
 use Rattle.pc_bus.specs.Transfers.{can_move, moved, moved_to_memory, moved_from_memory, moved_up_to, byte_read, told_if, looked_at, shown_again, granted, dma_stepped}
 use Rattle.pc_bus.specs.declared.chips.Chips.{Chips}

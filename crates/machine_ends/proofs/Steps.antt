@@ -1,13 +1,12 @@
 -- A READ DATA that ends soon, through device steps.
-use Rattle.std.proofs.Common.{◌≡◌, ◌⊎◌, inl, inr, ℕ, zero, suc, ◌+◌, ◌-◌, ◌*◌, ◌%◌, ◌<◌, ◌≤◌, min, ◌==◌, not, Bool, true, false, List, [], length, refl, sym, ◌∙◌, ap, subst, arith}
+use Rattle.std.proofs.Common.{◌≡◌, ◌⊎◌, inl, inr, ℕ, zero, suc, ◌+◌, ◌-◌, ◌%◌, ◌≤◌, ◌==◌, not, Bool, true, false, List, [], length, refl, sym, ◌∙◌, ap, subst, arith}
 use Rattle.std.proofs.lemmas.Bool.{false≢true}
-use Rattle.flop_base.specs.Counts.{last_count, Rose}
+use Rattle.flop_base.specs.Counts.{Rose}
 use Rattle.drive_model.specs.Drive.{DriveState}
 use Rattle.dma_8237.specs.Channel.{grants}
-use Rattle.fdc_fifo.specs.Fifo.{room_of}
-use Rattle.fdc_stages.specs.History.{Past, words_heard}
+use Rattle.fdc_stages.specs.History.{Past}
 use Rattle.fdc_core.specs.Dma.{phase_asks}
-use Rattle.fdc_core.specs.Heard.{Sent, MayRead, MayReadIn, MayReadTask}
+use Rattle.fdc_core.specs.Heard.{Sent, MayReadIn, MayReadTask}
 use Rattle.fdc_core.specs.Listening.{is_executing}
 use Rattle.fdc_core.specs.Meaning.{PacedIn, IsPaced, is_hearing}
 use Rattle.fdc_core.specs.Phases.{is_over}
@@ -20,24 +19,23 @@ use Rattle.fdc_core.specs.declared.phases.Task.{Task}
 use Rattle.fdc_core.specs.declared.phases.Task.TheVariants.{Read}
 use Rattle.fdc_core.proofs.Meanings.{paced}
 use Rattle.machine_pace.specs.Holds.{IsReady}
-use Rattle.pc_bus.specs.Boards.{Board, controller_of, drive_in, holds_of, selected_of}
+use Rattle.pc_bus.specs.Boards.{Board, drive_in, holds_of, selected_of}
 use Rattle.pc_bus.specs.Steps.{Works, Step, Runs, RunsUnset}
 use Rattle.pc_bus.specs.Transfers.{dma_stepped}
 use Rattle.pc_bus.specs.declared.chips.Chips.{Chips}
 use Rattle.machine_quiet.proofs.Transfers.{idle_dma}
 use Rattle.machine_reads.specs.Scenes.{Scene, IsScene, track_met}
-use Rattle.machine_reads.specs.Underway.{IsHearing, IsReadBy, IsReadOf}
+use Rattle.machine_reads.specs.Underway.{IsHearing, IsReadBy}
 use Rattle.machine_reads.proofs.Results.{low_outside}
 use Rattle.machine_reads.proofs.Steps.{IsBetween, word_time, polled_phase, first_or_second}
 use Rattle.machine_reads.proofs.Transfers.{reads_there}
 use Rattle.machine_reads.proofs.Words.{length-met}
-use Rattle.machine_holds.specs.Timely.{IsPunctual, ReadInTime, Stalled}
+use Rattle.machine_holds.specs.Timely.{IsPunctual, Stalled}
 use Rattle.machine_holds.proofs.InTime.{Grows, step_in_time, rose_behind, rose_before, step_grows, runs_grow, unset_grow}
-use Rattle.machine_holds.proofs.Kept.{dma_executing}
 use Rattle.machine_holds.proofs.Served.{phase_again}
 use Rattle.machine_holds.proofs.Timely.{busy_in, flows_in, gated_same, polled_fifo, ready_one}
 use Rattle.machine_ends.specs.Ends.{is_late, lingers, steps_taken, IsSoonOver, ReadPrompt}
-use Rattle.machine_ends.proofs.Moves.{IsBehind, soon_dma, phase_dma, told_late}
+use Rattle.machine_ends.proofs.Moves.{IsBehind, soon_dma}
 use Rattle.machine_ends.proofs.Words.{WordOn, word_on, words_few}
 
 -- ---- how many steps were taken while words were heard

@@ -1,5 +1,5 @@
 -- The word time of a READ DATA that ends soon.
-use Rattle.std.proofs.Common.{◌≡◌, ◌⊎◌, inl, inr, ℕ, zero, suc, ◌+◌, ◌*◌, ◌<◌, ◌≤◌, ◌==◌, ◌&&◌, not, Bool, true, false, List, [], ◌∷◌, ◌++◌, length, if◌then◌else◌, refl, sym, ◌∙◌, ap, subst, arith, length-append}
+use Rattle.std.proofs.Common.{◌≡◌, inl, inr, ℕ, ◌+◌, ◌*◌, ◌≤◌, ◌==◌, Bool, true, false, List, [], ◌∷◌, ◌++◌, length, if◌then◌else◌, refl, sym, ◌∙◌, ap, subst, arith, length-append}
 use Rattle.std.proofs.lemmas.Bool.{false≢true}
 use Rattle.flop_base.specs.declared.key.Chrn.{Chrn}
 use Rattle.track_model.specs.Fields.{content_size}
@@ -14,7 +14,7 @@ use Rattle.fdc_stages.proofs.Laws.{over_full, reading_told, told_most}
 use Rattle.fdc_core.specs.Answers.{key_after}
 use Rattle.fdc_core.specs.Dma.{gone_on}
 use Rattle.fdc_core.specs.Heard.{Sent, MayReadIn, MayReadTask, stepped}
-use Rattle.fdc_core.specs.Listening.{is_executing, StageHears, Hears, StepsOn, ExecutesIn, ExecutesTask}
+use Rattle.fdc_core.specs.Listening.{is_executing, StageHears, Hears, ExecutesIn}
 use Rattle.fdc_core.specs.Phases.{is_over, ending_over}
 use Rattle.fdc_core.specs.Reading.{after_heard, gone_on_reading, at_stage, pushed, is_full}
 use Rattle.fdc_core.specs.State.{finished}
