@@ -4,3 +4,4 @@ pub mod Ready
 pub mod Shown
 pub mod Motored
 pub mod Asked
+pub mod Codes
