@@ -13,6 +13,8 @@ use Rattle.disk_commands.specs.Verifies.{Verifies}
 use Rattle.archive_commands.specs.Files.{Desk}
 use Rattle.archive_commands.specs.Making.{FromImd, ToImd, Remaster}
 use Rattle.archive_commands.specs.Surveys.{Surveys}
+use Rattle.flat_commands.specs.Commands.{Imports, Exports}
+use Rattle.flat_commands.specs.Exercises.{Exercises}
 
 -- what a form on files alone leaves as it is: no request is asked, and the session stays as it was
 abbrev pub desk : World → Desk
@@ -22,8 +24,6 @@ pub record OnFiles (Does : Desk → Desk → Status → Type 0) (old : World) (c
   pub nothing : course ≡ []
   pub state : new.state ≡ old.state
   pub does : Does (desk old) (desk new) ended
-use Rattle.flat_commands.specs.Commands.{Imports, Exports}
-use Rattle.flat_commands.specs.Exercises.{Exercises}
 
 -- what a form asks for
 abbrev pub DoesForm : Form → World → List Taken → World → Status → Type 0
