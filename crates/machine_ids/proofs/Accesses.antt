@@ -1,9 +1,7 @@
 -- Port accesses of a READ ID: the write that begins it, and reads.
-use Rattle.std.proofs.Common.{◌≡◌, ◌⊎◌, inl, inr, ℕ, ◌+◌, ◌%◌, ◌<◌, ◌≤◌, ◌==◌, Bool, true, false, Some, List, [], ◌∷◌, ◌++◌, length, min, if◌then◌else◌, refl, sym, ◌∙◌, ap, subst, arith}
-use Rattle.std.proofs.lemmas.Bool.{false≢true}
-use Rattle.flop_base.specs.Counts.{last_count}
+use Rattle.std.proofs.Common.{◌≡◌, ◌⊎◌, inl, inr, ℕ, ◌%◌, ◌<◌, ◌==◌, Bool, true, false, List, [], ◌∷◌, ◌++◌, if◌then◌else◌, refl, sym, ◌∙◌, ap, subst, arith}
 use Rattle.raw_image.specs.Disk.{Disk}
-use Rattle.drive_model.specs.Drive.{DriveState, track_words}
+use Rattle.drive_model.specs.Drive.{track_words}
 use Rattle.dma_8237.specs.Channel.{after_read}
 use Rattle.fdc_commands.specs.Table.{answer, kept}
 use Rattle.fdc_commands.specs.declared.bytes.Accepted.{Accepted}
@@ -13,18 +11,15 @@ use Rattle.fdc_stages.specs.History.{Past, begun as new_past}
 use Rattle.fdc_core.specs.Commands.{TakesAs, begun}
 use Rattle.fdc_core.specs.Heard.{MayReadId, MayReadIdIn}
 use Rattle.fdc_core.specs.Listening.{is_executing}
-use Rattle.fdc_core.specs.Phases.{is_listening}
-use Rattle.fdc_core.specs.Ports.{given, after_read as controller_after, phase_after, Writes}
+use Rattle.fdc_core.specs.Ports.{given, after_read as controller_after, Writes}
 use Rattle.fdc_core.specs.State.{dor_of}
 use Rattle.fdc_core.specs.declared.controller.Fdc.{Fdc}
-use Rattle.fdc_core.specs.declared.controller.Lines.{Lines}
-use Rattle.fdc_core.specs.declared.phases.Phase.{Phase}
-use Rattle.fdc_core.specs.declared.phases.Phase.TheVariants.{Command, Execute, Result}
+use Rattle.fdc_core.specs.declared.phases.Phase.TheVariants.{Command, Execute}
 use Rattle.fdc_core.specs.declared.phases.Task.{Task}
 use Rattle.fdc_core.proofs.MayRead.{given_identifies}
 use Rattle.machine_pace.specs.Entries.{next_entry}
 use Rattle.machine_pace.specs.Holds.{counted}
-use Rattle.pc_bus.specs.Boards.{Board, controller_of, drive_in, lines_of, memory_of}
+use Rattle.pc_bus.specs.Boards.{Board, controller_of, drive_in, lines_of}
 use Rattle.pc_bus.specs.Ports.{is_controllers, port_read, Inputs, Outputs}
 use Rattle.pc_bus.specs.Transfers.{shown_again}
 use Rattle.pc_bus.specs.declared.chips.Chips.{Chips}
@@ -42,7 +37,7 @@ use Rattle.machine_reads.proofs.Commands.{runs_command}
 use Rattle.machine_reads.proofs.Steps.{same_drive}
 use Rattle.machine_ends.specs.Ends.{is_late}
 use Rattle.machine_ends.proofs.Calls.{calm_read}
-use Rattle.machine_ids.specs.Ids.{CanBeginId, IsSetForId, IsIdBy, IsIdOf, IdUnderway, id_scene}
+use Rattle.machine_ids.specs.Ids.{CanBeginId, IsSetForId, IsIdBy, IdUnderway, id_scene}
 use Rattle.machine_ids.proofs.Steps.{runs_keep}
 use Rattle.machine_ids.proofs.Words.{listens_id}
 

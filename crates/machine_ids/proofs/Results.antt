@@ -1,5 +1,5 @@
 -- From the words that a READ ID heard to the track.
-use Rattle.std.proofs.Common.{◌≡◌, ℕ, ◌+◌, ◌*◌, true, false, List, [], ◌∷◌, None, Some, refl, sym, ◌∙◌, subst}
+use Rattle.std.proofs.Common.{◌≡◌, ℕ, ◌+◌, ◌*◌, false, [], None, sym, subst}
 use Rattle.std.proofs.lemmas.Bool.{false≢true}
 use Rattle.flop_base.specs.declared.key.Chrn.{Chrn}
 use Rattle.track_model.specs.Fields.{IsAddressAt}

@@ -1,5 +1,5 @@
 -- A device step of a READ ID.
-use Rattle.std.proofs.Common.{◌≡◌, ◌⊎◌, inl, inr, ℕ, zero, suc, ◌%◌, ◌≤◌, ◌==◌, Bool, true, false, refl, sym, ◌∙◌, ap, subst}
+use Rattle.std.proofs.Common.{◌≡◌, inl, inr, ℕ, zero, suc, ◌%◌, ◌==◌, Bool, sym, ◌∙◌, ap, subst}
 use Rattle.drive_model.specs.Drive.{DriveState}
 use Rattle.fdc_core.specs.Listening.{is_executing}
 use Rattle.fdc_core.specs.declared.controller.Fdc.{Fdc}
