@@ -4,13 +4,13 @@ use Rattle.std.proofs.lemmas.Bool.{false≢true}
 use Rattle.std.proofs.lemmas.List.{take_all}
 use Rattle.flop_base.specs.declared.answers.Code.{Code}
 use Rattle.flop_base.specs.declared.answers.Code.TheVariants.{NoMark}
-use Rattle.flop_base.specs.Standard.{sectors_at}
+use Rattle.flop_base.specs.Standard.{standard_code, sectors_at}
 use Rattle.raw_image.specs.Disk.{Disk, HasTrack, IsWithTrack, track_of}
-use Rattle.track_model.specs.Layouts.{lay, laid_words}
+use Rattle.track_model.specs.Layouts.{Fits, lay, laid_words}
 use Rattle.track_model.specs.Windows.{with_words}
 use Rattle.bay_model.specs.Bays.{in_bay}
 use Rattle.sector_map.specs.Standard.{track_keys}
-use Rattle.sector_map.specs.Layings.{Format, formatted, Laying, IsLaying}
+use Rattle.sector_map.specs.Layings.{Format, formatted, Laying, IsLaying, format_keys}
 use Rattle.sector_map.specs.LaidDisks.{laying_at}
 use Rattle.sector_map.specs.MetTracks.{MeetsTrack}
 use Rattle.sector_map.proofs.Laid.{format_fits, length-formatted}
@@ -115,13 +115,6 @@ module _ (old new : Rig) (bay : ℕ) (format : Format) (before : Option Disk) (c
     same_rate = has.same_rate;
   }
 
-  has_here : (disk : Disk) → MeetsTrack before format.rate c format.h disk → HasTrackUnder old bay format disk
-  has_here disk meets = record {
-    medium = was ∙ meets.is_in;
-    track = subst (λ n. HasTrack disk n format.h) (sym at) meets.has;
-    same_rate = meets.same_rate;
-  }
-
   refused : (answer : Result (Unit {0}) Code) → IfErr answer (λ code. (code ≡ NoMark) × (CanFormatOn before c format → ⊥)) → IfErr answer (λ code. IsFormatMiss old bay format code new)
   refused (Ok unit) miss = tt
   refused (Err code) miss =
@@ -136,7 +129,10 @@ module _ (old new : Rig) (bay : ℕ) (format : Format) (before : Option Disk) (c
     sends = sends;
     does = does laying on.does;
     turn = λ sure disk has. on.turn disk (meets_there disk has);
-    fits = λ ok faultless. let can = on.fits ok in (can.0, has_here can.0 can.1, can.2);
+    fits = λ ok faultless disk has.
+        let can = on.fits ok in
+        subst (λ (d : Disk). Fits (format_keys format) standard_code format.gap3 d.words_per_track)
+        (one_met before format.rate c format.h disk can.0 (meets_there disk has).is_in can.1) can.2;
     refused = refused answer on.refused;
   }
 

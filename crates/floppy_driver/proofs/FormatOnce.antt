@@ -1,5 +1,5 @@
 -- One attempt of a format.
-use Rattle.std.proofs.Common.{◌≡◌, ℕ, ◌+◌, ◌*◌, ◌⊎◌, Bool, true, false, [], Option, Some, None, IfSome, MatchOption, Result, Ok, Err, IsOk, IsErr, IfErr, refl, sym, ap, ◌∙◌, subst, arith, inl, inr}
+use Rattle.std.proofs.Common.{◌≡◌, ℕ, ◌+◌, ◌*◌, ◌≤◌, ◌⊎◌, Bool, true, false, [], Option, Some, None, IfSome, MatchOption, Result, Ok, Err, IsOk, IsErr, IfErr, refl, sym, ap, ◌∙◌, subst, arith, inl, inr}
 use Rattle.std.specs.Prelude.{◌==◌, if◌then◌else◌}
 use Rattle.std.proofs.lemmas.Bool.{false≢true}
 use Rattle.flop_base.specs.Standard.{sectors_at}
@@ -10,7 +10,11 @@ use Rattle.retry_plan.specs.declared.Prepare.TheVariants as prepare
 use Rattle.bay_model.specs.Bays.{Two, in_bay}
 use Rattle.bay_model.specs.Counters.{Counters, GoesOn, IsUndisturbed, IsFaultless}
 use Rattle.bay_model.proofs.Counted.{goes_on_after, goes_on_itself, faults_go_on}
+use Rattle.flop_base.specs.declared.answers.Rate.{Rate}
+use Rattle.flop_base.specs.declared.answers.Rate.TheVariants.{R500, R250}
 use Rattle.sector_map.specs.Met.{met_in}
+use Rattle.sector_map.specs.MetTracks.{MeetsTrack}
+use Rattle.sector_map.proofs.MetTracks.{met_cases}
 use Rattle.sector_map.specs.Layings.{Format, Laying, IsFormattable}
 use Rattle.sector_model.specs.Orders.{IsDeviceRefusal}
 use Rattle.sector_model.specs.Formats.{IsFormatted}
@@ -18,7 +22,7 @@ use Rattle.single_commands.specs.Rigs.{Rig, IsSound, track_under}
 use Rattle.single_commands.specs.Reading.{IsReadCode}
 use Rattle.single_commands.specs.Writing.{FormatsTrack, LaysMedium, HasTrackUnder, CanFormatUnder, IsFormatCode}
 use Rattle.floppy_driver.specs.Prepared.{IsPrepared}
-use Rattle.floppy_driver.specs.Formattings.{IsValidFormat, HoldsRecords, IsReadBackMiss, ReadsRecords, IsAttemptRefusal, FormatsIn}
+use Rattle.floppy_driver.specs.Formattings.{IsValidFormat, IsBlankUnder, HoldsRecords, IsReadBackMiss, ReadsRecords, IsAttemptRefusal, FormatsIn}
 use Rattle.floppy_driver.specs.declared.driver.Notes.{Notes}
 use Rattle.floppy_driver.proofs.Shows.{driven_after, driven_within, undisturbed_part, undisturbed_faultless}
 use Rattle.floppy_driver.proofs.LaidTracks.{lays_none, MayLay, layings_of, IsLaidWhole, one_at_most, laying_lays, laying_only, laying_untouched, laying_whole, laid_holds, same_some}
@@ -37,6 +41,10 @@ some_is None disk valid is = absurd (cc is)
 
 in_same_bay : (a b : Two (Option Disk)) (bay : ℕ) → b ≡ a → in_bay b bay ≡ in_bay a bay
 in_same_bay a b bay same = ap (λ (t : Two (Option Disk)). in_bay t bay) same
+
+some_sectors : (rate : Rate) → 1 ≤ sectors_at rate
+some_sectors R500 = omega arith
+some_sectors R250 = omega arith
 
 format_device : (code : Code) → IsFormatCode code → IsDeviceRefusal code
 format_device NoMark coded = tt
@@ -224,7 +232,7 @@ module _ (old middle laid : Rig) (notes after : Notes) (bay : ℕ) (format : For
         }
 
   -- it was done, and the records were read back
-  module _ (laying : Option Laying) (formats : FormatsTrack middle bay format laying (Ok tt) laid) (asked : IsValidFormat format) (answer : Result (Unit {0}) Code) (new : Rig) (reads : ReadsRecords laid bay (sectors_at format.rate) (HoldsRecords (track_under laid bay format.rate format.h) format.c format.h (sectors_at format.rate) format.fill) answer new) where
+  module _ (laying : Option Laying) (formats : FormatsTrack middle bay format laying (Ok tt) laid) (asked : IsValidFormat format) (answer : Result (Unit {0}) Code) (new : Rig) (reads : ReadsRecords laid bay (sectors_at format.rate) (IsBlankUnder laid bay format.rate format.h) (HoldsRecords (track_under laid bay format.rate format.h) format.c format.h (sectors_at format.rate) format.fill) answer new) where
     abbrev done : Result (Unit {0}) Code
     done = Ok tt
 
@@ -243,40 +251,57 @@ module _ (old middle laid : Rig) (notes after : Notes) (bay : ℕ) (format : For
     faultless_all : IsUndisturbed bay old.counters new.counters → IsFaultless bay old.counters new.counters
     faultless_all = undisturbed_faultless bay old.counters new.counters goes_all
 
-    formattable : IsFaultless bay old.counters new.counters → CanFormatUnder middle bay format
-    formattable quiet = formats.fits refl (faultless_middle laying done formats (faultless_laid quiet))
+    -- the track that is met then was there when the command began
+    was_under : (one : Option Laying) → MayLay format under was_in one is_in → (met : Disk) → MeetsTrack is_in format.rate (in_bay laid.cylinders bay) format.h met → (disk : Disk) × HasTrackUnder middle bay format disk
+    was_under None same met meets =
+        let From : Two ℕ → Type 0 = λ c. HasTrack met (in_bay c bay) format.h in
+        (met, record { medium = same_in ∙ (sym same ∙ meets.is_in); track = subst From formats.sends.heads.cylinders meets.has; same_rate = meets.same_rate })
+    was_under (Some one) lays met meets =
+        let From : ℕ → Type 0 = λ c. HasTrack lays.old c format.h in
+        (lays.old, record { medium = same_in ∙ lays.was; track = subst From lays.here lays.makes.track; same_rate = lays.same_rate })
 
-    made_so : IsFaultless bay old.counters new.counters → IsFormattable format was_in × IsFormatted format was_in is_in
-    made_so quiet =
+    formattable : IsFaultless bay old.counters new.counters → (met : Disk) → MeetsTrack is_in format.rate (in_bay laid.cylinders bay) format.h met → CanFormatUnder middle bay format
+    formattable quiet met meets =
+        let was = was_under laying (may laying done formats) met meets in
+        (was.0, was.1, formats.fits refl (faultless_middle laying done formats (faultless_laid quiet)) was.0 was.1)
+
+    made_so : IsOk answer → IsFaultless bay old.counters new.counters → IsFormattable format was_in × IsFormatted format was_in is_in
+    made_so ok quiet =
         let first = faultless_laid quiet in
         let place = there laying done formats first in
-        (can_from laying done formats place (formattable quiet), begins laying done formats place (inr (refl, faultless_middle laying done formats first)))
+        let can : CanFormatUnder middle bay format = elim (met_cases is_in format.rate (in_bay laid.cylinders bay) format.h) [
+          | inl meets ↦ formattable quiet meets.0 meets.1
+          | inr blank ↦ absurd (reads.found ok (some_sectors format.rate) blank)
+        ] in
+        (can_from laying done formats place can, begins laying done formats place (inr (refl, faultless_middle laying done formats first)))
 
-    holds : IsUndisturbed bay old.counters new.counters → HoldsRecords (track_under laid bay format.rate format.h) format.c format.h (sectors_at format.rate) format.fill
-    holds quiet =
+    holds : IsFormattable format was_in → IsUndisturbed bay old.counters new.counters → HoldsRecords (track_under laid bay format.rate format.h) format.c format.h (sectors_at format.rate) format.fill
+    holds can quiet =
         let first = faultless_laid (faultless_all quiet) in
         let place = there laying done formats first in
-        let can = can_from laying done formats place (formattable (faultless_all quiet)) in
         let whole_track = whole laying done formats place (inr (refl, faultless_middle laying done formats first)) can.0 can.1 can.2.track can.2.rate in
         let there_now : in_bay laid.cylinders bay ≡ format.c = ap (λ (t : Two ℕ). in_bay t bay) formats.sends.heads.cylinders ∙ place in
         let At : ℕ → Type 0 = λ c. HoldsRecords (met_in is_in format.rate c format.h) format.c format.h (sectors_at format.rate) format.fill in
         subst At (sym there_now) (laid_holds format can.0 is_in asked.cylinder asked.head asked.byte can.2.fits whole_track)
 
-    was_done : IsUndisturbed bay old.counters new.counters → IsOk answer
-    was_done quiet = by_answer answer reads.refused
+    was_done : IsFormattable format was_in → IsUndisturbed bay old.counters new.counters → IsOk answer
+    was_done can quiet = by_answer answer reads.refused
       where
-        by_answer : (a : Result (Unit {0}) Code) → IfErr a (λ code. IsReadBackMiss bay (HoldsRecords (track_under laid bay format.rate format.h) format.c format.h (sectors_at format.rate) format.fill) code laid.counters new.counters) → IsOk a
+        by_answer : (a : Result (Unit {0}) Code) → IfErr a (λ code. IsReadBackMiss bay (IsBlankUnder laid bay format.rate format.h) (HoldsRecords (track_under laid bay format.rate format.h) format.c format.h (sectors_at format.rate) format.fill) code laid.counters new.counters) → IsOk a
         by_answer (Ok is) missed = refl
-        by_answer (Err code) missed = absurd (missed.disturbed (holds quiet) (undisturbed_back quiet))
+        by_answer (Err code) missed = absurd (missed.disturbed (holds can quiet) (undisturbed_back quiet))
 
     why : IfErr answer (λ code. IsAttemptRefusal bay code old.counters new.counters)
-    why = by_answer answer reads.refused was_done
+    why = by_answer answer reads.refused
       where
-        by_answer : (a : Result (Unit {0}) Code) → IfErr a (λ code. IsReadBackMiss bay (HoldsRecords (track_under laid bay format.rate format.h) format.c format.h (sectors_at format.rate) format.fill) code laid.counters new.counters) → (IsUndisturbed bay old.counters new.counters → IsOk a) → IfErr a (λ code. IsAttemptRefusal bay code old.counters new.counters)
-        by_answer (Ok is) missed ok = tt
-        by_answer (Err code) missed ok = record {
+        by_answer : (a : Result (Unit {0}) Code) → IfErr a (λ code. IsReadBackMiss bay (IsBlankUnder laid bay format.rate format.h) (HoldsRecords (track_under laid bay format.rate format.h) format.c format.h (sectors_at format.rate) format.fill) code laid.counters new.counters) → IfErr a (λ code. IsAttemptRefusal bay code old.counters new.counters)
+        by_answer (Ok is) missed = tt
+        by_answer (Err code) missed = record {
           device = read_device code missed.coded;
-          undisturbed = λ quiet. absurd (false≢true (ok quiet));
+          undisturbed = λ quiet. elim (met_cases is_in format.rate (in_bay laid.cylinders bay) format.h) [
+            | inl meets ↦ absurd (missed.disturbed (holds (can_from laying done formats (there laying done formats (faultless_laid (faultless_all quiet))) (formattable (faultless_all quiet) meets.0 meets.1)) quiet) (undisturbed_back quiet))
+            | inr blank ↦ missed.unmarked blank (undisturbed_back quiet)
+          ];
           overrun = λ e. let rose = missed.overrun e in let s = (counts laying done formats).stalls in omega arith;
           lost = λ e. absurd (read_not_seek code missed.coded e);
         }
@@ -295,20 +320,20 @@ module _ (old middle laid : Rig) (notes after : Notes) (bay : ℕ) (format : For
           lays = laying_lays format under was_in is_in laying made;
           only = λ quiet. laying_only format under was_in is_in laying made (placed quiet);
           untouched = λ quiet. laying_untouched format under was_in is_in laying made (placed (faultless_all quiet));
-          never = λ failed can quiet. not_both answer failed (was_done quiet);
+          never = λ failed can quiet. not_both answer failed (was_done can quiet);
           driven =
               driven_within (0 + 1 + sectors_at format.rate) (1 * (1 + sectors_at format.rate)) old.counters new.counters (omega arith)
               (driven_after (0 + 1) (sectors_at format.rate) old.counters laid.counters new.counters (counts laying done formats) reads.counts
               (driven_after 0 1 old.counters middle.counters laid.counters prepared.moves.counts formats.sends.counts prepared.moves.driven formats.sends.driven) reads.driven);
           ends = λ some. record {
-            exactly = λ quiet. (λ ok. (made_so (faultless_all quiet)).0, λ can. was_done quiet);
-            begun = λ quiet. (made_so (faultless_all quiet)).1;
+            exactly = λ quiet. (λ ok. (made_so ok (faultless_all quiet)).0, λ can. was_done can quiet);
+            begun = λ quiet. begins laying done formats (placed (faultless_all quiet)) (inr (refl, faultless_middle laying done formats (faultless_laid (faultless_all quiet))));
             commands = λ ok.
                 let first = prepared.moves.counts.data_commands in
                 let one = formats.sends.command in
                 let rest = reads.commands ok in
                 omega arith;
-            formatted_track = λ ok quiet. made_so quiet;
+            formatted_track = λ ok quiet. made_so ok quiet;
             refused = why;
           };
         }

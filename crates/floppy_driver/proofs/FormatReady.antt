@@ -67,8 +67,8 @@ module _ (driver : Driver) (old new : Rig) (bay : ℕ) (can : CanWrite driver ol
     }
 
   -- after records were read back
-  pub can_write_read : (count : ℕ) (there : Type 0) (answer : Result (Unit {0}) Code) → ReadsRecords old bay count there answer new → CanWrite driver new bay
-  can_write_read count there answer reads = record {
+  pub can_write_read : (count : ℕ) (blank there : Type 0) (answer : Result (Unit {0}) Code) → ReadsRecords old bay count blank there answer new → CanWrite driver new bay
+  can_write_read count blank there answer reads = record {
     ready =
         stays_ready reads.heads
         (attached_stays driver old new reads.counts reads.heads

@@ -1,5 +1,5 @@
 -- Reading a record back to the driver's page.
-use Rattle.std.proofs.Common.{◌≡◌, ℕ, ◌+◌, ◌≤◌, Bool, false, List, length, drop, replicate, get_or, Option, Ok, Err, sym, ap, ◌∙◌, subst, arith, inl, inr}
+use Rattle.std.proofs.Common.{◌≡◌, ℕ, ◌+◌, ◌≤◌, Bool, false, List, length, drop, replicate, get_or, Option, Ok, Err, refl, sym, ap, ◌∙◌, subst, arith, inl, inr}
 use Rattle.std.proofs.lemmas.Bool.{false≢true}
 use Rattle.std.proofs.lemmas.List.{get_or_append_left, get_or-replicate}
 use Rattle.flop_base.specs.declared.key.Chrn.{Chrn}
@@ -8,7 +8,7 @@ use Rattle.flop_base.specs.declared.answers.Code.{Code}
 use Rattle.flop_base.specs.declared.answers.Code.TheVariants.{BadRequest, NoMark, Protected, NotFound, NotReady, Changed, Overrun, Page, BadCrc, Seek}
 use Rattle.raw_image.specs.Disk.{Disk, track_of}
 use Rattle.track_model.specs.declared.Look.TheVariants as look
-use Rattle.track_model.specs.Fields.{content_size, content_at}
+use Rattle.track_model.specs.Fields.{IsAddressAt, content_size, content_at}
 use Rattle.track_model.specs.Sectors.{IsSector}
 use Rattle.track_model.proofs.Unique.{one_look_at}
 use Rattle.bay_model.specs.Bays.{Two, in_bay}
@@ -17,10 +17,11 @@ use Rattle.sector_map.specs.Met.{met_in}
 use Rattle.sector_map.specs.Standard.{key_of}
 use Rattle.bay_model.specs.Counters.{IsUndisturbed}
 use Rattle.bay_model.specs.Memory.{with_bytes}
+use Rattle.sector_map.specs.MetTracks.{HasNothing}
 use Rattle.sector_map.proofs.MetTracks.{met_track}
 use Rattle.single_commands.specs.Rigs.{Rig, HeadsStay, track_under}
 use Rattle.single_commands.specs.Reading.{IsReadReason, ReadsBack}
-use Rattle.floppy_driver.specs.Formattings.{IsFilled, HoldsRecord, HoldsRecords, ReadsRecords}
+use Rattle.floppy_driver.specs.Formattings.{IsFilled, IsBlankUnder, HoldsRecord, HoldsRecords, ReadsRecords}
 use Rattle.floppy_driver.proofs.Shows.{driven_after, driven_within, undisturbed_part, undisturbed_faultless}
 
 -- a read of a record that is there has no reason to fail
@@ -52,6 +53,19 @@ held_content track key fill deleted content holds sector =
     let same : look.Found deleted sector.1 ≡ look.Found false there.0 = one_look_at track sector.0 key.n (look.Found deleted sector.1) (look.Found false there.0) sector.3 there.1 in
     sector.4 ∙ ap (λ place. content_at track place key.n) (same_place deleted false sector.1 there.0 same) ∙ there.2
 
+-- where nothing is recorded, a read finds no mark
+unmarked_code : (track : List ℕ) (key : Chrn) (code : Code) → HasNothing track → IsReadReason track key code → code ≡ NoMark
+unmarked_code track key NoMark nothing reason = refl
+unmarked_code track key NotFound nothing reason = absurd (nothing.marks reason.0)
+unmarked_code track key BadCrc nothing found = absurd (nothing.looks key look.BadCrc found)
+unmarked_code track key BadRequest nothing reason = absurd reason
+unmarked_code track key Protected nothing reason = absurd reason
+unmarked_code track key NotReady nothing reason = absurd reason
+unmarked_code track key Changed nothing reason = absurd reason
+unmarked_code track key Overrun nothing reason = absurd reason
+unmarked_code track key Page nothing reason = absurd reason
+unmarked_code track key Seek nothing reason = absurd reason
+
 -- the beginning of a page of this byte
 filled_page : (page content new : List ℕ) (count fill : ℕ) → new ≡ with_bytes page 0 content → length content ≡ count → content ≡ replicate count fill → IsFilled new count fill
 unfolding with_bytes
@@ -68,8 +82,11 @@ module _ (old : Rig) (bay : ℕ) (key : Chrn) (rate : Rate) (fill : ℕ) where
   abbrev Holds : Type 0
   Holds = HoldsRecord track key fill
 
+  abbrev Blank : Type 0
+  Blank = IsBlankUnder old bay rate key.h
+
   module _ (code : Code) (new : Rig) where
-    pub read_back_missed : ReadsBack old bay key rate (Err code) new → ReadsRecords old bay 1 Holds (Err code) new
+    pub read_back_missed : ReadsBack old bay key rate (Err code) new → ReadsRecords old bay 1 Blank Holds (Err code) new
     read_back_missed reads = record {
       heads = reads.sends.heads;
       media = reads.sends.media;
@@ -77,10 +94,12 @@ module _ (old : Rig) (bay : ℕ) (key : Chrn) (rate : Rate) (fill : ℕ) where
       counts = reads.sends.counts;
       driven = reads.sends.driven;
       commands = λ ok. absurd (false≢true ok);
+      found = λ ok. absurd (false≢true ok);
       refused = record {
         coded = reads.refused.coded;
         overrun = reads.refused.overrun;
         disturbed = λ holds quiet. no_reason track key fill code holds (reads.refused.reason quiet);
+        unmarked = λ blank quiet. unmarked_code track key code blank (reads.refused.reason quiet);
       };
     }
 
@@ -95,7 +114,27 @@ module _ (old : Rig) (bay : ℕ) (key : Chrn) (rate : Rate) (fill : ℕ) where
         let holds_there : HoldsRecord there key fill = subst (λ (words : List ℕ). HoldsRecord words key fill) met holds in
         filled_page old.page content new.page (content_size key.n) fill reads.found.2 field.size (held_content there key fill deleted content holds_there sector)
 
-    pub read_back_differs : (IsFilled new.page (content_size key.n) fill → ⊥) → ReadsRecords old bay 1 Holds (Err BadCrc) new
+    -- it found an address field
+    not_blank : Blank → ⊥
+    not_blank blank =
+        let field = reads.found.1 in
+        let there : List ℕ = track_of field.disk (in_bay old.cylinders bay) key.h in
+        let met : track ≡ there = met_track (in_bay old.media bay) rate (in_bay old.cylinders bay) key.h field.disk (record { is_in = field.medium; has = field.track; same_rate = field.same_rate }) in
+        blank.addresses field.place key (subst (λ (words : List ℕ). IsAddressAt words field.place key) (sym met) field.address_field)
+
+    pub read_back_found : ReadsRecords old bay 1 Blank Holds (Ok tt) new
+    read_back_found = record {
+      heads = reads.sends.heads;
+      media = reads.sends.media;
+      memory = reads.memory;
+      counts = reads.sends.counts;
+      driven = reads.sends.driven;
+      commands = λ ok. reads.sends.command;
+      found = λ ok some blank. not_blank blank;
+      refused = tt;
+    }
+
+    pub read_back_differs : (IsFilled new.page (content_size key.n) fill → ⊥) → ReadsRecords old bay 1 Blank Holds (Err BadCrc) new
     read_back_differs other = record {
       heads = reads.sends.heads;
       media = reads.sends.media;
@@ -103,10 +142,12 @@ module _ (old : Rig) (bay : ℕ) (key : Chrn) (rate : Rate) (fill : ℕ) where
       counts = reads.sends.counts;
       driven = reads.sends.driven;
       commands = λ ok. absurd (false≢true ok);
+      found = λ ok. absurd (false≢true ok);
       refused = record {
         coded = tt;
         overrun = λ e. absurd (cc e);
         disturbed = λ holds quiet. other (page_filled holds quiet);
+        unmarked = λ blank. absurd (not_blank blank);
       };
     }
 
@@ -126,9 +167,13 @@ heads_stay_after a b c one two = record {
   spun = record { first = λ e. two.spun.first (one.spun.first e); second = λ e. two.spun.second (one.spun.second e) };
 }
 
+-- so does a blank track
+pub blank_next : (old new : Rig) (bay : ℕ) (rate : Rate) (h : ℕ) → HeadsStay old new → new.media ≡ old.media → IsBlankUnder old bay rate h → IsBlankUnder new bay rate h
+blank_next old new bay rate h heads media blank = subst HasNothing (sym (same_under old new bay rate h heads media)) blank
+
 -- the record behind those that were read back could not be
-pub reads_failed : (old middle new : Rig) (bay so_far most : ℕ) (there next : Type 0) (code : Code) → so_far + 1 ≤ most → (there → next) → ReadsRecords old bay so_far there (Ok tt) middle → ReadsRecords middle bay 1 next (Err code) new → ReadsRecords old bay most there (Err code) new
-reads_failed old middle new bay so_far most there next code within has first second = record {
+pub reads_failed : (old middle new : Rig) (bay so_far most : ℕ) (blank next_blank there next : Type 0) (code : Code) → so_far + 1 ≤ most → (blank → next_blank) → (there → next) → ReadsRecords old bay so_far blank there (Ok tt) middle → ReadsRecords middle bay 1 next_blank next (Err code) new → ReadsRecords old bay most blank there (Err code) new
+reads_failed old middle new bay so_far most blank next_blank there next code within goes has first second = record {
   heads = heads_stay_after old middle new first.heads second.heads;
   media = second.media ∙ first.media;
   memory = second.memory ∙ first.memory;
@@ -137,10 +182,12 @@ reads_failed old middle new bay so_far most there next code within has first sec
       driven_within (so_far + 1) most old.counters new.counters within
       (driven_after so_far 1 old.counters middle.counters new.counters first.counts second.counts first.driven second.driven);
   commands = λ ok. absurd (false≢true ok);
+  found = λ ok. absurd (false≢true ok);
   refused = record {
     coded = second.refused.coded;
     overrun = λ e. let rose = second.refused.overrun e in let s = first.counts.stalls in omega arith;
     disturbed = λ holds quiet. second.refused.disturbed (has holds) (undisturbed_part bay old.counters middle.counters new.counters new.counters first.counts second.counts (goes_on_itself new.counters) quiet);
+    unmarked = λ blank quiet. second.refused.unmarked (goes blank) (undisturbed_part bay old.counters middle.counters new.counters new.counters first.counts second.counts (goes_on_itself new.counters) quiet);
   };
 }
 

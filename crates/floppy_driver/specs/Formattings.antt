@@ -8,13 +8,15 @@ use Rattle.flop_base.specs.declared.answers.Code.TheVariants.{NoMark, Overrun, S
 use Rattle.raw_image.specs.Disk.{Disk}
 use Rattle.track_format.specs.Reads.{AllFilled}
 use Rattle.bay_model.specs.Counters.{Counters, IsFaultless, IsUndisturbed, DisturbedLess, FaultsRoseBy, GoesOn, IsDriven}
+use Rattle.flop_base.specs.declared.answers.Rate.{Rate}
 use Rattle.sector_map.specs.Met.{HasClearAddress}
+use Rattle.sector_map.specs.MetTracks.{HasNothing}
 use Rattle.sector_map.specs.Standard.{key_of}
 use Rattle.sector_map.specs.Layings.{Format, Laying, IsFormattable}
 use Rattle.sector_model.specs.Stations.{StationState, Becomes, bay_of, set_bay}
 use Rattle.sector_model.specs.Orders.{IsDeviceRefusal}
 use Rattle.sector_model.specs.Formats.{Lays, IsFormatted, IsUnformatted}
-use Rattle.single_commands.specs.Rigs.{Rig, HeadsStay}
+use Rattle.single_commands.specs.Rigs.{Rig, HeadsStay, track_under}
 use Rattle.single_commands.specs.Reading.{IsReadCode}
 use Rattle.floppy_driver.specs.declared.formatting.Asked.{Asked}
 
@@ -44,21 +46,28 @@ pub record HoldsRecord (track : List ℕ) (key : Chrn) (fill : ℕ) : Type 0 whe
 abbrev pub HoldsRecords : List ℕ → ℕ → ℕ → ℕ → ℕ → Type 0
 HoldsRecords track c h last fill = (r : ℕ) → 1 ≤ r → r ≤ last → HoldsRecord track (key_of c h r) fill
 
--- records could not be read back, and so it goes where they are there only if something disturbs
-pub record IsReadBackMiss (bay : ℕ) (there : Type 0) (code : Code) (old new : Counters) : Type 0 where
+-- nothing is recorded under the head, for a command at this rate
+abbrev pub IsBlankUnder : Rig → ℕ → Rate → ℕ → Type 0
+IsBlankUnder rig bay rate h = HasNothing (track_under rig bay rate h)
+
+-- records could not be read back, and so it goes where they are there only if something disturbs; where nothing is recorded, no
+-- mark is found
+pub record IsReadBackMiss (bay : ℕ) (blank there : Type 0) (code : Code) (old new : Counters) : Type 0 where
   pub coded : IsReadCode code
   pub overrun : code ≡ Overrun → RoseBy 1 old.stalls new.stalls
   pub disturbed : there → IsUndisturbed bay old new → ⊥
+  pub unmarked : blank → IsUndisturbed bay old new → code ≡ NoMark
 
 -- records, so many, were read back: nothing changed but counters and the driver's page
-pub record ReadsRecords (old : Rig) (bay count : ℕ) (there : Type 0) (answer : Result (Unit {0}) Code) (new : Rig) : Type 0 where
+pub record ReadsRecords (old : Rig) (bay count : ℕ) (blank there : Type 0) (answer : Result (Unit {0}) Code) (new : Rig) : Type 0 where
   pub heads : HeadsStay old new
   pub media : new.media ≡ old.media
   pub memory : new.memory ≡ old.memory
   pub counts : GoesOn old.counters new.counters
   pub driven : IsDriven count old.counters new.counters
   pub commands : IsOk answer → RoseBy count old.counters.data_commands new.counters.data_commands
-  pub refused : IfErr answer (λ code. IsReadBackMiss bay there code old.counters new.counters)
+  pub found : IsOk answer → 1 ≤ count → blank → ⊥
+  pub refused : IfErr answer (λ code. IsReadBackMiss bay blank there code old.counters new.counters)
 
 -- ---- attempts
 

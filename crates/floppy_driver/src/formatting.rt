@@ -9,7 +9,7 @@ ghost use Rattle.bay_model.specs.Counters.{DriveCounts, GoesOn};
 ghost use Rattle.single_commands.specs.Rigs.{IsSound, track_under};
 ghost use Rattle.floppy_driver.specs.Writings.{CanWrite};
 ghost use Rattle.floppy_driver.specs.Formattings.{format_of, IsValidFormat, FormatsIn, HasOnlyMedium};
-ghost use Rattle.floppy_driver.specs.Formattings.{IsFilled, HoldsRecord, HoldsRecords, ReadsRecords};
+ghost use Rattle.floppy_driver.specs.Formattings.{IsFilled, IsBlankUnder, HoldsRecord, HoldsRecords, ReadsRecords};
 
 use crate::driver::Driver;
 use flop_base::standard::SIZE_CODE;
@@ -171,6 +171,7 @@ fn read_back_all<C: Commands>(machine: &mut C, bay: u8, asked: Asked) -> Result<
     requires spun { in_bay (C.rig machine.old).spun bay ≡ true }
     requires sound { IsSound (C.rig machine.old) }
     ensures reads { ReadsRecords (C.rig machine.old) bay (sectors_at asked.rate)
+        (IsBlankUnder (C.rig machine.old) bay asked.rate asked.h)
         (HoldsRecords (track_under (C.rig machine.old) bay asked.rate asked.h) asked.c asked.h (sectors_at asked.rate) asked.fill)
         result (C.rig machine.new) }
     ensures sound { IsSound (C.rig machine.new) }
@@ -202,6 +203,7 @@ fn read_back_filled<C: Commands>(
     requires coded { IsSizeCode key.n }
     requires spun { in_bay (C.rig machine.old).spun bay ≡ true }
     ensures reads { ReadsRecords (C.rig machine.old) bay 1
+        (IsBlankUnder (C.rig machine.old) bay rate key.h)
         (HoldsRecord (track_under (C.rig machine.old) bay rate key.h) key fill) result (C.rig machine.new) }
     ensures sound { IsSound (C.rig machine.new) }
     ensures idle { C.is_idle machine.new }

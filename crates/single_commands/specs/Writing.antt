@@ -117,5 +117,6 @@ pub record FormatsTrack (old : Rig) (bay : ℕ) (format : Format) (laying : Opti
   pub turn : (IsUndisturbed bay old.counters new.counters ⊎ (IsOk answer × IsFaultless bay old.counters new.counters))
       → (disk : Disk) → HasTrackUnder old bay format disk
       → MatchOption laying ⊥ (λ one. one.words ≡ disk.words_per_track)
-  pub fits : IsOk answer → IsFaultless bay old.counters new.counters → CanFormatUnder old bay format
+  pub fits : IsOk answer → IsFaultless bay old.counters new.counters → (disk : Disk) → HasTrackUnder old bay format disk
+      → Fits (format_keys format) standard_code format.gap3 disk.words_per_track
   pub refused : IfErr answer (λ code. IsFormatMiss old bay format code new)

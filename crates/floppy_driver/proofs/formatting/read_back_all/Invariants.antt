@@ -2,7 +2,7 @@ use Rattle.std.proofs.Common.{◌≡◌, ◌-◌, true, Ok}
 use Rattle.flop_base.specs.Standard.{sectors_at}
 use Rattle.bay_model.specs.Bays.{in_bay}
 use Rattle.single_commands.specs.Rigs.{IsSound, track_under}
-use Rattle.floppy_driver.specs.Formattings.{HoldsRecords, ReadsRecords}
+use Rattle.floppy_driver.specs.Formattings.{IsBlankUnder, HoldsRecords, ReadsRecords}
 use Rattle.floppy_driver.proofs.formatting.read_back_all.Given as goal
 
 abbrev pub invariant-loop-r : goal.invariant-loop-r
@@ -11,6 +11,7 @@ invariant-loop-r g l = record {
   idle : g.C.Commands.is_idle l.machine;
   spun : in_bay (g.C.Commands.rig l.machine).spun l.bay ≡ true;
   reads : ReadsRecords (g.C.Commands.rig l.initial.machine) l.bay (l.r - 1)
+      (IsBlankUnder (g.C.Commands.rig l.initial.machine) l.bay l.asked.rate l.asked.h)
       (HoldsRecords (track_under (g.C.Commands.rig l.initial.machine) l.bay l.asked.rate l.asked.h) l.asked.c l.asked.h (sectors_at l.asked.rate) l.asked.fill)
       (Ok tt) (g.C.Commands.rig l.machine);
 }

@@ -3,7 +3,8 @@ use Rattle.std.proofs.lemmas.Result.{err_from_is_err_and}
 use Rattle.flop_base.specs.Standard.{sectors_at}
 use Rattle.retry_plan.specs.declared.Prepare.TheVariants as prepare
 use Rattle.single_commands.specs.Rigs.{track_under}
-use Rattle.floppy_driver.specs.Formattings.{format_of, HoldsRecords}
+use Rattle.floppy_driver.specs.Formattings.{format_of, IsBlankUnder, HoldsRecords}
+use Rattle.bay_model.proofs.Counted.{goes_on_after}
 use Rattle.floppy_driver.specs.Shown.{notes_of}
 use Rattle.floppy_driver.proofs.FormatOnce.{lost_attempt, refused_attempt, read_attempt}
 use Rattle.floppy_driver.proofs.FormatReady.{can_write_prepared, can_write_formatted, can_write_read}
@@ -52,5 +53,15 @@ returns-clause-can g c =
     c.requires.can c.prepare.ensures.notes c.if-not-prepare.ensures.prepared c.prepare.ensures.sound c.prepare.ensures.attached)
     c.format.ensures.sound (format_of asked) (Ok c.in_ok-format.field-0) step.0 step.1)
     c.read_back_all.ensures.sound (sectors_at asked.rate)
+    (IsBlankUnder laid c.args.bay asked.rate asked.h)
     (HoldsRecords (track_under laid c.args.bay asked.rate asked.h) asked.c asked.h (sectors_at asked.rate) asked.fill)
     c.read_back_all.result c.read_back_all.ensures.reads
+
+pub returns-clause-counts : goal.returns-clause-counts
+returns-clause-counts g c =
+    let step = c.in_ok-format.ensures.step in
+    let old = (g.C.Commands.rig c.args.machine.now).counters in
+    let middle = (g.C.Commands.rig c.prepare.new.machine).counters in
+    let laid = (g.C.Commands.rig c.format.new.self).counters in
+    goes_on_after old laid (g.C.Commands.rig c.read_back_all.new.machine).counters
+    (goes_on_after old middle laid c.if-not-prepare.ensures.prepared.moves.counts step.1.sends.counts) c.read_back_all.ensures.reads.counts
