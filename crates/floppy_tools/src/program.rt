@@ -15,6 +15,7 @@ ghost use Rattle.floppy_tools.specs.Turns.{world};
 ghost use Rattle.floppy_tools.specs.Programs.{Does, DoesForm};
 
 use crate::play::play;
+use bios_commands::serve_calls;
 use disk_commands::{copy_disk, format_disk, verify_disk};
 use flop_base::{NoMemory, Rate, Shelf, Sink, Status};
 use floppy_report::put_last_bad_words;
@@ -24,8 +25,8 @@ use sector_model::Station;
 use std::alloc::Global;
 
 /// Does what the words after the program's name say, on a station that is as it comes: `play JOB` runs a job, `format NAME CYLS` and
-/// `formatdd NAME CYLS` store a formatted disk, `copy FROM TO` copies one, `verify NAME` reads all of one. It prints a report to the
-/// sink, and the status says how it ended. The station comes back in every case.
+/// `formatdd NAME CYLS` store a formatted disk, `copy FROM TO` copies one, `verify NAME` reads all of one, `int13 FILE` serves
+/// calls of INT 13h. It prints a report to the sink, and the status says how it ended. The station comes back in every case.
 pub fn floppy<S: Shelf, K: Sink, D: Station>(
     alloc: Global,
     words: &[String],
@@ -145,5 +146,6 @@ fn perform_form<S: Shelf, K: Sink, D: Station>(
         ),
         Form::Copy { from, to } => copy_disk(alloc, session, from, to, shelf, out),
         Form::Verify { name } => verify_disk(alloc, session, name, shelf, out),
+        Form::Int13 { calls } => serve_calls(alloc, session, calls, shelf, out),
     }
 }

@@ -54,6 +54,13 @@ verify_of (word ∷ []) = do
   Some (form.Verify name)
 verify_of _ = None
 
+-- int13 FILE
+unfoldable pub int13_of : List (List ℕ) → Option Form
+int13_of (word ∷ []) = do
+  calls ← name_of word
+  Some (form.Int13 calls)
+int13_of _ = None
+
 -- the form that the words spell, by the first of them
 unfoldable pub form_of : List (List ℕ) → Option Form
 form_of [] = None
@@ -63,7 +70,8 @@ form_of (verb ∷ words) =
     else (if bytes_eq verb (codes "formatdd") then formatdd_of words
     else (if bytes_eq verb (codes "copy") then copy_of words
     else (if bytes_eq verb (codes "verify") then verify_of words
-    else None))))
+    else (if bytes_eq verb (codes "int13") then int13_of words
+    else None)))))
 
 -- the words were read as the form that they spell; memory can be wanted only where they spell one
 abbrev pub Reads : {T : Type 0} → Result (Option T) NoMemory → Option T → Type 0

@@ -52,4 +52,6 @@ pub enum Form {
     Copy { from: Name, to: Name },
     /// Reads every sector of a disk, and lists those that can't be read.
     Verify { name: Name },
+    /// Serves the calls of INT 13h in the text of this name.
+    Int13 { calls: Name },
 }

@@ -21,3 +21,7 @@ pub returns-in-FormatDd-clause-runs : goal.returns-in-FormatDd-clause-runs
 returns-in-FormatDd-clause-runs g c =
     form_runs c.args.form (form.FormatDd c.in-FormatDd.name c.in-FormatDd.cylinders) (world_of g.D.Station.shown g.S.Shelf.told g.K.Sink.told c.args.session.now c.args.shelf.now c.args.out.now) (world_of g.D.Station.shown g.S.Shelf.told g.K.Sink.told c.format_disk-in-FormatDd.new.session c.format_disk-in-FormatDd.new.shelf c.format_disk-in-FormatDd.new.out) c.format_disk-in-FormatDd.result c.in-FormatDd.is
     (subst (λ (n : ℕ). Runs (Formats c.in-FormatDd.name n R250) (world_of g.D.Station.shown g.S.Shelf.told g.K.Sink.told c.args.session.now c.args.shelf.now c.args.out.now) (world_of g.D.Station.shown g.S.Shelf.told g.K.Sink.told c.format_disk-in-FormatDd.new.session c.format_disk-in-FormatDd.new.shelf c.format_disk-in-FormatDd.new.out) c.format_disk-in-FormatDd.result) c.count-in-FormatDd.ensures.value c.format_disk-in-FormatDd.ensures.formats)
+
+pub returns-in-Int13-clause-runs : goal.returns-in-Int13-clause-runs
+returns-in-Int13-clause-runs g c =
+    form_runs c.args.form (form.Int13 c.in-Int13.calls) (world_of g.D.Station.shown g.S.Shelf.told g.K.Sink.told c.args.session.now c.args.shelf.now c.args.out.now) (world_of g.D.Station.shown g.S.Shelf.told g.K.Sink.told c.serve_calls.new.session c.serve_calls.new.shelf c.serve_calls.new.out) c.serve_calls.result c.in-Int13.is c.serve_calls.ensures.serves
