@@ -17,7 +17,7 @@ pub(crate) struct Played {
 }
 
 /// The text with line feeds in place of `;`.
-fn lines(alloc: Global, text: &str) -> Result<Vec<u8>, AllocError> {
+pub(crate) fn lines(alloc: Global, text: &str) -> Result<Vec<u8>, AllocError> {
     let mut bytes = text.as_bytes().to_vec(alloc)?;
     for byte in bytes.iter_mut() {
         if *byte == b';' {

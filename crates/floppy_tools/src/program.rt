@@ -16,6 +16,7 @@ ghost use Rattle.floppy_tools.specs.Programs.{Does, DoesForm};
 
 use crate::play::play;
 use archive_commands::{from_imd, remaster_disk, survey_disk, to_imd};
+use bios_commands::serve_calls;
 use disk_commands::{copy_disk, format_disk, verify_disk};
 use flat_commands::{exercise_disk, export_disk, import_disk};
 use flop_base::{NoMemory, Rate, Shelf, Sink, Status};
@@ -29,7 +30,8 @@ use std::alloc::Global;
 /// `formatdd NAME CYLS` store a formatted disk, `copy FROM TO` copies one, `verify NAME` reads all of one; `import FLAT NAME` and
 /// `export NAME FLAT` go between a flat file and a disk, `exercise SEED COUNT` runs a generated workload; `fromimd IMD NAME` and
 /// `toimd NAME IMD` turn ImageDisk files into disks and back, `survey NAME` lists the address fields of a disk, `remaster FROM TO`
-/// lays one out anew. It prints a report to the sink, and the status says how it ended. The station comes back in every case.
+/// lays one out anew; `int13 FILE` serves calls of INT 13h; `rescue FROM TO LOG` reads what it can of a disk, and keeps a log of
+/// the rest. It prints a report to the sink, and the status says how it ended. The station comes back in every case.
 pub fn floppy<S: Shelf, K: Sink, D: Station>(
     alloc: Global,
     words: &[String],
@@ -156,5 +158,6 @@ fn perform_form<S: Shelf, K: Sink, D: Station>(
         Form::Import { flat, name } => import_disk(alloc, session, flat, name, shelf, out),
         Form::Export { name, flat } => export_disk(alloc, session, name, flat, shelf, out),
         Form::Exercise { seed, count } => exercise_disk(alloc, session, seed, count, shelf, out),
+        Form::Int13 { calls } => serve_calls(alloc, session, calls, shelf, out),
     }
 }

@@ -7,7 +7,7 @@ use Rattle.flop_base.specs.declared.answers.NoMemory.{NoMemory}
 use Rattle.floppy_jobs.specs.Names.{is_name_text, name_of}
 use Rattle.floppy_jobs.specs.Numbers.{number_of}
 use Rattle.floppy_words.specs.declared.form.Form.{Form}
-use Rattle.floppy_words.specs.Forms.{Reads, begins_with_dash, cylinders_of, disk_of, play_of, format_of, formatdd_of, copy_of, verify_of, names_of, fromimd_of, toimd_of, survey_of, remaster_of, form_of, import_of, export_of, seed_of, count_of, workload_of, exercise_of}
+use Rattle.floppy_words.specs.Forms.{Reads, begins_with_dash, cylinders_of, disk_of, play_of, format_of, formatdd_of, copy_of, verify_of, names_of, fromimd_of, toimd_of, survey_of, remaster_of, form_of, import_of, export_of, seed_of, count_of, workload_of, exercise_of, int13_of}
 
 some_true : {X : Type 0} (b : Bool) (x y : X) → (if b then Some x else None) ≡ Some y → b ≡ true
 some_true true x y e = refl
@@ -171,6 +171,11 @@ exercise_none (seed ∷ count ∷ []) e = elim (either_dash _ _ e) [
   ]
 ]
 exercise_none (seed ∷ count ∷ next ∷ rest) e = refl
+int13_none : (words : List (List ℕ)) → list_any begins_with_dash words ≡ true → int13_of words ≡ None
+unfolding int13_of
+int13_none [] e = refl
+int13_none (word ∷ []) e = let none = dash_name word (any_one _ e) in rw none refl
+int13_none (word ∷ next ∷ rest) e = refl
 
 -- a choice between what gives nothing
 chosen_none : {X : Type 0} (b : Bool) (x y : Option X) → x ≡ None → y ≡ None → (if b then x else y) ≡ None
@@ -186,7 +191,7 @@ dash_none ((d ∷ rest) ∷ words) e = elim (either_or _ _ e) [
   | inl dash ↦ let is : d ≡ 45 = eqb-true d 45 dash in rw is refl
   | inr behind ↦ chosen_none _ _ _ (play_none words behind) (chosen_none _ _ _ (format_none words behind)
       (chosen_none _ _ _ (formatdd_none words behind) (chosen_none _ _ _ (copy_none words behind)
-      (chosen_none _ _ _ (verify_none words behind) (chosen_none _ _ _ (fromimd_none words behind) (chosen_none _ _ _ (toimd_none words behind) (chosen_none _ _ _ (survey_none words behind) (chosen_none _ _ _ (remaster_none words behind) (chosen_none _ _ _ (import_none words behind) (chosen_none _ _ _ (export_none words behind) (chosen_none _ _ _ (exercise_none words behind) refl)))))))))))
+      (chosen_none _ _ _ (verify_none words behind) (chosen_none _ _ _ (fromimd_none words behind) (chosen_none _ _ _ (toimd_none words behind) (chosen_none _ _ _ (survey_none words behind) (chosen_none _ _ _ (remaster_none words behind) (chosen_none _ _ _ (import_none words behind) (chosen_none _ _ _ (export_none words behind) (chosen_none _ _ _ (exercise_none words behind) (chosen_none _ _ _ (int13_none words behind) refl))))))))))))
 ]
   where
     either_or : (a b : Bool) → (a || b) ≡ true → (a ≡ true) ⊎ (b ≡ true)

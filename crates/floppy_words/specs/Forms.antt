@@ -119,6 +119,13 @@ unfoldable pub exercise_of : List (List ℕ) → Option Form
 exercise_of (seed ∷ count ∷ []) = workload_of seed count
 exercise_of _ = None
 
+-- int13 FILE
+unfoldable pub int13_of : List (List ℕ) → Option Form
+int13_of (word ∷ []) = do
+  calls ← name_of word
+  Some (form.Int13 calls)
+int13_of _ = None
+
 -- the form that the words spell, by the first of them
 unfoldable pub form_of : List (List ℕ) → Option Form
 form_of [] = None
@@ -135,7 +142,8 @@ form_of (verb ∷ words) =
     else (if bytes_eq verb (codes "import") then import_of words
     else (if bytes_eq verb (codes "export") then export_of words
     else (if bytes_eq verb (codes "exercise") then exercise_of words
-    else None)))))))))))
+    else (if bytes_eq verb (codes "int13") then int13_of words
+    else None))))))))))))
 
 -- the words were read as the form that they spell; memory can be wanted only where they spell one
 abbrev pub Reads : {T : Type 0} → Result (Option T) NoMemory → Option T → Type 0

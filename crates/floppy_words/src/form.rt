@@ -66,4 +66,6 @@ pub enum Form {
     Export { name: Name, flat: Name },
     /// Runs a generated workload: so many requests, drawn from a seed.
     Exercise { seed: u32, count: u16 },
+    /// Serves the calls of INT 13h in the text of this name.
+    Int13 { calls: Name },
 }

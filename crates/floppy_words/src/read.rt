@@ -1,7 +1,7 @@
 // The form that the words of the command line spell.
 ghost use Rattle.std.specs.Prelude.{◌≡◌, map, string_bytes, true};
 ghost use Rattle.std.specs.List.{list_any};
-ghost use Rattle.floppy_words.specs.Forms.{Reads, begins_with_dash, cylinders_of, disk_of, play_of, format_of, formatdd_of, copy_of, verify_of, fromimd_of, toimd_of, survey_of, remaster_of, names_of, form_of, import_of, export_of, count_of, workload_of, exercise_of};
+ghost use Rattle.floppy_words.specs.Forms.{Reads, begins_with_dash, cylinders_of, disk_of, play_of, format_of, formatdd_of, copy_of, verify_of, fromimd_of, toimd_of, survey_of, remaster_of, names_of, form_of, import_of, export_of, count_of, workload_of, exercise_of, int13_of};
 
 use crate::places::{one_place, two_places};
 use crate::seed::seed_number;
@@ -52,6 +52,8 @@ fn form(alloc: Global, words: &[String]) -> Result<Option<Form>, NoMemory>
         export(alloc, behind)
     } else if is_verb(verb, "exercise") {
         exercise(alloc, behind)
+    } else if is_verb(verb, "int13") {
+        int13(alloc, behind)
     } else {
         Ok(None)
     }
@@ -173,6 +175,16 @@ fn two_names(alloc: Global, verb: &str, words: &[String]) -> Result<Option<(Name
         return Ok(None);
     };
     Ok(Some(two_places(alloc, verb, first, second)?))
+#[tactic(auto, unfolding(crate::specs::Forms::int13_of))]
+fn int13(alloc: Global, words: &[String]) -> Result<Option<Form>, NoMemory>
+    ensures { Reads result (int13_of (map string_bytes words.now)) }
+{
+    let [calls] = words else { return Ok(None) };
+    let Some(calls) = name_text(calls.as_bytes()) else {
+        return Ok(None);
+    };
+    let calls = one_place(alloc, "int13", calls)?;
+    Ok(Some(Form::Int13 { calls }))
 }
 
 /// The name and the cylinders of a disk that is to be formatted.

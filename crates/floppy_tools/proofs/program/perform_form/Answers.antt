@@ -50,3 +50,7 @@ returns-in-Remaster-clause-runs g c =
 pub returns-in-Import-clause-runs : goal.returns-in-Import-clause-runs
 returns-in-Import-clause-runs g c =
     form_runs c.args.form (form.Import c.in-Import.flat c.in-Import.name) (world_of g.D.Station.shown g.S.Shelf.told g.K.Sink.told c.args.session.now c.args.shelf.now c.args.out.now) (world_of g.D.Station.shown g.S.Shelf.told g.K.Sink.told c.import_disk.new.session c.import_disk.new.shelf c.import_disk.new.out) c.import_disk.result c.in-Import.is c.import_disk.ensures.imports
+
+pub returns-in-Int13-clause-runs : goal.returns-in-Int13-clause-runs
+returns-in-Int13-clause-runs g c =
+    form_runs c.args.form (form.Int13 c.in-Int13.calls) (world_of g.D.Station.shown g.S.Shelf.told g.K.Sink.told c.args.session.now c.args.shelf.now c.args.out.now) (world_of g.D.Station.shown g.S.Shelf.told g.K.Sink.told c.serve_calls.new.session c.serve_calls.new.shelf c.serve_calls.new.out) c.serve_calls.result c.in-Int13.is c.serve_calls.ensures.serves

@@ -1,0 +1,257 @@
+-- Lines that were served and told, one after the other.
+use Rattle.std.proofs.Common.{◌≡◌, ℕ, ◌+◌, ◌<◌, ◌≤◌, suc, Bool, true, false, List, [], ◌∷◌, ◌++◌, length, take, drop, get_or, refl, ap, ◌∙◌, sym, subst, drop-cons, append-nil, append_assoc, Option, Some, None}
+use Rattle.std.specs.Prelude.{◌||◌, Vec, IfSome, IsSomeAnd, Result, Ok, Err}
+use Rattle.std.specs.declared.alloc.Global.{Global}
+use Rattle.std.proofs.lemmas.List.{take-append-drop, take_more}
+use Rattle.flop_base.specs.Shelf.{Files, Loads}
+use Rattle.flop_base.specs.Sink.{grown, GrowsByPart}
+use Rattle.flop_base.specs.declared.answers.Status.{Status}
+use Rattle.flop_base.specs.declared.answers.Status.TheVariants as status
+use Rattle.flop_base.specs.declared.answers.LoadError.{LoadError}
+use Rattle.flop_base.specs.declared.answers.LoadError.TheVariants as load
+use Rattle.floppy_jobs.specs.Lines.{ReadsText}
+use Rattle.floppy_jobs.specs.Texts.{calls_of}
+use Rattle.floppy_jobs.specs.declared.lines.JobError.{JobError}
+use Rattle.floppy_jobs.specs.declared.lines.JobError.TheVariants as error
+use Rattle.floppy_jobs.specs.declared.calls.CallLine.{CallLine}
+use Rattle.floppy_jobs.specs.declared.calls.CallLine.TheVariants as call
+use Rattle.floppy_jobs.specs.declared.request.Request.{Request}
+use Rattle.sector_model.specs.declared.reply.Reply.{Reply}
+use Rattle.sector_model.specs.declared.reply.Stop.{Stop}
+use Rattle.sector_model.specs.States.{State}
+use Rattle.sector_model.specs.Steps.{Step, StopsAt}
+use Rattle.sector_model.specs.Texts.{reply_text, stop_text, stop_status, is_refusal, bad_line_text}
+use Rattle.sector_model.specs.Runs.{Taken}
+use Rattle.sector_model.specs.Plays.{World, Prints, Tells, IsText, IsPutFault, whole_status}
+use Rattle.floppy_report.proofs.DumpLines.{grown-twice, grown-nothing}
+use Rattle.int13.specs.declared.regs.Regs.{Regs}
+use Rattle.floppy_session.specs.Services.{Serves}
+use Rattle.bios_commands.specs.CallTexts.{call_text}
+use Rattle.bios_commands.specs.Turns.{Turn, DoesLine, AreTurns, lines_of, course_of, turns_text, has_refused, IsTurn, Breaks, AtStop, AtPut}
+use Rattle.bios_commands.specs.Courses.{Through, Broken, EndStopped, ServesLines, ServesParsed, ServesCalls, There, Missing, TooLong, Faulty, Starved}
+use Rattle.bios_commands.specs.Lines.{IsCallOf, HasServed, HasBroken, EndsAs, InWhole, AtStore, Serving, ServesOrStarves, AsParsed, Starving, Misses}
+
+-- ---- One line.
+
+abbrev asked_line : Request → Reply → ℕ → State → Turn
+asked_line asked answer kept after = record {
+  line = call.Job asked;
+  course = record { asked = asked; answer = answer; after = after } ∷ [];
+  text = reply_text asked answer;
+  refused = is_refusal answer;
+  kept = kept;
+  after = after;
+}
+
+pub asked_turn : (kept : ℕ) (asked : Request) (answer : Reply) (refused : Bool) (old new : World) → Step old.state old.files asked answer new.state new.files → new.report ≡ grown old.report (reply_text asked answer) → refused ≡ is_refusal answer → IsTurn old kept (call.Job asked) refused new kept
+asked_turn kept asked answer refused old new step report is = record {
+  turn = asked_line asked answer kept new.state;
+  line_is = refl;
+  does = record { answer = answer; step = step; course_is = refl; text_is = refl; is_refused = refl; keeps = refl };
+  after = refl;
+  keeps = refl;
+  report = report;
+  is_refused = is;
+}
+
+pub asked_cut : (kept : ℕ) (asked : Request) (answer : Reply) (old new : World) (ended : Status) → Step old.state old.files asked answer new.state new.files → GrowsByPart old.report (reply_text asked answer) new.report → IsPutFault ended → (last : List Taken) × Breaks old kept (call.Job asked) last new ended
+asked_cut kept asked answer old new ended step part fault =
+    ((asked_line asked answer kept new.state).course, AtPut (asked_line asked answer kept new.state) (record { answer = answer; step = step; course_is = refl; text_is = refl; is_refused = refl; keeps = refl }) refl refl part fault)
+
+pub asked_stop : (kept : ℕ) (asked : Request) (cause : Stop) (old new : World) (ended : Status) → StopsAt old.state old.files asked cause new.state new.files → Prints old.report (stop_text cause) (stop_status cause) new.report ended → (last : List Taken) × Breaks old kept (call.Job asked) last new ended
+asked_stop kept asked cause old new ended stops prints = ([], AtStop asked cause refl refl stops prints)
+
+abbrev served_line : CallLine → Regs → List Taken → ℕ → State → Turn
+served_line line answered course kept after = record {
+  line = line;
+  course = course;
+  text = call_text answered;
+  refused = answered.carry;
+  kept = kept;
+  after = after;
+}
+
+served_does : (line : CallLine) (regs : Regs) (kept kept_after : ℕ) (old new : World) (answered : Regs) (course : List Taken) → IsCallOf regs line → Serves kept regs old.state old.files answered kept_after course new.state → new.files ≡ old.files → DoesLine line kept old.state old.files (served_line line answered course kept_after new.state) new.files
+served_does (call.Job asked) regs kept kept_after old new answered course is serves files = absurd is
+served_does (call.Call ax bx cx dx es) regs kept kept_after old new answered course is serves files = record {
+  answered = answered;
+  serves = subst (λ (r : Regs). Serves kept r old.state old.files answered kept_after course new.state) is serves;
+  text_is = refl;
+  is_refused = refl;
+  files = files;
+}
+
+pub served_turn : (line : CallLine) (regs : Regs) (kept kept_after : ℕ) (old new : World) (answered : Regs) → IsCallOf regs line → ((course : List Taken) × Serves kept regs old.state old.files answered kept_after course new.state) → new.files ≡ old.files → new.report ≡ grown old.report (call_text answered) → IsTurn old kept line answered.carry new kept_after
+served_turn line regs kept kept_after old new answered is serves files report = record {
+  turn = served_line line answered serves.0 kept_after new.state;
+  line_is = refl;
+  does = served_does line regs kept kept_after old new answered serves.0 is serves.1 files;
+  after = refl;
+  keeps = refl;
+  report = report;
+  is_refused = refl;
+}
+
+pub served_cut : (line : CallLine) (regs : Regs) (kept kept_after : ℕ) (old new : World) (answered : Regs) (ended : Status) → IsCallOf regs line → ((course : List Taken) × Serves kept regs old.state old.files answered kept_after course new.state) → new.files ≡ old.files → GrowsByPart old.report (call_text answered) new.report → IsPutFault ended → (last : List Taken) × Breaks old kept line last new ended
+served_cut line regs kept kept_after old new answered ended is serves files part fault =
+    (serves.0, AtPut (served_line line answered serves.0 kept_after new.state) (served_does line regs kept kept_after old new answered serves.0 is serves.1 files) refl refl part fault)
+
+-- ---- One line more.
+
+turns_more : (kept : ℕ) (old : State) (told : Option Files) (turns : List Turn) (kept_mid : ℕ) (mid : State) (mid_told : Option Files) (turn : Turn) (after : Option Files) → AreTurns kept old told turns kept_mid mid mid_told → DoesLine turn.line kept_mid mid mid_told turn after → AreTurns kept old told (turns ++ turn ∷ []) turn.kept turn.after after
+turns_more kept old told [] kept_mid mid mid_told turn after so_far does =
+    let a = subst (λ (k : ℕ). DoesLine turn.line k mid mid_told turn after) so_far.0 does in
+    let b = subst (λ (s : State). DoesLine turn.line kept s mid_told turn after) so_far.1 a in
+    let c = subst (λ (f : Option Files). DoesLine turn.line kept old f turn after) so_far.2 b in
+    (after, c, (refl, refl, refl))
+turns_more kept old told (first ∷ later) kept_mid mid mid_told turn after so_far does =
+    (so_far.0, so_far.1, turns_more first.kept first.after so_far.0 later kept_mid mid mid_told turn after so_far.2 does)
+
+lines_more : (turns : List Turn) (turn : Turn) → lines_of (turns ++ turn ∷ []) ≡ lines_of turns ++ turn.line ∷ []
+lines_more [] turn = refl
+lines_more (first ∷ later) turn = ap (λ (rest : List CallLine). first.line ∷ rest) (lines_more later turn)
+
+text_more : (turns : List Turn) (turn : Turn) → turns_text (turns ++ turn ∷ []) ≡ turns_text turns ++ turn.text
+text_more [] turn = append-nil turn.text
+text_more (first ∷ later) turn =
+    ap (λ (rest : List ℕ). first.text ++ rest) (text_more later turn) ∙ sym (append_assoc first.text (turns_text later) turn.text)
+
+or-false : (b : Bool) → (b || false) ≡ b
+or-false true = refl
+or-false false = refl
+
+or-moves : (a b c : Bool) → (a || (b || c)) ≡ ((a || b) || c)
+or-moves true b c = refl
+or-moves false b c = refl
+
+refused_more : (turns : List Turn) (turn : Turn) → has_refused (turns ++ turn ∷ []) ≡ (has_refused turns || turn.refused)
+refused_more [] turn = or-false turn.refused
+refused_more (first ∷ later) turn =
+    ap (λ (rest : Bool). first.refused || rest) (refused_more later turn) ∙ or-moves first.refused (has_refused later) turn.refused
+
+-- no line was served
+pub served_none : (old : World) (kept : ℕ) → kept ≡ 0 → HasServed old [] false kept old
+served_none old kept is = record { turns = []; served = record { served = (is, refl, refl); all = refl; report = sym (grown-nothing old.report) }; is_refused = refl }
+
+served_more : (old mid new : World) (lines : List CallLine) (line : CallLine) (refused refusal : Bool) (kept kept_after : ℕ) → HasServed old lines refused kept mid → IsTurn mid kept line refusal new kept_after → HasServed old (lines ++ line ∷ []) (refused || refusal) kept_after new
+served_more old mid new lines line refused refusal kept kept_after so_far is =
+    let turn : Turn = is.turn in
+    let does : DoesLine turn.line kept mid.state mid.files turn new.files = subst (λ (l : CallLine). DoesLine l kept mid.state mid.files turn new.files) (sym is.line_is) is.does in
+    let more : AreTurns 0 old.state old.files (so_far.turns ++ turn ∷ []) turn.kept turn.after new.files = turns_more 0 old.state old.files so_far.turns kept mid.state mid.files turn new.files so_far.served.served does in
+    record {
+      turns = so_far.turns ++ turn ∷ [];
+      served = record {
+        served = subst (λ (k : ℕ). AreTurns 0 old.state old.files (so_far.turns ++ turn ∷ []) k new.state new.files) is.keeps (subst (λ (s : State). AreTurns 0 old.state old.files (so_far.turns ++ turn ∷ []) turn.kept s new.files) is.after more);
+        all = ap (λ (before : List CallLine). before ++ line ∷ []) so_far.served.all ∙ ap (λ (l : CallLine). lines_of so_far.turns ++ l ∷ []) (sym is.line_is) ∙ sym (lines_more so_far.turns turn);
+        report = is.report ∙ ap (λ (r : Option (List ℕ)). grown r turn.text) so_far.served.report ∙ grown-twice old.report (turns_text so_far.turns) turn.text ∙ ap (grown old.report) (sym (text_more so_far.turns turn));
+      };
+      is_refused = ap (λ (b : Bool). b || refusal) so_far.is_refused ∙ ap (λ (b : Bool). has_refused so_far.turns || b) is.is_refused ∙ sym (refused_more so_far.turns turn);
+    }
+
+-- the lines up to one more were served
+pub served_next : (old mid new : World) (lines : List CallLine) (i : ℕ) (line : CallLine) (refused refusal now : Bool) (kept kept_after : ℕ) → HasServed old (take i lines) refused kept mid → IsTurn mid kept line refusal new kept_after → i < length lines → line ≡ get_or lines i line → now ≡ (refused || refusal) → HasServed old (take (i + 1) lines) now kept_after new
+served_next old mid new lines i line refused refusal now kept kept_after so_far turn within item either =
+    let one : take (i + 1) lines ≡ take i lines ++ line ∷ [] = take_more lines i line within ∙ ap (λ (r : CallLine). take i lines ++ r ∷ []) (sym item) in
+    subst (λ (b : Bool). HasServed old (take (i + 1) lines) b kept_after new) (sym either) (subst (λ (rs : List CallLine). HasServed old rs (refused || refusal) kept_after new) (sym one) (served_more old mid new (take i lines) line refused refusal kept kept_after so_far turn))
+
+-- a line broke off
+pub broken : (old mid new : World) (lines : List CallLine) (i : ℕ) (line : CallLine) (refused : Bool) (kept : ℕ) (ended : Status) → HasServed old (take i lines) refused kept mid → i < length lines → line ≡ get_or lines i line → ((last : List Taken) × Breaks mid kept line last new ended) → HasBroken old lines new ended
+broken old mid new lines i line refused kept ended so_far within item breaks = (
+  course_of so_far.turns ++ breaks.0,
+  record {
+    turns = so_far.turns;
+    mid = mid;
+    kept = kept;
+    done = take i lines;
+    line = line;
+    later = drop (suc i) lines;
+    last = breaks.0;
+    parts = sym (take-append-drop i lines) ∙ ap (λ (rest : List CallLine). take i lines ++ rest) (drop-cons lines i line within ∙ ap (λ (r : CallLine). r ∷ drop (suc i) lines) (sym item));
+    served = so_far.served;
+    breaks = breaks.1;
+    course_is = refl;
+  },
+)
+
+pub broken_serving : (old new : World) (lines : List CallLine) (ended : Status) → HasBroken old lines new ended → Serving old lines new ended
+broken_serving old new lines ended p = (p.0, Broken p.1)
+
+-- all lines were served, and then the end came
+pub served_ends : (old mid new : World) (lines : List CallLine) (refused : Bool) (ended : Status) → ((kept : ℕ) × HasServed old lines refused kept mid) → new.report ≡ mid.report → EndsAs mid.state mid.files refused new.state new.files ended → Serving old lines new ended
+served_ends old mid new lines refused ended so_far report (InWhole ends whole) = (
+  course_of so_far.1.turns,
+  Through (record {
+    turns = so_far.1.turns;
+    mid = mid;
+    kept = so_far.0;
+    served = so_far.1.served;
+    stored = ends;
+    report = report;
+    status = whole ∙ ap whole_status so_far.1.is_refused;
+    course_is = refl;
+  }),
+)
+served_ends old mid new lines refused ended so_far report (AtStore cause only stops at) = (
+  course_of so_far.1.turns,
+  EndStopped (record {
+    turns = so_far.1.turns;
+    mid = mid;
+    kept = so_far.0;
+    cause = cause;
+    served = so_far.1.served;
+    only = only;
+    stops = stops;
+    report = report;
+    status = at;
+    course_is = refl;
+  }),
+)
+
+-- ---- A text.
+
+pub parsed_serves : (old new : World) (text : List ℕ) (given lines : List CallLine) (ended : Status) → calls_of text ≡ Ok lines → given ≡ lines → Serving old given new ended → ServesOrStarves old text new ended
+parsed_serves old new text given lines ended spelled same serving =
+    AsParsed serving.0
+    (subst (λ (parsed : Result (List CallLine) ℕ). ServesParsed old parsed serving.0 new ended) (sym spelled)
+    (subst (λ (ls : List CallLine). ServesLines old ls serving.0 new ended) same serving.1))
+
+pub read_bad : {A : Type 0} (items : A → List CallLine) (cause : JobError) (said : Result (List CallLine) ℕ) (line : ℕ) → ReadsText items (Err cause) said → cause ≡ error.BadLine line → said ≡ Err line
+read_bad items cause said line reads is = subst (λ (e : JobError). ReadsText items (Err e) said) is reads
+
+pub unparsed_tells : (old new : World) (text : List ℕ) (line : ℕ) (ended : Status) → calls_of text ≡ Err line → Tells old (bad_line_text line) status.BadJob new ended → ServesOrStarves old text new ended
+unparsed_tells old new text line ended spelled tells =
+    AsParsed []
+    (subst (λ (parsed : Result (List CallLine) ℕ). ServesParsed old parsed [] new ended) (sym spelled) (record { nothing = refl; tells = tells }))
+
+as_text : (old new : World) (name text : List ℕ) (ended : Status) → IsText old.files name text → ServesOrStarves old text new ended → (course : List Taken) × ServesCalls name old course new ended
+as_text old new name text ended told (AsParsed course serves) = (course, There (record { text = text; told = told; serves = serves }))
+as_text old new name text ended told (Starving idle) = ([], Starved refl idle)
+
+loaded_text : (told : Option Files) (name : List ℕ) (bytes : Vec ℕ Global) → IfSome told (λ files. Loads files name 4194304 (Ok bytes)) → IsText told name bytes.items
+loaded_text None name bytes loads = tt
+loaded_text (Some files) name bytes loads = subst (λ (found : Option (List ℕ)). IsSomeAnd found (λ b. (b ≡ bytes.items) × (length b ≤ 4194304))) (sym loads.0) (refl, loads.1)
+
+abbrev world : State → Option Files → Option (List ℕ) → World
+world state files report = record { state = state; files = files; report = report }
+
+-- a text that was loaded
+pub text_serves : (state : State) (told loaded : Option Files) (report : Option (List ℕ)) (new : World) (name text : List ℕ) (bytes : Vec ℕ Global) (ended : Status) → loaded ≡ told → text ≡ bytes.items → IfSome told (λ files. Loads files name 4194304 (Ok bytes)) → ServesOrStarves (world state loaded report) text new ended → (course : List Taken) × ServesCalls name (world state told report) course new ended
+text_serves state told loaded report new name text bytes ended stays same loads serves =
+    as_text (world state told report) new name bytes.items ended (loaded_text told name bytes loads)
+    (subst (λ (files : Option Files). ServesOrStarves (world state files report) bytes.items new ended) stays
+    (subst (λ (read : List ℕ). ServesOrStarves (world state loaded report) read new ended) same serves))
+
+-- a text that wasn't had
+as_missed : (told : Option Files) (state : State) (report after : Option (List ℕ)) (name : List ℕ) (cause : LoadError) (ended : Status) → IfSome told (λ files. Loads files name 4194304 (Err cause)) → Misses cause name report after ended → (course : List Taken) × ServesCalls name (world state told report) course (world state told after) ended
+as_missed None state report after name load.Absent ended loads missed = ([], Missing tt (record { nothing = refl; tells = record { state = refl; files = refl; prints = missed } }))
+as_missed (Some files) state report after name load.Absent ended loads missed = ([], Missing loads (record { nothing = refl; tells = record { state = refl; files = refl; prints = missed } }))
+as_missed None state report after name load.TooLong ended loads missed = ([], TooLong tt (record { nothing = refl; tells = record { state = refl; files = refl; prints = missed } }))
+as_missed (Some files) state report after name load.TooLong ended loads missed = ([], TooLong loads (record { nothing = refl; tells = record { state = refl; files = refl; prints = missed } }))
+as_missed told state report after name load.Failed ended loads missed = ([], Faulty refl (record { same = ap (world state told) missed.0; status = missed.1 }))
+as_missed told state report after name load.NoMemory ended loads missed = ([], Starved refl (record { same = ap (world state told) missed.0; status = missed.1 }))
+
+-- a file that wasn't loaded
+pub missed_serves : (state : State) (told loaded : Option Files) (report after : Option (List ℕ)) (name : List ℕ) (cause : LoadError) (ended : Status) → loaded ≡ told → IfSome told (λ files. Loads files name 4194304 (Err cause)) → Misses cause name report after ended → (course : List Taken) × ServesCalls name (world state told report) course (world state loaded after) ended
+missed_serves state told loaded report after name cause ended stays loads missed =
+    subst (λ (files : Option Files). (course : List Taken) × ServesCalls name (world state told report) course (world state files after) ended) (sym stays)
+    (as_missed told state report after name cause ended loads missed)

@@ -1,0 +1,21 @@
+use Rattle.std.proofs.Common.{refl, subst, sym, List}
+use Rattle.std.specs.Prelude.{Vec, All}
+use Rattle.std.specs.declared.alloc.Global.{Global}
+use Rattle.floppy_jobs.specs.Texts.{calls_of}
+use Rattle.floppy_jobs.specs.declared.calls.CallLine.{CallLine}
+use Rattle.disk_commands.specs.Worlds.{world_of}
+use Rattle.bios_commands.specs.Lines.{LineHasTries}
+use Rattle.bios_commands.proofs.Parsed.{all_tries}
+use Rattle.bios_commands.proofs.Served.{parsed_serves, read_bad, unparsed_tells}
+use Rattle.bios_commands.proofs.serve.serve_text.Goals as goal
+
+pub serve_all-requires-clause-tries : goal.serve_all-requires-clause-tries
+serve_all-requires-clause-tries g c = subst (λ (l : List CallLine). All LineHasTries l) (sym c.deref.ensures.value) (all_tries c.args.text.now c.in-Ok.lines.items c.in-Ok.ensures)
+
+pub returns-in-Ok-clause-serves : goal.returns-in-Ok-clause-serves
+returns-in-Ok-clause-serves g c =
+    parsed_serves (world_of g.D.Station.shown g.S.Shelf.told g.K.Sink.told c.args.session.now c.args.shelf.now c.args.out.now) (world_of g.D.Station.shown g.S.Shelf.told g.K.Sink.told c.serve_all.new.session c.serve_all.new.shelf c.serve_all.new.out) c.args.text.now c.deref.result.now c.in-Ok.lines.items c.serve_all.result c.in-Ok.ensures c.deref.ensures.value c.serve_all.ensures.serves
+
+pub returns-in-Err-BadLine-clause-serves : goal.returns-in-Err-BadLine-clause-serves
+returns-in-Err-BadLine-clause-serves g c =
+    unparsed_tells (world_of g.D.Station.shown g.S.Shelf.told g.K.Sink.told c.args.session.now c.args.shelf.now c.args.out.now) (world_of g.D.Station.shown g.S.Shelf.told g.K.Sink.told c.args.session.now c.args.shelf.now c.put_last_bad_line.new.out) c.args.text.now c.in-Err-BadLine.line c.put_last_bad_line.result (read_bad (λ (lines : Vec CallLine Global). lines.items) c.in-Err-BadLine.field-0 (calls_of c.args.text.now) c.in-Err-BadLine.line c.in-Err-BadLine.ensures c.in-Err-BadLine.field-0-is) (record { state = refl; files = refl; prints = c.put_last_bad_line.ensures.prints })

@@ -1,0 +1,62 @@
+-- What the calls of a text come to, part by part.
+use Rattle.std.specs.Prelude.{◌≡◌, ℕ, Bool, List, Option}
+use Rattle.flop_base.specs.Shelf.{Files}
+use Rattle.flop_base.specs.declared.answers.Status.{Status}
+use Rattle.flop_base.specs.declared.answers.Status.TheVariants as status
+use Rattle.flop_base.specs.declared.answers.LoadError.{LoadError}
+use Rattle.flop_base.specs.declared.answers.LoadError.TheVariants as load
+use Rattle.floppy_jobs.specs.Texts.{calls_of}
+use Rattle.floppy_jobs.specs.declared.calls.CallLine.{CallLine}
+use Rattle.floppy_jobs.specs.declared.calls.CallLine.TheVariants as call
+use Rattle.sector_model.specs.declared.reply.Stop.{Stop}
+use Rattle.sector_model.specs.States.{State}
+use Rattle.sector_model.specs.Texts.{stop_status, absent_text, bad_line_text}
+use Rattle.sector_model.specs.Runs.{Taken, Ends, EndStopsAt, IsEndStop}
+use Rattle.sector_model.specs.Plays.{World, Prints, IsIdle, whole_status}
+use Rattle.int13.specs.declared.regs.Regs.{Regs}
+use Rattle.floppy_session.specs.Tries.{HasTries}
+use Rattle.bios_commands.specs.CallTexts.{registers}
+use Rattle.bios_commands.specs.Turns.{Turn, AreServed, has_refused}
+use Rattle.bios_commands.specs.Courses.{IsBroken, ServesLines, ServesParsed}
+
+-- the number of attempts is from 1 to 10, where a request sets it
+abbrev pub LineHasTries : CallLine → Type 0
+LineHasTries (call.Job asked) = HasTries asked
+LineHasTries (call.Call ax bx cx dx es) = Unit {0}
+
+-- a line is a call with these registers
+abbrev pub IsCallOf : Regs → CallLine → Type 0
+IsCallOf regs (call.Job asked) = ⊥
+IsCallOf regs (call.Call ax bx cx dx es) = regs ≡ registers ax bx cx dx es
+
+-- some lines were served and told whole; `refused` says that one counts as a refusal
+pub record HasServed (old : World) (lines : List CallLine) (refused : Bool) (kept : ℕ) (new : World) : Type 0 where
+  pub turns : List Turn
+  pub served : AreServed old lines turns new kept
+  pub is_refused : refused ≡ has_refused turns
+
+-- a line broke off
+abbrev pub HasBroken : World → List CallLine → World → Status → Type 0
+HasBroken old lines new ended = (course : List Taken) × IsBroken old lines course new ended
+
+-- the end of a run: what was left in was stored, or a stop came at a store
+pub data EndsAs (old : State) (files : Option Files) (refused : Bool) (new : State) (after : Option Files) (ended : Status) : Type 0 where
+  InWhole : Ends old files new after → ended ≡ whole_status refused → EndsAs old files refused new after ended
+  AtStore : (cause : Stop) → IsEndStop cause → EndStopsAt old files new after → ended ≡ stop_status cause
+      → EndsAs old files refused new after ended
+
+-- lines are served, by some course
+abbrev pub Serving : World → List CallLine → World → Status → Type 0
+Serving old lines new ended = (course : List Taken) × ServesLines old lines course new ended
+
+-- a text is served as it is parsed, or memory for that couldn't be had
+pub data ServesOrStarves (old : World) (text : List ℕ) (new : World) (ended : Status) : Type 0 where
+  AsParsed : (course : List Taken) → ServesParsed old (calls_of text) course new ended → ServesOrStarves old text new ended
+  Starving : IsIdle old new status.NoMemory ended → ServesOrStarves old text new ended
+
+-- why a text wasn't had, and what was printed of it
+abbrev pub Misses : LoadError → List ℕ → Option (List ℕ) → Option (List ℕ) → Status → Type 0
+Misses load.Absent name old new ended = Prints old (absent_text name) status.Absent new ended
+Misses load.TooLong name old new ended = Prints old (bad_line_text 0) status.BadJob new ended
+Misses load.Failed name old new ended = (new ≡ old) × (ended ≡ status.FileFault)
+Misses load.NoMemory name old new ended = (new ≡ old) × (ended ≡ status.NoMemory)

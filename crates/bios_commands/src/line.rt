@@ -1,0 +1,130 @@
+// One line of a calls text: served, and told.
+ghost use Rattle.std.specs.Prelude.{◌≡◌, ◌≢◌, ℕ, List, IfOk, IfErr, IsErrOf, Err};
+ghost use Rattle.floppy_jobs.specs.declared.calls.CallLine.{CallLine};
+ghost use Rattle.floppy_jobs.specs.declared.calls.CallLine.TheVariants as calls;
+ghost use Rattle.sector_model.specs.Faults.{Blames};
+ghost use Rattle.sector_model.specs.Texts.{is_refusal};
+ghost use Rattle.sector_model.specs.Runs.{Taken};
+ghost use Rattle.sector_model.specs.Plays.{IsPutFault};
+ghost use Rattle.floppy_session.specs.Session.{IsRunning};
+ghost use Rattle.floppy_session.specs.Tries.{HasTries};
+ghost use Rattle.disk_commands.specs.Worlds.{world_of};
+ghost use Rattle.bios_commands.specs.Turns.{IsTurn, Breaks};
+ghost use Rattle.bios_commands.specs.Lines.{LineHasTries, IsCallOf};
+
+use crate::text::call_line;
+use flop_base::{Shelf, Sink, Status};
+use floppy_jobs::{CallLine, Request};
+use floppy_report::{put_last, put_line, put_reply};
+use floppy_session::Session;
+use int13::{Int13, Regs};
+use sector_model::{Reply, Station, Stop};
+use std::alloc::Global;
+
+fn is_refusal(reply: &Reply) -> bool
+    ensures { result ≡ is_refusal reply.now }
+{
+    match reply {
+        Reply::Refused(_) => true,
+        Reply::Done | Reply::DoneDeleted | Reply::Bytes { .. } => false,
+    }
+}
+
+/// Runs a request as in a job and tells its answer; true where it was refused.
+fn ask<S: Shelf, K: Sink, D: Station>(
+    alloc: Global,
+    session: &mut Session<D>,
+    request: &Request,
+    shelf: &mut S,
+    out: &mut K,
+) -> Result<bool, Status>
+    requires running { IsRunning D.shown D.is_ready session.old }
+    requires tries { HasTries request.now }
+    ensures turn { (kept : ℕ) → IfOk result (λ refused. IsTurn (world_of D.shown S.told K.told session.old shelf.old out.old) kept (calls.Job request.now) refused
+        (world_of D.shown S.told K.told session.new shelf.new out.new) kept) }
+    ensures breaks { (kept : ℕ) → IfErr result (λ ended. (last : List Taken) × Breaks
+        (world_of D.shown S.told K.told session.old shelf.old out.old) kept (calls.Job request.now) last
+        (world_of D.shown S.told K.told session.new shelf.new out.new) ended) }
+    ensures running { IsRunning D.shown D.is_ready session.new }
+    ensures is_form { result ≢ Err Status.BadWords }
+    ensures shelf_faults { Blames (IsErrOf result Status.FileFault) (S.fault_count shelf.old)
+        (S.fault_count shelf.new) }
+    ensures sink_faults { Blames (IsErrOf result Status.SinkFault) (K.fault_count out.old)
+        (K.fault_count out.new) }
+{
+    match session.run(shelf, request) {
+        Ok(reply) => match put_reply(alloc, out, request, &reply) {
+            Ok(()) => Ok(is_refusal(&reply)),
+            Err(ended) => Err(ended),
+        },
+        Err(stop) => Err(put_last(alloc, out, &stop)),
+    }
+}
+
+/// Serves a call of INT 13h and tells the registers after it; true where its carry is set.
+fn call<S: Shelf, K: Sink, D: Station>(
+    alloc: Global,
+    session: &mut Session<D>,
+    front: &mut Int13,
+    regs: Regs,
+    shelf: &S,
+    out: &mut K,
+) -> Result<bool, Status>
+    requires running { IsRunning D.shown D.is_ready session.old }
+    ensures turn { (line : CallLine) → IsCallOf regs line → IfOk result (λ refused. IsTurn
+        (world_of D.shown S.told K.told session.old shelf.now out.old) front.old line refused
+        (world_of D.shown S.told K.told session.new shelf.now out.new) front.new) }
+    ensures breaks { (line : CallLine) → IsCallOf regs line → IfErr result (λ ended. (last : List Taken) × Breaks
+        (world_of D.shown S.told K.told session.old shelf.now out.old) front.old line last
+        (world_of D.shown S.told K.told session.new shelf.now out.new) ended) }
+    ensures running { IsRunning D.shown D.is_ready session.new }
+    ensures is_form { result ≢ Err Status.BadWords }
+    ensures no_shelf_fault { IfErr result IsPutFault }
+    ensures sink_faults { Blames (IsErrOf result Status.SinkFault) (K.fault_count out.old)
+        (K.fault_count out.new) }
+{
+    let answered = session.int13(front, regs);
+    match put_line(out, call_line(alloc, answered)) {
+        Ok(()) => Ok(answered.carry),
+        Err(ended) => Err(ended),
+    }
+}
+
+/// Serves a line and tells what came of it; true where that counts as a refusal. The error is the status of a run that ends here.
+pub(crate) fn serve_line<S: Shelf, K: Sink, D: Station>(
+    alloc: Global,
+    session: &mut Session<D>,
+    front: &mut Int13,
+    line: &CallLine,
+    shelf: &mut S,
+    out: &mut K,
+) -> Result<bool, Status>
+    requires running { IsRunning D.shown D.is_ready session.old }
+    requires tries { LineHasTries line.now }
+    ensures turn { IfOk result (λ refused. IsTurn (world_of D.shown S.told K.told session.old shelf.old out.old) front.old line.now refused
+        (world_of D.shown S.told K.told session.new shelf.new out.new) front.new) }
+    ensures breaks { IfErr result (λ ended. (last : List Taken) × Breaks
+        (world_of D.shown S.told K.told session.old shelf.old out.old) front.old line.now last
+        (world_of D.shown S.told K.told session.new shelf.new out.new) ended) }
+    ensures running { IsRunning D.shown D.is_ready session.new }
+    ensures is_form { result ≢ Err Status.BadWords }
+    ensures shelf_faults { Blames (IsErrOf result Status.FileFault) (S.fault_count shelf.old)
+        (S.fault_count shelf.new) }
+    ensures sink_faults { Blames (IsErrOf result Status.SinkFault) (K.fault_count out.old)
+        (K.fault_count out.new) }
+{
+    match line {
+        CallLine::Job(request) => ask(alloc, session, request, shelf, out),
+        CallLine::Call { ax, bx, cx, dx, es } => {
+            let regs = Regs {
+                ax: *ax,
+                bx: *bx,
+                cx: *cx,
+                dx: *dx,
+                es: *es,
+                carry: false,
+            };
+            call(alloc, session, front, regs, shelf, out)
+        }
+    }
+}

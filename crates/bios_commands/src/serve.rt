@@ -1,0 +1,179 @@
+// The form `int13 FILE`: the calls of a text are served to its end, or up to what stops the run.
+ghost use Rattle.std.specs.Prelude.{◌≡◌, ◌≢◌, ◌||◌, ℕ, All, List, IfOk, IfErr, IsErrOf, Err};
+ghost use Rattle.sector_model.specs.Faults.{Blames};
+ghost use Rattle.sector_model.specs.Runs.{Taken};
+ghost use Rattle.sector_model.specs.Plays.{whole_status};
+ghost use Rattle.floppy_session.specs.Session.{state_of, IsRunning};
+ghost use Rattle.disk_commands.specs.Commands.{Runs};
+ghost use Rattle.disk_commands.specs.Worlds.{world_of};
+ghost use Rattle.bios_commands.specs.Courses.{ServesCalls};
+ghost use Rattle.bios_commands.specs.Lines.{LineHasTries, HasServed, HasBroken, EndsAs, ServesOrStarves, Misses, Serving};
+
+use crate::line::serve_line;
+use flop_base::{LoadError, Name, Shelf, Sink, Status};
+use floppy_jobs::{CallLine, JobError, parse_calls};
+use floppy_report::{put_last_absent, put_last_bad_line, stop_status};
+use floppy_session::Session;
+use int13::Int13;
+use sector_model::Station;
+use std::alloc::Global;
+
+/// The longest text of calls, in bytes.
+const MOST_CALLS_BYTES: usize = 4_194_304;
+
+fn either(first: bool, second: bool) -> bool
+    ensures { result ≡ (first || second) }
+{
+    first || second
+}
+
+/// Serves and tells lines in order, from the service as it comes; true where one counts as a refusal. The error is the status of a
+/// run that ends here.
+fn serve_lines<S: Shelf, K: Sink, D: Station>(
+    alloc: Global,
+    session: &mut Session<D>,
+    lines: &[CallLine],
+    shelf: &mut S,
+    out: &mut K,
+) -> Result<bool, Status>
+    requires running { IsRunning D.shown D.is_ready session.old }
+    requires tries { All LineHasTries lines.now }
+    ensures serves { IfOk result (λ refused. (kept : ℕ) × HasServed (world_of D.shown S.told K.told session.old shelf.old out.old) lines.now refused kept
+        (world_of D.shown S.told K.told session.new shelf.new out.new)) }
+    ensures breaks { IfErr result (λ ended. HasBroken (world_of D.shown S.told K.told session.old shelf.old out.old) lines.now
+        (world_of D.shown S.told K.told session.new shelf.new out.new) ended) }
+    ensures running { IsRunning D.shown D.is_ready session.new }
+    ensures is_form { result ≢ Err Status.BadWords }
+    ensures shelf_faults { Blames (IsErrOf result Status.FileFault) (S.fault_count shelf.old)
+        (S.fault_count shelf.new) }
+    ensures sink_faults { Blames (IsErrOf result Status.SinkFault) (K.fault_count out.old)
+        (K.fault_count out.new) }
+{
+    let mut front = Int13::new();
+    let mut refused = false;
+    for line in lines {
+        match serve_line(alloc, session, &mut front, line, shelf, out) {
+            Ok(refusal) => refused = either(refused, refusal),
+            Err(ended) => return Err(ended),
+        }
+    }
+    Ok(refused)
+}
+
+fn whole_status(refused: bool) -> Status
+    ensures { result ≡ whole_status refused }
+{
+    if refused {
+        Status::SomeRefused
+    } else {
+        Status::AllOk
+    }
+}
+
+/// Stores what is left in the bays of a session, and gives the status of a run to the end.
+fn finish<S: Shelf, D: Station>(session: &mut Session<D>, shelf: &mut S, refused: bool) -> Status
+    requires running { IsRunning D.shown D.is_ready session.old }
+    ensures ends { EndsAs (state_of D.shown session.old) (S.told shelf.old) refused
+        (state_of D.shown session.new) (S.told shelf.new) result }
+    ensures running { IsRunning D.shown D.is_ready session.new }
+    ensures is_form { result ≢ Status.BadWords }
+    ensures shelf_faults { Blames (result ≡ Status.FileFault) (S.fault_count shelf.old)
+        (S.fault_count shelf.new) }
+    ensures no_sink_fault { result ≢ Status.SinkFault }
+{
+    match session.end(shelf) {
+        Ok(()) => whole_status(refused),
+        Err(stop) => stop_status(&stop),
+    }
+}
+
+/// Serves the lines of a text, and stores what is left in the bays.
+fn serve_all<S: Shelf, K: Sink, D: Station>(
+    alloc: Global,
+    session: &mut Session<D>,
+    lines: &[CallLine],
+    shelf: &mut S,
+    out: &mut K,
+) -> Status
+    requires running { IsRunning D.shown D.is_ready session.old }
+    requires tries { All LineHasTries lines.now }
+    ensures serves { Serving (world_of D.shown S.told K.told session.old shelf.old out.old) lines.now
+        (world_of D.shown S.told K.told session.new shelf.new out.new) result }
+    ensures running { IsRunning D.shown D.is_ready session.new }
+    ensures is_form { result ≢ Status.BadWords }
+    ensures shelf_faults { Blames (result ≡ Status.FileFault) (S.fault_count shelf.old)
+        (S.fault_count shelf.new) }
+    ensures sink_faults { Blames (result ≡ Status.SinkFault) (K.fault_count out.old)
+        (K.fault_count out.new) }
+{
+    match serve_lines(alloc, session, lines, shelf, out) {
+        Ok(refused) => finish(session, shelf, refused),
+        Err(ended) => ended,
+    }
+}
+
+/// Serves the calls of this text.
+fn serve_text<S: Shelf, K: Sink, D: Station>(
+    alloc: Global,
+    session: &mut Session<D>,
+    text: &[u8],
+    shelf: &mut S,
+    out: &mut K,
+) -> Status
+    requires running { IsRunning D.shown D.is_ready session.old }
+    ensures serves { ServesOrStarves (world_of D.shown S.told K.told session.old shelf.old out.old) text.now
+        (world_of D.shown S.told K.told session.new shelf.new out.new) result }
+    ensures running { IsRunning D.shown D.is_ready session.new }
+    ensures is_form { result ≢ Status.BadWords }
+    ensures shelf_faults { Blames (result ≡ Status.FileFault) (S.fault_count shelf.old)
+        (S.fault_count shelf.new) }
+    ensures sink_faults { Blames (result ≡ Status.SinkFault) (K.fault_count out.old)
+        (K.fault_count out.new) }
+{
+    match parse_calls(alloc, text) {
+        Ok(lines) => serve_all(alloc, session, &lines, shelf, out),
+        Err(JobError::BadLine { line }) => put_last_bad_line(alloc, out, line),
+        Err(JobError::NoMemory) => Status::NoMemory,
+    }
+}
+
+/// Ends a run whose text wasn't loaded.
+fn not_loaded<K: Sink>(alloc: Global, name: &Name, out: &mut K, error: LoadError) -> Status
+    ensures ends { Misses error name.now (K.told out.old) (K.told out.new) result }
+    ensures is_form { result ≢ Status.BadWords }
+    ensures shelf_fault { result ≡ Status.FileFault → error ≡ LoadError.Failed }
+    ensures sink_faults { Blames (result ≡ Status.SinkFault) (K.fault_count out.old)
+        (K.fault_count out.new) }
+{
+    match error {
+        LoadError::Absent => put_last_absent(alloc, out, name.as_str()),
+        LoadError::TooLong => put_last_bad_line(alloc, out, 0),
+        LoadError::Failed => Status::FileFault,
+        LoadError::NoMemory => Status::NoMemory,
+    }
+}
+
+/// Reads the text of this name and serves its calls (INT 13h of the PC/AT). Each line prints what came of it, and at the end the
+/// media that are left in the bays are stored.
+pub fn serve_calls<S: Shelf, K: Sink, D: Station>(
+    alloc: Global,
+    session: &mut Session<D>,
+    name: Name,
+    shelf: &mut S,
+    out: &mut K,
+) -> Status
+    requires running { IsRunning D.shown D.is_ready session.old }
+    ensures serves { Runs (ServesCalls name) (world_of D.shown S.told K.told session.old shelf.old out.old)
+        (world_of D.shown S.told K.told session.new shelf.new out.new) result }
+    ensures running { IsRunning D.shown D.is_ready session.new }
+    ensures is_form { result ≢ Status.BadWords }
+    ensures shelf_faults { Blames (result ≡ Status.FileFault) (S.fault_count shelf.old)
+        (S.fault_count shelf.new) }
+    ensures sink_faults { Blames (result ≡ Status.SinkFault) (K.fault_count out.old)
+        (K.fault_count out.new) }
+{
+    match shelf.load(alloc, name.as_str(), MOST_CALLS_BYTES) {
+        Ok(text) => serve_text(alloc, session, &text, shelf, out),
+        Err(error) => not_loaded(alloc, &name, out, error),
+    }
+}
