@@ -12,6 +12,8 @@ mod jobs;
 #[cfg(test)]
 mod outside;
 #[cfg(test)]
+mod rescues;
+#[cfg(test)]
 mod runs;
 #[cfg(test)]
 mod sectors;

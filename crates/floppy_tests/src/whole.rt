@@ -9,7 +9,7 @@ use std::process::Abort;
 use std::test::Fail;
 
 /// Runs the program with these words over a shelf, and compares its report and its status.
-fn answers(
+pub(crate) fn answers(
     rt: &impl Abort,
     alloc: Global,
     shelf: &mut MemShelf,

@@ -10,6 +10,7 @@ use Rattle.floppy_words.specs.declared.form.Form.{Form}
 use Rattle.floppy_words.specs.declared.form.Form.TheVariants as form
 use Rattle.disk_commands.specs.Commands.{Formats, Copies}
 use Rattle.disk_commands.specs.Verifies.{Verifies}
+use Rattle.rescue_commands.specs.Commands.{Rescues}
 
 -- what a form asks for
 abbrev pub DoesForm : Form → World → List Taken → World → Status → Type 0
@@ -18,6 +19,7 @@ DoesForm (form.Format name cylinders) old course new ended = Formats name cylind
 DoesForm (form.FormatDd name cylinders) old course new ended = Formats name cylinders R250 old course new ended
 DoesForm (form.Copy from to) old course new ended = Copies from to old course new ended
 DoesForm (form.Verify name) old course new ended = Verifies name old course new ended
+DoesForm (form.Rescue from to log) old course new ended = Rescues from to log old course new ended
 
 -- the form is done, or memory for its words couldn't be had
 pub data DoesOrStarves (asked : Form) (old : World) (course : List Taken) (new : World) (ended : Status) : Type 0 where

@@ -20,11 +20,12 @@ use flop_base::{NoMemory, Rate, Shelf, Sink, Status};
 use floppy_report::put_last_bad_words;
 use floppy_session::Session;
 use floppy_words::{Form, form_named};
+use rescue_commands::rescue_disk;
 use sector_model::Station;
 use std::alloc::Global;
 
 /// Does what the words after the program's name say, on a station that is as it comes: `play JOB` runs a job, `format NAME CYLS` and
-/// `formatdd NAME CYLS` store a formatted disk, `copy FROM TO` copies one, `verify NAME` reads all of one. It prints a report to the
+/// `formatdd NAME CYLS` store a formatted disk, `copy FROM TO` copies one, `verify NAME` reads all of one, `rescue FROM TO LOG` writes what is read of a failing one to another. It prints a report to the
 /// sink, and the status says how it ended. The station comes back in every case.
 pub fn floppy<S: Shelf, K: Sink, D: Station>(
     alloc: Global,
@@ -145,5 +146,6 @@ fn perform_form<S: Shelf, K: Sink, D: Station>(
         ),
         Form::Copy { from, to } => copy_disk(alloc, session, from, to, shelf, out),
         Form::Verify { name } => verify_disk(alloc, session, name, shelf, out),
+        Form::Rescue { from, to, log } => { rescue_disk(alloc, session, from, to, log, shelf, out) }
     }
 }

@@ -54,6 +54,15 @@ verify_of (word ∷ []) = do
   Some (form.Verify name)
 verify_of _ = None
 
+-- rescue FROM TO LOG
+unfoldable pub rescue_of : List (List ℕ) → Option Form
+rescue_of (source ∷ target ∷ list ∷ []) = do
+  from ← name_of source
+  to ← name_of target
+  log ← name_of list
+  Some (form.Rescue from to log)
+rescue_of _ = None
+
 -- the form that the words spell, by the first of them
 unfoldable pub form_of : List (List ℕ) → Option Form
 form_of [] = None
@@ -63,7 +72,8 @@ form_of (verb ∷ words) =
     else (if bytes_eq verb (codes "formatdd") then formatdd_of words
     else (if bytes_eq verb (codes "copy") then copy_of words
     else (if bytes_eq verb (codes "verify") then verify_of words
-    else None))))
+    else (if bytes_eq verb (codes "rescue") then rescue_of words
+    else None)))))
 
 -- the words were read as the form that they spell; memory can be wanted only where they spell one
 abbrev pub Reads : {T : Type 0} → Result (Option T) NoMemory → Option T → Type 0

@@ -52,4 +52,6 @@ pub enum Form {
     Copy { from: Name, to: Name },
     /// Reads every sector of a disk, and lists those that can't be read.
     Verify { name: Name },
+    /// Writes what is read of a failing disk to another one, and logs what isn't.
+    Rescue { from: Name, to: Name, log: Name },
 }

@@ -1,9 +1,9 @@
 // The form that the words of the command line spell.
 ghost use Rattle.std.specs.Prelude.{◌≡◌, map, string_bytes, true};
 ghost use Rattle.std.specs.List.{list_any};
-ghost use Rattle.floppy_words.specs.Forms.{Reads, begins_with_dash, cylinders_of, disk_of, play_of, format_of, formatdd_of, copy_of, verify_of, form_of};
+ghost use Rattle.floppy_words.specs.Forms.{Reads, begins_with_dash, cylinders_of, disk_of, play_of, format_of, formatdd_of, copy_of, verify_of, rescue_of, form_of};
 
-use crate::places::{one_place, two_places};
+use crate::places::{one_place, three_places, two_places};
 use crate::{Cylinders, Form};
 use flop_base::{Name, NoMemory};
 use floppy_jobs::numbers::number;
@@ -37,6 +37,8 @@ fn form(alloc: Global, words: &[String]) -> Result<Option<Form>, NoMemory>
         copy(alloc, behind)
     } else if is_verb(verb, "verify") {
         verify(alloc, behind)
+    } else if is_verb(verb, "rescue") {
+        rescue(alloc, behind)
     } else {
         Ok(None)
     }
@@ -99,6 +101,26 @@ fn verify(alloc: Global, words: &[String]) -> Result<Option<Form>, NoMemory>
     };
     let name = one_place(alloc, "verify", name)?;
     Ok(Some(Form::Verify { name }))
+}
+
+#[tactic(auto, unfolding(crate::specs::Forms::rescue_of))]
+fn rescue(alloc: Global, words: &[String]) -> Result<Option<Form>, NoMemory>
+    ensures { Reads result (rescue_of (map string_bytes words.now)) }
+{
+    let [from, to, log] = words else {
+        return Ok(None);
+    };
+    let Some(from) = name_text(from.as_bytes()) else {
+        return Ok(None);
+    };
+    let Some(to) = name_text(to.as_bytes()) else {
+        return Ok(None);
+    };
+    let Some(log) = name_text(log.as_bytes()) else {
+        return Ok(None);
+    };
+    let (from, to, log) = three_places(alloc, "rescue", from, to, log)?;
+    Ok(Some(Form::Rescue { from, to, log }))
 }
 
 /// The name and the cylinders of a disk that is to be formatted.

@@ -21,3 +21,7 @@ pub returns-in-FormatDd-clause-runs : goal.returns-in-FormatDd-clause-runs
 returns-in-FormatDd-clause-runs g c =
     form_runs c.args.form (form.FormatDd c.in-FormatDd.name c.in-FormatDd.cylinders) (world_of g.D.Station.shown g.S.Shelf.told g.K.Sink.told c.args.session.now c.args.shelf.now c.args.out.now) (world_of g.D.Station.shown g.S.Shelf.told g.K.Sink.told c.format_disk-in-FormatDd.new.session c.format_disk-in-FormatDd.new.shelf c.format_disk-in-FormatDd.new.out) c.format_disk-in-FormatDd.result c.in-FormatDd.is
     (subst (λ (n : ℕ). Runs (Formats c.in-FormatDd.name n R250) (world_of g.D.Station.shown g.S.Shelf.told g.K.Sink.told c.args.session.now c.args.shelf.now c.args.out.now) (world_of g.D.Station.shown g.S.Shelf.told g.K.Sink.told c.format_disk-in-FormatDd.new.session c.format_disk-in-FormatDd.new.shelf c.format_disk-in-FormatDd.new.out) c.format_disk-in-FormatDd.result) c.count-in-FormatDd.ensures.value c.format_disk-in-FormatDd.ensures.formats)
+
+pub returns-in-Rescue-clause-runs : goal.returns-in-Rescue-clause-runs
+returns-in-Rescue-clause-runs g c =
+    form_runs c.args.form (form.Rescue c.in-Rescue.from c.in-Rescue.to c.in-Rescue.log) (world_of g.D.Station.shown g.S.Shelf.told g.K.Sink.told c.args.session.now c.args.shelf.now c.args.out.now) (world_of g.D.Station.shown g.S.Shelf.told g.K.Sink.told c.rescue_disk.new.session c.rescue_disk.new.shelf c.rescue_disk.new.out) c.rescue_disk.result c.in-Rescue.is c.rescue_disk.ensures.rescues
