@@ -16,6 +16,8 @@ mod jobs;
 #[cfg(test)]
 mod outside;
 #[cfg(test)]
+mod rescues;
+#[cfg(test)]
 mod runs;
 #[cfg(test)]
 mod sectors;

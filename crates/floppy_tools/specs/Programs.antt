@@ -16,6 +16,7 @@ use Rattle.archive_commands.specs.Surveys.{Surveys}
 use Rattle.flat_commands.specs.Commands.{Imports, Exports}
 use Rattle.flat_commands.specs.Exercises.{Exercises}
 use Rattle.bios_commands.specs.Courses.{ServesCalls}
+use Rattle.rescue_commands.specs.Commands.{Rescues}
 
 -- what a form on files alone leaves as it is: no request is asked, and the session stays as it was
 abbrev pub desk : World → Desk
@@ -41,6 +42,7 @@ DoesForm (form.Import flat name) old course new ended = Imports flat name old co
 DoesForm (form.Export name flat) old course new ended = Exports name flat old course new ended
 DoesForm (form.Exercise seed count) old course new ended = Exercises seed count old course new ended
 DoesForm (form.Int13 calls) old course new ended = ServesCalls calls old course new ended
+DoesForm (form.Rescue from to log) old course new ended = Rescues from to log old course new ended
 
 -- the form is done, or memory for its words couldn't be had
 pub data DoesOrStarves (asked : Form) (old : World) (course : List Taken) (new : World) (ended : Status) : Type 0 where

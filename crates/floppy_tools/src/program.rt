@@ -23,6 +23,7 @@ use flop_base::{NoMemory, Rate, Shelf, Sink, Status};
 use floppy_report::put_last_bad_words;
 use floppy_session::Session;
 use floppy_words::{Form, form_named};
+use rescue_commands::rescue_disk;
 use sector_model::Station;
 use std::alloc::Global;
 
@@ -159,5 +160,6 @@ fn perform_form<S: Shelf, K: Sink, D: Station>(
         Form::Export { name, flat } => export_disk(alloc, session, name, flat, shelf, out),
         Form::Exercise { seed, count } => exercise_disk(alloc, session, seed, count, shelf, out),
         Form::Int13 { calls } => serve_calls(alloc, session, calls, shelf, out),
+        Form::Rescue { from, to, log } => { rescue_disk(alloc, session, from, to, log, shelf, out) }
     }
 }

@@ -7,7 +7,7 @@ use Rattle.flop_base.specs.declared.answers.NoMemory.{NoMemory}
 use Rattle.floppy_jobs.specs.Names.{is_name_text, name_of}
 use Rattle.floppy_jobs.specs.Numbers.{number_of}
 use Rattle.floppy_words.specs.declared.form.Form.{Form}
-use Rattle.floppy_words.specs.Forms.{Reads, begins_with_dash, cylinders_of, disk_of, play_of, format_of, formatdd_of, copy_of, verify_of, names_of, fromimd_of, toimd_of, survey_of, remaster_of, form_of, import_of, export_of, seed_of, count_of, workload_of, exercise_of, int13_of}
+use Rattle.floppy_words.specs.Forms.{Reads, begins_with_dash, cylinders_of, disk_of, play_of, format_of, formatdd_of, copy_of, verify_of, names_of, fromimd_of, toimd_of, survey_of, remaster_of, form_of, import_of, export_of, seed_of, count_of, workload_of, exercise_of, int13_of, rescue_of}
 
 some_true : {X : Type 0} (b : Bool) (x y : X) → (if b then Some x else None) ≡ Some y → b ≡ true
 some_true true x y e = refl
@@ -90,6 +90,33 @@ copy_none (source ∷ target ∷ []) e = elim (either_dash _ _ e) [
   ]
 ]
 copy_none (source ∷ target ∷ next ∷ rest) e = refl
+
+-- of three words one does
+any_of_three : (a b c : Bool) → (a || (b || (c || false))) ≡ true → (a ≡ true) ⊎ ((b ≡ true) ⊎ (c ≡ true))
+any_of_three true b c e = inl refl
+any_of_three false true c e = inr (inl refl)
+any_of_three false false true e = inr (inr refl)
+any_of_three false false false e = absurd cc
+
+rescue_none : (words : List (List ℕ)) → list_any begins_with_dash words ≡ true → rescue_of words ≡ None
+unfolding rescue_of
+rescue_none [] e = refl
+rescue_none (source ∷ []) e = refl
+rescue_none (source ∷ target ∷ []) e = refl
+rescue_none (source ∷ target ∷ list ∷ []) e = elim (any_of_three _ _ _ e) [
+  | inl dash ↦ let none = dash_name source dash in rw none refl
+  | inr behind ↦ elim (none_or (name_of source)) [
+    | inl other ↦ rw other refl
+    | inr from ↦ elim behind [
+      | inl dash ↦ let none = dash_name target dash in rw (from.1, none) refl
+      | inr dash ↦ let none = dash_name list dash in elim (none_or (name_of target)) [
+        | inl other ↦ rw (from.1, other) refl
+        | inr to ↦ rw (from.1, to.1, none) refl
+      ]
+    ]
+  ]
+]
+rescue_none (source ∷ target ∷ list ∷ next ∷ rest) e = refl
 
 disk_none : (words : List (List ℕ)) → list_any begins_with_dash words ≡ true → disk_of words ≡ None
 unfolding disk_of
@@ -191,7 +218,7 @@ dash_none ((d ∷ rest) ∷ words) e = elim (either_or _ _ e) [
   | inl dash ↦ let is : d ≡ 45 = eqb-true d 45 dash in rw is refl
   | inr behind ↦ chosen_none _ _ _ (play_none words behind) (chosen_none _ _ _ (format_none words behind)
       (chosen_none _ _ _ (formatdd_none words behind) (chosen_none _ _ _ (copy_none words behind)
-      (chosen_none _ _ _ (verify_none words behind) (chosen_none _ _ _ (fromimd_none words behind) (chosen_none _ _ _ (toimd_none words behind) (chosen_none _ _ _ (survey_none words behind) (chosen_none _ _ _ (remaster_none words behind) (chosen_none _ _ _ (import_none words behind) (chosen_none _ _ _ (export_none words behind) (chosen_none _ _ _ (exercise_none words behind) (chosen_none _ _ _ (int13_none words behind) refl))))))))))))
+      (chosen_none _ _ _ (verify_none words behind) (chosen_none _ _ _ (fromimd_none words behind) (chosen_none _ _ _ (toimd_none words behind) (chosen_none _ _ _ (survey_none words behind) (chosen_none _ _ _ (remaster_none words behind) (chosen_none _ _ _ (import_none words behind) (chosen_none _ _ _ (export_none words behind) (chosen_none _ _ _ (exercise_none words behind) (chosen_none _ _ _ (int13_none words behind) (chosen_none _ _ _ (rescue_none words behind) refl)))))))))))))
 ]
   where
     either_or : (a b : Bool) → (a || b) ≡ true → (a ≡ true) ⊎ (b ≡ true)

@@ -16,6 +16,9 @@ one_place verb = with_rule (new_app verb) (place (codes "FIRST"))
 abbrev pub two_places : Text → App
 two_places verb = with_rule (one_place verb) (place (codes "SECOND"))
 
+abbrev pub three_places : Text → App
+three_places verb = with_rule (two_places verb) (place (codes "THIRD"))
+
 abbrev pub behind : Text → List Text → List Text
 behind verb words = verb ∷ codes "--" ∷ words
 
@@ -39,6 +42,22 @@ pub two_second : (verb word next : Text) → first_of (codes "SECOND") (matches_
 unfolding clap_on_literals
 two_second verb word next = refl
 
+pub three_simple : (verb : Text) → is_simple (three_places verb) ≡ true
+unfolding clap_on_literals
+three_simple verb = refl
+
+pub three_first : (verb word next last : Text) → first_of (codes "FIRST") (matches_of (three_places verb) (behind verb (word ∷ next ∷ last ∷ []))) ≡ Some word
+unfolding clap_on_literals
+three_first verb word next last = refl
+
+pub three_second : (verb word next last : Text) → first_of (codes "SECOND") (matches_of (three_places verb) (behind verb (word ∷ next ∷ last ∷ []))) ≡ Some next
+unfolding clap_on_literals
+three_second verb word next last = refl
+
+pub three_third : (verb word next last : Text) → first_of (codes "THIRD") (matches_of (three_places verb) (behind verb (word ∷ next ∷ last ∷ []))) ≡ Some last
+unfolding clap_on_literals
+three_third verb word next last = refl
+
 -- the first value of a place, as the rows of the matches have it
 pub found : (f : Found) (id word : Text) (rows : List Row) → rows_of f ≡ rows → first_of id rows ≡ Some word → first_value f id ≡ Some word
 found f id word rows e first = first_value-rows f id ∙ ap (first_of id) e ∙ first
@@ -55,6 +74,16 @@ pub two_values : (verb word next : Text) (a : App) (words : List Text) (m : ArgM
 two_values verb word next a words m app_is words_are has =
     let rows = (has (ap is_simple app_is ∙ two_simple verb)).0 ∙ ap₂ matches_of app_is words_are in
     (found (found_of m) _ word _ rows (two_first verb word next), found (found_of m) _ next _ rows (two_second verb word next))
+
+pub three_values : (verb word next last : Text) (a : App) (words : List Text) (m : ArgMatches) → a ≡ three_places verb → words ≡ behind verb (word ∷ next ∷ last ∷ [])
+    → HasMatchesOf a words m
+    → (first_value (found_of m) (codes "FIRST") ≡ Some word) × (first_value (found_of m) (codes "SECOND") ≡ Some next) × (first_value (found_of m) (codes "THIRD") ≡ Some last)
+three_values verb word next last a words m app_is words_are has =
+    let rows = (has (ap is_simple app_is ∙ three_simple verb)).0 ∙ ap₂ matches_of app_is words_are in (
+      found (found_of m) _ word _ rows (three_first verb word next last),
+      found (found_of m) _ next _ rows (three_second verb word next last),
+      found (found_of m) _ last _ rows (three_third verb word next last),
+    )
 
 -- a text that was found is there
 pub is_there : (read : Option (Bor Text)) (text : Text) → option_map (λ s. s.now) read ≡ Some text → IsSome read

@@ -126,6 +126,15 @@ int13_of (word ∷ []) = do
   Some (form.Int13 calls)
 int13_of _ = None
 
+-- rescue FROM TO LOG
+unfoldable pub rescue_of : List (List ℕ) → Option Form
+rescue_of (source ∷ target ∷ list ∷ []) = do
+  from ← name_of source
+  to ← name_of target
+  log ← name_of list
+  Some (form.Rescue from to log)
+rescue_of _ = None
+
 -- the form that the words spell, by the first of them
 unfoldable pub form_of : List (List ℕ) → Option Form
 form_of [] = None
@@ -143,7 +152,8 @@ form_of (verb ∷ words) =
     else (if bytes_eq verb (codes "export") then export_of words
     else (if bytes_eq verb (codes "exercise") then exercise_of words
     else (if bytes_eq verb (codes "int13") then int13_of words
-    else None))))))))))))
+    else (if bytes_eq verb (codes "rescue") then rescue_of words
+    else None)))))))))))))
 
 -- the words were read as the form that they spell; memory can be wanted only where they spell one
 abbrev pub Reads : {T : Type 0} → Result (Option T) NoMemory → Option T → Type 0

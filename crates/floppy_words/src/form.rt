@@ -68,4 +68,6 @@ pub enum Form {
     Exercise { seed: u32, count: u16 },
     /// Serves the calls of INT 13h in the text of this name.
     Int13 { calls: Name },
+    /// Writes what is read of a failing disk to another one, and logs what isn't.
+    Rescue { from: Name, to: Name, log: Name },
 }

@@ -46,3 +46,37 @@ pub(crate) fn two_places(
     let two = matches.get_str("SECOND").unwrap();
     Ok((Name::copy(alloc, one)?, Name::copy(alloc, two)?))
 }
+
+/// The words of a form that has three places, in their order.
+pub(crate) fn three_places(
+    alloc: Global,
+    verb: &str,
+    first: &str,
+    second: &str,
+    third: &str,
+) -> Result<(Name, Name, Name), NoMemory>
+    ensures { IfOk result (λ read. (read.0 ≡ first.now) × (read.1 ≡ second.now) × (read.2 ≡ third.now)) }
+{
+    let words = [verb, "--", first, second, third];
+    let place = Arg::new(alloc, "FIRST")
+        .required(true)
+        .action(ArgAction::Set);
+    let next = Arg::new(alloc, "SECOND")
+        .required(true)
+        .action(ArgAction::Set);
+    let last = Arg::new(alloc, "THIRD")
+        .required(true)
+        .action(ArgAction::Set);
+    let command = Command::new(alloc, verb).arg(place)?.arg(next)?.arg(last)?;
+    let Ok(matches) = command.try_get_matches_from(words.as_slice()) else {
+        return Err(NoMemory);
+    };
+    let one = matches.get_str("FIRST").unwrap();
+    let two = matches.get_str("SECOND").unwrap();
+    let three = matches.get_str("THIRD").unwrap();
+    Ok((
+        Name::copy(alloc, one)?,
+        Name::copy(alloc, two)?,
+        Name::copy(alloc, three)?,
+    ))
+}

@@ -5,6 +5,9 @@ ghost use Rattle.floppy_words.specs.Forms.{Reads, begins_with_dash, cylinders_of
 
 use crate::places::{one_place, two_places};
 use crate::seed::seed_number;
+ghost use Rattle.floppy_words.specs.Forms.{Reads, begins_with_dash, cylinders_of, disk_of, play_of, format_of, formatdd_of, copy_of, verify_of, rescue_of, form_of};
+
+use crate::places::{one_place, three_places, two_places};
 use crate::{Cylinders, Form};
 use flop_base::{Name, NoMemory};
 use floppy_jobs::numbers::number;
@@ -54,6 +57,8 @@ fn form(alloc: Global, words: &[String]) -> Result<Option<Form>, NoMemory>
         exercise(alloc, behind)
     } else if is_verb(verb, "int13") {
         int13(alloc, behind)
+    } else if is_verb(verb, "rescue") {
+        rescue(alloc, behind)
     } else {
         Ok(None)
     }
@@ -185,6 +190,24 @@ fn int13(alloc: Global, words: &[String]) -> Result<Option<Form>, NoMemory>
     };
     let calls = one_place(alloc, "int13", calls)?;
     Ok(Some(Form::Int13 { calls }))
+#[tactic(auto, unfolding(crate::specs::Forms::rescue_of))]
+fn rescue(alloc: Global, words: &[String]) -> Result<Option<Form>, NoMemory>
+    ensures { Reads result (rescue_of (map string_bytes words.now)) }
+{
+    let [from, to, log] = words else {
+        return Ok(None);
+    };
+    let Some(from) = name_text(from.as_bytes()) else {
+        return Ok(None);
+    };
+    let Some(to) = name_text(to.as_bytes()) else {
+        return Ok(None);
+    };
+    let Some(log) = name_text(log.as_bytes()) else {
+        return Ok(None);
+    };
+    let (from, to, log) = three_places(alloc, "rescue", from, to, log)?;
+    Ok(Some(Form::Rescue { from, to, log }))
 }
 
 /// The name and the cylinders of a disk that is to be formatted.

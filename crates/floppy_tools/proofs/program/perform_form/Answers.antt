@@ -54,3 +54,7 @@ returns-in-Import-clause-runs g c =
 pub returns-in-Int13-clause-runs : goal.returns-in-Int13-clause-runs
 returns-in-Int13-clause-runs g c =
     form_runs c.args.form (form.Int13 c.in-Int13.calls) (world_of g.D.Station.shown g.S.Shelf.told g.K.Sink.told c.args.session.now c.args.shelf.now c.args.out.now) (world_of g.D.Station.shown g.S.Shelf.told g.K.Sink.told c.serve_calls.new.session c.serve_calls.new.shelf c.serve_calls.new.out) c.serve_calls.result c.in-Int13.is c.serve_calls.ensures.serves
+
+pub returns-in-Rescue-clause-runs : goal.returns-in-Rescue-clause-runs
+returns-in-Rescue-clause-runs g c =
+    form_runs c.args.form (form.Rescue c.in-Rescue.from c.in-Rescue.to c.in-Rescue.log) (world_of g.D.Station.shown g.S.Shelf.told g.K.Sink.told c.args.session.now c.args.shelf.now c.args.out.now) (world_of g.D.Station.shown g.S.Shelf.told g.K.Sink.told c.rescue_disk.new.session c.rescue_disk.new.shelf c.rescue_disk.new.out) c.rescue_disk.result c.in-Rescue.is c.rescue_disk.ensures.rescues

@@ -1,0 +1,4 @@
+mod Carrying
+mod Reading
+mod Numbered
+mod Ending

@@ -1,0 +1,10 @@
+use Rattle.disk_commands.specs.Carried.{stage_of}
+use Rattle.disk_commands.specs.Worlds.{world_of}
+use Rattle.rescue_commands.proofs.Ending.{not_opened, opened_rescues}
+use Rattle.rescue_commands.proofs.rescuing.rescue_disk.Goals as goal
+
+pub returns-in-Ok-clause-rescues : goal.returns-in-Ok-clause-rescues
+returns-in-Ok-clause-rescues g c = opened_rescues c.args.from c.args.to c.args.log c.in-Ok.shape (stage_of g.D.Station.shown g.S.Shelf.told c.args.session.now c.args.shelf.now) (stage_of g.D.Station.shown g.S.Shelf.told c.open_disk.new.session c.open_disk.new.shelf) (g.K.Sink.told c.args.out.now) (world_of g.D.Station.shown g.S.Shelf.told g.K.Sink.told c.rescue_opened.new.session c.rescue_opened.new.shelf c.rescue_opened.new.out) c.rescue_opened.result c.in-Ok.ensures.opens c.rescue_opened.ensures.rescues
+
+pub returns-in-Err-clause-rescues : goal.returns-in-Err-clause-rescues
+returns-in-Err-clause-rescues g c = not_opened c.args.from c.args.to c.args.log (stage_of g.D.Station.shown g.S.Shelf.told c.args.session.now c.args.shelf.now) (stage_of g.D.Station.shown g.S.Shelf.told c.open_disk.new.session c.open_disk.new.shelf) (g.K.Sink.told c.args.out.now) (g.K.Sink.told c.tell_halt.new.out) c.in-Err.halt c.tell_halt.result c.in-Err.ensures.halts c.tell_halt.ensures.tells
