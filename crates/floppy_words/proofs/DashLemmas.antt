@@ -198,6 +198,7 @@ exercise_none (seed ∷ count ∷ []) e = elim (either_dash _ _ e) [
   ]
 ]
 exercise_none (seed ∷ count ∷ next ∷ rest) e = refl
+
 int13_none : (words : List (List ℕ)) → list_any begins_with_dash words ≡ true → int13_of words ≡ None
 unfolding int13_of
 int13_none [] e = refl

@@ -1,13 +1,10 @@
 // The form that the words of the command line spell.
 ghost use Rattle.std.specs.Prelude.{◌≡◌, map, string_bytes, true};
 ghost use Rattle.std.specs.List.{list_any};
-ghost use Rattle.floppy_words.specs.Forms.{Reads, begins_with_dash, cylinders_of, disk_of, play_of, format_of, formatdd_of, copy_of, verify_of, fromimd_of, toimd_of, survey_of, remaster_of, names_of, form_of, import_of, export_of, count_of, workload_of, exercise_of, int13_of};
-
-use crate::places::{one_place, two_places};
-use crate::seed::seed_number;
-ghost use Rattle.floppy_words.specs.Forms.{Reads, begins_with_dash, cylinders_of, disk_of, play_of, format_of, formatdd_of, copy_of, verify_of, rescue_of, form_of};
+ghost use Rattle.floppy_words.specs.Forms.{Reads, begins_with_dash, cylinders_of, disk_of, play_of, format_of, formatdd_of, copy_of, verify_of, fromimd_of, toimd_of, survey_of, remaster_of, names_of, form_of, import_of, export_of, count_of, workload_of, exercise_of, int13_of, rescue_of};
 
 use crate::places::{one_place, three_places, two_places};
+use crate::seed::seed_number;
 use crate::{Cylinders, Form};
 use flop_base::{Name, NoMemory};
 use floppy_jobs::numbers::number;
@@ -180,6 +177,8 @@ fn two_names(alloc: Global, verb: &str, words: &[String]) -> Result<Option<(Name
         return Ok(None);
     };
     Ok(Some(two_places(alloc, verb, first, second)?))
+}
+
 #[tactic(auto, unfolding(crate::specs::Forms::int13_of))]
 fn int13(alloc: Global, words: &[String]) -> Result<Option<Form>, NoMemory>
     ensures { Reads result (int13_of (map string_bytes words.now)) }
@@ -190,6 +189,8 @@ fn int13(alloc: Global, words: &[String]) -> Result<Option<Form>, NoMemory>
     };
     let calls = one_place(alloc, "int13", calls)?;
     Ok(Some(Form::Int13 { calls }))
+}
+
 #[tactic(auto, unfolding(crate::specs::Forms::rescue_of))]
 fn rescue(alloc: Global, words: &[String]) -> Result<Option<Form>, NoMemory>
     ensures { Reads result (rescue_of (map string_bytes words.now)) }
