@@ -1,5 +1,5 @@
 -- Port accesses behind which the controller rests.
-use Rattle.std.proofs.Common.{◌≡◌, ℕ, ◌+◌, ◌≤◌, ◌==◌, ◌&&◌, Bool, true, false, if◌then◌else◌, refl, sym, ◌∙◌, ap, subst, arith}
+use Rattle.std.proofs.Common.{◌≡◌, ℕ, ◌==◌, Bool, true, false, if◌then◌else◌, refl, sym, ◌∙◌, ap, subst, arith}
 use Rattle.drive_model.specs.Drive.{DriveState}
 use Rattle.dma_8237.specs.Channel.{after_read}
 use Rattle.fdc_core.specs.Answers.{is_fresh}
@@ -10,13 +10,13 @@ use Rattle.fdc_core.specs.declared.phases.Phase.{Phase}
 use Rattle.fdc_core.specs.declared.phases.Phase.TheVariants.{Command, Execute, Result}
 use Rattle.machine_pace.specs.Entries.{next_entry, rest_of}
 use Rattle.machine_pace.specs.Holds.{Holds, shown}
-use Rattle.pc_bus.specs.Boards.{Board, controller_of, channel_of, lines_of}
-use Rattle.pc_bus.specs.Ports.{is_controllers, port_read, Inputs, Outputs, RunsGap, WritesPort}
+use Rattle.pc_bus.specs.Boards.{Board, controller_of, lines_of}
+use Rattle.pc_bus.specs.Ports.{is_controllers, port_read, Inputs, Outputs, RunsGap}
 use Rattle.pc_bus.specs.Transfers.{shown_again}
 use Rattle.pc_bus.specs.declared.bus.Bus.{Bus}
 use Rattle.pc_bus.specs.declared.chips.Chips.{Chips}
-use Rattle.machine_commands.specs.Idling.{IsResting, KeepsDrive, KeepsSpeed, KeepsAll, StaysIdle, Idles}
-use Rattle.machine_commands.proofs.Steps.{drive_none, speed_none, runs_idle, idles_then, idles_none}
+use Rattle.machine_commands.specs.Idling.{IsResting, KeepsDrive, KeepsSpeed, KeepsAll, Idles}
+use Rattle.machine_commands.proofs.Steps.{drive_none, speed_none, runs_idle, idles_then}
 
 -- ---- the gap
 

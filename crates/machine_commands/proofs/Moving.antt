@@ -1,16 +1,16 @@
 -- What the pulses of RECALIBRATE and SEEK make of a drive.
-use Rattle.std.proofs.Common.{◌≡◌, ◌≢◌, ◌⊎◌, inl, inr, ℕ, zero, suc, ◌+◌, ◌-◌, ◌<◌, ◌≤◌, ◌==◌, ◌&&◌, ◌||◌, Bool, true, false, Option, Some, None, min, nat_lt, if◌then◌else◌, is_some, refl, sym, ◌∙◌, ap, subst, arith}
+use Rattle.std.proofs.Common.{◌≡◌, ◌≢◌, ◌⊎◌, inl, inr, ℕ, zero, suc, ◌+◌, ◌-◌, ◌<◌, ◌≤◌, ◌==◌, ◌||◌, Bool, true, false, Some, None, min, nat_lt, if◌then◌else◌, is_some, refl, sym, ◌∙◌, ap, subst, arith}
 use Rattle.std.proofs.lemmas.Bool.{false≢true}
 use Rattle.std.proofs.lemmas.Bool.Decides.{nat_tests}
-use Rattle.flop_base.specs.Counts.{last_count, RoseBy, RoseLess, Rose}
-use Rattle.drive_model.specs.Drive.{DriveState, Becomes, Pulses, moved}
-use Rattle.fdc_seek.specs.Seeking.{Seeking, ended, with_motion, has_ended, neighbour, sought, recalibrated}
+use Rattle.flop_base.specs.Counts.{RoseBy, RoseLess, Rose}
+use Rattle.drive_model.specs.Drive.{DriveState, Becomes, moved}
+use Rattle.fdc_seek.specs.Seeking.{ended, with_motion, has_ended, neighbour, sought, recalibrated}
 use Rattle.fdc_seek.specs.declared.motion.Motion.{Motion}
 use Rattle.fdc_seek.specs.declared.motion.Motion.TheVariants.{Outward, Toward, Ended}
-use Rattle.fdc_core.specs.Steps.{Moves, let_pass}
+use Rattle.fdc_core.specs.Steps.{Moves}
 use Rattle.machine_commands.specs.Idling.{KeepsDrive, KeepsSpeed}
 use Rattle.machine_commands.proofs.Seeking.{EndsNow, GivesPulse, IsRule}
-use Rattle.machine_commands.proofs.Steps.{OnlyTurns, gate_turns}
+use Rattle.machine_commands.proofs.Steps.{gate_turns}
 
 -- ---- the drive
 

@@ -1,32 +1,24 @@
 -- Questions to a machine that is idle.
-use Rattle.std.proofs.Common.{◌≡◌, ◌⊎◌, inl, inr, ℕ, zero, suc, ◌+◌, ◌%◌, ◌≤◌, ◌==◌, ◌&&◌, ◌||◌, not, Bool, true, false, List, [], ◌∷◌, Option, Some, None, min, if◌then◌else◌, IsSome, is_some, refl, sym, ◌∙◌, ap, subst, arith}
+use Rattle.std.proofs.Common.{◌≡◌, ℕ, zero, suc, ◌%◌, ◌≤◌, ◌==◌, ◌&&◌, not, Bool, true, false, if◌then◌else◌, refl, sym, ◌∙◌, ap, subst, arith}
 use Rattle.std.specs.Prelude.{bit_and}
 use Rattle.std.specs.Option.{option_map_or}
-use Rattle.std.proofs.lemmas.Bool.{false≢true}
-use Rattle.bay_model.specs.Bays.{in_bay, Two}
-use Rattle.raw_image.specs.Disk.{Disk}
-use Rattle.drive_model.specs.Drive.{DriveState, InRange, is_protected, turns}
-use Rattle.fdc_commands.specs.Table.{answer}
-use Rattle.fdc_commands.specs.declared.bytes.Accepted.TheVariants.{More, Ready}
-use Rattle.fdc_commands.specs.declared.command.Command.TheVariants.{SenseDrive}
-use Rattle.fdc_seek.specs.Seeking.{is_seeking, has_ended}
-use Rattle.fdc_core.specs.Commands.{Obeys, answered, status_of_lines}
+use Rattle.bay_model.specs.Bays.{in_bay}
+use Rattle.drive_model.specs.Drive.{InRange}
+use Rattle.fdc_seek.specs.Seeking.{has_ended}
 use Rattle.fdc_core.specs.Listening.{is_executing}
-use Rattle.fdc_core.specs.Ports.{given, line_bits}
+use Rattle.fdc_core.specs.Ports.{line_bits}
 use Rattle.fdc_core.specs.State.{is_held, dor_of, data_commands_of}
 use Rattle.fdc_core.specs.declared.controller.Fdc.{Fdc}
-use Rattle.fdc_core.specs.declared.controller.Lines.{Lines}
 use Rattle.pc_bus.specs.Boards.{Board, controller_of, drive_in, lines_of, lines_of_drive, absent_lines}
-use Rattle.pc_bus.specs.Ports.{Inputs}
 use Rattle.single_commands.specs.Rigs.{OnlyAsks}
-use Rattle.machine_commands.specs.Asked.{ReadsLine, SensesDrive, StartsMotor}
+use Rattle.machine_commands.specs.Asked.{ReadsLine}
 use Rattle.machine_commands.specs.Idling.{IsResting, KeepsDrive, KeepsAll, Idles}
-use Rattle.machine_commands.specs.Ready.{dor_with, IsReady, HasMotors, IsIdle, AreSeeksOver}
+use Rattle.machine_commands.specs.Ready.{dor_with, IsReady, IsIdle}
 use Rattle.machine_commands.specs.Shown.{rig_of}
 use Rattle.machine_commands.specs.declared.motors.Motors.{Motors}
 use Rattle.machine_commands.proofs.Accesses.{input_idles}
-use Rattle.machine_commands.proofs.Bytes.{IsListening, with_bytes, whole_command, same_lines}
-use Rattle.machine_commands.proofs.Selecting.{IsDor, is_dor, with_dor, selects_idle}
+use Rattle.machine_commands.proofs.Bytes.{IsListening}
+use Rattle.machine_commands.proofs.Selecting.{is_dor, with_dor, selects_idle}
 use Rattle.machine_commands.proofs.Showing.{keeps_asking, speed_stays}
 use Rattle.machine_commands.proofs.Steps.{idles_then}
 
@@ -82,7 +74,7 @@ pub idle_asks : (old new : Board) (fdc : Fdc) → Idles old fdc new → fdc.seek
     → data_commands_of fdc ≡ data_commands_of (controller_of old) → OnlyAsks (rig_of old) (rig_of new)
 idle_asks old new fdc idles numbers sent =
     keeps_asking old new idles.stays.keeps (ap (λ f. f.seeks.cylinders) idles.controller_is ∙ numbers) (ap data_commands_of idles.controller_is ∙ sent)
-    (speed_stays old.first new.first idles.stays.first) (speed_stays old.second new.second idles.stays.second)
+    (speed_stays old.first new.first idles.stays.keeps.first.medium idles.stays.first) (speed_stays old.second new.second idles.stays.keeps.second.medium idles.stays.second)
 
 -- ---- the selected drive
 

@@ -1,6 +1,6 @@
 -- A reset and set-up, from any state of the machine.
-use Rattle.std.proofs.Common.{◌≡◌, ◌⊎◌, inl, inr, ℕ, ◌+◌, ◌≤◌, ◌==◌, Bool, true, false, List, [], ◌∷◌, ◌++◌, Some, refl, sym, ◌∙◌, ap, subst, arith}
-use Rattle.drive_model.specs.Drive.{DriveState, InRange}
+use Rattle.std.proofs.Common.{◌≡◌, ◌⊎◌, true, false, [], ◌∷◌, ◌++◌, refl, sym, ◌∙◌, ap, subst, arith}
+use Rattle.drive_model.specs.Drive.{InRange}
 use Rattle.fdc_commands.specs.Table.{answer}
 use Rattle.fdc_commands.specs.declared.bytes.Accepted.TheVariants.{Ready}
 use Rattle.fdc_commands.specs.declared.command.Command.TheVariants.{Specify, Configure}
@@ -13,9 +13,9 @@ use Rattle.fdc_core.specs.declared.controller.Fdc.{Fdc}
 use Rattle.machine_pace.specs.Entries.{next_entry}
 use Rattle.pc_bus.specs.Boards.{Board, controller_of, lines_of}
 use Rattle.single_commands.specs.Rigs.{IsReset}
-use Rattle.machine_commands.specs.Asked.{TakesPolls, Resets, none_on}
+use Rattle.machine_commands.specs.Asked.{Resets, none_on}
 use Rattle.machine_commands.specs.Idling.{IsResting, KeepsSpeed, KeepsAll, Idles, is_up}
-use Rattle.machine_commands.specs.Ready.{dor_with, IsReady, IsIdle}
+use Rattle.machine_commands.specs.Ready.{IsReady, IsIdle}
 use Rattle.machine_commands.specs.Shown.{rig_of}
 use Rattle.machine_commands.proofs.Accesses.{accessed_keeps, gap_idles, gapped, gap_taken, output_idles}
 use Rattle.machine_commands.proofs.Bytes.{IsListening, AreMore, with_bytes, whole_at}

@@ -1,10 +1,9 @@
 -- Bytes that are sent one by one.
-use Rattle.std.proofs.Common.{◌≡◌, ℕ, ◌+◌, ◌<◌, ◌≤◌, List, [], ◌∷◌, ◌++◌, length, take, get_or, zero, suc, Bool, true, false, if◌then◌else◌, min, refl, sym, ◌∙◌, ap, subst, arith}
+use Rattle.std.proofs.Common.{◌≡◌, ℕ, ◌+◌, ◌<◌, ◌≤◌, List, [], ◌∷◌, ◌++◌, length, take, get_or, zero, suc, Bool, true, false, if◌then◌else◌, refl, sym, ◌∙◌, ap, subst, arith}
 use Rattle.std.proofs.lemmas.List.{take_more, take_all}
 use Rattle.pc_bus.specs.Boards.{Board}
 use Rattle.pc_bus.specs.Ports.{Outputs}
-use Rattle.pc_bus.specs.Handling.{irq_taken}
-use Rattle.pc_bus.specs.Steps.{Step, Runs, stirred}
+use Rattle.pc_bus.specs.Steps.{Runs, stirred}
 use Rattle.flop_base.specs.Counts.{last_count}
 use Rattle.machine_pace.specs.Holds.{counted}
 use Rattle.machine_commands.specs.Sending.{Sends, Settles, latch_taken}

@@ -1,14 +1,13 @@
 -- A seek from its first byte to the end of its result.
-use Rattle.std.proofs.Common.{◌≡◌, ◌⊎◌, inl, inr, ℕ, zero, suc, ◌+◌, ◌-◌, ◌%◌, ◌≤◌, ◌==◌, Bool, true, false, List, [], ◌∷◌, ◌++◌, Option, Some, None, slice_index, slice_set, if◌then◌else◌, refl, sym, ◌∙◌, ap, subst, arith}
+use Rattle.std.proofs.Common.{◌≡◌, inl, inr, ℕ, zero, suc, ◌+◌, ◌-◌, ◌≤◌, ◌==◌, Bool, true, false, List, [], ◌∷◌, ◌++◌, Some, None, slice_index, slice_set, if◌then◌else◌, refl, sym, ◌∙◌, ap, subst, arith}
 use Rattle.drive_model.specs.Drive.{DriveState}
 use Rattle.fdc_commands.specs.Table.{answer}
 use Rattle.fdc_commands.specs.declared.bytes.Accepted.TheVariants.{Ready}
 use Rattle.fdc_commands.specs.declared.command.Command.{Command}
-use Rattle.fdc_seek.specs.Seeking.{Seeking, ended, sensed, after_sense, is_seeking, has_ended, with_motion}
+use Rattle.fdc_seek.specs.Seeking.{Seeking, ended, sensed, after_sense, is_seeking, has_ended}
 use Rattle.fdc_seek.specs.declared.motion.Motion.{Motion}
 use Rattle.fdc_seek.specs.declared.motion.Motion.TheVariants.{Ended}
 use Rattle.fdc_core.specs.Commands.{Obeys}
-use Rattle.fdc_core.specs.State.{dor_of, interrupts}
 use Rattle.fdc_core.specs.Steps.{polled}
 use Rattle.fdc_core.specs.declared.controller.Fdc.{Fdc}
 use Rattle.fdc_core.specs.declared.controller.Lines.{Lines}
@@ -18,17 +17,17 @@ use Rattle.pc_bus.specs.Ports.{Outputs, RunsGap}
 use Rattle.pc_bus.specs.Steps.{stirred}
 use Rattle.pc_bus.specs.declared.bus.Bus.{Bus}
 use Rattle.machine_commands.specs.Asked.{EndsSeek}
-use Rattle.machine_commands.specs.Idling.{IsResting, KeepsDrive, KeepsSpeed, KeepsAll, StaysIdle, Idles, is_up}
-use Rattle.machine_commands.specs.Ready.{dor_with, none_pending, IsReady, IsIdle}
+use Rattle.machine_commands.specs.Idling.{IsResting, KeepsDrive, KeepsSpeed, KeepsAll, Idles, is_up}
+use Rattle.machine_commands.specs.Ready.{dor_with, none_pending, IsIdle}
 use Rattle.machine_commands.specs.Sending.{Sends}
 use Rattle.machine_commands.specs.declared.motors.Motors.{Motors}
 use Rattle.machine_commands.proofs.Accesses.{accessed, accessed_keeps, gapped, same_drive, same_speed}
 use Rattle.machine_commands.proofs.Bytes.{IsListening, AreMore, with_bytes, listens_with, first_bytes, sends_parts, last_written}
 use Rattle.machine_commands.proofs.Questions.{ready_rests, ready_with, not_held, drive_kept}
-use Rattle.machine_commands.proofs.Seeking.{CanSeek, IsRule, IsOnWay, IsOver, Beside, Sought, RunsSeek, on_way, at_end, runs_seek}
+use Rattle.machine_commands.proofs.Seeking.{CanSeek, IsRule, IsOnWay, IsOver, Beside, Sought, on_way, at_end, runs_seek}
 use Rattle.machine_commands.proofs.Selecting.{with_dor, is_dor, selects_idle}
 use Rattle.machine_commands.proofs.Senses.{sensed_to, senses_pending}
-use Rattle.machine_commands.proofs.Settling.{SettlesTo, settles_to}
+use Rattle.machine_commands.proofs.Settling.{settles_to}
 use Rattle.machine_commands.proofs.Steps.{keeps_then, speed_then, drive_then, idles_then, unpolled, low_line}
 
 -- ---- what a seek leaves, but for its drive

@@ -1,19 +1,18 @@
 -- RECALIBRATE and SEEK, as a driver sees them.
-use Rattle.std.proofs.Common.{◌≡◌, ◌≢◌, ◌⊎◌, inl, inr, ℕ, zero, suc, ◌+◌, ◌-◌, ◌%◌, ◌<◌, ◌≤◌, ◌==◌, Bool, true, false, List, [], ◌∷◌, ◌++◌, Option, Some, None, IsSome, is_some, length, slice_index, slice_set, nat_lt, min, if◌then◌else◌, refl, sym, ◌∙◌, ap, subst, arith}
+use Rattle.std.proofs.Common.{◌≡◌, ◌⊎◌, inl, inr, ℕ, zero, suc, ◌+◌, ◌-◌, ◌%◌, ◌<◌, ◌≤◌, ◌==◌, Bool, true, false, List, [], ◌∷◌, ◌++◌, Option, None, is_some, length, slice_index, slice_set, nat_lt, refl, sym, ◌∙◌, ap, subst, arith}
 use Rattle.std.specs.Prelude.{bit_and}
 use Rattle.std.proofs.Math.ListN.{length-set}
 use Rattle.std.proofs.lemmas.List.{get_or-set_other}
 use Rattle.std.proofs.lemmas.Grind.{get_or-set_at}
 use Rattle.std.proofs.lemmas.Bool.{false≢true}
 use Rattle.std.proofs.lemmas.Bool.Decides.{nat_tests}
-use Rattle.flop_base.specs.Counts.{last_count, RoseBy, RoseLess, Rose}
-use Rattle.bay_model.specs.Bays.{Two, in_bay, with_bay}
+use Rattle.flop_base.specs.Counts.{RoseBy}
 use Rattle.bay_model.specs.Counters.{GoesOn, IsDriven}
 use Rattle.drive_model.specs.Drive.{DriveState, InRange}
 use Rattle.fdc_commands.specs.Table.{answer}
 use Rattle.fdc_commands.specs.declared.bytes.Accepted.TheVariants.{Ready}
 use Rattle.fdc_commands.specs.declared.command.Command.TheVariants.{Recalibrate, Seek}
-use Rattle.fdc_seek.specs.Seeking.{Seeking, seek_bits, ended, after_sense, sought, recalibrated, has_ended}
+use Rattle.fdc_seek.specs.Seeking.{Seeking, seek_bits, ended, after_sense, sought, recalibrated}
 use Rattle.fdc_seek.specs.declared.motion.Motion.{Motion}
 use Rattle.fdc_seek.specs.declared.motion.Motion.TheVariants.{Outward, Toward, Ended}
 use Rattle.fdc_core.specs.State.{dor_of, data_commands_of}
@@ -21,12 +20,12 @@ use Rattle.fdc_core.specs.declared.controller.Fdc.{Fdc}
 use Rattle.pc_bus.specs.Boards.{Board, controller_of, holds_of, drive_in}
 use Rattle.single_commands.specs.Heads.{MovesHeads, Recalibrates, Seeks}
 use Rattle.machine_commands.specs.Asked.{SendsRecalibrate, SendsSeek}
-use Rattle.machine_commands.specs.Idling.{KeepsDrive, KeepsSpeed}
-use Rattle.machine_commands.specs.Ready.{dor_with, none_pending, IsReady, IsIdle, AreSeeksOver}
+use Rattle.machine_commands.specs.Idling.{KeepsSpeed}
+use Rattle.machine_commands.specs.Ready.{dor_with, IsReady, IsIdle, AreSeeksOver}
 use Rattle.machine_commands.specs.Shown.{user_part, page_part, stalls_left, counters_of, number_of, rig_of}
 use Rattle.machine_commands.specs.declared.motors.Motors.{Motors}
 use Rattle.machine_commands.proofs.Bytes.{AreMore}
-use Rattle.machine_commands.proofs.Moving.{MovesDrive, HasStepped, HasSought, OutwardWay, OutwardOver, TowardWay, TowardOver, turns_move, outward_rule, toward_rule}
+use Rattle.machine_commands.proofs.Moving.{MovesDrive, OutwardWay, OutwardOver, TowardWay, TowardOver, turns_move, outward_rule, toward_rule}
 use Rattle.machine_commands.proofs.Seeking.{on_way, at_end}
 use Rattle.machine_commands.proofs.SeekEnds.{Leaves, SeekCommand, SeekDone, after_sense_of, seek_done}
 use Rattle.machine_commands.proofs.Selecting.{with_dor}
@@ -249,7 +248,7 @@ moves_heads zero old new small moves left number sent =
       media = two_same new.first.medium new.second.medium old.first.medium old.second.medium moves.medium left.keeps.medium;
       memory = ap user_part left.memory;
       page = ap page_part left.memory;
-      spun = record { first = speed_stays old.first new.first moves.speed; second = speed_stays old.second new.second left.speed };
+      spun = record { first = speed_stays old.first new.first moves.medium moves.speed; second = speed_stays old.second new.second left.keeps.medium left.speed };
       other_cylinder = left.keeps.cylinder;
       other_number = number;
       changes = elim moves.change [
@@ -271,7 +270,7 @@ moves_heads (suc zero) old new small moves left number sent =
       media = two_same new.first.medium new.second.medium old.first.medium old.second.medium left.keeps.medium moves.medium;
       memory = ap user_part left.memory;
       page = ap page_part left.memory;
-      spun = record { first = speed_stays old.first new.first left.speed; second = speed_stays old.second new.second moves.speed };
+      spun = record { first = speed_stays old.first new.first left.keeps.medium left.speed; second = speed_stays old.second new.second moves.medium moves.speed };
       other_cylinder = left.keeps.cylinder;
       other_number = number;
       changes = elim moves.change [

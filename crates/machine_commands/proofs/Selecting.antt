@@ -1,16 +1,16 @@
 -- Writes of DOR: a bay is selected, and motors go on.
-use Rattle.std.proofs.Common.{◌≡◌, ◌≢◌, ◌↔◌, ◌⊎◌, inl, inr, ℕ, zero, suc, ◌+◌, ◌%◌, ◌^◌, ◌≤◌, ◌==◌, ◌&&◌, not, Bool, true, false, if◌then◌else◌, IsTrue, refl, sym, ◌∙◌, ap, subst, arith}
+use Rattle.std.proofs.Common.{◌≡◌, ◌≢◌, ◌↔◌, ℕ, zero, suc, ◌%◌, ◌^◌, ◌≤◌, ◌==◌, not, Bool, true, false, if◌then◌else◌, IsTrue, refl, sym, ◌∙◌, ap, subst, arith}
 use Rattle.std.specs.Int.{IsBitSet}
 use Rattle.std.specs.Prelude.{bit_and}
 use Rattle.std.proofs.lemmas.Bool.{false≢true}
 use Rattle.drive_model.specs.Drive.{DriveState, Becomes, with_motor}
 use Rattle.fdc_core.specs.Ports.{dor_written}
-use Rattle.fdc_core.specs.State.{is_held, is_gated, dor_of, reset}
+use Rattle.fdc_core.specs.State.{dor_of, reset}
 use Rattle.fdc_core.specs.declared.controller.Fdc.{Fdc}
 use Rattle.pc_bus.specs.Boards.{Board, controller_of}
 use Rattle.pc_bus.specs.Ports.{Outputs}
 use Rattle.pc_bus.specs.declared.bus.Bus.{Bus}
-use Rattle.machine_commands.specs.Idling.{IsResting, KeepsDrive, KeepsSpeed, KeepsAll, StaysIdle, Idles, is_up}
+use Rattle.machine_commands.specs.Idling.{IsResting, KeepsDrive, KeepsSpeed, Idles}
 use Rattle.machine_commands.specs.Ready.{dor_with, HasMotors}
 use Rattle.machine_commands.proofs.Accesses.{accessed, accessed_keeps, gap_idles}
 use Rattle.machine_commands.proofs.Steps.{idles_then}

@@ -1,13 +1,13 @@
 -- One device step behind results, and polls.
-use Rattle.std.proofs.Common.{◌≡◌, ◌⊎◌, inl, inr, ℕ, zero, suc, ◌≤◌, Bool, true, false, refl, sym, ◌∙◌, ap, subst, arith}
+use Rattle.std.proofs.Common.{◌≡◌, ◌⊎◌, inl, inr, ℕ, zero, suc, sym, ◌∙◌, ap, subst, arith}
 use Rattle.fdc_core.specs.State.{interrupts}
 use Rattle.fdc_core.specs.Steps.{polled}
 use Rattle.fdc_core.specs.declared.controller.Fdc.{Fdc}
-use Rattle.pc_bus.specs.Boards.{Board, controller_of, channel_of}
+use Rattle.pc_bus.specs.Boards.{Board, controller_of}
 use Rattle.pc_bus.specs.Steps.{Step, Runs, stirred}
 use Rattle.machine_commands.specs.Idling.{IsResting, KeepsSpeed, KeepsAll, is_up}
-use Rattle.machine_commands.specs.Sending.{Settles, latch_taken}
-use Rattle.machine_commands.proofs.Steps.{StepsTo, step_to, unpolled, keeps_none, keeps_then, speed_none, speed_then, drive_none}
+use Rattle.machine_commands.specs.Sending.{Settles}
+use Rattle.machine_commands.proofs.Steps.{step_to, unpolled, keeps_none, keeps_then, speed_none, speed_then}
 
 pub runs_one : (old new : Board) → Runs 1 old new → Step old new
 unfolding Runs

@@ -1,17 +1,16 @@
 -- What a driver sees of a board that keeps all.
-use Rattle.std.proofs.Common.{◌≡◌, ℕ, ◌+◌, ◌-◌, ◌<◌, ◌≤◌, ◌==◌, ◌&&◌, not, Bool, true, false, List, length, nat_le, min, get_or, slice_index, if◌then◌else◌, refl, sym, ◌∙◌, ap, subst, arith}
+use Rattle.std.proofs.Common.{◌≡◌, ℕ, ◌+◌, ◌<◌, ◌≤◌, ◌&&◌, Bool, true, false, List, nat_le, slice_index, is_some, refl, ◌∙◌, ap, arith}
 use Rattle.std.proofs.lemmas.List.{get_or-take, get_or-drop}
 use Rattle.std.proofs.lemmas.Bool.{false≢true}
 use Rattle.std.proofs.lemmas.Bool.Decides.{nat_tests}
-use Rattle.flop_base.specs.Counts.{last_count}
 use Rattle.bay_model.specs.Bays.{Two}
 use Rattle.bay_model.specs.Counters.{GoesOn, IsDriven}
 use Rattle.bay_model.specs.Memory.{user_bytes}
-use Rattle.drive_model.specs.Drive.{DriveState}
+use Rattle.drive_model.specs.Drive.{DriveState, turns}
 use Rattle.fdc_core.specs.State.{data_commands_of}
 use Rattle.pc_bus.specs.Boards.{Board, controller_of, holds_of}
-use Rattle.single_commands.specs.Rigs.{StaysSpun, HeadsStay, IsReset, OnlyAsks}
-use Rattle.machine_commands.specs.Idling.{KeepsDrive, KeepsSpeed, KeepsAll}
+use Rattle.single_commands.specs.Rigs.{IsReset, OnlyAsks}
+use Rattle.machine_commands.specs.Idling.{KeepsSpeed, KeepsAll}
 use Rattle.machine_commands.specs.Shown.{is_spun, user_part, page_part, stalls_left, counters_of, rig_of}
 
 pub two_same : {T : Type 0} (a b c d : T) → a ≡ c → b ≡ d → (let x : Two T = record { first = a; second = b } in x) ≡ (let y : Two T = record { first = c; second = d } in y)
@@ -40,19 +39,25 @@ keeps_driven old new keeps sent = record {
 
 -- ---- speed
 
-pub at_speed_on : (old new : DriveState) → (old.motor ≡ true → (new.motor ≡ true) × (old.spin ≤ new.spin)) → is_spun old ≡ true → is_spun new ≡ true
-at_speed_on old new on was = by_motor old.motor refl was
-  where
-    by_speed : (b : Bool) → b ≡ true → nat_le 6250 old.spin ≡ true → old.spin ≤ new.spin → (b && nat_le 6250 new.spin) ≡ true
-    by_speed true is fast more = grind (arith, nat_tests)
-    by_speed false is fast more = absurd (false≢true is)
+pub both_true : (a b : Bool) → (a && b) ≡ true → (a ≡ true) × (b ≡ true)
+both_true true b is = (refl, is)
+both_true false b is = absurd (false≢true is)
 
-    by_motor : (b : Bool) → old.motor ≡ b → (b && nat_le 6250 old.spin) ≡ true → (new.motor && nat_le 6250 new.spin) ≡ true
-    by_motor true is spun = let (motor, more) = on is in by_speed new.motor motor spun more
-    by_motor false is spun = absurd (false≢true spun)
+all_true : (a b c : Bool) → a ≡ true → b ≡ true → c ≡ true → ((a && b) && c) ≡ true
+all_true a b c one two three = rw (one, two, three) refl
 
-pub speed_stays : (old new : DriveState) → KeepsSpeed old new → is_spun old ≡ true → is_spun new ≡ true
-speed_stays old new speed was = at_speed_on old new (λ on. (speed.motor ∙ on, speed.spin on)) was
+faster : (old new : ℕ) → nat_le 6250 old ≡ true → old ≤ new → nat_le 6250 new ≡ true
+faster old new fast more = grind (arith, nat_tests)
+
+pub at_speed_on : (old new : DriveState) → new.medium ≡ old.medium → (old.motor ≡ true → (new.motor ≡ true) × (old.spin ≤ new.spin)) → is_spun old ≡ true → is_spun new ≡ true
+at_speed_on old new same on was =
+    let (turning, fast) = both_true (turns old) (nat_le 6250 old.spin) was in
+    let (motor, there) = both_true old.motor (is_some old.medium) turning in
+    let (still_on, more) = on motor in
+    all_true new.motor (is_some new.medium) (nat_le 6250 new.spin) still_on (ap is_some same ∙ there) (faster old.spin new.spin fast more)
+
+pub speed_stays : (old new : DriveState) → new.medium ≡ old.medium → KeepsSpeed old new → is_spun old ≡ true → is_spun new ≡ true
+speed_stays old new same speed was = at_speed_on old new same (λ on. (speed.motor ∙ on, speed.spin on)) was
 
 -- ---- the rig
 

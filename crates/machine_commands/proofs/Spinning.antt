@@ -1,5 +1,5 @@
 -- A motor that goes on.
-use Rattle.std.proofs.Common.{◌≡◌, ℕ, zero, suc, ◌+◌, ◌≤◌, ◌==◌, ◌&&◌, ◌||◌, Bool, true, false, Option, min, nat_le, if◌then◌else◌, IsSome, is_some, refl, sym, ◌∙◌, ap, subst, arith}
+use Rattle.std.proofs.Common.{◌≡◌, ℕ, zero, suc, ◌+◌, ◌≤◌, ◌==◌, ◌&&◌, ◌||◌, Bool, true, false, Option, min, nat_le, IsSome, is_some, refl, sym, ◌∙◌, ap, subst, arith}
 use Rattle.std.proofs.lemmas.Bool.Decides.{nat_tests}
 use Rattle.bay_model.specs.Bays.{in_bay}
 use Rattle.raw_image.specs.Disk.{Disk}
@@ -17,7 +17,7 @@ use Rattle.machine_commands.specs.Shown.{is_spun, rig_of}
 use Rattle.machine_commands.specs.declared.motors.Motors.{Motors}
 use Rattle.machine_commands.proofs.Accesses.{accessed_keeps, gap_idles}
 use Rattle.machine_commands.proofs.Questions.{ready_rests, ready_with}
-use Rattle.machine_commands.proofs.Selecting.{IsDor, IsSwitched, IsDorWritten, is_dor, with_dor, dor_access, dor_is_written}
+use Rattle.machine_commands.proofs.Selecting.{IsSwitched, IsDorWritten, is_dor, with_dor, dor_access, dor_is_written}
 use Rattle.machine_commands.proofs.Showing.{keeps_asking, at_speed_on}
 use Rattle.machine_commands.proofs.Steps.{keeps_then, idles_then, runs_idle, runs_spin, drive_none, speed_none}
 
@@ -107,8 +107,8 @@ or_that true = refl
 or_that false = refl
 
 -- a motor that was on is on still
-stays_on : (want : Bool) (was b : Bool) (old on new : DriveState) → old.motor ≡ was → want ≡ (was || b) → IsSwitched want old on → KeepsSpeed on new → is_spun old ≡ true → is_spun new ≡ true
-stays_on want was b old on new is wants switched speed spun = at_speed_on old new up spun
+stays_on : (want : Bool) (was b : Bool) (old on new : DriveState) → new.medium ≡ old.medium → old.motor ≡ was → want ≡ (was || b) → IsSwitched want old on → KeepsSpeed on new → is_spun old ≡ true → is_spun new ≡ true
+stays_on want was b old on new medium is wants switched speed spun = at_speed_on old new medium up spun
   where
     up : old.motor ≡ true → (new.motor ≡ true) × (old.spin ≤ new.spin)
     up turned =
@@ -121,10 +121,11 @@ pub starts_asking : (motors : Motors) (bay : ℕ) (old new : Board) → IsIdle m
 starts_asking motors bay old new idle small start =
     let is = starts motors bay old new idle small start in
     let fdc = with_dor (dor_with (with_motor_of bay motors) bay) (controller_of old) in
-    keeps_asking old new (started_keeps (with_motor_of bay motors) old start.turns_on.between new fdc is)
+    let keeps = started_keeps (with_motor_of bay motors) old start.turns_on.between new fdc is in
+    keeps_asking old new keeps
     (ap (λ f. f.seeks.cylinders) is.idles.controller_is) (ap data_commands_of is.idles.controller_is)
-    (stays_on (motors.first || bay == 0) motors.first (bay == 0) old.first start.turns_on.between.first new.first idle.motors_are.first refl is.written.first_is is.idles.stays.first)
-    (stays_on (motors.second || bay == 1) motors.second (bay == 1) old.second start.turns_on.between.second new.second idle.motors_are.second refl is.written.second_is is.idles.stays.second)
+    (stays_on (motors.first || bay == 0) motors.first (bay == 0) old.first start.turns_on.between.first new.first keeps.first.medium idle.motors_are.first refl is.written.first_is is.idles.stays.first)
+    (stays_on (motors.second || bay == 1) motors.second (bay == 1) old.second start.turns_on.between.second new.second keeps.second.medium idle.motors_are.second refl is.written.second_is is.idles.stays.second)
 
 pub start_idle : (motors : Motors) (bay : ℕ) (old new : Board) → IsIdle motors old → bay ≤ 1 → StartsMotor motors bay old new → InRange new.first → InRange new.second
     → IsIdle (with_motor_of bay motors) new
@@ -132,29 +133,32 @@ start_idle motors bay old new idle small start first second =
     let is = starts motors bay old new idle small start in
     started_idle (with_motor_of bay motors) bay old start.turns_on.between new (with_dor (dor_with (with_motor_of bay motors) bay) (controller_of old)) idle.low small refl is first second
 
-at_speed : (drive : DriveState) → drive.motor ≡ true → 6250 ≤ drive.spin → is_spun drive ≡ true
-at_speed drive on fast = by_motor drive.motor on
+comes_to_speed : (drive : DriveState) → turns drive ≡ true → 6250 ≤ drive.spin → is_spun drive ≡ true
+comes_to_speed drive on fast = by_turning (turns drive) on
   where
-    by_motor : (b : Bool) → b ≡ true → (b && nat_le 6250 drive.spin) ≡ true
-    by_motor true is = grind (arith, nat_tests)
-    by_motor false is = absurd cc
+    by_turning : (b : Bool) → b ≡ true → (b && nat_le 6250 drive.spin) ≡ true
+    by_turning true is = grind (arith, nat_tests)
+    by_turning false is = absurd cc
 
 some_is : (medium : Option Disk) → IsSome medium → is_some medium ≡ true
 some_is medium is = is
 
-comes_up : (old on new : DriveState) → IsSwitched true old on → KeepsSpeed on new → (turns on ≡ true → 6250 ≤ new.spin) → IsSome old.medium → is_spun new ≡ true
-comes_up old on new switched speed spins some =
+comes_up : (old on new : DriveState) → new.medium ≡ old.medium → IsSwitched true old on → KeepsSpeed on new → (turns on ≡ true → 6250 ≤ new.spin) → IsSome old.medium → is_spun new ≡ true
+comes_up old on new same switched speed spins some =
     let turned : turns on ≡ true = ap (λ m. m && is_some on.medium) switched.motor ∙ (ap is_some switched.keeps.medium ∙ some_is old.medium some) in
-    at_speed new (speed.motor ∙ switched.motor) (spins turned)
+    let still : turns new ≡ true = ap (λ m. m && is_some new.medium) (speed.motor ∙ switched.motor) ∙ (ap is_some same ∙ some_is old.medium some) in
+    comes_to_speed new still (spins turned)
 
 pub starts_spinning : (motors : Motors) (bay : ℕ) (old new : Board) → IsIdle motors old → bay ≤ 1 → StartsMotor motors bay old new
     → IsSome (in_bay (rig_of old).media bay) → in_bay (rig_of new).spun bay ≡ true
 starts_spinning motors zero old new idle small start some =
     let is = starts motors 0 old new idle small start in
     let on = subst (λ b. IsSwitched b old.first start.turns_on.between.first) (or_that motors.first) is.written.first_is in
-    comes_up old.first start.turns_on.between.first new.first on is.idles.stays.first is.spins.0 some
+    let keeps = started_keeps (with_motor_of 0 motors) old start.turns_on.between new (with_dor (dor_with (with_motor_of 0 motors) 0) (controller_of old)) is in
+    comes_up old.first start.turns_on.between.first new.first keeps.first.medium on is.idles.stays.first is.spins.0 some
 starts_spinning motors (suc zero) old new idle small start some =
     let is = starts motors 1 old new idle small start in
     let on = subst (λ b. IsSwitched b old.second start.turns_on.between.second) (or_that motors.second) is.written.second_is in
-    comes_up old.second start.turns_on.between.second new.second on is.idles.stays.second is.spins.1 some
+    let keeps = started_keeps (with_motor_of 1 motors) old start.turns_on.between new (with_dor (dor_with (with_motor_of 1 motors) 1) (controller_of old)) is in
+    comes_up old.second start.turns_on.between.second new.second keeps.second.medium on is.idles.stays.second is.spins.1 some
 starts_spinning motors (suc (suc bay)) old new idle small start some = absurd (omega arith)

@@ -1,5 +1,5 @@
 -- SENSE DRIVE STATUS of a machine that is idle.
-use Rattle.std.proofs.Common.{◌≡◌, ℕ, zero, suc, ◌+◌, ◌^◌, ◌≤◌, ◌==◌, ◌&&◌, not, Bool, true, false, List, [], ◌∷◌, ◌++◌, Option, Some, None, if◌then◌else◌, refl, sym, ◌∙◌, ap, subst, arith}
+use Rattle.std.proofs.Common.{◌≡◌, ℕ, zero, suc, ◌^◌, ◌≤◌, ◌==◌, not, Bool, true, false, [], ◌∷◌, ◌++◌, Option, Some, None, if◌then◌else◌, refl, sym, ◌∙◌, ap, subst, arith}
 use Rattle.std.specs.Prelude.{bit_and}
 use Rattle.std.specs.Int.RustNames.{bit_or}
 use Rattle.std.specs.Option.{option_map_or}
@@ -7,10 +7,10 @@ use Rattle.bay_model.specs.Bays.{in_bay}
 use Rattle.raw_image.specs.Disk.{Disk}
 use Rattle.drive_model.specs.Drive.{InRange, is_protected}
 use Rattle.fdc_commands.specs.Table.{answer}
-use Rattle.fdc_commands.specs.declared.bytes.Accepted.TheVariants.{More, Ready}
+use Rattle.fdc_commands.specs.declared.bytes.Accepted.TheVariants.{Ready}
 use Rattle.fdc_commands.specs.declared.command.Command.TheVariants.{SenseDrive}
 use Rattle.fdc_seek.specs.Seeking.{Seeking, seek_bits}
-use Rattle.fdc_core.specs.Commands.{Obeys, answered, bits_if, status_of_lines}
+use Rattle.fdc_core.specs.Commands.{answered, bits_if, status_of_lines}
 use Rattle.fdc_core.specs.Ports.{given, result_byte}
 use Rattle.fdc_core.specs.State.{dor_of}
 use Rattle.fdc_core.specs.declared.controller.Fdc.{Fdc}
@@ -22,7 +22,7 @@ use Rattle.machine_commands.specs.Ready.{dor_with, IsReady, IsIdle, AreSeeksOver
 use Rattle.machine_commands.specs.Shown.{rig_of}
 use Rattle.machine_commands.specs.declared.motors.Motors.{Motors}
 use Rattle.machine_commands.proofs.Accesses.{input_idles}
-use Rattle.machine_commands.proofs.Bytes.{IsListening, AreMore, with_bytes, whole_command, lines_kept}
+use Rattle.machine_commands.proofs.Bytes.{AreMore, with_bytes, whole_command, lines_kept}
 use Rattle.machine_commands.proofs.Questions.{ready_rests, ready_with, ready_listens, idle_again, idle_asks, selected_lines, drive_kept}
 use Rattle.machine_commands.proofs.Selecting.{with_dor, selects_idle}
 use Rattle.machine_commands.proofs.Steps.{idles_then}

@@ -1,7 +1,6 @@
 -- Device steps of a controller that rests.
-use Rattle.std.proofs.Common.{◌≡◌, ◌⊎◌, inl, inr, ℕ, zero, suc, ◌+◌, ◌%◌, ◌<◌, ◌≤◌, ◌==◌, ◌&&◌, ◌||◌, not, Bool, true, false, List, Option, Some, None, if◌then◌else◌, nat_lt, is_some, min, add-one, refl, sym, ◌∙◌, ap, subst, arith}
+use Rattle.std.proofs.Common.{◌≡◌, ◌⊎◌, inl, inr, ℕ, zero, suc, ◌+◌, ◌≤◌, ◌==◌, ◌&&◌, ◌||◌, not, Bool, true, false, Option, Some, None, if◌then◌else◌, nat_lt, is_some, min, add-one, refl, sym, ◌∙◌, ap, subst, arith}
 use Rattle.std.specs.Option.{option_map_or}
-use Rattle.std.proofs.lemmas.Bool.{false≢true}
 use Rattle.std.proofs.lemmas.Bool.Decides.{nat_tests}
 use Rattle.drive_model.specs.Drive.{DriveState, Becomes, passed, with_gate, turns}
 use Rattle.fdc_seek.specs.Seeking.{Seeking, with_polls, stepped, stepped_seek, is_seeking, has_ended, pulse_due, pulse_of}
@@ -17,8 +16,8 @@ use Rattle.fdc_core.specs.declared.phases.Phase.TheVariants.{Command, Execute, R
 use Rattle.machine_pace.specs.Holds.{looked, is_due}
 use Rattle.machine_pace.specs.declared.holding.Request.TheVariants.{Low}
 use Rattle.pc_bus.specs.Boards.{Board, controller_of, channel_of, selected_of}
-use Rattle.pc_bus.specs.Steps.{Works, Turns, Step, Runs, RunsUnset, stirred, Passes}
-use Rattle.pc_bus.specs.Transfers.{granted, looked_at, dma_stepped}
+use Rattle.pc_bus.specs.Steps.{Turns, Step, Runs}
+use Rattle.pc_bus.specs.Transfers.{granted, dma_stepped}
 use Rattle.pc_bus.specs.declared.chips.Chips.{Chips}
 use Rattle.machine_commands.specs.Idling.{IsResting, KeepsDrive, KeepsSpeed, KeepsAll, StaysIdle, Idles, is_up}
 

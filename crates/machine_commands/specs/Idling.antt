@@ -1,5 +1,5 @@
 -- Device steps in which no command and no seek goes on.
-use Rattle.std.specs.Prelude.{◌≡◌, ◌≤◌, ◌&&◌, ℕ, Bool, true, false, not}
+use Rattle.std.specs.Prelude.{◌≡◌, ◌≤◌, ◌&&◌, Bool, true, false, not}
 use Rattle.drive_model.specs.Drive.{DriveState}
 use Rattle.fdc_seek.specs.Seeking.{is_seeking}
 use Rattle.fdc_core.specs.Listening.{is_executing}

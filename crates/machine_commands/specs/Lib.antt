@@ -5,3 +5,6 @@ pub mod Shown
 pub mod Motored
 pub mod Asked
 pub mod Codes
+pub mod Awaited
+pub mod Channels
+pub mod WriteSent

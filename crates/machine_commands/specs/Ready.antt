@@ -1,5 +1,5 @@
 -- A machine that is set up, between two commands.
-use Rattle.std.specs.Prelude.{◌≡◌, ◌≤◌, ◌+◌, ℕ, Bool, true, false, List, [], ◌∷◌, Option, None, length, slice_index, if◌then◌else◌}
+use Rattle.std.specs.Prelude.{◌≡◌, ◌≤◌, ◌+◌, ℕ, true, false, List, [], ◌∷◌, Option, None, length, slice_index, if◌then◌else◌}
 use Rattle.drive_model.specs.Drive.{InRange}
 use Rattle.fdc_seek.specs.Seeking.{Seeking}
 use Rattle.fdc_core.specs.State.{dor_of}

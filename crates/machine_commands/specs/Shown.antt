@@ -1,17 +1,17 @@
 -- The machine as its driver sees it.
-use Rattle.std.specs.Prelude.{◌&&◌, ℕ, Bool, List, [], None, take, drop, slice_index, nat_lt, nat_le, count_by}
+use Rattle.std.specs.Prelude.{ℕ, Bool, List, [], None, take, drop, slice_index, nat_lt, count_by}
 use Rattle.bay_model.specs.Counters.{Counters, DriveCounts}
 use Rattle.bay_model.specs.Memory.{user_bytes}
-use Rattle.drive_model.specs.Drive.{DriveState}
+use Rattle.drive_model.specs.Drive.{DriveState, at_speed}
 use Rattle.fdc_core.specs.State.{data_commands_of}
 use Rattle.pc_bus.specs.Boards.{Board, board, controller_of, memory_of, holds_of}
 use Rattle.single_commands.specs.Rigs.{Rig}
 use Rattle.machine_commands.specs.Ready.{IsIdle}
 use Rattle.machine_commands.specs.declared.machine.CommandedMachine.{CommandedMachine}
 
--- the motor is on, and the medium at speed
+-- a medium turns, at speed
 abbrev pub is_spun : DriveState → Bool
-is_spun drive = drive.motor && nat_le 6250 drive.spin
+is_spun drive = at_speed drive
 
 -- the user's part of memory, and the driver's
 unfoldable pub user_part : List ℕ → List ℕ

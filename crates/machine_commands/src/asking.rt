@@ -1,11 +1,12 @@
 // Questions, and motors.
-ghost use Rattle.std.specs.Prelude.{◌≡◌, ◌≤◌, ◌<◌, ◌==◌, slice_index, IsSome, true, false};
+ghost use Rattle.std.specs.Prelude.{◌≡◌, ◌≤◌, ◌<◌, ◌==◌, ◌^◌, ℕ, length, slice_index, IsSome, true, false};
+ghost use Rattle.pc_bus.specs.Boards.{memory_of};
 ghost use Rattle.std.specs.Option.{option_map_or};
 ghost use Rattle.bay_model.specs.Bays.{in_bay};
 ghost use Rattle.bay_model.specs.Counters.{faults_of};
 ghost use Rattle.bay_model.specs.Memory.{user_bytes};
 ghost use Rattle.drive_model.specs.Drive.{InRange};
-ghost use Rattle.single_commands.specs.Rigs.{OnlyAsks};
+ghost use Rattle.single_commands.specs.Rigs.{IsSound, OnlyAsks};
 ghost use Rattle.machine_commands.specs.Asked.{ReadsLine, SensesDrive, StartsMotor};
 ghost use Rattle.machine_commands.specs.Motored.{with_motor_of};
 ghost use Rattle.machine_commands.specs.Shown.{board_of, rig_shown, is_idle};
@@ -36,6 +37,7 @@ impl<D: Drive> CommandedMachine<D> {
         requires bay { bay ≤ 1 }
         ensures line { result ≡ in_bay (rig_shown D.state self.old).changes bay }
         ensures asks { OnlyAsks (rig_shown D.state self.old) (rig_shown D.state self.new) }
+        ensures sound { IsSound (rig_shown D.state self.new) }
         ensures idle { is_idle D.state self.new }
     {
         let changed = self.read_line(bay);
@@ -49,6 +51,7 @@ impl<D: Drive> CommandedMachine<D> {
         requires bay { bay ≤ 1 }
         ensures line { result ≡ option_map_or (λ disk. disk.protected) (in_bay (rig_shown D.state self.old).media bay) false }
         ensures asks { OnlyAsks (rig_shown D.state self.old) (rig_shown D.state self.new) }
+        ensures sound { IsSound (rig_shown D.state self.new) }
         ensures idle { is_idle D.state self.new }
     {
         let status = self.sense_drive(bay);
@@ -62,6 +65,7 @@ impl<D: Drive> CommandedMachine<D> {
         requires bay { bay ≤ 1 }
         ensures asks { OnlyAsks (rig_shown D.state self.old) (rig_shown D.state self.new) }
         ensures spun { IsSome (in_bay (rig_shown D.state self.old).media bay) → in_bay (rig_shown D.state self.new).spun bay ≡ true }
+        ensures sound { IsSound (rig_shown D.state self.new) }
         ensures idle { is_idle D.state self.new }
     {
         self.spin_up(bay);
@@ -124,12 +128,22 @@ impl<D: Drive> CommandedMachine<D> {
         self.machine.wait(SPIN_UP);
     }
 
-    /// The ranges of both drives; it does nothing.
+    /// The ranges of both drives and of memory; it does nothing.
     pub(crate) fn keep_ranges(&self)
         ensures first { InRange (board_of D.state self.now).first }
         ensures second { InRange (board_of D.state self.now).second }
+        ensures sound { IsSound (rig_shown D.state self.now) }
     {
         let _first = self.machine.faults(0);
         let _second = self.machine.faults(1);
+        self.keep_memory();
+    }
+
+    /// The ranges of memory; it does nothing.
+    pub(crate) fn keep_memory(&self)
+        ensures length { length (memory_of (board_of D.state self.now)) ≡ 1048576 }
+        ensures bytes { (k : ℕ) → slice_index (memory_of (board_of D.state self.now)) k < 2 ^ 8 }
+    {
+        let _byte = self.machine.ram(0);
     }
 }

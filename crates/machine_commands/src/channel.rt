@@ -1,5 +1,8 @@
 // DMA channel 2.
-ghost use Rattle.std.specs.Prelude.{◌≤◌, ◌<◌};
+ghost use Rattle.std.specs.Prelude.{◌≡◌, ◌≤◌, ◌<◌};
+ghost use Rattle.machine_commands.specs.Awaited.{SetsAddress, SetsChannel, SetsCount};
+ghost use Rattle.machine_commands.specs.Channels.{mode_of};
+ghost use Rattle.machine_commands.specs.Shown.{board_of};
 
 use crate::machine::CommandedMachine;
 use crate::ports::{ADDRESS, CLEAR_FLIP_FLOP, COUNT, DMA_COMMAND, MASK, MODE, PAGE};
@@ -20,7 +23,9 @@ pub(crate) enum Way {
 
 impl Way {
     /// The mode of the channel.
-    fn mode(self) -> u8 {
+    fn mode(self) -> u8
+        ensures { result ≡ mode_of self }
+    {
         match self {
             Way::ToMemory => 0x46,
             Way::FromMemory => 0x4A,
@@ -33,9 +38,12 @@ impl<D: Drive> CommandedMachine<D> {
     /// bytes.
     pub(crate) fn set_channel(&mut self, way: Way, address: u32, last: u16)
         requires { address < 1048576 }
+        ensures sets { SetsChannel (mode_of way) address last (board_of D.state self.old) (board_of D.state self.new) }
+        ensures motors { self.new.motors ≡ self.old.motors }
     {
-        self.machine.outb(MASK, MASKED);
         self.machine.outb(DMA_COMMAND, 0);
+        self.machine.outb(MASK, MASKED);
+        self.machine.outb(CLEAR_FLIP_FLOP, 0);
         self.machine.outb(MODE, way.mode());
         self.set_address(address);
         self.set_count(last);
@@ -45,16 +53,19 @@ impl<D: Drive> CommandedMachine<D> {
     /// The first address, by the low and the high byte and the page.
     fn set_address(&mut self, address: u32)
         requires { address < 1048576 }
+        ensures sets { SetsAddress address (board_of D.state self.old) (board_of D.state self.new) }
+        ensures motors { self.new.motors ≡ self.old.motors }
     {
-        self.machine.outb(CLEAR_FLIP_FLOP, 0);
         self.machine.outb(ADDRESS, (address % 256) as u8);
         self.machine.outb(ADDRESS, (address / 256 % 256) as u8);
         self.machine.outb(PAGE, (address / 65_536) as u8);
     }
 
-    /// One less than the bytes.
-    fn set_count(&mut self, last: u16) {
-        self.machine.outb(CLEAR_FLIP_FLOP, 0);
+    /// One less than the bytes, by the low and the high byte.
+    fn set_count(&mut self, last: u16)
+        ensures sets { SetsCount last (board_of D.state self.old) (board_of D.state self.new) }
+        ensures motors { self.new.motors ≡ self.old.motors }
+    {
         self.machine.outb(COUNT, (last % 256) as u8);
         self.machine.outb(COUNT, (last / 256) as u8);
     }

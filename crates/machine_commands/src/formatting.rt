@@ -1,11 +1,25 @@
 // FORMAT TRACK.
-ghost use Rattle.std.specs.Prelude.{◌≤◌, ◌+◌};
+ghost use Rattle.std.specs.Prelude.{◌≡◌, ◌≤◌, ◌+◌, ◌*◌, ℕ, true, false, length, Option};
+ghost use Rattle.std.specs.Option.{option_map_or};
+ghost use Rattle.bay_model.specs.Bays.{in_bay};
+ghost use Rattle.flop_base.specs.Standard.{sectors_at};
+ghost use Rattle.pc_bus.specs.Boards.{memory_of};
+ghost use Rattle.sector_map.specs.Layings.{Laying};
+ghost use Rattle.single_commands.specs.Writing.{FormatsTrack};
+ghost use Rattle.machine_commands.specs.Shown.{board_of, rig_shown, is_idle};
+ghost use Rattle.machine_commands.specs.WriteSent.{PutsByte, PutsKey, PutsKeys, SendsFormatBytes, keys_at};
 
 use crate::channel::Way;
 use crate::machine::CommandedMachine;
+use crate::results::Done;
+use crate::writing::told;
 use drive_model::Drive;
 use flop_base::standard::SIZE_CODE;
 use flop_base::{Code, Rate};
+use machine_awaits::a_format_goes_on;
+use machine_formats::a_format_tells_of_the_medium;
+use machine_holds::a_data_command_ends;
+use write_commands::writes_are_spelled;
 
 /// FORMAT TRACK, of MFM.
 const FORMAT_TRACK: u8 = 0x4D;
@@ -28,43 +42,74 @@ impl<D: Drive> CommandedMachine<D> {
         gap3: u8,
         fill: u8,
     ) -> Result<(), Code>
+        requires idle { is_idle D.state self.old }
         requires bay { bay ≤ 1 }
         requires head { h ≤ 1 }
         requires gap { 16 ≤ gap3 }
+        requires spun { in_bay (rig_shown D.state self.old).spun bay ≡ true }
+        requires unprotected { option_map_or (λ disk. disk.protected) (in_bay (rig_shown D.state self.old).media bay) false ≡ false }
+        ensures step { (laying : Option Laying) × FormatsTrack (rig_shown D.state self.old) bay
+            (record { c = c; h = h; rate = rate; gap3 = gap3; fill = fill }) laying result (rig_shown D.state self.new) }
+        ensures idle { is_idle D.state self.new }
     {
-        self.put_keys(c, h, rate.sectors());
-        self.prepare(bay, rate);
-        self.set_channel(Way::FromMemory, KEYS, u16::from(rate.sectors()) * 4 - 1);
-        self.send(&[
-            FORMAT_TRACK,
-            h * 4 + bay,
-            SIZE_CODE,
-            rate.sectors(),
-            gap3,
-            fill,
-        ]);
-        match self.finish() {
-            Ok(_) => Ok(()),
-            Err(code) => Err(code),
-        }
+        a_format_goes_on();
+        a_data_command_ends();
+        a_format_tells_of_the_medium();
+        writes_are_spelled();
+        self.keep_memory();
+        self.put_keys(c, h, rate);
+        let outcome = self.format_track(bay, h, rate, gap3, fill);
+        self.keep_ranges();
+        told(outcome)
     }
 
-    /// Puts the keys of records from 1 on into the driver's page.
-    fn put_keys(&mut self, c: u8, h: u8, sectors: u8)
-        requires { sectors ≤ 18 }
+    /// FORMAT TRACK by the keys in the driver's page.
+    fn format_track(&mut self, bay: u8, h: u8, rate: Rate, gap3: u8, fill: u8) -> Result<Done, Code>
+        requires bay { bay ≤ 1 }
+        requires head { h ≤ 1 }
+        ensures sends { (c : ℕ) → SendsFormatBytes self.old.motors bay (record { c = c; h = h; rate = rate; gap3 = gap3; fill = fill }) result (board_of D.state self.old) (board_of D.state self.new) }
+        ensures motors { self.new.motors ≡ self.old.motors }
     {
-        for i in 0..sectors {
+        let sectors = rate.sectors();
+        self.prepare(bay, rate);
+        self.set_channel(Way::FromMemory, KEYS, u16::from(sectors) * 4 - 1);
+        self.send(&[FORMAT_TRACK, h * 4 + bay, SIZE_CODE, sectors, gap3, fill]);
+        self.finish()
+    }
+
+    /// Puts the keys of the records of a rate, from 1 on, into the driver's page.
+    fn put_keys(&mut self, c: u8, h: u8, rate: Rate)
+        requires { length (memory_of (board_of D.state self.old)) ≡ 1048576 }
+        ensures keys { PutsKeys c h (sectors_at rate) (board_of D.state self.old) (board_of D.state self.new) }
+        ensures few { sectors_at rate ≤ 18 }
+        ensures motors { self.new.motors ≡ self.old.motors }
+    {
+        for i in 0..rate.sectors() {
             self.put_key(KEYS + u32::from(i) * KEY_BYTES, c, h, i + 1);
         }
     }
 
-    /// Puts the key of a record into memory.
+    /// Puts the key of a record into the driver's page.
     fn put_key(&mut self, address: u32, c: u8, h: u8, r: u8)
-        requires { address + 4 ≤ 1048576 }
+        requires page { keys_at ≤ address }
+        requires range { address + 4 ≤ 1048576 }
+        requires memory { length (memory_of (board_of D.state self.old)) ≡ 1048576 }
+        ensures key { PutsKey address c h r (board_of D.state self.old) (board_of D.state self.new) }
+        ensures motors { self.new.motors ≡ self.old.motors }
     {
-        self.machine.ram_set(address, c);
-        self.machine.ram_set(address + 1, h);
-        self.machine.ram_set(address + 2, r);
-        self.machine.ram_set(address + 3, SIZE_CODE);
+        self.put_byte(address, c);
+        self.put_byte(address + 1, h);
+        self.put_byte(address + 2, r);
+        self.put_byte(address + 3, SIZE_CODE);
+    }
+
+    /// Puts a byte into the driver's page.
+    fn put_byte(&mut self, address: u32, value: u8)
+        requires page { keys_at ≤ address }
+        requires range { address + 1 ≤ 1048576 }
+        ensures byte { PutsByte address value (board_of D.state self.old) (board_of D.state self.new) }
+        ensures motors { self.new.motors ≡ self.old.motors }
+    {
+        self.machine.ram_set(address, value);
     }
 }

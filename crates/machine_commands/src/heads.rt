@@ -1,5 +1,6 @@
 // Commands that move the heads.
 ghost use Rattle.std.specs.Prelude.{◌≡◌, ◌≤◌};
+ghost use Rattle.single_commands.specs.Rigs.{IsSound};
 ghost use Rattle.single_commands.specs.Heads.{Recalibrates, Seeks};
 ghost use Rattle.machine_commands.specs.Asked.{EndsSeek, SendsRecalibrate, SendsSeek};
 ghost use Rattle.machine_commands.specs.Sending.{Senses, TakesNumber};
@@ -32,6 +33,7 @@ impl<D: Drive> CommandedMachine<D> {
         requires idle { is_idle D.state self.old }
         requires bay { bay ≤ 1 }
         ensures step { Recalibrates (rig_shown D.state self.old) bay result (rig_shown D.state self.new) }
+        ensures sound { IsSound (rig_shown D.state self.new) }
         ensures idle { is_idle D.state self.new }
     {
         let status = self.step_outward(bay);
@@ -45,6 +47,7 @@ impl<D: Drive> CommandedMachine<D> {
         requires bay { bay ≤ 1 }
         requires target { target ≤ 79 }
         ensures step { Seeks (rig_shown D.state self.old) bay target (rig_shown D.state self.new) }
+        ensures sound { IsSound (rig_shown D.state self.new) }
         ensures idle { is_idle D.state self.new }
     {
         self.step_toward(bay, target);

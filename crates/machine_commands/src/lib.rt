@@ -9,6 +9,7 @@ mod channel;
 mod codes;
 mod formatting;
 mod heads;
+mod laws;
 mod machine;
 mod motors;
 mod ports;

@@ -1,5 +1,7 @@
 // The end of a data command.
-ghost use Rattle.std.specs.Prelude.{◌≤◌, ◌<◌};
+ghost use Rattle.std.specs.Prelude.{◌≡◌, ◌≤◌, ◌<◌};
+ghost use Rattle.machine_commands.specs.Awaited.{AreCounts, AwaitsResults, Finishes, Prepares, Round, TakesKey, TakesResults, key_told, mark_told};
+ghost use Rattle.machine_commands.specs.Shown.{board_of};
 
 use crate::codes::{rate_bits, refusal};
 use crate::machine::CommandedMachine;
@@ -9,6 +11,9 @@ use flop_base::{Chrn, Code, Rate};
 
 /// A data command ends within so many device steps.
 const LONGEST_COMMAND: u32 = 65_536;
+
+/// Its end is awaited so often: each time takes a device step at least.
+const MOST_ROUNDS: u32 = LONGEST_COMMAND + 1;
 
 /// Status register 0: the interrupt code, 00 where all was done.
 const INTERRUPT_CODE: u8 = 0xC0;
@@ -24,17 +29,45 @@ pub(crate) struct Done {
     pub key: Chrn,
 }
 
+/// The key of an outcome.
+pub(crate) fn key_of(outcome: Result<Done, Code>) -> Result<Chrn, Code>
+    ensures { result ≡ key_told outcome }
+{
+    match outcome {
+        Ok(done) => Ok(done.key),
+        Err(code) => Err(code),
+    }
+}
+
+/// Whether an outcome is of a data field that is marked deleted.
+pub(crate) fn mark_of(outcome: Result<Done, Code>) -> Result<bool, Code>
+    ensures { result ≡ mark_told outcome }
+{
+    match outcome {
+        Ok(done) => Ok(done.deleted),
+        Err(code) => Err(code),
+    }
+}
+
 impl<D: Drive> CommandedMachine<D> {
     /// Selects a bay and sets the data rate.
     pub(crate) fn prepare(&mut self, bay: u8, rate: Rate)
         requires { bay ≤ 1 }
+        ensures prepares { Prepares self.old.motors bay rate (board_of D.state self.old) (board_of D.state self.new) }
+        ensures motors { self.new.motors ≡ self.old.motors }
     {
+        self.keep_counts();
+        self.keep_memory();
         self.select(bay);
+        self.keep_ranges();
         self.machine.outb(CCR, rate_bits(rate));
     }
 
     /// Waits for the end of a data command, and takes its results.
-    pub(crate) fn finish(&mut self) -> Result<Done, Code> {
+    pub(crate) fn finish(&mut self) -> Result<Done, Code>
+        ensures finishes { Finishes result (board_of D.state self.old) (board_of D.state self.new) }
+        ensures motors { self.new.motors ≡ self.old.motors }
+    {
         self.await_results();
         let outcome = self.take_results();
         self.settle();
@@ -42,18 +75,33 @@ impl<D: Drive> CommandedMachine<D> {
     }
 
     /// Waits for line 6, again where the latch was set with no end: a stray.
-    fn await_results(&mut self) {
-        for _ in 0..LONGEST_COMMAND {
-            let _ = self.machine.wait_irq(LONGEST_COMMAND);
-            let _ = self.machine.take_irq();
-            if self.machine.inb(MSR) == RESULTS_READY {
+    fn await_results(&mut self)
+        ensures awaits { AwaitsResults (board_of D.state self.old) (board_of D.state self.new) }
+        ensures motors { self.new.motors ≡ self.old.motors }
+    {
+        for _round in 0..MOST_ROUNDS {
+            if self.await_line() {
                 return;
             }
         }
     }
 
+    /// Waits for line 6 once, and tells whether results are ready.
+    fn await_line(&mut self) -> bool
+        ensures round { Round result (board_of D.state self.old) (board_of D.state self.new) }
+        ensures motors { self.new.motors ≡ self.old.motors }
+    {
+        self.machine.wait(1);
+        let _ = self.machine.wait_irq(LONGEST_COMMAND);
+        let _ = self.machine.take_irq();
+        self.machine.inb(MSR) == RESULTS_READY
+    }
+
     /// Reads the seven result bytes.
-    fn take_results(&mut self) -> Result<Done, Code> {
+    fn take_results(&mut self) -> Result<Done, Code>
+        ensures takes { TakesResults result (board_of D.state self.old) (board_of D.state self.new) }
+        ensures motors { self.new.motors ≡ self.old.motors }
+    {
         let st0 = self.result_byte();
         let st1 = self.result_byte();
         let st2 = self.result_byte();
@@ -68,11 +116,23 @@ impl<D: Drive> CommandedMachine<D> {
     }
 
     /// Reads the key among the result bytes.
-    fn take_key(&mut self) -> Chrn {
+    fn take_key(&mut self) -> Chrn
+        ensures takes { TakesKey result (board_of D.state self.old) (board_of D.state self.new) }
+        ensures motors { self.new.motors ≡ self.old.motors }
+    {
         let c = self.result_byte();
         let h = self.result_byte();
         let r = self.result_byte();
         let n = self.result_byte();
         Chrn { c, h, r, n }
+    }
+
+    /// The ranges of the counts; it does nothing.
+    fn keep_counts(&self)
+        ensures counts { AreCounts (board_of D.state self.now) }
+    {
+        let _stalls = self.machine.stalls();
+        let _commands = self.machine.data_commands();
+        let _taken = self.machine.taken();
     }
 }

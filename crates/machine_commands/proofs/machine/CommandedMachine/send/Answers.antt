@@ -1,4 +1,4 @@
-use Rattle.std.proofs.Common.{◌≡◌, take, refl, subst, arith}
+use Rattle.std.proofs.Common.{◌≡◌, take, refl, subst}
 use Rattle.machine_commands.specs.Shown.{board_of}
 use Rattle.machine_commands.specs.Sending.{Sends}
 use Rattle.machine_commands.proofs.Runs.{sends_next, all_taken}

@@ -1,0 +1,10 @@
+//! A data command from its beginning to the interrupt at its end, whether it reads or writes: what was set stays, INT is low
+//! meanwhile, and the latch is set once it has ended. Of commands that write, all that is known until then. Definitions and
+//! laws, no code.
+#![tactic(auto)]
+
+mod going;
+mod laws;
+
+pub use going::{a_format_goes_on, a_write_goes_on};
+pub use laws::a_data_command_is_awaited;

@@ -1,0 +1,53 @@
+-- What a data command does at the ports.
+use Rattle.std.proofs.Common.{◌≡◌, inl, inr, ℕ, suc, ◌+◌, ◌*◌, ◌==◌, not, Bool, true, false, [], ◌∷◌, Result, Ok, Err, if◌then◌else◌, refl, sym, ap, subst, arith}
+use Rattle.std.specs.Prelude.{bit_and}
+use Rattle.std.proofs.lemmas.Bool.{false≢true}
+use Rattle.std.proofs.lemmas.Bool.Decides.{nat_tests}
+use Rattle.flop_base.specs.Standard.{read_gap_at}
+use Rattle.flop_base.specs.declared.key.Chrn.{Chrn}
+use Rattle.flop_base.specs.declared.answers.Rate.{Rate}
+use Rattle.flop_base.specs.declared.answers.Code.{Code}
+use Rattle.pc_bus.specs.Boards.{Board}
+use Rattle.pc_bus.specs.Ports.{Outputs}
+use Rattle.machine_commands.specs.Awaited.{outcome_of, sector_bytes, SetsChannel, Round, Rounds, AwaitsResults}
+use Rattle.machine_commands.specs.Codes.{has_set, refusal_of}
+use Rattle.machine_commands.specs.Sending.{Sends}
+use Rattle.machine_commands.specs.declared.results.Done.{Done}
+
+pub output_as : (port a b : ℕ) (old new : Board) → a ≡ b → Outputs port a old new → Outputs port b old new
+output_as port a b old new same access = subst (λ value. Outputs port value old new) same access
+
+pub channel_as : (mode address a b : ℕ) (old new : Board) → a ≡ b → SetsChannel mode address a old new → SetsChannel mode address b old new
+channel_as mode address a b old new same sets = subst (λ last. SetsChannel mode address last old new) same sets
+
+pub sends_as : (command bay : ℕ) (key : Chrn) (rate : Rate) (gap : ℕ) (old new : Board) → gap ≡ read_gap_at rate
+    → Sends (command ∷ (key.h * 4 + bay) ∷ key.c ∷ key.h ∷ key.r ∷ key.n ∷ key.r ∷ gap ∷ 0xFF ∷ []) old new → Sends (sector_bytes command bay key rate) old new
+sends_as command bay key rate gap old new same sends =
+    subst (λ value. Sends (command ∷ (key.h * 4 + bay) ∷ key.c ∷ key.h ∷ key.r ∷ key.n ∷ key.r ∷ value ∷ 0xFF ∷ []) old new) same sends
+
+pub fails : (st0 st1 st2 : ℕ) (key : Chrn) (code : Code) → (bit_and st0 0xC0 ≡ 0 → ⊥) → code ≡ refusal_of st1 → (let r : Result Done Code = Err code in r) ≡ outcome_of st0 st1 st2 key
+fails st0 st1 st2 key code set is = by_set (bit_and st0 0xC0 == 0) (unlike (bit_and st0 0xC0) set)
+  where
+    unlike : (n : ℕ) → (n ≡ 0 → ⊥) → (n == 0) ≡ false
+    unlike n set = grind (arith, nat_tests)
+
+    by_set : (b : Bool) → b ≡ false → (let r : Result Done Code = Err code in r) ≡ (if not b then Err (refusal_of st1) else Ok (record { deleted = has_set st2 0x40; key = key }))
+    by_set false _ = ap Err is
+    by_set true wrong = absurd (false≢true (sym wrong))
+
+pub succeeds : (st0 st1 st2 : ℕ) (key : Chrn) → bit_and st0 0xC0 ≡ 0 → (let r : Result Done Code = Ok (record { deleted = has_set st2 0x40; key = key }) in r) ≡ outcome_of st0 st1 st2 key
+succeeds st0 st1 st2 key clear = rw clear refl
+
+-- ---- rounds
+
+pub rounds_next : (n : ℕ) (ready : Bool) (old between new : Board) → Rounds n old between → ready ≡ false → Round ready between new → Rounds (n + 1) old new
+rounds_next n ready old between new rounds not_yet round = subst (λ k. Rounds k old new) (more n) (between, rounds, subst (λ b. Round b between new) not_yet round)
+  where
+    more : (n : ℕ) → suc n ≡ n + 1
+    more n = omega arith
+
+pub awaited_now : (n : ℕ) (ready : Bool) (old between new : Board) → Rounds n old between → ready ≡ true → Round ready between new → AwaitsResults old new
+awaited_now n ready old between new rounds is round = inl (n, between, rounds, subst (λ b. Round b between new) is round)
+
+pub awaited_never : (n : ℕ) (old new : Board) → n ≡ 65537 → Rounds n old new → AwaitsResults old new
+awaited_never n old new all rounds = inr (subst (λ k. Rounds k old new) all rounds)

@@ -1,0 +1,208 @@
+-- The results of a data command are taken, and the machine is idle again.
+use Rattle.std.proofs.Common.{◌≡◌, ℕ, ◌≤◌, ◌==◌, true, false, Result as result, refl, sym, ◌∙◌, ap, subst, arith}
+use Rattle.std.proofs.lemmas.Bool.{false≢true}
+use Rattle.std.proofs.lemmas.Bool.Decides.{nat_tests}
+use Rattle.flop_base.specs.declared.key.Chrn.{Chrn}
+use Rattle.flop_base.specs.declared.answers.Code.{Code}
+use Rattle.drive_model.specs.Drive.{InRange}
+use Rattle.fdc_commands.specs.declared.results.Results.{Results}
+use Rattle.fdc_stages.specs.declared.ending.Ending.{Ending}
+use Rattle.fdc_core.specs.Listening.{is_executing}
+use Rattle.fdc_core.specs.Ports.{given, result_byte, interrupt_after, phase_after}
+use Rattle.fdc_core.specs.State.{is_held, dor_of}
+use Rattle.fdc_core.specs.Steps.{polled}
+use Rattle.fdc_core.specs.declared.answers.Answer.TheVariants.{Short, Long}
+use Rattle.fdc_core.specs.declared.controller.Fdc.{Fdc}
+use Rattle.fdc_core.specs.declared.phases.Phase.{Phase}
+use Rattle.fdc_core.specs.declared.phases.Phase.TheVariants.{Command, Execute, Result}
+use Rattle.machine_pace.specs.Holds.{counted}
+use Rattle.machine_awaits.specs.Awaits.{is_unread}
+use Rattle.pc_bus.specs.Boards.{Board, controller_of}
+use Rattle.pc_bus.specs.Ports.{Inputs}
+use Rattle.machine_commands.specs.Awaited.{TakesResults, Finishes, outcome_of}
+use Rattle.machine_commands.specs.Idling.{IsResting, KeepsSpeed, KeepsAll, Idles, is_up}
+use Rattle.machine_commands.specs.Ready.{dor_with, IsReady, AreSeeksOver, IsIdle}
+use Rattle.machine_commands.specs.Sending.{latch_taken}
+use Rattle.machine_commands.specs.declared.motors.Motors.{Motors}
+use Rattle.machine_commands.specs.declared.results.Done.{Done}
+use Rattle.machine_commands.proofs.Accesses.{input_idles}
+use Rattle.machine_commands.proofs.Courses.{CourseLaws, IsKept, Goes, resting, awaits_end}
+use Rattle.machine_commands.proofs.Settling.{settles_to}
+use Rattle.machine_commands.proofs.Steps.{idles_then, idles_as, keeps_then, speed_then, unpolled, low_line}
+
+-- ---- the phase
+
+-- results of which no byte was read
+pub record HasResults (phase : Phase) : Type 0 where
+  pub ending : Ending
+  pub results : Results
+  pub is : phase ≡ Result (Long ending results 0)
+
+unread_results : (phase : Phase) → is_unread phase ≡ true → HasResults phase
+unread_results Command unread = absurd (false≢true unread)
+unread_results (Execute execution) unread = absurd (false≢true unread)
+unread_results (Result (Short next more)) unread = absurd (false≢true unread)
+unread_results (Result (Long ending results taken)) unread =
+    record { ending = ending; results = results; is = ap (λ n. Result (Long ending results n)) (none_taken taken unread) }
+  where
+    none_taken : (n : ℕ) → (n == 0) ≡ true → n ≡ 0
+    none_taken n is = grind (arith, nat_tests)
+
+-- ---- the bytes
+
+abbrev pub giving : Fdc → Ending → Results → ℕ → Fdc
+giving fdc ending results k = record fdc { interrupt = false; phase = Result (Long ending results k) }
+
+abbrev pub done_at : Fdc → Fdc
+done_at fdc = record fdc { interrupt = false; phase = Command }
+
+rests_giving : (fdc : Fdc) (ending : Ending) (results : Results) (k : ℕ) → IsResting fdc → IsResting (giving fdc ending results k)
+rests_giving fdc ending results k rest = record { no_command = refl; no_seek = rest.no_seek; not_asking = rest.not_asking; no_poll = rest.no_poll }
+
+rests_done : (fdc : Fdc) → IsResting fdc → IsResting (done_at fdc)
+rests_done fdc rest = record { no_command = refl; no_seek = rest.no_seek; not_asking = rest.not_asking; no_poll = rest.no_poll }
+
+-- a byte that is read
+record GivesByte (byte : ℕ) (old : Board) (fdc next : Fdc) (new : Board) : Type 0 where
+  pub idles : Idles old next new
+  pub byte_is : byte ≡ result_byte fdc.phase
+
+gives_byte : (byte : ℕ) (old new : Board) (fdc next : Fdc) → controller_of old ≡ fdc → given fdc ≡ next → IsResting next → Inputs 0x3F5 byte old new → GivesByte byte old fdc next new
+gives_byte byte old new fdc next at after rest access =
+    let same : given (controller_of old) ≡ next = ap given at ∙ after in record {
+      idles = idles_as old new (given (controller_of old)) next same (input_idles 0x3F5 byte old new access refl (subst IsResting (sym same) rest));
+      byte_is = access.value_is ∙ ap (λ f. result_byte f.phase) at;
+    }
+
+same_key : (a b : Chrn) → a.c ≡ b.c → a.h ≡ b.h → a.r ≡ b.r → a.n ≡ b.n → a ≡ b
+same_key a b c h r n =
+    ap (λ v. let k : Chrn = record { c = v; h = a.h; r = a.r; n = a.n } in k) c
+    ∙ (ap (λ v. let k : Chrn = record { c = b.c; h = v; r = a.r; n = a.n } in k) h
+    ∙ (ap (λ v. let k : Chrn = record { c = b.c; h = b.h; r = v; n = a.n } in k) r
+    ∙ ap (λ v. let k : Chrn = record { c = b.c; h = b.h; r = b.r; n = v } in k) n))
+
+same_outcome : (a b c x y z : ℕ) (key other : Chrn) → a ≡ x → b ≡ y → c ≡ z → key ≡ other → outcome_of a b c key ≡ outcome_of x y z other
+same_outcome a b c x y z key other one two three four =
+    ap (λ v. outcome_of v b c key) one ∙ (ap (λ v. outcome_of x v c key) two ∙ (ap (λ v. outcome_of x y v key) three ∙ ap (λ v. outcome_of x y z v) four))
+
+-- the outcome that results come to
+abbrev pub outcome_in : Results → result Done Code
+outcome_in results = outcome_of results.st0.0 results.st1.0 results.st2.0 results.key
+
+pub record HasTaken (outcome : result Done Code) (results : Results) (old : Board) (fdc : Fdc) (new : Board) : Type 0 where
+  pub idles : Idles old (done_at fdc) new
+  pub outcome_is : outcome ≡ outcome_in results
+
+has_taken : (outcome : result Done Code) (ending : Ending) (results : Results) (old new : Board) (fdc : Fdc) → controller_of old ≡ fdc → fdc.phase ≡ Result (Long ending results 0)
+    → IsResting fdc → TakesResults outcome old new → HasTaken outcome results old fdc new
+has_taken outcome ending results old new fdc at phase rest takes =
+    let g : ℕ → Fdc = λ k. giving fdc ending results k in
+    let r : (k : ℕ) → IsResting (g k) = λ k. rests_giving fdc ending results k rest in
+    let first : given fdc ≡ giving fdc ending results 1 =
+    ap (λ p. let f : Fdc = record fdc { interrupt = interrupt_after p fdc.interrupt; phase = phase_after p } in f) phase in
+    let one = gives_byte takes.st0 old takes.after_st0 fdc (giving fdc ending results 1) at first (r 1) takes.first in
+    let two = gives_byte takes.st1 takes.after_st0 takes.after_st1 (giving fdc ending results 1) (giving fdc ending results 2) one.idles.controller_is refl (r 2) takes.second in
+    let three = gives_byte takes.st2 takes.after_st1 takes.after_st2 (giving fdc ending results 2) (giving fdc ending results 3) two.idles.controller_is refl (r 3) takes.third in
+    let four = gives_byte takes.key.c takes.after_st2 takes.keys.after_c (giving fdc ending results 3) (giving fdc ending results 4) three.idles.controller_is refl (r 4) takes.keys.c in
+    let five = gives_byte takes.key.h takes.keys.after_c takes.keys.after_h (giving fdc ending results 4) (giving fdc ending results 5) four.idles.controller_is refl (r 5) takes.keys.h in
+    let six = gives_byte takes.key.r takes.keys.after_h takes.keys.after_r (giving fdc ending results 5) (giving fdc ending results 6) five.idles.controller_is refl (r 6) takes.keys.r in
+    let seven = gives_byte takes.key.n takes.keys.after_r new (giving fdc ending results 6) (done_at fdc) six.idles.controller_is refl (rests_done fdc rest) takes.keys.n in
+    let to_two = idles_then old takes.after_st0 takes.after_st1 (giving fdc ending results 1) (giving fdc ending results 2) one.idles two.idles in
+    let to_three = idles_then old takes.after_st1 takes.after_st2 (giving fdc ending results 2) (giving fdc ending results 3) to_two three.idles in
+    let to_four = idles_then old takes.after_st2 takes.keys.after_c (giving fdc ending results 3) (giving fdc ending results 4) to_three four.idles in
+    let to_five = idles_then old takes.keys.after_c takes.keys.after_h (giving fdc ending results 4) (giving fdc ending results 5) to_four five.idles in
+    let to_six = idles_then old takes.keys.after_h takes.keys.after_r (giving fdc ending results 5) (giving fdc ending results 6) to_five six.idles in
+    record {
+      idles = idles_then old takes.keys.after_r new (giving fdc ending results 6) (done_at fdc) to_six seven.idles;
+      outcome_is = takes.is ∙ same_outcome takes.st0 takes.st1 takes.st2 results.st0.0 results.st1.0 results.st2.0 takes.key results.key
+          (one.byte_is ∙ ap result_byte phase) two.byte_is three.byte_is (same_key takes.key results.key four.byte_is five.byte_is six.byte_is seven.byte_is);
+    }
+
+-- ---- all of the end
+
+pub record HasFinished (Task : Board → Type 0) (start : Board) (outcome : result Done Code) (new : Board) : Type 0 where
+  pub at : Board
+  pub goes : Goes Task start at
+  pub idle : is_executing (controller_of at).phase ≡ false
+  pub results : HasResults (controller_of at).phase
+  pub outcome_is : outcome ≡ outcome_in results.results
+  pub keeps : KeepsAll (latch_taken at) new
+  pub first : KeepsSpeed at.first new.first
+  pub second : KeepsSpeed at.second new.second
+  pub controller_is : controller_of new ≡ done_at (controller_of at)
+  pub low : is_up new ≡ false
+
+pub has_finished : (laws : CourseLaws) (Task : Board → Type 0) → IsKept Task → (start : Board) → is_held (controller_of start) ≡ false → (outcome : result Done Code) (sent new : Board)
+    → Goes Task start sent → Finishes outcome sent new → HasFinished Task start outcome new
+has_finished laws Task kept start free outcome sent new was finishes =
+    let told = awaits_end laws Task kept start free sent finishes.awaited finishes.awaits was in
+    let begun = counted (controller_of start).data_commands in
+    let at = told.at in
+    let fdc = controller_of at in
+    let rest = resting begun start at told.goes.awaited told.idle in
+    let results = unread_results fdc.phase (told.goes.awaited.ended told.idle).unread in
+    let status = input_idles 0x3F4 told.value (latch_taken at) finishes.awaited told.reads refl rest in
+    let taken = has_taken outcome results.ending results.results finishes.awaited finishes.taken fdc status.controller_is results.is rest finishes.takes in
+    let all = idles_then (latch_taken at) finishes.awaited finishes.taken fdc (done_at fdc) status taken.idles in
+    let calm = rests_done fdc rest in
+    let settled = settles_to finishes.taken new (done_at fdc) finishes.settles (ap polled all.controller_is ∙ unpolled (done_at fdc) calm.no_poll) calm in
+    record {
+      at = at;
+      goes = told.goes;
+      idle = told.idle;
+      results = results;
+      outcome_is = taken.outcome_is;
+      keeps = keeps_then (latch_taken at) finishes.taken new all.stays.keeps settled.keeps;
+      first = speed_then at.first finishes.taken.first new.first all.stays.first settled.first;
+      second = speed_then at.second finishes.taken.second new.second all.stays.second settled.second;
+      controller_is = settled.controller_is;
+      low = settled.level ∙ low_line (done_at fdc) refl;
+    }
+
+-- ---- idle again
+
+-- a machine that was idle, to which all bytes of a command but the last were sent
+pub record IsSending (motors : Motors) (bay : ℕ) (board : Board) : Type 0 where
+  pub bay_in : bay ≤ 1
+  pub phase : (controller_of board).phase ≡ Command
+  pub seeks : AreSeeksOver (controller_of board).seeks
+  pub by_dma : (controller_of board).non_dma ≡ false
+  pub polled : (controller_of board).poll_due ≡ false
+  pub no_interrupt : (controller_of board).interrupt ≡ false
+  pub not_asking : (controller_of board).asking ≡ false
+  pub fifo_on : (controller_of board).fifo.on ≡ true
+  pub threshold : (controller_of board).fifo.threshold ≡ 8
+  pub dor : dor_of (controller_of board) ≡ dor_with motors bay
+  pub first : board.first.motor ≡ motors.first
+  pub second : board.second.motor ≡ motors.second
+  pub low : is_up board ≡ false
+
+pub finished_idle : (motors : Motors) (bay : ℕ) (Task : Board → Type 0) (start : Board) (outcome : result Done Code) (new : Board) → IsSending motors bay start
+    → HasFinished Task start outcome new → InRange new.first → InRange new.second → IsIdle motors new
+finished_idle motors bay Task start outcome new sending over first second =
+    let awaited = over.goes.awaited in
+    let holds = awaited.holds in
+    let ready : IsReady (done_at (controller_of over.at)) = record {
+      phase = refl;
+      no_bytes = holds.command;
+      seeks = subst AreSeeksOver (sym holds.seeks) sending.seeks;
+      by_dma = holds.non_dma ∙ sending.by_dma;
+      polled = awaited.calm.polled;
+      no_interrupt = refl;
+      not_asking = (awaited.ended over.idle).quiet;
+      fifo_on = holds.on ∙ sending.fifo_on;
+      threshold = holds.threshold ∙ sending.threshold;
+    } in
+    record {
+      ready = subst IsReady (sym over.controller_is) ready;
+      motors_are = record {
+        bay = bay;
+        bay_in = sending.bay_in;
+        dor = ap dor_of over.controller_is ∙ (ap (λ dor. dor.0) holds.dor ∙ sending.dor);
+        first = over.first.motor ∙ (awaited.first.motor ∙ sending.first);
+        second = over.second.motor ∙ (awaited.second.motor ∙ sending.second);
+      };
+      low = over.low;
+      first = first;
+      second = second;
+    }

@@ -1,0 +1,343 @@
+-- The keys of a format, put into the driver's page.
+use Rattle.std.proofs.Common.{◌≡◌, ◌≢◌, ◌⊎◌, inl, inr, ℕ, zero, suc, ◌+◌, ◌*◌, ◌<◌, ◌≤◌, true, false, List, [], ◌∷◌, length, take, drop, map, get_or, slice_index, nat_lt, min, Option, Some, None, Result, Ok, Err, if◌then◌else◌, refl, sym, ◌∙◌, ap, subst, arith}
+use Rattle.std.specs.Prelude.{slice_set, MatchOption, IfErr}
+use Rattle.std.specs.List.{flat_map, range_with_len}
+use Rattle.std.proofs.lemmas.Bool.{cases_lt}
+use Rattle.std.proofs.lemmas.Bool.Decides.{nat_tests}
+use Rattle.std.proofs.lemmas.List.{ext_get_or, get_or-set_other, get_or-set_same, get_or-take, length-set, length-take}
+use Rattle.std.proofs.lemmas.List.Concat.{flat_map-cons}
+use Rattle.std.proofs.lemmas.List.FromFn.{length-map-range_with_len}
+use Rattle.bay_model.specs.Memory.{user_bytes}
+use Rattle.flop_base.specs.Standard.{sectors_at, standard_code}
+use Rattle.flop_base.specs.declared.answers.Rate.{Rate}
+use Rattle.flop_base.specs.declared.answers.Rate.TheVariants.{R500, R250}
+use Rattle.machine_pace.specs.Holds.{counted}
+use Rattle.pc_bus.specs.Boards.{Board, controller_of, memory_of}
+use Rattle.pc_bus.specs.Handling.{byte_set}
+use Rattle.sector_map.specs.Layings.{Format}
+use Rattle.sector_map.specs.Standard.{key_of, track_keys}
+use Rattle.track_format.specs.Keys.{key_bytes}
+use Rattle.machine_commands.specs.WriteSent.{IsKeyAt, OnlyMemory, PutsByte, PutsKey, PutsKeys, keys_at}
+use Rattle.std.specs.Option.{option_map_or}
+use Rattle.bay_model.specs.Bays.{in_bay}
+use Rattle.drive_model.specs.Drive.{DriveState, InRange}
+use Rattle.fdc_core.specs.State.{data_commands_of, dor_of}
+use Rattle.fdc_core.specs.declared.controller.Fdc.{Fdc}
+use Rattle.flop_base.specs.declared.answers.Code.{Code}
+use Rattle.machine_pace.specs.Holds.{Holds}
+use Rattle.pc_bus.specs.Boards.{holds_of}
+use Rattle.raw_image.specs.Disk.{Disk}
+use Rattle.sector_map.specs.Layings.{Laying}
+use Rattle.single_commands.specs.Rigs.{Rig}
+use Rattle.single_commands.specs.Writing.{FormatsTrack, HasTrackUnder, IsFormatMiss, LaysMedium}
+use Rattle.machine_commands.specs.Ready.{IsIdle, IsReady}
+use Rattle.machine_commands.specs.Sending.{Sends}
+use Rattle.machine_commands.specs.Shown.{counts_of, is_spun, page_part, rig_of, stalls_left, user_part}
+use Rattle.machine_commands.specs.WriteSent.{SendsFormatBytes, told_of}
+use Rattle.machine_commands.specs.declared.motors.Motors.{Motors}
+use Rattle.machine_commands.specs.declared.results.Done.{Done}
+use Rattle.machine_commands.proofs.FormatDone.{FormatLaws, HasKeys, format_done}
+
+-- ---- one byte
+
+not_user : (address : ℕ) → keys_at ≤ address → nat_lt address user_bytes ≡ false
+not_user address high = grind (arith, nat_tests)
+
+pub puts_byte : (address value : ℕ) (old new : Board) → keys_at ≤ address → new ≡ record old { bus = byte_set address value old.bus } → PutsByte address value old new
+puts_byte address value old new high is = record {
+  only = record {
+    controller = ap controller_of is;
+    channel = ap (λ b. b.bus.chips.channel) is;
+    holding = ap (λ b. b.bus.chips.holding) is;
+    latch = ap (λ b. b.bus.latch) is;
+    direct = ap (λ b. b.bus.direct) is ∙ ap (λ b. if b then counted old.bus.direct else old.bus.direct) (not_user address high);
+    taken = ap (λ b. b.bus.taken) is;
+    first = ap (λ b. b.first) is;
+    second = ap (λ b. b.second) is;
+  };
+  memory = ap memory_of is;
+}
+
+only_then : (a b c : Board) → OnlyMemory a b → OnlyMemory b c → OnlyMemory a c
+only_then a b c one two = record {
+  controller = two.controller ∙ one.controller;
+  channel = two.channel ∙ one.channel;
+  holding = two.holding ∙ one.holding;
+  latch = two.latch ∙ one.latch;
+  direct = two.direct ∙ one.direct;
+  taken = two.taken ∙ one.taken;
+  first = two.first ∙ one.first;
+  second = two.second ∙ one.second;
+}
+
+only_none : (board : Board) → OnlyMemory board board
+only_none board = record { controller = refl; channel = refl; holding = refl; latch = refl; direct = refl; taken = refl; first = refl; second = refl }
+
+-- ---- memory with a byte
+
+set_here : (memory : List ℕ) (a v : ℕ) → a < length memory → slice_index (slice_set memory a v) a ≡ v
+set_here memory a v inside = get_or-set_same memory a v 0 inside
+
+set_there : (memory : List ℕ) (a v k : ℕ) → k ≢ a → slice_index (slice_set memory a v) k ≡ slice_index memory k
+set_there memory a v k other = get_or-set_other memory a k v 0 other
+
+-- ---- one key
+
+pub puts_key : (address c h r : ℕ) (old one two three new : Board) → address + 4 ≤ length (memory_of old) → PutsByte address c old one → PutsByte (address + 1) h one two → PutsByte (address + 2) r two three
+    → PutsByte (address + 3) standard_code three new → PutsKey address c h r old new
+puts_key address c h r old one two three new inside first second third fourth =
+    let m = memory_of old in
+    let m1 = slice_set m address c in
+    let m2 = slice_set m1 (address + 1) h in
+    let m3 = slice_set m2 (address + 2) r in
+    let m4 = slice_set m3 (address + 3) standard_code in
+    let at : memory_of new ≡ m4 = fourth.memory ∙ ap (λ n. slice_set n (address + 3) standard_code) (third.memory ∙ ap (λ n. slice_set n (address + 2) r) (second.memory ∙ ap (λ n. slice_set n (address + 1) h) first.memory)) in
+    let l1 = length-set m address c in
+    let l2 = length-set m1 (address + 1) h in
+    let l3 = length-set m2 (address + 2) r in
+    let l4 = length-set m3 (address + 3) standard_code in
+    let byte = λ (k : ℕ). ap (λ n. slice_index n k) at in
+    record {
+      only = only_then old three new (only_then old two three (only_then old one two first.only second.only) third.only) fourth.only;
+      size = ap length at ∙ (l4 ∙ (l3 ∙ (l2 ∙ l1)));
+      key = record {
+        first = byte address ∙ (set_there m3 (address + 3) standard_code address (λ e. omega (arith, e)) ∙ (set_there m2 (address + 2) r address (λ e. omega (arith, e))
+            ∙ (set_there m1 (address + 1) h address (λ e. omega (arith, e)) ∙ set_here m address c (omega arith))));
+        second = byte (address + 1) ∙ (set_there m3 (address + 3) standard_code (address + 1) (λ e. omega (arith, e)) ∙ (set_there m2 (address + 2) r (address + 1) (λ e. omega (arith, e))
+            ∙ set_here m1 (address + 1) h (omega arith)));
+        third = byte (address + 2) ∙ (set_there m3 (address + 3) standard_code (address + 2) (λ e. omega (arith, e)) ∙ set_here m2 (address + 2) r (omega arith));
+        fourth = byte (address + 3) ∙ set_here m3 (address + 3) standard_code (omega arith);
+      };
+      others = λ k beside. byte k ∙ (set_there m3 (address + 3) standard_code k (away k beside 3 (omega arith)) ∙ (set_there m2 (address + 2) r k (away k beside 2 (omega arith))
+          ∙ (set_there m1 (address + 1) h k (away k beside 1 (omega arith)) ∙ set_there m address c k (at_start k beside))));
+    }
+  where
+    away : (k : ℕ) → ((k < address) ⊎ (address + 4 ≤ k)) → (i : ℕ) → i ≤ 3 → k ≢ address + i
+    away k (inl below) i small e = omega (arith, e)
+    away k (inr above) i small e = omega (arith, e)
+
+    at_start : (k : ℕ) → ((k < address) ⊎ (address + 4 ≤ k)) → k ≢ address
+    at_start k (inl below) e = omega (arith, e)
+    at_start k (inr above) e = omega (arith, e)
+
+-- ---- one key more
+
+pub no_keys : (c h : ℕ) (board : Board) → PutsKeys c h 0 board board
+no_keys c h board = record { only = only_none board; size = refl; below = λ k low. refl; keys = λ k few. absurd (omega arith) }
+
+key_stays : (memory new : List ℕ) (a b c h r : ℕ) → a + 4 ≤ b → ((k : ℕ) → ((k < b) ⊎ (b + 4 ≤ k)) → slice_index new k ≡ slice_index memory k) → IsKeyAt memory a c h r → IsKeyAt new a c h r
+key_stays memory new a b c h r before same was = record {
+  first = same a (inl (omega arith)) ∙ was.first;
+  second = same (a + 1) (inl (omega arith)) ∙ was.second;
+  third = same (a + 2) (inl (omega arith)) ∙ was.third;
+  fourth = same (a + 3) (inl (omega arith)) ∙ was.fourth;
+}
+
+pub one_key_more : (c h many : ℕ) (old between new : Board) → PutsKeys c h many old between → PutsKey (keys_at + many * 4) c h (many + 1) between new → PutsKeys c h (many + 1) old new
+one_key_more c h many old between new was puts = record {
+  only = only_then old between new was.only puts.only;
+  size = puts.size ∙ was.size;
+  below = λ k low. puts.others k (inl (omega arith)) ∙ was.below k low;
+  keys = λ k few. elim (cases_lt k many) [
+    | inl less ↦ key_stays (memory_of between) (memory_of new) (keys_at + k * 4) (keys_at + many * 4) c h (k + 1) (omega arith) puts.others (was.keys k less)
+    | inr last ↦ let same : many ≡ k = omega arith in subst (λ n. IsKeyAt (memory_of new) (keys_at + n * 4) c h (n + 1)) same puts.key
+  ];
+}
+
+-- ---- all of them, as a list
+
+drop_one : (memory : List ℕ) (a : ℕ) → a < length memory → drop a memory ≡ slice_index memory a ∷ drop (a + 1) memory
+drop_one [] a none = absurd (omega arith)
+drop_one (first ∷ rest) zero inside = refl
+drop_one (first ∷ rest) (suc a) inside = let next : suc a + 1 ≡ suc (a + 1) = omega arith in drop_one rest a (omega arith) ∙ ap (λ n. get_or rest a 0 ∷ drop n (first ∷ rest)) (sym next)
+
+four_dropped : (memory : List ℕ) (a c h r : ℕ) → a + 4 ≤ length memory → IsKeyAt memory a c h r → drop a memory ≡ c ∷ h ∷ r ∷ standard_code ∷ drop (a + 4) memory
+four_dropped memory a c h r inside key =
+    let one = drop_one memory a (omega arith) in
+    let two = drop_one memory (a + 1) (omega arith) in
+    let three = drop_one memory (a + 2) (omega arith) in
+    let four = drop_one memory (a + 3) (omega arith) in
+    let e2 : a + 1 + 1 ≡ a + 2 = omega arith in
+    let e3 : a + 2 + 1 ≡ a + 3 = omega arith in
+    let e4 : a + 3 + 1 ≡ a + 4 = omega arith in
+    one ∙ (ap (λ b. b ∷ drop (a + 1) memory) key.first
+    ∙ (ap (λ l. c ∷ l) (two ∙ (ap (λ b. b ∷ drop (a + 1 + 1) memory) key.second ∙ ap (λ n. h ∷ drop n memory) e2))
+    ∙ (ap (λ l. c ∷ h ∷ l) (three ∙ (ap (λ b. b ∷ drop (a + 2 + 1) memory) key.third ∙ ap (λ n. r ∷ drop n memory) e3))
+    ∙ ap (λ l. c ∷ h ∷ r ∷ l) (four ∙ (ap (λ b. b ∷ drop (a + 3 + 1) memory) key.fourth ∙ ap (λ n. standard_code ∷ drop n memory) e4)))))
+
+keys_from : (n r a c h : ℕ) (memory : List ℕ) → a + n * 4 ≤ length memory → ((k : ℕ) → k < n → IsKeyAt memory (a + k * 4) c h (r + k))
+    → flat_map key_bytes (map (key_of c h) (range_with_len r n)) ≡ take (4 * n) (drop a memory)
+keys_from zero r a c h memory inside keys = refl
+keys_from (suc n) r a c h memory inside keys =
+    let first : IsKeyAt memory a c h r = subst (λ p. IsKeyAt memory p c h r) (at_zero a) (subst (λ q. IsKeyAt memory (a + 0 * 4) c h q) (plus_zero r) (keys 0 (omega arith))) in
+    let rest = keys_from n (r + 1) (a + 4) c h memory (omega arith)
+    (λ k few. subst (λ p. IsKeyAt memory p c h (r + 1 + k)) (next_place a k) (subst (λ q. IsKeyAt memory (a + (k + 1) * 4) c h q) (next_record r k) (keys (k + 1) (omega arith)))) in
+    let four : 4 * suc n ≡ suc (suc (suc (suc (4 * n)))) = omega arith in
+    flat_map-cons key_bytes (key_of c h r) (map (key_of c h) (range_with_len (r + 1) n))
+    ∙ (ap (λ l. c ∷ h ∷ r ∷ standard_code ∷ l) rest
+    ∙ (ap (λ l. take (suc (suc (suc (suc (4 * n))))) l) (sym (four_dropped memory a c h r (omega arith) first)) ∙ ap (λ m. take m (drop a memory)) (sym four)))
+  where
+    at_zero : (a : ℕ) → a + 0 * 4 ≡ a
+    at_zero a = omega arith
+
+    plus_zero : (r : ℕ) → r + 0 ≡ r
+    plus_zero r = omega arith
+
+    next_place : (a k : ℕ) → a + (k + 1) * 4 ≡ a + 4 + k * 4
+    next_place a k = omega arith
+
+    next_record : (r k : ℕ) → r + (k + 1) ≡ r + 1 + k
+    next_record r k = omega arith
+
+pub keys_stand : (asked : Format) (old new : Board) → length (memory_of old) ≡ 1048576 → sectors_at asked.rate ≤ 18 → PutsKeys asked.c asked.h (sectors_at asked.rate) old new → HasKeys asked new
+unfolding track_keys
+keys_stand asked old new bytes few puts = record {
+  many = length-map-range_with_len (key_of asked.c asked.h) 1 (sectors_at asked.rate);
+  bytes = keys_from (sectors_at asked.rate) 1 keys_at asked.c asked.h (memory_of new) (let same = puts.size in omega arith)
+      (λ k less. let key = puts.keys k less in subst (λ r. IsKeyAt (memory_of new) (keys_at + k * 4) asked.c asked.h r) (one_more k) key);
+}
+  where
+    one_more : (k : ℕ) → k + 1 ≡ 1 + k
+    one_more k = omega arith
+
+-- ---- the driver's view
+
+pub idle_kept : (motors : Motors) (old new : Board) → OnlyMemory old new → IsIdle motors old → IsIdle motors new
+idle_kept motors old new only was = record {
+  ready = subst IsReady (sym only.controller) was.ready;
+  motors_are = record {
+    bay = was.motors_are.bay;
+    bay_in = was.motors_are.bay_in;
+    dor = ap dor_of only.controller ∙ was.motors_are.dor;
+    first = ap (λ d. d.motor) only.first ∙ was.motors_are.first;
+    second = ap (λ d. d.motor) only.second ∙ was.motors_are.second;
+  };
+  low = ap (λ l. l.level) only.latch ∙ was.low;
+  first = subst InRange (sym only.first) was.first;
+  second = subst InRange (sym only.second) was.second;
+}
+
+-- what is shown of these parts of a board
+rig_from : DriveState → DriveState → Fdc → Holds → ℕ → ℕ → List ℕ → List ℕ → Rig
+rig_from first second fdc holds taken direct memory page = record {
+  media = record { first = first.medium; second = second.medium };
+  cylinders = record { first = first.cylinder; second = second.cylinder };
+  numbers = record { first = slice_index fdc.seeks.cylinders 0; second = slice_index fdc.seeks.cylinders 1 };
+  changes = record { first = first.change; second = second.change };
+  spun = record { first = is_spun first; second = is_spun second };
+  memory = memory;
+  page = page;
+  counters = record {
+    drives = record { first = counts_of first; second = counts_of second };
+    spares = [];
+    stalls = holds.stalls;
+    stalls_left = stalls_left holds.entries;
+    data_commands = data_commands_of fdc;
+    taken = taken;
+    direct = direct;
+  };
+}
+
+pub rig_kept : (old new : Board) → OnlyMemory old new → user_part (memory_of new) ≡ user_part (memory_of old) → rig_of new ≡ record (rig_of old) { page = page_part (memory_of new) }
+unfolding rig_from
+rig_kept old new only same =
+    let page = page_part (memory_of new) in
+    ap (λ d. rig_from d new.second (controller_of new) (holds_of new) new.bus.taken new.bus.direct (user_part (memory_of new)) page) only.first
+    ∙ (ap (λ d. rig_from old.first d (controller_of new) (holds_of new) new.bus.taken new.bus.direct (user_part (memory_of new)) page) only.second
+    ∙ (ap (λ c. rig_from old.first old.second c (holds_of new) new.bus.taken new.bus.direct (user_part (memory_of new)) page) only.controller
+    ∙ (ap (λ h. rig_from old.first old.second (controller_of old) h new.bus.taken new.bus.direct (user_part (memory_of new)) page) only.holding
+    ∙ (ap (λ n. rig_from old.first old.second (controller_of old) (holds_of old) n new.bus.direct (user_part (memory_of new)) page) only.taken
+    ∙ (ap (λ n. rig_from old.first old.second (controller_of old) (holds_of old) old.bus.taken n (user_part (memory_of new)) page) only.direct
+    ∙ ap (λ m. rig_from old.first old.second (controller_of old) (holds_of old) old.bus.taken old.bus.direct m page) same)))))
+
+user_same : (old new : List ℕ) → length new ≡ length old → ((k : ℕ) → k < user_bytes → slice_index new k ≡ slice_index old k) → user_part new ≡ user_part old
+unfolding user_part
+user_same old new size below = ext_get_or 0 (take user_bytes new) (take user_bytes old) lengths each
+  where
+    lengths : length (take user_bytes new) ≡ length (take user_bytes old)
+    lengths = length-take user_bytes new ∙ (ap (λ n. min user_bytes n) size ∙ sym (length-take user_bytes old))
+
+    each : (k : ℕ) → k < length (take user_bytes new) → get_or (take user_bytes new) k 0 ≡ get_or (take user_bytes old) k 0
+    each k inside =
+        let few = length-take user_bytes new in
+        let low : k < user_bytes = omega arith in
+        get_or-take user_bytes new k 0 low ∙ (below k low ∙ sym (get_or-take user_bytes old k 0 low))
+
+-- ---- a format whatever the page was
+
+under_page : (r : Rig) (page : List ℕ) (bay : ℕ) (asked : Format) (disk : Disk) → HasTrackUnder r bay asked disk → HasTrackUnder (record r { page = page }) bay asked disk
+under_page r page bay asked disk under = record { medium = under.medium; track = under.track; same_rate = under.same_rate }
+
+lays_page : (r : Rig) (page : List ℕ) (bay : ℕ) (asked : Format) (laying : Option Laying) (new : Rig)
+    → MatchOption laying (new.media ≡ r.media) (λ one. LaysMedium (record r { page = page }) bay asked one new) → MatchOption laying (new.media ≡ r.media) (λ one. LaysMedium r bay asked one new)
+lays_page r page bay asked None new same = same
+lays_page r page bay asked (Some one) new lays = record { before = lays.before; after = lays.after; was = lays.was; is = lays.is; same_rate = lays.same_rate; here = lays.here; makes = lays.makes }
+
+miss_page : (r : Rig) (page : List ℕ) (bay : ℕ) (asked : Format) (told : Result (Unit {0}) Code) (new : Rig)
+    → IfErr told (λ code. IsFormatMiss (record r { page = page }) bay asked code new) → IfErr told (λ code. IsFormatMiss r bay asked code new)
+miss_page r page bay asked (Ok done) new miss = tt
+miss_page r page bay asked (Err code) new miss = record {
+  coded = miss.coded;
+  reason = λ none. let (same, cannot) = miss.reason none in (same, λ (disk, under, fits). cannot (disk, under_page r page bay asked disk under, fits));
+  overrun = miss.overrun;
+}
+
+pub other_page : (r : Rig) (page : List ℕ) (bay : ℕ) (asked : Format) (laying : Option Laying) (told : Result (Unit {0}) Code) (new : Rig)
+    → FormatsTrack (record r { page = page }) bay asked laying told new → FormatsTrack r bay asked laying told new
+other_page r page bay asked laying told new formats = record {
+  sends = record {
+    heads = record { cylinders = formats.sends.heads.cylinders; numbers = formats.sends.heads.numbers; changes = formats.sends.heads.changes; spun = formats.sends.heads.spun };
+    other_medium = formats.sends.other_medium;
+    memory = formats.sends.memory;
+    counts = formats.sends.counts;
+    driven = formats.sends.driven;
+    command = formats.sends.command;
+  };
+  does = lays_page r page bay asked laying new formats.does;
+  turn = λ none disk under. formats.turn none disk (under_page r page bay asked disk under);
+  fits = λ ok none disk under. formats.fits ok none disk (under_page r page bay asked disk under);
+  refused = miss_page r page bay asked told new formats.refused;
+}
+
+-- ---- the whole of it
+
+-- what is shown of a format
+pub record HasFormatted (motors : Motors) (bay : ℕ) (asked : Format) (outcome : Result Done Code) (old new : Board) : Type 0 where
+  pub idle : IsIdle motors new
+  pub laying : Option Laying
+  pub formats : FormatsTrack (rig_of old) bay asked laying (told_of outcome) (rig_of new)
+
+pub format_whole : FormatLaws → (motors : Motors) (bay : ℕ) (asked : Format) (outcome : Result Done Code) (old put new : Board) → IsIdle motors old → bay ≤ 1 → asked.h ≤ 1
+    → in_bay (rig_of old).spun bay ≡ true → option_map_or (λ disk. disk.protected) (in_bay (rig_of old).media bay) false ≡ false → length (memory_of old) ≡ 1048576
+    → sectors_at asked.rate ≤ 18 → PutsKeys asked.c asked.h (sectors_at asked.rate) old put → SendsFormatBytes motors bay asked outcome put new → InRange new.first → InRange new.second
+    → HasFormatted motors bay asked outcome old new
+format_whole laws motors bay asked outcome old put new idle small low spun free bytes few puts sends first second =
+    let same = user_same (memory_of old) (memory_of put) puts.size (λ k below. puts.below k (omega arith)) in
+    let rig = rig_kept old put puts.only same in
+    let is = format_done laws motors bay asked outcome put new (idle_kept motors old put puts.only idle) small low (ap (λ r. in_bay r.spun bay) rig ∙ spun)
+    (ap (λ r. option_map_or (λ disk. disk.protected) (in_bay r.media bay) false) rig ∙ free) (puts.size ∙ bytes) (keys_stand asked old put bytes few puts) sends first second in
+    record {
+      idle = is.idle;
+      laying = is.laying;
+      formats = other_page (rig_of old) (page_part (memory_of put)) bay asked is.laying (told_of outcome) (rig_of new)
+          (subst (λ r. FormatsTrack r bay asked is.laying (told_of outcome) (rig_of new)) rig is.formats);
+    }
+
+-- ---- for the code
+
+pub keys_next : (c h many : ℕ) (old between new : Board) → PutsKeys c h many old between → PutsKey (keys_at + many * 4) c h (many + 1) between new → PutsKeys c h (many + 1) old new
+keys_next c h many old between new was puts = one_key_more c h many old between new was puts
+
+pub keys_as : (c h many other : ℕ) (old new : Board) → many ≡ other → PutsKeys c h many old new → PutsKeys c h other old new
+keys_as c h many other old new same keys = subst (λ n. PutsKeys c h n old new) same keys
+
+pub few_at : (rate : Rate) → sectors_at rate ≤ 18
+few_at R500 = omega arith
+few_at R250 = omega arith
+
+pub format_as : (bay h sectors other gap3 fill : ℕ) (old new : Board) → sectors ≡ other → Sends (0x4D ∷ (h * 4 + bay) ∷ standard_code ∷ sectors ∷ gap3 ∷ fill ∷ []) old new
+    → Sends (0x4D ∷ (h * 4 + bay) ∷ standard_code ∷ other ∷ gap3 ∷ fill ∷ []) old new
+format_as bay h sectors other gap3 fill old new same sends = subst (λ n. Sends (0x4D ∷ (h * 4 + bay) ∷ standard_code ∷ n ∷ gap3 ∷ fill ∷ []) old new) same sends
+
+pub track_as : (a b : Motors) (bay : ℕ) (asked : Format) (outcome : Result Done Code) (old new : Board) → a ≡ b → SendsFormatBytes a bay asked outcome old new → SendsFormatBytes b bay asked outcome old new
+track_as a b bay asked outcome old new same sends = subst (λ m. SendsFormatBytes m bay asked outcome old new) same sends

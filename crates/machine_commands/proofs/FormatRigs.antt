@@ -1,0 +1,211 @@
+-- A FORMAT TRACK as its driver sees it.
+use Rattle.std.proofs.Common.{◌≡◌, ◌⊎◌, inl, inr, ℕ, ◌<◌, ◌≤◌, true, false, List, Option, Some, None, Result, Ok, Err, refl, sym, ◌∙◌, ap, subst, arith}
+use Rattle.std.specs.Prelude.{IsOk, IfErr, MatchOption}
+use Rattle.std.proofs.lemmas.Bool.{false≢true, cases_lt}
+use Rattle.flop_base.specs.Counts.{RoseBy}
+use Rattle.flop_base.specs.Standard.{standard_code}
+use Rattle.flop_base.specs.declared.answers.Code.{Code}
+use Rattle.flop_base.specs.declared.answers.Code.TheVariants as code
+use Rattle.flop_base.specs.declared.key.Chrn.{Chrn}
+use Rattle.bay_model.specs.Bays.{in_bay}
+use Rattle.bay_model.specs.Counters.{IsFaultless, IsUndisturbed}
+use Rattle.raw_image.specs.Disk.{Disk, HasTrack}
+use Rattle.sector_map.specs.Layings.{Format, IsLaying, Laying, format_keys}
+use Rattle.sector_map.proofs.MetTracks.{same_rates}
+use Rattle.track_model.specs.Layouts.{Fits}
+use Rattle.track_written.specs.Written.{IsCalm}
+use Rattle.fdc_core.specs.Rates.{rate_fits}
+use Rattle.fdc_stages.specs.declared.ending.Ending.{Ending}
+use Rattle.fdc_stages.specs.declared.ending.Ending.TheVariants as ending
+use Rattle.fdc_writing.specs.Formats.{Numbers}
+use Rattle.machine_formats.specs.Results.{EndsAs, FitsOn, HasLaying, LaysTo, LaysTurn}
+use Rattle.machine_formats.specs.Underway.{IsThere}
+use Rattle.machine_holds.specs.Timely.{Stalled}
+use Rattle.machine_reads.specs.Begins.{IsDriveOf}
+use Rattle.machine_reads.specs.Scenes.{Scene, data_rate, head_sent}
+use Rattle.machine_writes.specs.Results.{IsUnchanged}
+use Rattle.pc_bus.specs.Boards.{Board, drive_in, memory_of}
+use Rattle.single_commands.specs.Writing.{FormatsTrack, HasTrackUnder, IsFormatMiss, LaysMedium}
+use Rattle.machine_commands.specs.Shown.{counters_of, rig_of}
+use Rattle.machine_commands.proofs.WriteCourses.{IsCourse, course_calm, course_faultless, course_sends, course_stalled, course_unstalled, cylinder_before, medium_after, medium_before}
+use Rattle.machine_commands.proofs.WriteRigs.{ending_answer, fits_same, rate_is, two_bays}
+
+-- a FORMAT in a scene that stands on a board
+pub record IsFormatOn (scene : Scene) (numbers : Numbers) (keys : List Chrn) (format : Format) (start : Board) : Type 0 where
+  pub drive : IsDriveOf scene (drive_in start scene.bay)
+  pub head : head_sent scene.sent ≡ format.h
+  pub rate_at : scene.rate ≡ data_rate format.rate
+  pub keys_are : keys ≡ format_keys format
+  pub code_is : numbers.n ≡ standard_code
+  pub gap_is : numbers.gap3 ≡ format.gap3
+  pub unprotected : scene.disk.protected ≡ false
+
+-- whether the track is there
+is_there : (scene : Scene) → IsThere scene ⊎ (IsThere scene → ⊥)
+is_there scene = elim (cases_lt scene.cylinder scene.disk.cylinders) [
+  | inl low ↦ elim (cases_lt (head_sent scene.sent) scene.disk.heads) [
+    | inl under ↦ inl (low, under)
+    | inr high ↦ inr (λ there. not_both _ _ there.1 high)
+  ]
+  | inr high ↦ inr (λ there. not_both _ _ there.0 high)
+]
+  where
+    not_both : (a b : ℕ) → a < b → b ≤ a → ⊥
+    not_both a b below above = omega arith
+
+some_same : (a b : Disk) (medium : Option Disk) → medium ≡ Some a → medium ≡ Some b → b ≡ a
+some_same a b medium one two = cc
+
+module _ (scene : Scene) (numbers : Numbers) (keys : List Chrn) (format : Format) (old start now new : Board) (course : IsCourse scene.bay old start now new)
+    (on : IsFormatOn scene numbers keys format start) (same : memory_of now ≡ memory_of start)
+    (lays : (laying : Laying) (after : Disk) → LaysTo scene numbers keys laying after → IsLaying format scene.disk laying after) where
+  calm : IsFaultless scene.bay (counters_of old) (counters_of new) → IsCalm scene.faults (drive_in now scene.bay).faults
+  calm none = subst (λ n. IsCalm n (drive_in now scene.bay).faults) on.drive.faults (course_calm scene.bay old start now new course none)
+
+  was : in_bay (rig_of old).media scene.bay ≡ Some scene.disk
+  was = medium_before scene.bay old start now new course ∙ on.drive.medium
+
+  at_cylinder : in_bay (rig_of old).cylinders scene.bay ≡ scene.cylinder
+  at_cylinder = cylinder_before scene.bay old start now new course ∙ on.drive.cylinder
+
+  unchanged : IsUnchanged scene (drive_in now scene.bay) → (rig_of new).media ≡ (rig_of old).media
+  unchanged is = two_bays scene.bay (rig_of new).media (rig_of old).media course.small (medium_after scene.bay old start now new course ∙ (is ∙ sym was))
+      (course_sends scene.bay old start now new course same).other_medium
+
+  laid : (has : HasLaying scene numbers keys (drive_in now scene.bay)) → LaysMedium (rig_of old) scene.bay format has.laying (rig_of new)
+  laid has = record {
+    before = scene.disk;
+    after = has.after;
+    was = was;
+    is = medium_after scene.bay old start now new course ∙ has.medium;
+    same_rate = rate_is scene format.rate on.rate_at has.lays.rate;
+    here = has.lays.cylinder ∙ sym at_cylinder;
+    makes = lays has.laying has.after has.lays;
+  }
+
+  -- the disk that a driver sees under the head is the scene's, and has the track
+  the_disk : (disk : Disk) → HasTrackUnder (rig_of old) scene.bay format disk → disk ≡ scene.disk
+  the_disk disk under = some_same scene.disk disk (in_bay (rig_of old).media scene.bay) was under.medium
+
+  there_under : (disk : Disk) → HasTrackUnder (rig_of old) scene.bay format disk → IsThere scene
+  there_under disk under =
+      subst (λ d. HasTrack d scene.cylinder (head_sent scene.sent)) (the_disk disk under)
+      (subst (λ h. HasTrack disk scene.cylinder h) (sym on.head) (subst (λ c. HasTrack disk c format.h) at_cylinder under.track))
+
+  fits_under : (disk : Disk) → HasTrackUnder (rig_of old) scene.bay format disk → FitsOn scene numbers keys → Fits (format_keys format) standard_code format.gap3 disk.words_per_track
+  fits_under disk under fits =
+      subst (λ d. Fits (format_keys format) standard_code format.gap3 d.words_per_track) (sym (the_disk disk under))
+      (subst (λ k. Fits k standard_code format.gap3 scene.disk.words_per_track) on.keys_are
+      (subst (λ n. Fits keys n format.gap3 scene.disk.words_per_track) on.code_is (subst (λ g. Fits keys numbers.n g scene.disk.words_per_track) on.gap_is fits)))
+
+  fits_back : (disk : Disk) → HasTrackUnder (rig_of old) scene.bay format disk → Fits (format_keys format) standard_code format.gap3 disk.words_per_track → FitsOn scene numbers keys
+  fits_back disk under fits =
+      subst (λ g. Fits keys numbers.n g scene.disk.words_per_track) (sym on.gap_is)
+      (subst (λ n. Fits keys n format.gap3 scene.disk.words_per_track) (sym on.code_is)
+      (subst (λ k. Fits k standard_code format.gap3 scene.disk.words_per_track) (sym on.keys_are)
+      (subst (λ d. Fits (format_keys format) standard_code format.gap3 d.words_per_track) (the_disk disk under) fits)))
+
+  -- it has the rate of the format
+  rate_under : (disk : Disk) → HasTrackUnder (rig_of old) scene.bay format disk → rate_fits scene.rate scene.disk.rate ≡ true
+  rate_under disk under =
+      ap (λ r. rate_fits r scene.disk.rate) on.rate_at
+      ∙ (fits_same format.rate scene.disk.rate ∙ same_rates scene.disk.rate format.rate (sym (ap (λ d. d.rate) (the_disk disk under)) ∙ under.same_rate))
+
+  -- what is shown of the media with the answer
+  pub record ShowsFormat (laying : Option Laying) (answer : Result (Unit {0}) Code) : Type 0 where
+    pub does : MatchOption laying ((rig_of new).media ≡ (rig_of old).media) (λ one. LaysMedium (rig_of old) scene.bay format one (rig_of new))
+    pub turn : (IsUndisturbed scene.bay (counters_of old) (counters_of new) ⊎ (IsOk answer × IsFaultless scene.bay (counters_of old) (counters_of new)))
+        → (disk : Disk) → HasTrackUnder (rig_of old) scene.bay format disk → MatchOption laying ⊥ (λ one. one.words ≡ disk.words_per_track)
+    pub fits : IsOk answer → IsFaultless scene.bay (counters_of old) (counters_of new) → (disk : Disk) → HasTrackUnder (rig_of old) scene.bay format disk
+        → Fits (format_keys format) standard_code format.gap3 disk.words_per_track
+    pub refused : IfErr answer (λ code. IsFormatMiss (rig_of old) scene.bay format code (rig_of new))
+
+  either_faultless : {P : Type 0} → (IsUndisturbed scene.bay (counters_of old) (counters_of new) ⊎ (P × IsFaultless scene.bay (counters_of old) (counters_of new)))
+      → IsFaultless scene.bay (counters_of old) (counters_of new)
+  either_faultless (inl none) = course_faultless scene.bay old start now new course none
+  either_faultless (inr (ok, none)) = none
+
+  -- behind a whole turn, whatever the answer
+  turned : (answer : Result (Unit {0}) Code) → LaysTurn scene numbers keys (drive_in now scene.bay)
+      → (IsOk answer → FitsOn scene numbers keys) → IfErr answer (λ code. IsFormatMiss (rig_of old) scene.bay format code (rig_of new))
+      → (laying : Option Laying) × ShowsFormat laying answer
+  turned answer turn fits refused = elim (is_there scene) [
+    | inl there ↦ let whole = turn.there there in (
+      Some whole.has.laying,
+      record {
+        does = laid whole.has;
+        turn = λ none disk under. whole.whole (calm (either_faultless none)) ∙ sym (ap (λ d. d.words_per_track) (the_disk disk under));
+        fits = λ ok none disk under. fits_under disk under (fits ok);
+        refused = refused;
+      },
+    )
+    | inr absent ↦ (
+      None,
+      record {
+        does = unchanged (turn.absent absent);
+        turn = λ none disk under. absurd (absent (there_under disk under));
+        fits = λ ok none disk under. fits_under disk under (fits ok);
+        refused = refused;
+      },
+    )
+  ]
+
+  -- the medium has another rate, so that no track of it can be formatted
+  other_rate : rate_fits scene.rate scene.disk.rate ≡ false → (disk : Disk) → HasTrackUnder (rig_of old) scene.bay format disk → ⊥
+  other_rate other disk under = false≢true (sym other ∙ rate_under disk under)
+
+  none_overrun : (reason : Code) → (reason ≡ code.Overrun → ⊥) → reason ≡ code.Overrun → RoseBy 1 (counters_of old).stalls (counters_of new).stalls
+  none_overrun reason other is = absurd (other is)
+
+  -- the ways it ends
+  shows_as : (over : Ending) → EndsAs scene numbers keys (drive_in now scene.bay) over → (over ≡ ending.Overrun → Stalled start now) → (laying : Option Laying) × ShowsFormat laying (ending_answer over)
+  shows_as (ending.Done marked) (turn, fits) stalls = turned (Ok tt) turn (λ ok. fits) tt
+  shows_as ending.NoField (turn, out) stalls = turned (Err code.NoMark) turn (λ ok. absurd (false≢true ok)) (record {
+    coded = tt;
+    reason = λ none. (refl, λ (disk, under, fits). out (fits_back disk under fits));
+    overrun = none_overrun code.NoMark (λ e. absurd cc);
+  })
+  shows_as ending.NoMark (is, other) stalls = (
+    None,
+    record {
+      does = unchanged is;
+      turn = λ none disk under. absurd (other_rate other disk under);
+      fits = λ ok none disk under. absurd (false≢true ok);
+      refused = record {
+        coded = tt;
+        reason = λ none. (refl, λ (disk, under, fits). other_rate other disk under);
+        overrun = none_overrun code.NoMark (λ e. absurd cc);
+      };
+    },
+  )
+  shows_as ending.Overrun wrote stalls = by_way wrote
+    where
+      stalled : Stalled start now
+      stalled = stalls refl
+
+      missed : IsFormatMiss (rig_of old) scene.bay format code.Overrun (rig_of new)
+      missed = record {
+        coded = tt;
+        reason = λ undisturbed. absurd (course_unstalled scene.bay old start now new course undisturbed stalled);
+        overrun = λ same_code. course_stalled scene.bay old start now new course stalled;
+      }
+
+      not_calm : {T : Type 0} → (IsUndisturbed scene.bay (counters_of old) (counters_of new) ⊎ ((false ≡ true) × IsFaultless scene.bay (counters_of old) (counters_of new))) → T
+      not_calm (inl none) = absurd (course_unstalled scene.bay old start now new course none stalled)
+      not_calm (inr (ok, none)) = absurd (false≢true ok)
+
+      by_way : (IsUnchanged scene (drive_in now scene.bay) ⊎ HasLaying scene numbers keys (drive_in now scene.bay)) → (laying : Option Laying) × ShowsFormat laying (Err code.Overrun)
+      by_way (inl is) = (None, record { does = unchanged is; turn = λ none disk under. not_calm none; fits = λ ok none disk under. absurd (false≢true ok); refused = missed })
+      by_way (inr has) = (Some has.laying, record { does = laid has; turn = λ none disk under. not_calm none; fits = λ ok none disk under. absurd (false≢true ok); refused = missed })
+  shows_as ending.Protected (is, protected) stalls = absurd (false≢true (sym on.unprotected ∙ protected))
+  shows_as ending.NoSector none stalls = absurd none
+  shows_as ending.BadCheck none stalls = absurd none
+  shows_as ending.NoCount none stalls = absurd none
+  shows_as ending.Late none stalls = absurd none
+
+  -- what the driver is told, and what was laid
+  pub format_shown : (over : Ending) → EndsAs scene numbers keys (drive_in now scene.bay) over → (over ≡ ending.Overrun → Stalled start now)
+      → (laying : Option Laying) × FormatsTrack (rig_of old) scene.bay format laying (ending_answer over) (rig_of new)
+  format_shown over ends stalls =
+      let (laying, shows) = shows_as over ends stalls in
+      (laying, record { sends = course_sends scene.bay old start now new course same; does = shows.does; turn = shows.turn; fits = shows.fits; refused = shows.refused })

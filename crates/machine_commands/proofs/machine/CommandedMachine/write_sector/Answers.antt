@@ -1,0 +1,15 @@
+use Rattle.std.proofs.Common.{ap, ◌-◌}
+use Rattle.machine_commands.proofs.Awaiting.{channel_as}
+use Rattle.machine_commands.proofs.WriteDone.{code_as}
+use Rattle.machine_commands.proofs.machine.CommandedMachine.write_sector.Goals as goal
+
+pub returns-clause-sends : goal.returns-clause-sends
+returns-clause-sends g c = record {
+  ready = _;
+  prepares = c.prepare.ensures.prepares;
+  set = _;
+  sets = channel_as 0x4A c.args.address _ _ _ _ (ap (λ n. n - 1) c.sector_size.ensures.size) c.set_channel.ensures.sets;
+  sent = _;
+  sends = code_as c.args.bay c.args.key c.args.rate _ _ _ _ c.write_byte-command.ensures c.send_sector.ensures.sends;
+  finishes = c.finish.ensures.finishes;
+}
