@@ -7,7 +7,7 @@ use crate::state::{Seen, Separator, Stage};
 impl Separator {
     ghost use Rattle.track_separator.specs.Hunts.{SHunts, SFollows, SAddressed, Stands, SHuntSeen, GivesAll};
     ghost use Rattle.track_separator.specs.Waits.{SWaits, SReads, SWaitSeen, SReadSeen};
-    ghost use Rattle.track_separator.specs.Turns.{IsHunted, SWaitFed, SReadFed, SCut, SBegins, WantsIn, SFed, IsTold};
+    ghost use Rattle.track_separator.specs.Turns.{IsHunted, SWaitFed, SWaitCut, SReadFed, SReadCut, SCut, SBegins, WantsIn, SFed, IsTold};
     ghost use Rattle.track_separator.specs.Parts.{with_word, turn_after};
 
     /// A separator that hunts for address marks, at the beginning of a turn.
@@ -43,12 +43,32 @@ impl Separator {
         ensures any { (fed : List ℕ) → SFed self.old fed → SFed self.new (turn_after index fed word) }
         ensures told { (fed : List ℕ) → SFed self.old fed → IsTold (with_word fed word) result }
     {
-        let seen = self.take(word);
-        if !index {
-            return seen;
+        if index {
+            return self.feed_last(word);
         }
+        self.take(word)
+    }
+
+    /// Takes the last word of the turn.
+    #[inline(never)]
+    fn feed_last(&mut self, word: u16) -> Seen
+        ensures begins { SBegins self.new }
+        ensures hunts { (fed : List ℕ) → SHunts self.new fed }
+        ensures follows { SFollows self.new [] }
+        ensures any { (fed : List ℕ) → SFed self.new fed }
+        ensures stands { (fed : List ℕ) → SHunts self.old fed → Stands (with_word fed word) result }
+        ensures gives { (fed : List ℕ) → SFollows self.old fed → GivesAll (with_word fed word) result }
+        ensures waits { (fed : List ℕ) (p size : ℕ) → SWaits self.old fed p size
+            → SWaitCut (with_word fed word) p size result }
+        ensures reads { (fed : List ℕ) (p q : ℕ) (deleted : Bool) (size taken : ℕ)
+            → SReads self.old fed p q deleted size taken
+            → SReadCut (with_word fed word) p q deleted size taken result }
+        ensures cut { SCut self.old → result ≡ Seen.NoData }
+        ensures told { (fed : List ℕ) → SFed self.old fed → IsTold (with_word fed word) result }
+    {
+        let seen = self.take(word);
         let wanted = self.is_wanted();
-        *self = Separator::new();
+        self.hunt();
         if wanted { Seen::NoData } else { seen }
     }
 
@@ -80,6 +100,7 @@ impl Separator {
     }
 
     /// Takes one word, wherever the turn ends.
+    #[inline(always)]
     fn take(&mut self, word: u16) -> Seen
         ensures hunts { IsHunted self.old word self.new result }
         ensures waits { (fed : List ℕ) (p size : ℕ) → SWaits self.old fed p size
@@ -90,7 +111,8 @@ impl Separator {
         ensures cut { SCut self.old → (result ≡ Seen.NoData) × ((fed : List ℕ) → SHunts self.new fed) }
     {
         match self.stage {
-            Stage::Hunting | Stage::Addressed | Stage::Reading { .. } => self.hunt_word(word),
+            Stage::Hunting => self.hunt_on(word),
+            Stage::Addressed | Stage::Reading { .. } => self.hunt_word(word),
             Stage::Cut => {
                 self.hunt();
                 Seen::NoData
