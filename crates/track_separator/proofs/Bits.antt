@@ -55,6 +55,27 @@ byte_is cells back =
     ∙ bit_at-mod (cells / 2 ^ back) 16 (14 - 2 * i) split (omega arith)
     ∙ bit_at-div cells back (14 - 2 * i))
 
+-- the lowest 32 bits have the byte in the last word too
+pub last_byte_is : (cells back : ℕ) → back < 16 → byte_at (bit_and (bit_and cells 4294967295 / 2 ^ back) 65535 ∷ []) 0 ≡ register_byte cells back
+last_byte_is cells back h =
+    let recent = bit_and cells 4294967295 in
+    let shown : recent ≡ cells % 2 ^ 32 = and_mask cells 32 in
+    let one : recent / 2 ^ back / 2 ^ 16 * 2 ^ 16 + recent / 2 ^ back % 2 ^ 16 ≡ recent / 2 ^ back = omega arith in
+    let two : cells / 2 ^ 32 * 2 ^ 32 + cells % 2 ^ 32 ≡ cells = omega arith in
+    let three : cells / 2 ^ back / 2 ^ 16 * 2 ^ 16 + cells / 2 ^ back % 2 ^ 16 ≡ cells / 2 ^ back = omega arith in
+    let same : bit_and (recent / 2 ^ back) 65535 ≡ bit_and (cells / 2 ^ back) 65535 =
+    and_mask (recent / 2 ^ back) 16
+    ∙ same_from_bits_below 16 (recent / 2 ^ back % 2 ^ 16) (cells / 2 ^ back % 2 ^ 16) (omega arith) (omega arith)
+    (λ i l.
+    bit_at-mod (recent / 2 ^ back) 16 i one l
+    ∙ bit_at-div recent back i
+    ∙ ap (λ n. bit_at n (back + i)) shown
+    ∙ bit_at-mod cells 32 (back + i) two (omega arith)
+    ∙ sym (bit_at-div cells back i)
+    ∙ sym (bit_at-mod (cells / 2 ^ back) 16 i three l))
+    ∙ sym (and_mask (cells / 2 ^ back) 16) in
+    ap (λ word. byte_at (word ∷ []) 0) same ∙ byte_is cells back
+
 pub check_is : (cells back high low : ℕ) → high ≡ register_byte cells (back + 16) → low ≡ register_byte cells back → high < 2 ^ 8 → low < 2 ^ 8 → bit_or (high * 256 % 65536) low ≡ register_check cells back
 check_is cells back high low e f fits small =
     let whole : high * 256 % 65536 ≡ high * 2 ^ 8 = omega arith in

@@ -123,3 +123,12 @@ hunted_none cells back word after old next none idle = record {
   follows = λ fed was. idle_follows fed word (with_word fed word) (more_of fed word) cells back after old next none idle was;
   gives = λ fed was. idle_gives fed word (with_word fed word) (more_of fed word) cells back after old next none idle was;
 }
+
+not_reading : (m : ℕ) → Hunting ≡ Reading m → ⊥
+not_reading m e = cc
+
+-- a run of marks is hunted for still
+pub hunted_on : (cells back word after : ℕ) (old : Stage) → old ≡ Hunting → IsNext cells word after → ((b : ℕ) → b < 16 → HasRunBits after b → ⊥) → IsHuntedIn cells back old word after back old Nothing
+hunted_on cells back word after old is next none =
+    let Here : Stage → Type 0 = λ s. IsHuntedIn cells back s word after back s Nothing in
+    subst Here (sym is) (hunted_none cells back word after Hunting next none (λ m e some. not_reading m e))

@@ -1,7 +1,7 @@
 // The hunt for address marks and address fields.
 ghost use Rattle.std.specs.Prelude.{◌≡◌, ℕ, List};
 
-use crate::register::{byte_before, key_before, next_cells, run_end};
+use crate::register::{byte_before, ends_no_run, key_before, next_cells, run_end};
 use crate::state::{Seen, Separator, Stage};
 
 /// The byte of an address mark.
@@ -14,7 +14,22 @@ impl Separator {
     ghost use Rattle.track_separator.specs.Hunts.{IsAtByte, IsByteTaken};
     ghost use Rattle.track_separator.specs.Turns.{IsHunted};
 
+    /// Takes one word while a run of marks is hunted for.
+    #[inline(always)]
+    pub(crate) fn hunt_on(&mut self, word: u16) -> Seen
+        requires { self.old.stage ≡ Stage.Hunting }
+        ensures { IsHunted self.old word self.new result }
+    {
+        let cells = next_cells(self.cells, word);
+        if ends_no_run(cells) {
+            self.cells = cells;
+            return Seen::Nothing;
+        }
+        self.hunt_word(word)
+    }
+
     /// Takes one word while address marks are hunted for. A run that ends in it begins a field anew.
+    #[inline(never)]
     pub(crate) fn hunt_word(&mut self, word: u16) -> Seen
         ensures { IsHunted self.old word self.new result }
     {

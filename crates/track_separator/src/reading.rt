@@ -1,7 +1,7 @@
 // The bytes of a data field.
 ghost use Rattle.std.specs.Prelude.{◌≡◌, ◌≢◌, ◌≤◌, ◌↔◌, ℕ, List, Bool, true, false, IsTrue};
 
-use crate::register::{byte_before, check_before, shifted};
+use crate::register::{check_before, last_byte, shifted};
 use crate::state::{Seen, Separator, Stage};
 use track_check::crc_step;
 
@@ -25,6 +25,7 @@ impl Separator {
     ghost use Rattle.track_separator.specs.Waits.{IsReading, ReadSeenIn};
 
     /// Takes one word of a data field, after `taken` bytes behind its mark.
+    #[inline(always)]
     pub(crate) fn read_word(
         &mut self,
         word: u16,
@@ -38,18 +39,38 @@ impl Separator {
             → IsReading fed self.old.cells self.old.back p q deleted size taken check before
             → ReadSeenIn (with_word fed word) p q deleted size taken self.new.cells self.new.back self.new.stage result }
     {
+        if taken >= size {
+            return self.read_check(word, size, taken, check, before);
+        }
+        self.cells = shifted(self.cells, word);
+        let value = last_byte(self.cells, self.back);
+        self.stage = Stage::Content {
+            size,
+            taken: taken + 1,
+            check: crc_step(check, value),
+            touched: is_touched(before, word),
+        };
+        Seen::Byte { value }
+    }
+
+    /// Takes one word of the check, behind all bytes of the content.
+    #[inline(never)]
+    fn read_check(
+        &mut self,
+        word: u16,
+        size: u16,
+        taken: u16,
+        check: u16,
+        before: bool,
+    ) -> Seen
+        requires small { size ≤ 8192 }
+        requires over { size ≤ taken }
+        ensures { (fed : List ℕ) (p q : ℕ) (deleted : Bool)
+            → IsReading fed self.old.cells self.old.back p q deleted size taken check before
+            → ReadSeenIn (with_word fed word) p q deleted size taken self.new.cells self.new.back self.new.stage result }
+    {
         self.cells = shifted(self.cells, word);
         let touched = is_touched(before, word);
-        if taken < size {
-            let value = byte_before(self.cells, self.back);
-            self.stage = Stage::Content {
-                size,
-                taken: taken + 1,
-                check: crc_step(check, value),
-                touched,
-            };
-            return Seen::Byte { value };
-        }
         if taken == size {
             self.stage = Stage::Content {
                 size,

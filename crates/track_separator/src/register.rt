@@ -43,15 +43,22 @@ fn has_no_mark_ones(recent: u64) -> bool
     ones & 0xFFFF == 0
 }
 
+/// Whether the last word has none of the cells by which a run ends. Then none ends in it.
+pub(crate) fn ends_no_run(cells: u128) -> bool
+    ensures { result ≡ true → (back : ℕ) → back < 16 → HasRunBits cells back → ⊥ }
+{
+    has_no_mark_ones((cells & 0xFFFF_FFFF_FFFF_FFFF) as u64)
+}
+
 /// How many cells stand behind a run that ends in the last word.
 pub(crate) fn run_end(cells: u128) -> Option<u16>
     ensures { MatchOption result ((back : ℕ) → back < 16 → HasRunBits cells back → ⊥)
         (λ back. (back < 16) × HasRunBits cells back) }
 {
-    let recent = (cells & 0xFFFF_FFFF_FFFF_FFFF) as u64;
-    if has_no_mark_ones(recent) {
+    if ends_no_run(cells) {
         return None;
     }
+    let recent = (cells & 0xFFFF_FFFF_FFFF_FFFF) as u64;
     for back in 0u16..16 {
         if recent >> back & RUN_MASK == RUN {
             return Some(back);
@@ -66,6 +73,15 @@ pub(crate) fn byte_before(cells: u128, back: u16) -> u8
     ensures { result ≡ register_byte cells back }
 {
     decode_word((cells >> back & 0xFFFF) as u16)
+}
+
+/// The byte that ends in the last word.
+pub(crate) fn last_byte(cells: u128, back: u16) -> u8
+    requires { back < 16 }
+    ensures { result ≡ register_byte cells back }
+{
+    let recent = (cells & 0xFFFF_FFFF) as u32;
+    decode_word((recent >> back & 0xFFFF) as u16)
 }
 
 /// The two bytes that end there, as a check.

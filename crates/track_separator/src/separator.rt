@@ -1,7 +1,7 @@
 // The calls of a separator.
 ghost use Rattle.std.specs.Prelude.{◌≡◌, ◌≤◌, ◌↔◌, IsTrue, ℕ, Bool, true, false, List, []};
 
-use crate::register::BLANK;
+use crate::register::{BLANK, ends_no_run, next_cells};
 use crate::state::{Seen, Separator, Stage};
 
 impl Separator {
@@ -25,7 +25,45 @@ impl Separator {
     }
 
     /// Takes one word of the turn. `index` says that the turn ends after it.
+    #[inline(always)]
     pub fn feed(&mut self, word: u16, index: bool) -> Seen
+        ensures keeps { (fed : List ℕ) → SHunts self.old fed → SHunts self.new (turn_after index fed word) }
+        ensures stands { (fed : List ℕ) → SHunts self.old fed → Stands (with_word fed word) result }
+        ensures address { (fed : List ℕ) → SHunts self.old fed → index ≡ false
+            → SHuntSeen (with_word fed word) self.new result }
+        ensures follows { (fed : List ℕ) → SFollows self.old fed → SFollows self.new (turn_after index fed word) }
+        ensures turns { index ≡ true → SFollows self.new [] }
+        ensures begins { index ≡ true → SBegins self.new }
+        ensures gives { (fed : List ℕ) → SFollows self.old fed → GivesAll (with_word fed word) result }
+        ensures waits { (fed : List ℕ) (p size : ℕ) → SWaits self.old fed p size
+            → SWaitFed index (with_word fed word) p size self.new result }
+        ensures reads { (fed : List ℕ) (p q : ℕ) (deleted : Bool) (size taken : ℕ)
+            → SReads self.old fed p q deleted size taken
+            → SReadFed index (with_word fed word) p q deleted size taken self.new result }
+        ensures cut { SCut self.old → (result ≡ Seen.NoData) × ((fed : List ℕ) → SHunts self.new fed) }
+        ensures any { (fed : List ℕ) → SFed self.old fed → SFed self.new (turn_after index fed word) }
+        ensures told { (fed : List ℕ) → SFed self.old fed → IsTold (with_word fed word) result }
+    {
+        if !index && self.is_usual(word) {
+            return self.take(word);
+        }
+        self.feed_any(word, index)
+    }
+
+    /// Whether the word comes inside the turn while a run of marks is hunted for and ends no run, or is a byte of a
+    /// content. Nearly every word does, so `feed` has a short way for it.
+    #[inline(always)]
+    fn is_usual(&self, word: u16) -> bool {
+        match self.stage {
+            Stage::Hunting => ends_no_run(next_cells(self.cells, word)),
+            Stage::Content { size, taken, .. } => taken < size,
+            _ => false,
+        }
+    }
+
+    /// Takes any word, as `feed` does.
+    #[inline(never)]
+    fn feed_any(&mut self, word: u16, index: bool) -> Seen
         ensures keeps { (fed : List ℕ) → SHunts self.old fed → SHunts self.new (turn_after index fed word) }
         ensures stands { (fed : List ℕ) → SHunts self.old fed → Stands (with_word fed word) result }
         ensures address { (fed : List ℕ) → SHunts self.old fed → index ≡ false
@@ -80,6 +118,7 @@ impl Separator {
     }
 
     /// Takes one word, wherever the turn ends.
+    #[inline(always)]
     fn take(&mut self, word: u16) -> Seen
         ensures hunts { IsHunted self.old word self.new result }
         ensures waits { (fed : List ℕ) (p size : ℕ) → SWaits self.old fed p size
@@ -90,7 +129,8 @@ impl Separator {
         ensures cut { SCut self.old → (result ≡ Seen.NoData) × ((fed : List ℕ) → SHunts self.new fed) }
     {
         match self.stage {
-            Stage::Hunting | Stage::Addressed | Stage::Reading { .. } => self.hunt_word(word),
+            Stage::Hunting => self.hunt_on(word),
+            Stage::Addressed | Stage::Reading { .. } => self.hunt_word(word),
             Stage::Cut => {
                 self.hunt();
                 Seen::NoData

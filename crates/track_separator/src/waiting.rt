@@ -27,6 +27,7 @@ impl Separator {
     ghost use Rattle.track_separator.specs.Waits.{IsMarked, IsWaiting, IsWaitingNext, IsMarkIn, WaitSeenIn};
 
     /// Takes one word while a data mark is awaited, `before` cells behind the end of the address field.
+    #[inline(never)]
     pub(crate) fn wait_word(&mut self, word: u16, size: u16, before: u16, marked: bool) -> Seen
         requires small { size ≤ 8192 }
         requires early { before < 1023 }
