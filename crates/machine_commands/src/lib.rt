@@ -8,6 +8,7 @@ mod asking;
 mod channel;
 mod codes;
 mod formatting;
+mod handling;
 mod heads;
 mod laws;
 mod machine;
