@@ -9,7 +9,7 @@ use Rattle.single_commands.specs.Rigs.{Rig}
 use Rattle.machine_commands.specs.Ready.{IsIdle}
 use Rattle.machine_commands.specs.declared.machine.CommandedMachine.{CommandedMachine}
 
--- a medium turns, at speed
+-- a medium is in, and turns at speed
 abbrev pub is_spun : DriveState → Bool
 is_spun drive = at_speed drive
 

@@ -7,6 +7,7 @@
 mod asking;
 mod channel;
 mod codes;
+mod commands;
 mod formatting;
 mod handling;
 mod heads;

@@ -3,7 +3,7 @@ use Rattle.bay_model.specs.Memory.{user_bytes}
 use Rattle.pc_bus.specs.Boards.{memory_of}
 use Rattle.machine_commands.specs.Shown.{board_of}
 use Rattle.machine_commands.proofs.Showing.{page_byte}
-use Rattle.machine_commands.proofs.machine.CommandedMachine.page.Goals as goal
+use Rattle.machine_commands.proofs.commands.CommandedMachineCommands.page.Goals as goal
 
 pub returns : goal.returns
 returns g c =

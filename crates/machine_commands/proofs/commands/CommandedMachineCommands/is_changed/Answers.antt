@@ -1,6 +1,6 @@
 use Rattle.machine_commands.specs.Shown.{board_of}
 use Rattle.machine_commands.proofs.Questions.{reads_line, line_idle, line_asks}
-use Rattle.machine_commands.proofs.machine.CommandedMachine.is_changed.Goals as goal
+use Rattle.machine_commands.proofs.commands.CommandedMachineCommands.is_changed.Goals as goal
 
 pub returns-clause-line : goal.returns-clause-line
 returns-clause-line g c =

@@ -1,6 +1,6 @@
 use Rattle.machine_commands.specs.Shown.{board_of}
 use Rattle.machine_commands.proofs.SeekRigs.{recalibrates, recalibrate_idle}
-use Rattle.machine_commands.proofs.machine.CommandedMachine.recalibrate.Goals as goal
+use Rattle.machine_commands.proofs.commands.CommandedMachineCommands.recalibrate.Goals as goal
 
 pub returns-clause-step : goal.returns-clause-step
 returns-clause-step g c =

@@ -1,7 +1,7 @@
 use Rattle.std.proofs.Common.{sym, subst}
 use Rattle.single_commands.specs.Reading.{ReadsId}
 use Rattle.machine_commands.specs.Shown.{board_of, rig_shown}
-use Rattle.machine_commands.proofs.machine.CommandedMachine.read_id.Goals as goal
+use Rattle.machine_commands.proofs.commands.CommandedMachineCommands.read_id.Goals as goal
 
 pub returns-clause-step : goal.returns-clause-step
 returns-clause-step g c =

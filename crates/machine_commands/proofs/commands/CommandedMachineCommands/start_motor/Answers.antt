@@ -1,6 +1,6 @@
 use Rattle.machine_commands.specs.Shown.{board_of}
 use Rattle.machine_commands.proofs.Spinning.{starts_asking, starts_spinning, start_idle}
-use Rattle.machine_commands.proofs.machine.CommandedMachine.start_motor.Goals as goal
+use Rattle.machine_commands.proofs.commands.CommandedMachineCommands.start_motor.Goals as goal
 
 pub returns-clause-asks : goal.returns-clause-asks
 returns-clause-asks g c =

@@ -3,7 +3,7 @@ use Rattle.single_commands.specs.Reading.{ReadsBack}
 use Rattle.bay_model.specs.Memory.{user_bytes}
 use Rattle.machine_commands.specs.Shown.{board_of, rig_shown}
 use Rattle.machine_commands.proofs.ReadEndings.{size_range}
-use Rattle.machine_commands.proofs.machine.CommandedMachine.read_back.Goals as goal
+use Rattle.machine_commands.proofs.commands.CommandedMachineCommands.read_back.Goals as goal
 
 pub returns-clause-step : goal.returns-clause-step
 returns-clause-step g c =

@@ -3,7 +3,7 @@ use Rattle.single_commands.specs.Reading.{ReadsData}
 use Rattle.track_model.specs.Fields.{content_size}
 use Rattle.machine_commands.specs.Shown.{board_of, rig_shown}
 use Rattle.machine_commands.proofs.ReadEndings.{size_range, in_page}
-use Rattle.machine_commands.proofs.machine.CommandedMachine.read.Goals as goal
+use Rattle.machine_commands.proofs.commands.CommandedMachineCommands.read.Goals as goal
 
 pub returns-clause-step : goal.returns-clause-step
 returns-clause-step g c =

@@ -1,6 +1,6 @@
 use Rattle.machine_commands.specs.Shown.{board_of}
 use Rattle.machine_commands.proofs.SeekRigs.{seeks, seek_idle}
-use Rattle.machine_commands.proofs.machine.CommandedMachine.seek.Goals as goal
+use Rattle.machine_commands.proofs.commands.CommandedMachineCommands.seek.Goals as goal
 
 pub returns-clause-step : goal.returns-clause-step
 returns-clause-step g c =
