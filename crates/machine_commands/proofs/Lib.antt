@@ -6,6 +6,7 @@ pub mod Endings
 pub mod FormatDone
 pub mod FormatKeys
 pub mod FormatRigs
+pub mod Handling
 pub mod Identifying
 pub mod Landing
 pub mod Moving

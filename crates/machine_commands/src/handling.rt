@@ -1,9 +1,9 @@
 // Calls past the driver: media, drives and user memory.
 ghost use Rattle.std.specs.Prelude.{◌≡◌, ◌≤◌, ◌<◌};
 ghost use Rattle.bay_model.specs.Memory.{user_bytes};
-ghost use Rattle.pc_bus.specs.Boards.{IsEmpty};
+ghost use Rattle.pc_bus.specs.Boards.{IsEmpty, drive_in};
 ghost use Rattle.machine_commands.specs.Handled.{ExchangesDrive, PutsIn, PutsMemory, TakesOut};
-ghost use Rattle.machine_commands.specs.Shown.{counts_of, rig_shown, is_idle};
+ghost use Rattle.machine_commands.specs.Shown.{board_of, counts_of, rig_shown, is_idle};
 
 use crate::machine::CommandedMachine;
 use drive_model::Drive;
@@ -16,6 +16,7 @@ impl<D: Drive> CommandedMachine<D> {
         ensures step { PutsIn (rig_shown D.state self.old) bay medium result (rig_shown D.state self.new) }
         ensures idle { is_idle D.state self.old → is_idle D.state self.new }
     {
+        self.keep_counts();
         let outcome = self.machine.insert(bay, medium);
         self.keep_ranges();
         outcome
@@ -27,6 +28,7 @@ impl<D: Drive> CommandedMachine<D> {
         ensures step { TakesOut (rig_shown D.state self.old) bay result (rig_shown D.state self.new) }
         ensures idle { is_idle D.state self.old → is_idle D.state self.new }
     {
+        self.keep_counts();
         let medium = self.machine.eject(bay);
         self.keep_ranges();
         medium
@@ -37,9 +39,11 @@ impl<D: Drive> CommandedMachine<D> {
     pub fn exchange(&mut self, bay: u8, drive: D) -> D
         requires bay { bay ≤ 1 }
         requires empty { IsEmpty (D.state drive) }
+        ensures handed_out { D.state result ≡ drive_in (board_of D.state self.old) bay }
         ensures step { ExchangesDrive (rig_shown D.state self.old) bay (counts_of (D.state drive)) (rig_shown D.state self.new) }
         ensures idle { is_idle D.state self.old → is_idle D.state self.new }
     {
+        self.keep_counts();
         let old = self.machine.exchange(bay, drive);
         self.keep_ranges();
         old
@@ -51,7 +55,7 @@ impl<D: Drive> CommandedMachine<D> {
         ensures step { PutsMemory (rig_shown D.state self.old) address byte (rig_shown D.state self.new) }
         ensures idle { is_idle D.state self.old → is_idle D.state self.new }
     {
-        self.keep_memory();
+        self.keep_counts();
         self.machine.ram_set(address, byte);
         self.keep_ranges();
     }
