@@ -9,7 +9,8 @@ use Rattle.std.specs.Prelude.{List}
 use Rattle.flop_base.specs.Counts.{last_count}
 use Rattle.raw_image.specs.Disk.{Disk}
 use Rattle.bay_model.specs.Bays.{Two, in_bay, with_bay}
-use Rattle.bay_model.specs.Counters.{Counters, GoesOn, IsPastDriver}
+use Rattle.bay_model.specs.Counters.{Counters, DriveGoesOn, GoesOn, IsPastDriver}
+use Rattle.bay_model.proofs.Counted.{drive_same}
 use Rattle.bay_model.specs.Memory.{user_bytes}
 use Rattle.drive_model.specs.Drive.{DriveState, Becomes, InRange, at_speed, loaded, unloaded, with_motor}
 use Rattle.fdc_core.specs.State.{data_commands_of, dor_of}
@@ -21,7 +22,8 @@ use Rattle.pc_bus.specs.declared.bus.Bus.{Bus}
 use Rattle.machine_commands.specs.Handled.{Exchanged, ExchangesDrive, PutsIn, PutsMemory, TakesDrive, TakesOut, Untouched}
 use Rattle.machine_commands.specs.Idling.{is_up}
 use Rattle.machine_commands.specs.Ready.{IsIdle, IsReady}
-use Rattle.machine_commands.specs.Shown.{counters_of, counts_of, is_spun, page_part, rig_of, stalls_left, user_part}
+use Rattle.machine_counts.specs.Counts.{counts_of}
+use Rattle.machine_commands.specs.Shown.{counters_of, is_spun, page_part, rig_of, stalls_left, user_part}
 use Rattle.machine_commands.specs.declared.motors.Motors.{Motors}
 use Rattle.machine_commands.proofs.Selecting.{is_dor, switched}
 use Rattle.machine_commands.proofs.Showing.{two_same}
@@ -47,15 +49,15 @@ touched_leaves old new few is =
       most = omega arith;
     }
 
-counts_on : (old new : Board) → LeavesCounts old new → old.first.faults ≤ new.first.faults → old.second.faults ≤ new.second.faults → GoesOn (counters_of old) (counters_of new)
+counts_on : (old new : Board) → LeavesCounts old new → DriveGoesOn (counts_of old.first) (counts_of new.first) → DriveGoesOn (counts_of old.second) (counts_of new.second) → GoesOn (counters_of old) (counters_of new)
 counts_on old new leaves first second =
     let stalls : (holds_of new).stalls ≡ (holds_of old).stalls = ap (λ (h : Holds). h.stalls) leaves.holding in
     let left : stalls_left (holds_of new).entries ≡ stalls_left (holds_of old).entries = ap (λ (h : Holds). stalls_left h.entries) leaves.holding in
     let sent = leaves.sent in
     let taken = leaves.taken in
     record {
-      first = record { never_falls = first; spends = refl };
-      second = record { never_falls = second; spends = refl };
+      first = first;
+      second = second;
       spares = refl;
       stalls = omega arith;
       stalls_spent = omega arith;
@@ -75,7 +77,7 @@ record SameDrive (old new : DriveState) : Type 0 where
   cylinder : new.cylinder ≡ old.cylinder
   change : new.change ≡ old.change
   spun : is_spun new ≡ is_spun old
-  never_falls : old.faults ≤ new.faults
+  counts : DriveGoesOn (counts_of old) (counts_of new)
 
 same_drive : (old new : DriveState) → new ≡ old → SameDrive old new
 same_drive old new is = record {
@@ -83,7 +85,7 @@ same_drive old new is = record {
   cylinder = ap (λ (d : DriveState). d.cylinder) is;
   change = ap (λ (d : DriveState). d.change) is;
   spun = ap (λ (d : DriveState). at_speed d) is;
-  never_falls = let same = ap (λ (d : DriveState). d.faults) is in omega arith;
+  counts = drive_same (counts_of old) (counts_of new) (ap counts_of is);
 }
 
 becomes_same : (old new : DriveState) → Becomes old old new → SameDrive old new
@@ -92,7 +94,7 @@ becomes_same old new becomes = record {
   cylinder = ap (λ (d : DriveState). d.cylinder) becomes.becomes;
   change = ap (λ (d : DriveState). d.change) becomes.becomes;
   spun = ap (λ (d : DriveState). at_speed d) becomes.becomes;
-  never_falls = becomes.never_falls;
+  counts = record { never_falls = becomes.never_falls; spends = becomes.spends };
 }
 
 -- it has another medium, or none
@@ -100,14 +102,14 @@ record Swapped (medium : Option Disk) (old new : DriveState) : Type 0 where
   is : new.medium ≡ medium
   cylinder : new.cylinder ≡ old.cylinder
   change : new.change ≡ true
-  never_falls : old.faults ≤ new.faults
+  counts : DriveGoesOn (counts_of old) (counts_of new)
 
 becomes_loaded : (medium : Disk) (old new : DriveState) → Becomes old (loaded medium old) new → Swapped (Some medium) old new
 becomes_loaded medium old new becomes = record {
   is = ap (λ (d : DriveState). d.medium) becomes.becomes;
   cylinder = ap (λ (d : DriveState). d.cylinder) becomes.becomes;
   change = ap (λ (d : DriveState). d.change) becomes.becomes;
-  never_falls = becomes.never_falls;
+  counts = record { never_falls = becomes.never_falls; spends = becomes.spends };
 }
 
 becomes_unloaded : (old new : DriveState) → IsSome old.medium → Becomes old (unloaded old) new → Swapped None old new
@@ -115,7 +117,7 @@ becomes_unloaded old new some becomes = record {
   is = ap (λ (d : DriveState). d.medium) becomes.becomes;
   cylinder = ap (λ (d : DriveState). d.cylinder) becomes.becomes;
   change = ap (λ (d : DriveState). d.change) becomes.becomes ∙ ap (λ b. if b then true else old.change) some;
-  never_falls = becomes.never_falls;
+  counts = record { never_falls = becomes.never_falls; spends = becomes.spends };
 }
 
 unloaded_empty : (s : DriveState) → s.medium ≡ None → unloaded s ≡ s
@@ -136,7 +138,7 @@ untouched_by old new few bus first second =
       numbers = ap (λ (b : Bus). (rig_of (record old { bus = b })).numbers) bus;
       memory = ap (λ (b : Bus). user_part b.chips.memory) bus;
       page = ap (λ (b : Bus). page_part b.chips.memory) bus;
-      counts = counts_on old new leaves first.never_falls second.never_falls;
+      counts = counts_on old new leaves first.counts second.counts;
       past_driver = past_driver old new leaves;
       taken = leaves.taken;
     }
@@ -158,7 +160,7 @@ exchanged old new zero medium small few touches swapped =
       numbers = ap (λ (b : Bus). (rig_of (record old { bus = b })).numbers) touches.bus;
       memory = ap (λ (b : Bus). user_part b.chips.memory) touches.bus;
       page = ap (λ (b : Bus). page_part b.chips.memory) touches.bus;
-      counts = counts_on old new leaves swapped.never_falls other.never_falls;
+      counts = counts_on old new leaves swapped.counts other.counts;
       past_driver = past_driver old new leaves;
       taken = leaves.taken;
     }
@@ -173,7 +175,7 @@ exchanged old new (suc zero) medium small few touches swapped =
       numbers = ap (λ (b : Bus). (rig_of (record old { bus = b })).numbers) touches.bus;
       memory = ap (λ (b : Bus). user_part b.chips.memory) touches.bus;
       page = ap (λ (b : Bus). page_part b.chips.memory) touches.bus;
-      counts = counts_on old new leaves other.never_falls swapped.never_falls;
+      counts = counts_on old new leaves other.counts swapped.counts;
       past_driver = past_driver old new leaves;
       taken = leaves.taken;
     }
@@ -212,10 +214,10 @@ takes_out old new bay answer small few touches is becomes = record {
 
 -- ---- drives
 
-takes_drive : (old new : Board) (bay : ℕ) (drive : DriveState) → bay ≤ 1 → LeavesCounts old new → drive_in new (1 - bay) ≡ drive_in old (1 - bay) → drive.faults ≤ (drive_in new bay).faults
+takes_drive : (old new : Board) (bay : ℕ) (drive : DriveState) → bay ≤ 1 → LeavesCounts old new → drive_in new (1 - bay) ≡ drive_in old (1 - bay) → DriveGoesOn (counts_of drive) (counts_of (drive_in new bay))
     → TakesDrive (counters_of old) bay (counts_of drive) (counters_of new)
-takes_drive old new zero drive small leaves other never_falls = record {
-  drive = record { never_falls = never_falls; spends = refl };
+takes_drive old new zero drive small leaves other goes = record {
+  drive = goes;
   other = ap counts_of other;
   spares = refl;
   stalls = ap (λ (h : Holds). h.stalls) leaves.holding;
@@ -225,8 +227,8 @@ takes_drive old new zero drive small leaves other never_falls = record {
   direct = leaves.never_falls;
   past_driver = past_driver old new leaves;
 }
-takes_drive old new (suc zero) drive small leaves other never_falls = record {
-  drive = record { never_falls = never_falls; spends = refl };
+takes_drive old new (suc zero) drive small leaves other goes = record {
+  drive = goes;
   other = ap counts_of other;
   spares = refl;
   stalls = ap (λ (h : Holds). h.stalls) leaves.holding;
@@ -236,7 +238,7 @@ takes_drive old new (suc zero) drive small leaves other never_falls = record {
   direct = leaves.never_falls;
   past_driver = past_driver old new leaves;
 }
-takes_drive old new (suc (suc bay)) drive small leaves other never_falls = absurd (omega arith)
+takes_drive old new (suc (suc bay)) drive small leaves other goes = absurd (omega arith)
 
 -- a drive with no medium and its change line set took the place of the one in a bay
 record Replaced (old : Board) (bay : ℕ) (new : Board) : Type 0 where
@@ -276,7 +278,7 @@ exchanges old new bay drive small few touches empty (on, lines, becomes) =
       numbers = ap (λ (b : Bus). (rig_of (record old { bus = b })).numbers) touches.bus;
       memory = ap (λ (b : Bus). user_part b.chips.memory) touches.bus;
       page = ap (λ (b : Bus). page_part b.chips.memory) touches.bus;
-      counters = takes_drive old new bay drive small (touched_leaves old new few touches.bus) touches.other becomes.never_falls;
+      counters = takes_drive old new bay drive small (touched_leaves old new few touches.bus) touches.other (record { never_falls = becomes.never_falls; spends = becomes.spends });
     }
 
 -- ---- memory
@@ -319,7 +321,7 @@ puts_memory address byte old new below few is =
       cylinders = ap (λ (b : Board). (rig_of b).cylinders) is;
       numbers = ap (λ (b : Board). (rig_of b).numbers) is;
       page = ap (λ (b : Board). page_part (memory_of b)) is ∙ page_set (memory_of old) address byte below;
-      counts = counts_on old new leaves first.never_falls second.never_falls;
+      counts = counts_on old new leaves first.counts second.counts;
       past_driver = past_driver old new leaves;
       taken = leaves.taken;
     }
