@@ -10,7 +10,7 @@ use std::test::Fail;
 
 #[test]
 fn the_heads_move(rt: HostRuntime) -> Result<(), Fail> {
-    let mut machine = machine(rt.alloc(), 1, calm(rt.alloc()))?;
+    let mut machine = machine(rt.alloc(), 1, diskette(rt.alloc())?, calm(rt.alloc()))?;
     assert!(rt; recalibrate(&mut machine, 1));
     seek(&mut machine, 1, 79);
     assert!(rt; recalibrate(&mut machine, 1));
@@ -52,7 +52,7 @@ fn change_lines_are_cleared_by_pulses(rt: HostRuntime) -> Result<(), Fail> {
 
 #[test]
 fn a_reset_forgets_the_cylinder(rt: HostRuntime) -> Result<(), Fail> {
-    let mut machine = machine(rt.alloc(), 0, calm(rt.alloc()))?;
+    let mut machine = machine(rt.alloc(), 0, diskette(rt.alloc())?, calm(rt.alloc()))?;
     seek(&mut machine, 0, 1);
     machine.reset();
     // the heads stand on cylinder 1, which the controller takes for 0
@@ -67,7 +67,7 @@ fn a_reset_forgets_the_cylinder(rt: HostRuntime) -> Result<(), Fail> {
 
 #[test]
 fn fields_are_read_and_written(rt: HostRuntime) -> Result<(), Fail> {
-    let mut machine = machine(rt.alloc(), 0, calm(rt.alloc()))?;
+    let mut machine = machine(rt.alloc(), 0, diskette(rt.alloc())?, calm(rt.alloc()))?;
     let from = Sector { c: 0, h: 0, r: 2 };
     let to = Sector { c: 0, h: 1, r: 1 };
     let beside = Sector { c: 0, h: 1, r: 2 };
@@ -92,7 +92,7 @@ fn fields_are_read_and_written(rt: HostRuntime) -> Result<(), Fail> {
 
 #[test]
 fn refusals_have_their_codes(rt: HostRuntime) -> Result<(), Fail> {
-    let mut machine = machine(rt.alloc(), 1, calm(rt.alloc()))?;
+    let mut machine = machine(rt.alloc(), 1, diskette(rt.alloc())?, calm(rt.alloc()))?;
     let there = Sector { c: 0, h: 0, r: 1 };
     let nowhere = Sector { c: 0, h: 0, r: 3 };
     assert_eq!(rt; read(&mut machine, 1, nowhere, Rate::R250, 0), Err(Code::NotFound));
