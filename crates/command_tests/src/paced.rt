@@ -108,7 +108,10 @@ fn a_longer_hold_is_an_overrun(rt: HostRuntime) -> Result<(), Fail> {
     };
     let mut machine = machine(rt.alloc(), 0, diskette(rt.alloc())?, pace)?;
     let first = Sector { c: 0, h: 0, r: 1 };
-    assert_eq!(rt; read(&mut machine, 0, first, Rate::R250, 0), Err(Code::Overrun));
+    assert_eq!(rt;
+        read(&mut machine, 0, first, Rate::R250, 0),
+        Err(Code::Overrun)
+    );
     assert_eq!(rt; read(&mut machine, 0, first, Rate::R250, 0), Ok(false));
     assert_eq!(rt; machine.memory(511), 0x11);
     assert_eq!(rt; machine.machine().stalls(), 1);
