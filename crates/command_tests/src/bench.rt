@@ -34,16 +34,16 @@ pub(crate) fn diskette(alloc: Global) -> Result<Medium, Fail> {
     Ok(medium)
 }
 
-/// A machine with the diskette in a bay, at speed.
+/// A machine with a medium in a bay, at speed.
 pub(crate) fn machine(
     alloc: Global,
     bay: u8,
+    medium: Medium,
     pace: Pace,
 ) -> Result<CommandedMachine<PlainDrive>, Fail>
     requires { bay ≤ 1 }
     ensures { IfOk result (λ machine. TakesData (is_idle plain_state machine) (rig_shown plain_state machine) bay) }
 {
-    let medium = diskette(alloc)?;
     let empty = MachineOf::new(alloc, PlainDrive::new(), PlainDrive::new(), pace)?;
     let mut machine = CommandedMachine::new(empty);
     if machine.insert(bay, medium).is_err() {

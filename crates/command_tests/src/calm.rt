@@ -10,7 +10,7 @@ use std::test::Fail;
 
 #[test]
 fn the_heads_move(rt: HostRuntime) -> Result<(), Fail> {
-    let mut machine = machine(rt.alloc(), 1, calm(rt.alloc()))?;
+    let mut machine = machine(rt.alloc(), 1, diskette(rt.alloc())?, calm(rt.alloc()))?;
     assert!(rt; recalibrate(&mut machine, 1));
     seek(&mut machine, 1, 79);
     assert!(rt; recalibrate(&mut machine, 1));
@@ -26,7 +26,12 @@ fn the_heads_move(rt: HostRuntime) -> Result<(), Fail> {
 
 #[test]
 fn change_lines_are_cleared_by_pulses(rt: HostRuntime) -> Result<(), Fail> {
-    let empty = MachineOf::new(rt.alloc(), PlainDrive::new(), PlainDrive::new(), calm(rt.alloc()))?;
+    let empty = MachineOf::new(
+        rt.alloc(),
+        PlainDrive::new(),
+        PlainDrive::new(),
+        calm(rt.alloc()),
+    )?;
     let mut machine = CommandedMachine::new(empty);
     machine.reset();
     machine.seek(1, 1);
@@ -52,7 +57,7 @@ fn change_lines_are_cleared_by_pulses(rt: HostRuntime) -> Result<(), Fail> {
 
 #[test]
 fn a_reset_forgets_the_cylinder(rt: HostRuntime) -> Result<(), Fail> {
-    let mut machine = machine(rt.alloc(), 0, calm(rt.alloc()))?;
+    let mut machine = machine(rt.alloc(), 0, diskette(rt.alloc())?, calm(rt.alloc()))?;
     seek(&mut machine, 0, 1);
     machine.reset();
     // the heads stand on cylinder 1, which the controller takes for 0
@@ -67,7 +72,7 @@ fn a_reset_forgets_the_cylinder(rt: HostRuntime) -> Result<(), Fail> {
 
 #[test]
 fn fields_are_read_and_written(rt: HostRuntime) -> Result<(), Fail> {
-    let mut machine = machine(rt.alloc(), 0, calm(rt.alloc()))?;
+    let mut machine = machine(rt.alloc(), 0, diskette(rt.alloc())?, calm(rt.alloc()))?;
     let from = Sector { c: 0, h: 0, r: 2 };
     let to = Sector { c: 0, h: 1, r: 1 };
     let beside = Sector { c: 0, h: 1, r: 2 };
@@ -77,7 +82,10 @@ fn fields_are_read_and_written(rt: HostRuntime) -> Result<(), Fail> {
     assert_eq!(rt; machine.memory(0x1433), 0x11);
     assert_eq!(rt; machine.memory(0x1434), 0x00);
     // half of it lies behind what was read
-    assert_eq!(rt; write(&mut machine, 0, to, Rate::R250, 0x1334, true), Ok(()));
+    assert_eq!(rt;
+        write(&mut machine, 0, to, Rate::R250, 0x1334, true),
+        Ok(())
+    );
     assert_eq!(rt; read_back(&mut machine, 0, to, Rate::R250), Ok(true));
     assert_eq!(rt; machine.page(0), 0x11);
     assert_eq!(rt; machine.page(255), 0x11);
@@ -92,12 +100,21 @@ fn fields_are_read_and_written(rt: HostRuntime) -> Result<(), Fail> {
 
 #[test]
 fn refusals_have_their_codes(rt: HostRuntime) -> Result<(), Fail> {
-    let mut machine = machine(rt.alloc(), 1, calm(rt.alloc()))?;
+    let mut machine = machine(rt.alloc(), 1, diskette(rt.alloc())?, calm(rt.alloc()))?;
     let there = Sector { c: 0, h: 0, r: 1 };
     let nowhere = Sector { c: 0, h: 0, r: 3 };
-    assert_eq!(rt; read(&mut machine, 1, nowhere, Rate::R250, 0), Err(Code::NotFound));
-    assert_eq!(rt; read(&mut machine, 1, there, Rate::R500, 0), Err(Code::NoMark));
-    assert_eq!(rt; write(&mut machine, 1, nowhere, Rate::R250, 0, false), Err(Code::NotFound));
+    assert_eq!(rt;
+        read(&mut machine, 1, nowhere, Rate::R250, 0),
+        Err(Code::NotFound)
+    );
+    assert_eq!(rt;
+        read(&mut machine, 1, there, Rate::R500, 0),
+        Err(Code::NoMark)
+    );
+    assert_eq!(rt;
+        write(&mut machine, 1, nowhere, Rate::R250, 0, false),
+        Err(Code::NotFound)
+    );
     // nine sectors with gap 3 of 112 need more than 6250 words
     assert_eq!(rt; format(&mut machine, 1, 0, 0, 112), Err(Code::NoMark));
     assert_eq!(rt; machine.memory(0), 0x00);

@@ -1,29 +1,16 @@
 // Commands on sectors of 512 bytes, each of which leaves the medium at speed.
-ghost use Rattle.std.specs.Prelude.{◌≡◌, ◌≤◌};
+ghost use Rattle.std.specs.Prelude.{◌≤◌};
 ghost use Rattle.command_tests.specs.AtSpeed.{TakesData};
 
 use flop_base::{Chrn, Code, Rate};
 use single_commands::Commands;
 
-/// The key of a sector of 512 bytes.
+/// A sector of 512 bytes.
 #[derive(Clone, Copy)]
 pub(crate) struct Sector {
     pub c: u8,
     pub h: u8,
     pub r: u8,
-}
-
-impl Sector {
-    fn key(self) -> Chrn
-        ensures { result ≡ record { c = self.c; h = self.h; r = self.r; n = 2 } }
-    {
-        Chrn {
-            c: self.c,
-            h: self.h,
-            r: self.r,
-            n: 2,
-        }
-    }
 }
 
 /// Steps outward until track 0.
@@ -45,6 +32,14 @@ pub(crate) fn seek<C: Commands>(machine: &mut C, bay: u8, target: u8)
     machine.seek(bay, target);
 }
 
+/// The cylinder and head of a key.
+fn place_of(outcome: Result<Chrn, Code>) -> Result<(u8, u8), Code> {
+    match outcome {
+        Ok(key) => Ok((key.c, key.h)),
+        Err(code) => Err(code),
+    }
+}
+
 /// The cylinder and head of some address field that passes.
 pub(crate) fn passing<C: Commands>(
     machine: &mut C,
@@ -57,10 +52,8 @@ pub(crate) fn passing<C: Commands>(
     requires head { head ≤ 1 }
     ensures { TakesData (C.is_idle machine.new) (C.rig machine.new) bay }
 {
-    match machine.read_id(bay, head, rate) {
-        Ok(key) => Ok((key.c, key.h)),
-        Err(code) => Err(code),
-    }
+    let outcome = machine.read_id(bay, head, rate);
+    place_of(outcome)
 }
 
 /// Reads a sector to an address of the first page.
@@ -77,7 +70,13 @@ pub(crate) fn read<C: Commands>(
     requires address { address ≤ 65024 }
     ensures { TakesData (C.is_idle machine.new) (C.rig machine.new) bay }
 {
-    machine.read(bay, sector.key(), rate, address)
+    let key = Chrn {
+        c: sector.c,
+        h: sector.h,
+        r: sector.r,
+        n: 2,
+    };
+    machine.read(bay, key, rate, address)
 }
 
 /// Reads a sector to the driver's page.
@@ -92,7 +91,13 @@ pub(crate) fn read_back<C: Commands>(
     requires head { sector.h ≤ 1 }
     ensures { TakesData (C.is_idle machine.new) (C.rig machine.new) bay }
 {
-    machine.read_back(bay, sector.key(), rate)
+    let key = Chrn {
+        c: sector.c,
+        h: sector.h,
+        r: sector.r,
+        n: 2,
+    };
+    machine.read_back(bay, key, rate)
 }
 
 /// Writes a sector of an unprotected medium from an address of the first page.
@@ -113,7 +118,13 @@ pub(crate) fn write<C: Commands>(
     if machine.is_protected(bay) {
         return Err(Code::Protected);
     }
-    machine.write(bay, sector.key(), rate, address, deleted)
+    let key = Chrn {
+        c: sector.c,
+        h: sector.h,
+        r: sector.r,
+        n: 2,
+    };
+    machine.write(bay, key, rate, address, deleted)
 }
 
 /// Formats the track under a head of an unprotected medium with the records of 250 kbit/s.

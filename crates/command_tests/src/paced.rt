@@ -2,7 +2,7 @@
 ghost use Rattle.std.specs.Prelude.{◌≤◌};
 ghost use Rattle.command_tests.specs.AtSpeed.{TakesData};
 
-use crate::bench::{calm, machine};
+use crate::bench::{calm, diskette, machine};
 use crate::orders::{Sector, format, passing, read, read_back, recalibrate, seek, write};
 use flop_base::{Code, Rate};
 use irq_events::Pace;
@@ -37,7 +37,7 @@ fn run<C: Commands>(rt: &impl Abort, machine: &mut C, bay: u8)
 fn run_at(rt: &impl Abort, alloc: Global, bay: u8, pace: Pace) -> Result<(), Fail>
     requires { bay ≤ 1 }
 {
-    let mut machine = machine(alloc, bay, pace)?;
+    let mut machine = machine(alloc, bay, diskette(alloc)?, pace)?;
     run(rt, &mut machine, bay);
     assert_eq!(rt; machine.machine().data_commands(), 6);
     assert_eq!(rt; machine.machine().stalls(), 0);
@@ -71,19 +71,19 @@ fn strays_are_told_from_ends(rt: HostRuntime) -> Result<(), Fail> {
 
 #[test]
 fn a_stray_may_come_in_each_step(rt: HostRuntime) -> Result<(), Fail> {
-    let still = machine(rt.alloc(), 0, calm(rt.alloc()))?;
+    let mut still = machine(rt.alloc(), 0, diskette(rt.alloc())?, calm(rt.alloc()))?;
     let begun = u16::try_from(still.machine().steps())?;
-    let sector = Sector { c: 0, h: 1, r: 1 };
+    let mut medium = still.eject(0).ok_or("out")?;
     for step in 1u16..51 {
         let pace = Pace {
             strays: vec![in rt.alloc(); begun.saturating_add(step); 1]?,
             ..calm(rt.alloc())
         };
-        let mut machine = machine(rt.alloc(), 0, pace)?;
-        assert_eq!(rt; read(&mut machine, 0, sector, Rate::R250, 0), Ok(false));
-        assert_eq!(rt; machine.memory(511), 0x22);
+        let mut machine = machine(rt.alloc(), 0, medium, pace)?;
+        assert_eq!(rt; passing(&mut machine, 0, 1, Rate::R250), Ok((0, 1)));
         // the poll, the stray and the end
         assert_eq!(rt; machine.machine().taken(), 3);
+        medium = machine.eject(0).ok_or("out")?;
     }
     Ok(())
 }
@@ -106,9 +106,12 @@ fn a_longer_hold_is_an_overrun(rt: HostRuntime) -> Result<(), Fail> {
         holds: vec![in rt.alloc(); 9u8; 1]?,
         ..calm(rt.alloc())
     };
-    let mut machine = machine(rt.alloc(), 0, pace)?;
+    let mut machine = machine(rt.alloc(), 0, diskette(rt.alloc())?, pace)?;
     let first = Sector { c: 0, h: 0, r: 1 };
-    assert_eq!(rt; read(&mut machine, 0, first, Rate::R250, 0), Err(Code::Overrun));
+    assert_eq!(rt;
+        read(&mut machine, 0, first, Rate::R250, 0),
+        Err(Code::Overrun)
+    );
     assert_eq!(rt; read(&mut machine, 0, first, Rate::R250, 0), Ok(false));
     assert_eq!(rt; machine.memory(511), 0x11);
     assert_eq!(rt; machine.machine().stalls(), 1);

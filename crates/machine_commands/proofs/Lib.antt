@@ -6,10 +6,10 @@ pub mod Endings
 pub mod FormatDone
 pub mod FormatKeys
 pub mod FormatRigs
-pub mod Handling
 pub mod Identifying
 pub mod Landing
 pub mod Moving
+pub mod PastDriver
 pub mod Preparing
 pub mod Questions
 pub mod ReadCourses

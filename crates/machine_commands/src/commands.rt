@@ -93,7 +93,15 @@ impl<D: Drive> Commands for CommandedMachine<D> {
         told(outcome)
     }
 
-    fn format(&mut self, bay: u8, c: u8, h: u8, rate: Rate, gap3: u8, fill: u8) -> Result<(), Code> {
+    fn format(
+        &mut self,
+        bay: u8,
+        c: u8,
+        h: u8,
+        rate: Rate,
+        gap3: u8,
+        fill: u8,
+    ) -> Result<(), Code> {
         a_format_goes_on();
         a_data_command_ends();
         a_format_tells_of_the_medium();

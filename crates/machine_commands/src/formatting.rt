@@ -23,7 +23,14 @@ const KEY_BYTES: u32 = 4;
 
 impl<D: Drive> CommandedMachine<D> {
     /// FORMAT TRACK by the keys in the driver's page.
-    pub(crate) fn format_track(&mut self, bay: u8, h: u8, rate: Rate, gap3: u8, fill: u8) -> Result<Done, Code>
+    pub(crate) fn format_track(
+        &mut self,
+        bay: u8,
+        h: u8,
+        rate: Rate,
+        gap3: u8,
+        fill: u8,
+    ) -> Result<Done, Code>
         requires bay { bay ≤ 1 }
         requires head { h ≤ 1 }
         ensures sends { (c : ℕ) → SendsFormatBytes self.old.motors bay (record { c = c; h = h; rate = rate; gap3 = gap3; fill = fill }) result (board_of D.state self.old) (board_of D.state self.new) }

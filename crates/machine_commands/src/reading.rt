@@ -34,7 +34,13 @@ impl<D: Drive> CommandedMachine<D> {
     }
 
     /// READ DATA to memory.
-    pub(crate) fn read_to(&mut self, bay: u8, key: Chrn, rate: Rate, address: u32) -> Result<Done, Code>
+    pub(crate) fn read_to(
+        &mut self,
+        bay: u8,
+        key: Chrn,
+        rate: Rate,
+        address: u32,
+    ) -> Result<Done, Code>
         requires bay { bay ≤ 1 }
         requires head { key.h ≤ 1 }
         requires coded { IsSizeCode key.n }

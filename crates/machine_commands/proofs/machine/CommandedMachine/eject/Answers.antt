@@ -1,10 +1,10 @@
 use Rattle.machine_commands.specs.Shown.{board_of}
-use Rattle.machine_commands.proofs.Handling.{takes_out, taken_idle}
+use Rattle.machine_commands.proofs.PastDriver.{takes_out, taken_idle}
 use Rattle.machine_commands.proofs.machine.CommandedMachine.eject.Goals as goal
 
 pub returns-clause-step : goal.returns-clause-step
 returns-clause-step g c =
-    takes_out (board_of g.D.Drive.state c.args.self.now) _ c.args.bay c.eject-medium.result c.requires c.keep_counts.ensures.direct
+    takes_out (board_of g.D.Drive.state c.args.self.now) _ c.args.bay c.eject-medium.result c.requires c.keep_counts.ensures.counts.direct
     c.eject-medium.ensures.touches c.eject-medium.ensures.medium c.eject-medium.ensures.becomes
 
 pub returns-clause-idle : goal.returns-clause-idle

@@ -197,9 +197,10 @@ none_in (Some disk) empty = absurd (empty refl)
 pub puts_in : (old new : Board) (bay : ℕ) (medium : Disk) (answer : Result (Unit {0}) Disk) → bay ≤ 1 → old.bus.direct ≤ last_count → Touches bay old new
     → (IsErr answer ↔ IsSome (drive_in old bay).medium) → OnOk answer (Becomes (drive_in old bay) (loaded medium (drive_in old bay)) (drive_in new bay))
     → IfErr answer (λ back. (back ≡ medium) × Becomes (drive_in old bay) (drive_in old bay) (drive_in new bay)) → PutsIn (rig_of old) bay medium answer (rig_of new)
-puts_in old new bay medium (Ok _) small few touches refused ok err =
-    (sym (media_in old bay) ∙ none_in (drive_in old bay).medium (λ some. false≢true (refused.1 some)),
-    exchanged old new bay (Some medium) small few touches (becomes_loaded medium (drive_in old bay) (drive_in new bay) ok))
+puts_in old new bay medium (Ok _) small few touches refused ok err = (
+  sym (media_in old bay) ∙ none_in (drive_in old bay).medium (λ some. false≢true (refused.1 some)),
+  exchanged old new bay (Some medium) small few touches (becomes_loaded medium (drive_in old bay) (drive_in new bay) ok),
+)
 puts_in old new bay medium (Err back) small few touches refused ok (same, becomes) =
     (ap is_some (sym (media_in old bay)) ∙ refused.0 refl, same, untouched old new bay small few touches becomes)
 
@@ -209,7 +210,7 @@ takes_out old new bay answer small few touches is becomes = record {
   medium = is ∙ media_in old bay;
   taken_out = λ some. exchanged old new bay None small few touches (becomes_unloaded (drive_in old bay) (drive_in new bay) (ap is_some (sym is) ∙ some) becomes);
   empty = λ none. untouched old new bay small few touches
-    (subst (λ d. Becomes (drive_in old bay) d (drive_in new bay)) (unloaded_empty (drive_in old bay) (sym is ∙ none)) becomes);
+      (subst (λ d. Becomes (drive_in old bay) d (drive_in new bay)) (unloaded_empty (drive_in old bay) (sym is ∙ none)) becomes);
 }
 
 -- ---- drives
