@@ -1,5 +1,5 @@
 -- READ ID.
-use Rattle.std.proofs.Common.{◌≡◌, ◌⊎◌, inl, inr, ℕ, zero, suc, ◌+◌, ◌*◌, ◌/◌, ◌%◌, ◌<◌, ◌≤◌, ◌==◌, Bool, true, false, List, [], ◌∷◌, ◌++◌, Option, Some, Result as result, Ok, Err, IfOk, IfErr, if◌then◌else◌, refl, sym, ◌∙◌, ap, subst, arith}
+use Rattle.std.proofs.Common.{◌≡◌, ◌⊎◌, inl, inr, ℕ, zero, suc, ◌+◌, ◌*◌, ◌/◌, ◌%◌, ◌<◌, ◌≤◌, ◌==◌, Bool, true, false, List, [], ◌∷◌, ◌++◌, Option, Some, Result as result, Ok, Err, IfOk, IfErr, if◌then◌else◌, refl, sym, ◌∙◌, ap, subst, arith, is_some}
 use Rattle.std.proofs.lemmas.Bool.{false≢true}
 use Rattle.flop_base.specs.Counts.{last_count, Spends}
 use Rattle.flop_base.specs.declared.key.Chrn.{Chrn}
@@ -92,6 +92,7 @@ kept_id laws scene = record {
 
 turns_still : (old new : DriveState) → new ≡ old → TurnsOn old new
 turns_still old new same = record {
+  stays_in = ap (λ s. is_some s.medium) same;
   cylinder = ap (λ s. s.cylinder) same;
   change = ap (λ s. s.change) same;
   motor = ap (λ s. s.motor) same;

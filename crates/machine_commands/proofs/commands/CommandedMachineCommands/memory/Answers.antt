@@ -4,5 +4,5 @@ use Rattle.machine_commands.specs.Shown.{board_of}
 use Rattle.machine_commands.proofs.Showing.{user_byte}
 use Rattle.machine_commands.proofs.commands.CommandedMachineCommands.memory.Goals as goal
 
-pub returns-clause-byte : goal.returns-clause-byte
-returns-clause-byte g c = c.ram.ensures.byte ∙ sym (user_byte (memory_of (board_of g.D.Drive.state c.args.self.now)) c.args.address c.requires.address)
+pub returns : goal.returns
+returns g c = record { byte = c.ram.ensures.byte ∙ sym (user_byte (memory_of (board_of g.D.Drive.state c.args.self.now)) c.args.address c.requires.address) }

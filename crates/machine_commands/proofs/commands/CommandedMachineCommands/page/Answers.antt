@@ -5,7 +5,7 @@ use Rattle.machine_commands.specs.Shown.{board_of}
 use Rattle.machine_commands.proofs.Showing.{page_byte}
 use Rattle.machine_commands.proofs.commands.CommandedMachineCommands.page.Goals as goal
 
-pub returns-clause-byte : goal.returns-clause-byte
-returns-clause-byte g c =
+pub returns : goal.returns
+returns g c =
     let memory = memory_of (board_of g.D.Drive.state c.args.self.now) in
-    c.ram.ensures.byte ∙ (ap (λ n. slice_index memory (user_bytes + n)) c.from.ensures ∙ sym (page_byte memory c.args.i))
+    record { byte = c.ram.ensures.byte ∙ (ap (λ n. slice_index memory (user_bytes + n)) c.from.ensures ∙ sym (page_byte memory c.args.i)) }
