@@ -1,6 +1,6 @@
 -- Calls past the driver, on media and memory.
 use Rattle.std.proofs.Common.{◌≡◌, ℕ, zero, suc, ◌-◌, ◌≤◌, ◌==◌, Bool, true, false, if◌then◌else◌, List, refl, sym, ap, ◌∙◌, arith}
-use Rattle.std.specs.Prelude.{◌&&◌, not, is_some, is_none, is_err, IsSome, Option, Some, None, Result, Ok, Err, slice_set}
+use Rattle.std.specs.Prelude.{◌&&◌, not, is_some, is_err, IsSome, Option, Some, None, Result, Ok, Err, slice_set}
 use Rattle.std.proofs.lemmas.Bool.{false≢true}
 use Rattle.flop_base.specs.declared.answers.Rate.TheVariants.{R500}
 use Rattle.raw_image.specs.Disk.{Disk}
@@ -154,10 +154,11 @@ flags_memory driver old new spares waiting address byte flags step was =
 
 -- ---- answers
 
-pub is_nothing : (o : Option Disk) → is_none o ≡ true → o ≡ None
-is_nothing None e = refl
-is_nothing (Some d) e = absurd (false≢true e)
+pub is_nothing : (o : Option Disk) (told : Bool) → is_some o ≡ not told → told ≡ true → o ≡ None
+is_nothing None told is none = refl
+is_nothing (Some d) true is none = absurd (false≢true (sym is))
+is_nothing (Some d) false is none = absurd (false≢true none)
 
-pub is_something : (o : Option Disk) → is_none o ≡ false → IsSome o
-is_something None e = absurd (false≢true (sym e))
-is_something (Some d) e = refl
+pub is_something : (o : Option Disk) (told : Bool) → is_some o ≡ not told → told ≡ false → IsSome o
+is_something o true is some = absurd (false≢true (sym some))
+is_something o false is some = is

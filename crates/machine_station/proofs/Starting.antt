@@ -1,7 +1,8 @@
 -- A station before the first request.
 use Rattle.std.proofs.Common.{◌≡◌, ℕ, ◌+◌, ◌<◌, ◌≤◌, ◌^◌, List, length, map, take, replicate, Bool, true, false, refl, sym, ap, ◌∙◌, subst, arith}
 use Rattle.std.specs.Prelude.{◌&&◌, not, nat_lt, All, Option, Some, None, if◌then◌else◌}
-use Rattle.std.proofs.lemmas.List.{length-map, length-take, take-replicate, count_by-le-length}
+use Rattle.std.proofs.lemmas.List.{length-take-le, take-replicate}
+use Rattle.std.proofs.lemmas.List.Sums.{count_by-le-length}
 use Rattle.flop_base.specs.declared.answers.Rate.TheVariants.{R500}
 use Rattle.raw_image.specs.Disk.{Disk}
 use Rattle.bay_model.specs.Bays.{Two, both}
@@ -36,7 +37,7 @@ user_zeroes count le = user_is (zeroes count) ∙ zeroes_taken user_bytes count 
 
 -- user memory has its size
 pub user_size : (memory : List ℕ) → length memory ≡ 1048576 → length (user_part memory) ≡ user_bytes
-user_size memory size = ap length (user_is memory) ∙ omega (arith, length-take user_bytes memory)
+user_size memory size = ap length (user_is memory) ∙ length-take-le user_bytes memory (omega (arith, size))
 
 -- ---- a machine as it is made
 

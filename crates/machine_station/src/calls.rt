@@ -43,7 +43,7 @@ impl<D: Drive> Station for MachineStation<D> {
     fn eject(&mut self, bay: u8) -> Option<Medium> {
         let medium = self.machine.eject(bay);
         if medium.is_none() {
-            return None;
+            return medium;
         }
         self.flags.exchange_medium(bay, false);
         medium

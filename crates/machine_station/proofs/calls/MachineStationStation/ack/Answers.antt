@@ -33,8 +33,8 @@ returns-then-bay-gt1-clause-ready g c =
     record {
       idle = c.ack-answer.ensures.idle;
       attached = c.ack-answer.ensures.attached;
-      flags = c.requires.flags ∙ sym (flags_no_bay old c.args.bay c.ack-answer.result (shown driver rig count waiting) (omega arith) (c.ack-answer.ensures.step count waiting));
-      spare = c.requires.spare;
+      flags = c.requires.ready.flags ∙ sym (flags_no_bay old c.args.bay c.ack-answer.result (shown driver rig count waiting) (omega arith) (c.ack-answer.ensures.step count waiting));
+      spare = c.requires.ready.spare;
     }
 
 pub returns-clause-step : goal.returns-clause-step
@@ -60,8 +60,8 @@ returns-clause-ready g c =
     record {
       idle = c.ack-answer.ensures.idle;
       attached = c.ack-answer.ensures.attached;
-      flags = rate_set (bays_flagged self.flags) (bays_flagged c.set_rate.new.self) c.args.bay (flags_shown old) (flags_shown (shown driver rig count waiting)) c.rate_after-rate.result c.set_rate.ensures c.requires.flags
+      flags = rate_set (bays_flagged self.flags) (bays_flagged c.set_rate.new.self) c.args.bay (flags_shown old) (flags_shown (shown driver rig count waiting)) c.rate_after-rate.result c.set_rate.ensures c.requires.ready.flags
           (flags_acked driver rig count waiting old c.args.bay c.rate_after-rate.result c.ack-answer.result (omega arith) (c.ack-answer.ensures.step count waiting)
           (c.rate_after-rate.ensures ∙ ap (λ told. if told then (notes_of driver c.args.bay).rate else R500) c.is_ok.ensures.value));
-      spare = c.requires.spare;
+      spare = c.requires.ready.spare;
     }

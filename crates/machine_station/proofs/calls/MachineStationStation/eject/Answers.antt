@@ -41,7 +41,7 @@ returns-then-is_none-clause-ready g c =
     record {
       idle = c.eject-medium.ensures.idle c.requires.ready.idle;
       attached = attached_ejected self.driver old new c.args.bay c.eject-medium.result c.requires.bay c.eject-medium.ensures.step c.requires.ready.attached;
-      flags = c.requires.ready.flags ∙ sym (flags_none_ejected (shown self.driver old count waiting) c.args.bay c.eject-medium.result (shown self.driver new count waiting) (is_nothing c.eject-medium.result (sym c.is_none.ensures ∙ c.if-is_none.true)) (ejects self.driver old new count waiting c.args.bay c.eject-medium.result c.eject-medium.ensures.step));
+      flags = c.requires.ready.flags ∙ sym (flags_none_ejected (shown self.driver old count waiting) c.args.bay c.eject-medium.result (shown self.driver new count waiting) (is_nothing c.eject-medium.result c.is_none.result c.is_none.ensures c.if-is_none.true) (ejects self.driver old new count waiting c.args.bay c.eject-medium.result c.eject-medium.ensures.step));
       spare = c.requires.ready.spare;
     }
 
@@ -78,6 +78,6 @@ returns-clause-ready g c =
       attached = attached_ejected self.driver old new c.args.bay c.eject-medium.result c.requires.bay c.eject-medium.ensures.step c.requires.ready.attached;
       flags = flags_set (bays_flagged self.flags) (bays_flagged c.exchange_medium.new.self) c.args.bay (flags_shown (shown self.driver old count waiting)) (flags_shown (shown self.driver new count waiting))
           (flags_of (fresh_bay None)) c.exchange_medium.ensures c.requires.ready.flags
-          (flags_ejected (shown self.driver old count waiting) c.args.bay c.eject-medium.result (shown self.driver new count waiting) (is_something c.eject-medium.result (sym c.is_none.ensures ∙ c.if-is_none.false)) (ejects self.driver old new count waiting c.args.bay c.eject-medium.result c.eject-medium.ensures.step));
+          (flags_ejected (shown self.driver old count waiting) c.args.bay c.eject-medium.result (shown self.driver new count waiting) (is_something c.eject-medium.result c.is_none.result c.is_none.ensures c.if-is_none.false) (ejects self.driver old new count waiting c.args.bay c.eject-medium.result c.eject-medium.ensures.step));
       spare = c.requires.ready.spare;
     }

@@ -25,6 +25,6 @@ returns-clause-ready g c =
     record {
       idle = c.format.ensures.idle;
       attached = c.format.ensures.attached;
-      flags = c.requires.flags ∙ sym (flags_format old c.args.bay c.args.c c.args.h c.args.gap3 c.args.fill c.format.result new (c.format.ensures.step (length items) (all_counts state items)));
-      spare = c.requires.spare;
+      flags = c.requires.ready.flags ∙ sym (flags_format old c.args.bay c.args.c c.args.h c.args.gap3 c.args.fill c.format.result new (c.format.ensures.step (length items) (all_counts state items)));
+      spare = c.requires.ready.spare;
     }

@@ -25,6 +25,6 @@ returns-clause-ready g c =
     record {
       idle = c.read.ensures.idle;
       attached = c.read.ensures.attached;
-      flags = c.requires.flags ∙ sym (flags_read old c.args.bay c.args.key c.args.address c.read.result new (c.read.ensures.step (length items) (all_counts state items)));
-      spare = c.requires.spare;
+      flags = c.requires.ready.flags ∙ sym (flags_read old c.args.bay c.args.key c.args.address c.read.result new (c.read.ensures.step (length items) (all_counts state items)));
+      spare = c.requires.ready.spare;
     }

@@ -30,8 +30,8 @@ returns-then-is_err-clause-ready g c =
     record {
       idle = c.set_rate-answer.ensures.idle;
       attached = c.set_rate-answer.ensures.attached;
-      flags = c.requires.flags ∙ sym (flags_rate_refused old c.args.bay c.args.rate c.set_rate-answer.result new (sym c.is_err.ensures.value ∙ c.if-is_err.true) (c.set_rate-answer.ensures.step count waiting));
-      spare = c.requires.spare;
+      flags = c.requires.ready.flags ∙ sym (flags_rate_refused old c.args.bay c.args.rate c.set_rate-answer.result new (sym c.is_err.ensures.value ∙ c.if-is_err.true) (c.set_rate-answer.ensures.step count waiting));
+      spare = c.requires.ready.spare;
     }
 
 pub returns-clause-step : goal.returns-clause-step
@@ -56,7 +56,7 @@ returns-clause-ready g c =
     record {
       idle = c.set_rate-answer.ensures.idle;
       attached = c.set_rate-answer.ensures.attached;
-      flags = rate_set (bays_flagged self.flags) (bays_flagged c.set_rate.new.self) c.args.bay (flags_shown old) (flags_shown new) c.args.rate c.set_rate.ensures c.requires.flags
+      flags = rate_set (bays_flagged self.flags) (bays_flagged c.set_rate.new.self) c.args.bay (flags_shown old) (flags_shown new) c.args.rate c.set_rate.ensures c.requires.ready.flags
           (flags_rate_set old c.args.bay c.args.rate c.set_rate-answer.result new (sym c.is_err.ensures.value ∙ c.if-is_err.false) (c.set_rate-answer.ensures.step count waiting));
-      spare = c.requires.spare;
+      spare = c.requires.ready.spare;
     }

@@ -25,6 +25,6 @@ returns-clause-ready g c =
     record {
       idle = c.write.ensures.idle;
       attached = c.write.ensures.attached;
-      flags = c.requires.flags ∙ sym (flags_write old c.args.bay c.args.key c.args.address c.args.deleted c.write.result new (c.write.ensures.step (length items) (all_counts state items)));
-      spare = c.requires.spare;
+      flags = c.requires.ready.flags ∙ sym (flags_write old c.args.bay c.args.key c.args.address c.args.deleted c.write.result new (c.write.ensures.step (length items) (all_counts state items)));
+      spare = c.requires.ready.spare;
     }
