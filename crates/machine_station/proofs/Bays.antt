@@ -48,15 +48,15 @@ pub flags_medium : (bays : Two Bay) (n : ℕ) (medium : Option Disk) → is_some
 flags_medium bays n medium same =
     flags_put bays n (record (in_bay bays n) { medium = medium })
     ∙ put_same (flags_of_both bays) n (flags_of (record (in_bay bays n) { medium = medium }))
-        (ap (λ b. flagged b (in_bay bays n).rate) same ∙ sym (flags_in bays n))
+    (ap (λ b. flagged b (in_bay bays n).rate) same ∙ sym (flags_in bays n))
 
 -- a bay with the same medium in, or another, has another rate
 pub flags_rate : (bays : Two Bay) (n : ℕ) (value : Bay) (rate : Rate) → is_some value.medium ≡ is_some (in_bay bays n).medium → value.rate ≡ rate → flags_of_both (with_bay bays n value) ≡ with_rate (flags_of_both bays) n rate
 flags_rate bays n value rate same is =
     flags_put bays n value
     ∙ ap (λ f. with_bay (flags_of_both bays) n f)
-        (ap (λ b. flagged b value.rate) (same ∙ ap (λ (f : BayFlags). f.loaded) (sym (flags_in bays n)))
-        ∙ ap (λ r. flagged (in_bay (flags_of_both bays) n).loaded r) is)
+    (ap (λ b. flagged b value.rate) (same ∙ ap (λ (f : BayFlags). f.loaded) (sym (flags_in bays n)))
+    ∙ ap (λ r. flagged (in_bay (flags_of_both bays) n).loaded r) is)
 
 -- ---- the flags that a call sets
 

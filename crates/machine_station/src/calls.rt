@@ -100,8 +100,7 @@ impl<D: Drive> Station for MachineStation<D> {
     }
 
     fn format(&mut self, bay: u8, c: u8, h: u8, gap3: u8, fill: u8) -> Result<(), Code> {
-        self.driver
-            .format(&mut self.machine, bay, c, h, gap3, fill)
+        self.driver.format(&mut self.machine, bay, c, h, gap3, fill)
     }
 
     fn set_rate(&mut self, bay: u8, rate: Rate) -> Result<(), Code> {

@@ -5,4 +5,4 @@ use Rattle.machine_station.proofs.Starting.{user_size}
 use Rattle.machine_station.proofs.station.MachineStation.hold_size.Goals as goal
 
 pub returns : goal.returns
-returns g c = user_size (memory_of (board_of g.D.Drive.state c.args.self.now.machine)) (ap (λ (b : Board). length (memory_of b)) (sym c.machine.ensures) ∙ c.ram.ensures.length)
+returns g c = user_size (memory_of (board_of g.D.Drive.state c.args.self.now.machine)) (ap (λ (b : Board). length (memory_of b)) (sym c.machine.ensures) ∙ c.ram-byte.ensures.length)
