@@ -95,6 +95,9 @@ module _ (driver : Driver) (old new : Rig) where
   attached_untouched : Untouched old new → IsAttached driver old → IsAttached driver new
   attached_untouched same = attached_same same.media same.changes same.spun same.numbers same.cylinders same.counts
 
+  pub attached_memory : (address byte : ℕ) → PutsMemory old address byte new → IsAttached driver old → IsAttached driver new
+  attached_memory address byte step = attached_same step.media step.changes step.spun step.numbers step.cylinders step.counts
+
 module _ (driver : Driver) (old new : Rig) (bay : ℕ) where
   pub attached_inserted : (disk : Disk) (answer : Result (Unit {0}) Disk) → bay ≤ 1 → PutsIn old bay disk answer new → IsAttached driver old → IsAttached driver new
   attached_inserted disk (Ok u) in_range step = attached_exchanged driver old new bay (Some disk) in_range step.1
@@ -113,9 +116,6 @@ module _ (driver : Driver) (old new : Rig) (bay : ℕ) where
     other_cylinder = exchanged.other_cylinder;
     other_faults = let same = ap (λ (d : DriveCounts). d.faults) exchanged.counters.other in omega arith;
   })
-
-  pub attached_memory : (address byte : ℕ) → PutsMemory old address byte new → IsAttached driver old → IsAttached driver new
-  attached_memory address byte step = attached_same driver old new step.media step.changes step.spun step.numbers step.cylinders step.counts
 
 -- what calls past the driver leave of the counts
 pub inserted_goes_on : (old new : Rig) (bay : ℕ) (disk : Disk) (answer : Result (Unit {0}) Disk) → PutsIn old bay disk answer new → GoesOn old.counters new.counters

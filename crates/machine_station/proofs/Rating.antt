@@ -1,7 +1,7 @@
 -- Calls of the driver that change the rate of a bay.
-use Rattle.std.proofs.Common.{◌≡◌, ℕ, zero, suc, ◌<◌, ◌≤◌, arith, ◌==◌, Bool, true, false, if◌then◌else◌, List, refl, sym, ap, ◌∙◌, subst}
-use Rattle.std.specs.Prelude.{nat_le, is_some, is_ok, is_err, Option, Some, None, Result, Ok, Err, MatchOption, MatchBool}
-use Rattle.std.proofs.lemmas.Bool.{false≢true, le-leb}
+use Rattle.std.proofs.Common.{◌≡◌, ℕ, ◌<◌, ◌≤◌, ◌==◌, Bool, true, false, if◌then◌else◌, List, refl, sym, ap, ◌∙◌, subst}
+use Rattle.std.specs.Prelude.{is_some, is_ok, is_err, Option, Some, None, Result, Ok, Err, MatchOption, MatchBool}
+use Rattle.std.proofs.lemmas.Bool.{false≢true, le-leb, lt-leb}
 use Rattle.flop_base.specs.declared.answers.Rate.{Rate}
 use Rattle.flop_base.specs.declared.answers.Rate.TheVariants.{R500}
 use Rattle.flop_base.specs.declared.answers.Code.{Code}
@@ -51,12 +51,8 @@ flags_acked driver rig spares waiting old bay rate answer in_range step is =
 
 -- no such bay
 pub flags_no_bay : (old : StationState) (bay : ℕ) (answer : Result (Unit {0}) Code) (new : StationState) → 1 < bay → Acks old bay answer new → flags_shown new ≡ flags_shown old
-flags_no_bay old bay answer new above step = by_range bay above step
-  where
-    by_range : (n : ℕ) → 1 < n → MatchBool (nat_le n 1) (AcksDrive old bay answer new) (IsRefusedAtOnce old BadRequest answer new) → flags_shown new ≡ flags_shown old
-    by_range zero more s = absurd (omega arith)
-    by_range (suc zero) more s = absurd (omega arith)
-    by_range (suc (suc n)) more s = flags_refused old BadRequest answer new s
+flags_no_bay old bay answer new above step =
+    flags_refused old BadRequest answer new (subst (λ b. MatchBool b (AcksDrive old bay answer new) (IsRefusedAtOnce old BadRequest answer new)) (lt-leb bay 1 above) step)
 
 -- ---- another rate
 

@@ -51,7 +51,7 @@ no_stalls : (made : Board) → IsFreshBoard made → (holds_of made).stalls + st
 no_stalls made fresh =
     let holds = fresh.pace.holds in
     subst (λ (h : Holds). h.stalls + stalls_left h.entries < 2 ^ 63) (sym (ap (λ (b : Bus). b.chips.holding) fresh.new.bus))
-    (omega (arith, count_by-le-length (λ hold. nat_lt 8 hold) holds.items, holds.ok.0, holds.small.0, holds.small.1))
+    (omega (arith, count_by-le-length (λ hold. nat_lt 8 hold) holds.items, holds.ok.0, holds.ok.1, holds.small))
 
 free_bay : (notes : Notes) (medium : Option Disk) (changed : Bool) → notes.gate ≡ false → medium ≡ None → bay_shown notes medium changed ≡ fresh_bay None
 free_bay notes medium changed gate none =

@@ -14,7 +14,7 @@ use Rattle.machine_station.proofs.station.MachineStation.set_up.Goals as goal
 pub set_up-driver-requires : goal.set_up-driver-requires
 set_up-driver-requires g c =
     let state = g.D.Drive.state in
-    subst (λ (b : Board). CanSetUp (rig_of b)) (sym c.new-machine.ensures) (can_set_up (board state c.args.machine) c.requires.machine)
+    record { empty = subst (λ (b : Board). CanSetUp (rig_of b)) (sym c.new-machine.ensures) (can_set_up (board state c.args.machine) c.requires.machine) }
 
 pub returns-clause-fresh : goal.returns-clause-fresh
 returns-clause-fresh g c =
@@ -26,7 +26,7 @@ returns-clause-fresh g c =
     (length-map items (λ drive. counts_of (state drive)))
     (subst (λ (b : Board). DriveTells (counts_of b.first)) c.machine.ensures c.hear_machine.ensures.first)
     (subst (λ (b : Board). DriveTells (counts_of b.second)) c.machine.ensures c.hear_machine.ensures.second)
-    (All-map DriveTells (λ drive. counts_of (state drive)) items (All-same (λ drive. DriveTells (counts_of (state drive))) items c.args.spare.items c.from_vec.ensures.items c.hear_spare.ensures))
+    (All-map DriveTells (λ drive. counts_of (state drive)) items (All-same (λ drive. DriveTells (counts_of (state drive))) items c.deref.result.now (c.from_vec.ensures.items ∙ sym c.deref.ensures.value) c.hear_spare.ensures))
 
 pub returns-clause-starts : goal.returns-clause-starts
 returns-clause-starts g c =
