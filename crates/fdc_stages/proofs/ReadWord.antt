@@ -13,7 +13,8 @@ use Rattle.track_separator.specs.Waits.{SWaits, SReads}
 use Rattle.track_separator.specs.Turns.{SWaitFed, SReadFed}
 use Rattle.track_separator.proofs.Laws.{part_with_word, address_stays, bytes_stay, cut_is_no_data, late_is_no_data, reads_within}
 use Rattle.fdc_stages.specs.declared.ending.Ending.TheVariants.{NoField}
-use Rattle.fdc_stages.specs.declared.reading.ReadStage.TheVariants.{Wait, Content, Over}
+use Rattle.fdc_stages.specs.declared.searching.Search as searched
+use Rattle.fdc_stages.specs.declared.reading.ReadStage.TheVariants.{Search, Wait, Content, Over}
 use Rattle.fdc_stages.specs.History.{Past, heard, IsJustOver}
 use Rattle.fdc_stages.specs.Searches.{IsMet, IsMetAt}
 use Rattle.fdc_stages.specs.Readings.{IsWaitingAt, IsContentAt, IsFieldOver, IsReading, HasRead}
@@ -24,6 +25,12 @@ ended_turn : (past : Past) (word : ℕ) → IsJustOver (heard true word past) (w
 ended_turn past word = record { earlier = past.turns; last = refl; nothing = refl }
 
 -- ---- an address field was met
+
+same_search : (a b : searched.Search) → Search a ≡ Search b → a ≡ b
+same_search a b e = cc
+
+pub same_separator : (a b : searched.Search) → Search a ≡ Search b → a.separator ≡ b.separator
+same_separator a b e = ap (λ (s : searched.Search). s.separator) (same_search a b e)
 
 -- the index followed it
 pub met_over : (index : Bool) (past : Past) (key : Chrn) (separator : Separator) → index ≡ true → IsMet index past key separator → HasRead past key [] NoField

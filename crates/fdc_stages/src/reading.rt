@@ -68,21 +68,10 @@ impl ReadStage {
         match self {
             ReadStage::Search(search) => match search.hear(Some(key), word, index) {
                 Searched::On => ReadHeard::On,
-                Searched::Met { .. } => {
-                    let found = search.separator();
-                    self.meet(found, key, index)
-                }
+                Searched::Met { .. } => self.meet(key, index),
                 Searched::Missed(ending) => ReadHeard::Ended(ending),
             },
-            ReadStage::Wait(separator) => match separator.feed(word, index) {
-                Seen::Mode { deleted } => {
-                    let separator = *separator;
-                    *self = ReadStage::Content { separator, deleted };
-                    ReadHeard::On
-                }
-                Seen::NoData => ReadHeard::Ended(Ending::NoField),
-                _ => ReadHeard::On,
-            },
+            ReadStage::Wait(_separator) => self.hear_wait(word, index),
             ReadStage::Content { separator, deleted } => match separator.feed(word, index) {
                 Seen::Byte { value } => ReadHeard::Byte { value },
                 Seen::End { good } => {
@@ -97,19 +86,46 @@ impl ReadStage {
         }
     }
 
-    /// Begins to wait for the data field of the address field that was met; one that ended with its turn has none.
+    /// Hears a word while the data mark is awaited.
     #[inline(never)]
-    fn meet(&mut self, found: Separator, key: Chrn, index: bool) -> ReadHeard
-        requires { IsSizeCode key.n }
-        ensures hears { (past : Past) → IsMet index past key found → HasHeard past key [] (read_outcome self.new result) }
+    fn hear_wait(&mut self, word: u16, index: bool) -> ReadHeard
+        ensures hears { (key : Chrn) (past : Past) (told : List ℕ) (separator : Separator) → self.old ≡ ReadStage.Wait separator
+            → IsReading past key told self.old → HasHeard (heard index word past) key told (read_outcome self.new result) }
         ensures well { FailsWell (read_outcome self.new result) }
     {
-        if index {
-            return ReadHeard::Ended(Ending::NoField);
+        match self {
+            ReadStage::Wait(separator) => match separator.feed(word, index) {
+                Seen::Mode { deleted } => {
+                    let separator = *separator;
+                    *self = ReadStage::Content { separator, deleted };
+                    ReadHeard::On
+                }
+                Seen::NoData => ReadHeard::Ended(Ending::NoField),
+                _ => ReadHeard::On,
+            },
+            _ => ReadHeard::On,
         }
-        let mut separator = found;
-        separator.want(sector_size(key.n));
-        *self = ReadStage::Wait(separator);
-        ReadHeard::On
+    }
+
+    /// Begins to wait for the data field of the address field that a search met; one that ended with its turn has none.
+    #[inline(never)]
+    fn meet(&mut self, key: Chrn, index: bool) -> ReadHeard
+        requires { IsSizeCode key.n }
+        ensures hears { (past : Past) (search : Search) → self.old ≡ ReadStage.Search search → IsMet index past key search.separator
+            → HasHeard past key [] (read_outcome self.new result) }
+        ensures well { FailsWell (read_outcome self.new result) }
+    {
+        match self {
+            ReadStage::Search(search) => {
+                if index {
+                    return ReadHeard::Ended(Ending::NoField);
+                }
+                let mut separator = search.separator;
+                separator.want(sector_size(key.n));
+                *self = ReadStage::Wait(separator);
+                ReadHeard::On
+            }
+            _ => ReadHeard::On,
+        }
     }
 }
