@@ -55,14 +55,7 @@ impl Separator {
 
     /// Takes one word of the check, behind all bytes of the content.
     #[inline(never)]
-    fn read_check(
-        &mut self,
-        word: u16,
-        size: u16,
-        taken: u16,
-        check: u16,
-        before: bool,
-    ) -> Seen
+    fn read_check(&mut self, word: u16, size: u16, taken: u16, check: u16, before: bool) -> Seen
         requires small { size ≤ 8192 }
         requires over { size ≤ taken }
         ensures { (fed : List ℕ) (p q : ℕ) (deleted : Bool)
