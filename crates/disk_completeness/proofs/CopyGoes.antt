@@ -123,7 +123,7 @@ module _ (source : Disk) (readable : IsReadable source) (few_cylinders : source.
             let taken = write_taken source.rate source.cylinders c h r deleted copying.disk old.state new.state old.files new.files answer track copying.regular copying.also least most copying.second (calm_second new deleted answer calm) step in (
               taken.0,
               record {
-                first = ready_still 0 source old.state.station new.state.station taken.1.first copying.first;
+                first = ready_still 0 source old.state.station new.state.station (taken.1.first refl) copying.first;
                 disk = taken.1.next;
                 second = taken.1.holds;
                 regular = taken.1.regular;
