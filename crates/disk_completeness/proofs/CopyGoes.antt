@@ -45,14 +45,14 @@ AnyDisk disk = Unit {0}
 
 -- ---- what stays where a bay does
 
-ready_still : (bay : ℕ) (disk : Disk) (old new : StationState) → bay_of new bay ≡ bay_of old bay → IsReadyFor bay disk old → IsReadyFor bay disk new
+pub ready_still : (bay : ℕ) (disk : Disk) (old new : StationState) → bay_of new bay ≡ bay_of old bay → IsReadyFor bay disk old → IsReadyFor bay disk new
 ready_still bay disk old new same ready = record {
   medium = ap (λ (b : Bay). b.medium) same ∙ ready.medium;
   bay_rate = ap (λ (b : Bay). b.rate) same ∙ ready.bay_rate;
   kept = ap (λ (b : Bay). is_some b.acknowledged) same ∙ ready.kept;
 }
 
-holds_still : (bay : ℕ) (rate : Rate) (count : ℕ) (disk : Disk) (old new : StationState) → bay_of new bay ≡ bay_of old bay → HoldsBlank bay rate count disk old → HoldsBlank bay rate count disk new
+pub holds_still : (bay : ℕ) (rate : Rate) (count : ℕ) (disk : Disk) (old new : StationState) → bay_of new bay ≡ bay_of old bay → HoldsBlank bay rate count disk old → HoldsBlank bay rate count disk new
 holds_still bay rate count disk old new same holds = record {
   medium = ap (λ (b : Bay). b.medium) same ∙ holds.medium;
   alike = holds.alike;

@@ -27,7 +27,7 @@ use Rattle.disk_laws.proofs.Tracks.{Among}
 use Rattle.disk_laws.proofs.Written.{AllTidy, writes_keep}
 use Rattle.sector_map.specs.Standard.{track_keys}
 
-all_and : (a b : Bool) → a ≡ true → b ≡ true → (a && b) ≡ true
+pub all_and : (a b : Bool) → a ≡ true → b ≡ true → (a && b) ≡ true
 all_and true b e f = f
 all_and false b e f = e
 
