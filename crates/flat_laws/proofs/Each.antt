@@ -1,5 +1,5 @@
 -- Requests for each number that are all done: what each of them keeps holds at the end.
-use Rattle.std.proofs.Common.{arith, ◌≡◌, ◌+◌, ◌<◌, ◌≤◌, ℕ, zero, suc, true, List, [], ◌∷◌, ◌++◌, refl, sym, ap, subst, append-nil, append_assoc, inl, inr}
+use Rattle.std.proofs.Common.{arith, ◌≡◌, ◌+◌, ◌<◌, ◌≤◌, ℕ, zero, suc, true, List, [], ◌∷◌, ◌++◌, refl, sym, ap, subst, append-nil, append_assoc, inl, inr, Option}
 use Rattle.std.specs.List.{list_all}
 use Rattle.flop_base.specs.Shelf.{Files}
 use Rattle.raw_image.specs.Disk.{Disk}
@@ -52,7 +52,7 @@ within_second start old mid new final within fell = record { before = both_fell 
 
 pub same_stage : (old new : Stage) → new.state ≡ old.state → new.files ≡ old.files → old ≡ new
 same_stage old new state files =
-    ap (λ (s : State). at s old.files) (sym state) ∙ ap (λ (f : _). at new.state f) (sym files)
+    ap (λ (s : State). at s old.files) (sym state) ∙ ap (λ (f : Option Files). at new.state f) (sym files)
 
 pub keeps_each : (ask : ℕ → List Request) (a n : ℕ) → ((i : ℕ) → list_all keeps_drives (ask i) ≡ true) → list_all keeps_drives (each a n ask) ≡ true
 unfolding each

@@ -13,15 +13,16 @@ use Rattle.bay_model.specs.Counters.{Counters, IsFaultless}
 use Rattle.floppy_jobs.specs.declared.request.Request.{Request}
 use Rattle.floppy_jobs.specs.declared.request.Request.TheVariants as request
 use Rattle.sector_map.specs.Standard.{key_of}
+use Rattle.sector_model.specs.Stations.{Bay}
 use Rattle.sector_model.specs.States.{State}
 use Rattle.sector_model.specs.Steps.{IsImageOf}
-use Rattle.sector_model.specs.Runs.{Taken, Run}
+use Rattle.sector_model.specs.Runs.{Taken, Run, requests_of}
 use Rattle.sector_model.specs.Plays.{World}
 use Rattle.sector_model.specs.Ties.{AreUndisturbed}
 use Rattle.floppy_session.specs.declared.shape.Shape.{Shape}
 use Rattle.floppy_session.specs.Shapes.{shape_of}
 use Rattle.disk_commands.specs.Carried.{Stage}
-use Rattle.disk_commands.specs.Plans.{Planned, record_address}
+use Rattle.disk_commands.specs.Plans.{Planned, Asks, record_address}
 use Rattle.disk_commands.specs.Commands.{Runs, IsShapePutIn}
 use Rattle.flat_commands.specs.Requests.{each, by_track, rate_requests, ack_requests, read_record, read_track, read_disk, export_requests}
 use Rattle.flat_commands.specs.Commands.{StoresFlat, IsStored, NotStored, IsStoreFault, Exports, ExportsDisk, Exported, ExportHalts}
@@ -64,7 +65,7 @@ module _ (disk : Disk) (is : IsWholeDisk disk) where
         stops = λ cause new stops. stops_outside (request.Read 0 (key_of c h r) (record_address r)) old.state new.state old.files new.files cause (λ at other same. cc same) stops;
         answers = λ answer new step calm.
             let taken = read_taken disk c h r old.state new.state old.files new.files answer is.readable (omega (arith, count)) (omega (arith, heads)) track least most ready calm.first step in
-            (taken.0, ready_still 0 disk old.state.station new.state.station (ap (λ (bays : Two _). in_bay bays 0) taken.1) ready);
+            (taken.0, ready_still 0 disk old.state.station new.state.station (ap (λ (bays : Two Bay). in_bay bays 0) taken.1) ready);
       }
 
   reads_go : (old : Stage) → IsReady old → GoAll (λ new. IsReady new) (by_track 80 (read_track (sectors_at disk.rate))) old
@@ -107,7 +108,7 @@ export_answered : (name : List ℕ) (shape : Shape) (old : World) (course : List
 export_answered name shape old course files disk begins told image whole put before tail asked later mid after is begun calm =
     answered (λ (s : Shape). asks_all (read_disk s.rate)) name files disk old.state image (fresh_empty old.state 0 begins.fresh) (fresh_empty old.state 1 begins.fresh)
     (λ one into. disk_goes disk whole one into)
-    shape _ _ _ before tail mid after (begun_parts (export_requests name shape.rate) before asked later begun.parts)
+    shape (asks_all (requests_of before)) (Asks asked) (asks_all later) before tail mid after (begun_parts (export_requests name shape.rate) before asked later begun.parts)
     (subst (λ (steps : List Taken). IsShapePutIn steps shape) is put)
     (subst (λ (f : Option Files). Run old.state f before mid after) told begun.run) (asked_own [] before) calm
 

@@ -177,7 +177,7 @@ whole_track sure disk told t stage course holds =
       medium = holds.medium;
       size = holds.size;
       files = holds.files;
-      count = count ∙ ap (λ n. n * 512) (omega (arith, next));
+      count = omega (arith, count, next);
       given = λ c h r sector which. elim which [
         | inl before ↦ elim (cases_lt (c * 2 + h) t) [
           | inl earlier ↦ holds.given c h r sector (inl earlier)

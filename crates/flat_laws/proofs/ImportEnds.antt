@@ -16,14 +16,16 @@ use Rattle.floppy_jobs.specs.declared.request.Request.TheVariants as request
 use Rattle.sector_model.specs.declared.reply.Stop.{Stop}
 use Rattle.sector_model.specs.declared.reply.Stop.TheVariants as stop
 use Rattle.sector_model.specs.States.{State}
-use Rattle.sector_model.specs.Runs.{Taken, IsEndStop}
+use Rattle.sector_model.specs.Runs.{Taken, IsEndStop, requests_of}
 use Rattle.sector_model.specs.Plays.{World}
 use Rattle.sector_model.specs.Ties.{AreUndisturbed}
 use Rattle.floppy_session.specs.Blanks.{blank_request}
 use Rattle.disk_commands.specs.Commands.{Runs}
+use Rattle.disk_commands.specs.Plans.{Asks}
 use Rattle.flat_commands.specs.Requests.{each, by_track, rate_requests, ack_requests, import_track, import_requests}
 use Rattle.flat_commands.specs.Commands.{Imports, Imported, NotTaken, ImportHalts}
 use Rattle.flat_commands.specs.FlatFiles.{IsFlatFile, IsNotTaken, most_flat_bytes}
+use Rattle.disk_laws.proofs.Asked.{asks_all}
 use Rattle.disk_laws.proofs.Copied.{keeps-append, all_and}
 use Rattle.disk_laws.proofs.Formatted.{blank_keeps}
 use Rattle.disk_laws.proofs.Steps.{keeps_drives}
@@ -106,7 +108,7 @@ import_answered : (bytes name : List ℕ) (rate : Rate) (old : World) (course : 
 import_answered bytes name rate old course begins before tail asked later mid files is begun calm =
     let goes = import_goes bytes name rate (at old.state old.files) (fresh_empty old.state 0 begins.fresh) in
     let parts = begun_parts (import_requests bytes name rate) before asked later begun.parts in
-    reaches_next (λ new. Unit {0}) _ _ _ _ [] before old.state mid old.files files parts goes begun.run (asked_own [] before) calm
+    reaches_next (λ new. Unit {0}) (asks_all (import_requests bytes name rate)) (asks_all (requests_of before)) (Asks asked) (asks_all later) [] before old.state mid old.files files parts goes begun.run (asked_own [] before) calm
 
 -- ---- the command
 

@@ -53,9 +53,6 @@ same_rates R250 = refl
 pub flat_size : (rate : Rate) (n : ℕ) → sectors_told n ≡ Ok (sectors_at rate) → n ≡ flat_length (sectors_at rate)
 flat_size rate n told = go (n == 737280) (n == 1474560) (nat_lt n 737280) (nat_lt n 1474560) refl refl told
   where
-    as_told : Result ℕ ImageError → Result ℕ ImageError
-    as_told result = result
-
     go : (nine eighteen below under : Bool) → (n == 737280) ≡ nine → (n == 1474560) ≡ eighteen
         → (if nine then Ok 9 else (if eighteen then Ok 18 else (if below then Err (TooShort 737280 n) else (if under then Err (TooShort 1474560 n) else Err (Trailing 1474560))))) ≡ Ok (sectors_at rate)
         → n ≡ flat_length (sectors_at rate)
