@@ -45,14 +45,14 @@ AnyDisk disk = Unit {0}
 
 -- ---- what stays where a bay does
 
-ready_still : (bay : ℕ) (disk : Disk) (old new : StationState) → bay_of new bay ≡ bay_of old bay → IsReadyFor bay disk old → IsReadyFor bay disk new
+pub ready_still : (bay : ℕ) (disk : Disk) (old new : StationState) → bay_of new bay ≡ bay_of old bay → IsReadyFor bay disk old → IsReadyFor bay disk new
 ready_still bay disk old new same ready = record {
   medium = ap (λ (b : Bay). b.medium) same ∙ ready.medium;
   bay_rate = ap (λ (b : Bay). b.rate) same ∙ ready.bay_rate;
   kept = ap (λ (b : Bay). is_some b.acknowledged) same ∙ ready.kept;
 }
 
-holds_still : (bay : ℕ) (rate : Rate) (count : ℕ) (disk : Disk) (old new : StationState) → bay_of new bay ≡ bay_of old bay → HoldsBlank bay rate count disk old → HoldsBlank bay rate count disk new
+pub holds_still : (bay : ℕ) (rate : Rate) (count : ℕ) (disk : Disk) (old new : StationState) → bay_of new bay ≡ bay_of old bay → HoldsBlank bay rate count disk old → HoldsBlank bay rate count disk new
 holds_still bay rate count disk old new same holds = record {
   medium = ap (λ (b : Bay). b.medium) same ∙ holds.medium;
   alike = holds.alike;
@@ -123,7 +123,7 @@ module _ (source : Disk) (readable : IsReadable source) (few_cylinders : source.
             let taken = write_taken source.rate source.cylinders c h r deleted copying.disk old.state new.state old.files new.files answer track copying.regular copying.also least most copying.second (calm_second new deleted answer calm) step in (
               taken.0,
               record {
-                first = ready_still 0 source old.state.station new.state.station taken.1.first copying.first;
+                first = ready_still 0 source old.state.station new.state.station (taken.1.first refl) copying.first;
                 disk = taken.1.next;
                 second = taken.1.holds;
                 regular = taken.1.regular;

@@ -48,7 +48,7 @@ length-zeroes : (count : ℕ) → length (zeroes count) ≡ count
 unfolding zeroes
 length-zeroes count = length-replicate count 0
 
-fresh_memory : (station : StationState) → IsFresh station → length station.memory ≡ user_bytes
+pub fresh_memory : (station : StationState) → IsFresh station → length station.memory ≡ user_bytes
 fresh_memory station fresh = ap (λ (m : List ℕ). length m) fresh.memory ∙ length-zeroes user_bytes
 
 -- the sectors that the reads gave are those of the disk

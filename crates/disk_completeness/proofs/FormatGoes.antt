@@ -39,7 +39,7 @@ formats_go rate count old bay =
     goes_asked (λ new. FormatsBay rate count new) (request.Format 0 c h) one (format_done rate count c h one (omega arith) (omega arith) there)) here) bay
 
 -- a blank disk is in bay 0
-record IsBlankIn (rate : Rate) (count : ℕ) (stage : Stage) : Type 0 where
+pub record IsBlankIn (rate : Rate) (count : ℕ) (stage : Stage) : Type 0 where
   pub valid : IsDisk (blank_of count rate)
   pub medium : (bay_of stage.state.station 0).medium ≡ Some (blank_of count rate)
 

@@ -27,11 +27,11 @@ use Rattle.disk_laws.proofs.Tracks.{Among}
 use Rattle.disk_laws.proofs.Written.{AllTidy, writes_keep}
 use Rattle.sector_map.specs.Standard.{track_keys}
 
-all_and : (a b : Bool) → a ≡ true → b ≡ true → (a && b) ≡ true
+pub all_and : (a b : Bool) → a ≡ true → b ≡ true → (a && b) ≡ true
 all_and true b e f = f
 all_and false b e f = e
 
-keeps-append : (one two : List Request) → list_all keeps_drives one ≡ true → list_all keeps_drives two ≡ true → list_all keeps_drives (one ++ two) ≡ true
+pub keeps-append : (one two : List Request) → list_all keeps_drives one ≡ true → list_all keeps_drives two ≡ true → list_all keeps_drives (one ++ two) ≡ true
 keeps-append [] two e f = f
 keeps-append (asked ∷ one) two e f =
     let both = and_both (keeps_drives asked) (list_all keeps_drives one) e in
@@ -42,7 +42,7 @@ copies_keep rate [] marks = refl
 copies_keep rate (track ∷ tracks) marks =
     let keys = track_keys (sectors_at rate) track.0 track.1 in
     keeps-append (read_records 0 keys ++ write_records 1 keys (take (sectors_at rate) marks)) (copy_each rate tracks (drop (sectors_at rate) marks))
-    (keeps-append (read_records 0 keys) (write_records 1 keys (take (sectors_at rate) marks)) (reads_keep keys) (writes_keep keys (take (sectors_at rate) marks)))
+    (keeps-append (read_records 0 keys) (write_records 1 keys (take (sectors_at rate) marks)) (reads_keep keys) (writes_keep 1 keys (take (sectors_at rate) marks)))
     (copies_keep rate tracks (drop (sectors_at rate) marks))
 
 -- what the copies of tracks made of the disk in bay 1: each of them is Laid, with its sectors as they were given; so stays
@@ -107,7 +107,7 @@ copies_each tidy sure source rate (track ∷ later) marks whole disk old new tol
     let sectors = sectors_at rate in
     let parts = splits old new told after (copy_track rate track (take sectors marks)) (copy_each rate later (drop sectors marks)) course all in
     let keys = track_keys sectors b g in
-    let fell_first = never_fell old parts.mid told parts.files (copy_track rate track (take sectors marks)) parts.one parts.before (keeps-append (read_records 0 keys) (write_records 1 keys (take sectors marks)) (reads_keep keys) (writes_keep keys (take sectors marks))) in
+    let fell_first = never_fell old parts.mid told parts.files (copy_track rate track (take sectors marks)) parts.one parts.before (keeps-append (read_records 0 keys) (write_records 1 keys (take sectors marks)) (reads_keep keys) (writes_keep 1 keys (take sectors marks))) in
     let fell_later = never_fell parts.mid new parts.files after (copy_each rate later (drop sectors marks)) parts.two parts.behind (copies_keep rate later (drop sectors marks)) in
     let told_marks : marks ≡ marks_read parts.one ++ marks_read parts.two = asked ∙ ap marks_read parts.is ∙ marks-append parts.one parts.two in
     let here = has b g (inl (refl, refl)) in

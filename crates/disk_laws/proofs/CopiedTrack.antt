@@ -67,7 +67,7 @@ record FormatsIt (at : Rate) (source : Disk) (c h : ℕ) (disk : Disk) (old : St
   pub names : new.names ≡ old.names
   pub files : after ≡ told
 
-small : (disk : Disk) (c h : ℕ) → IsDisk disk → HasTrack disk c h → (c < 256) × (h < 256)
+pub small : (disk : Disk) (c h : ℕ) → IsDisk disk → HasTrack disk c h → (c < 256) × (h < 256)
 small disk c h valid has = (omega (arith, has.0, valid.cylinders.1), omega (arith, has.1, valid.heads.1))
 
 formats_it : (rate : Rate) (source : Disk) (c h : ℕ) (disk : Disk) (old new : State) (told after : Option Files) (course : List Taken) → DoesAll old told (request.Format 1 c h ∷ []) course new after → IsReady rate source disk old → HasTrack disk c h → IsFaultless 1 old.station.counters new.station.counters → FormatsIt rate source c h disk old told new after
@@ -140,7 +140,7 @@ copies_track tidy sure source rate c h marks more disk old new told after course
     let two = splits one.mid new one.files after (read_records 0 keys) (write_records 1 keys marks) one.two one.behind in
     let fell_format = never_fell old one.mid told one.files (request.Format 1 c h ∷ []) one.one one.before refl in
     let fell_reads = never_fell one.mid two.mid one.files two.files (read_records 0 keys) two.one two.before (reads_keep keys) in
-    let fell_writes = never_fell two.mid new two.files after (write_records 1 keys marks) two.two two.behind (writes_keep keys marks) in
+    let fell_writes = never_fell two.mid new two.files after (write_records 1 keys marks) two.two two.behind (writes_keep 1 keys marks) in
     let formats = formats_it rate source c h disk old one.mid told one.files one.one one.before ready has (omega (arith, fell_reads.second, fell_writes.second, faultless.0), omega (arith, fell_reads.second, fell_writes.second, faultless.1)) in
     let from = track_keys_from sectors c h in
     let asked_reads = subst (λ (row : List Chrn). DoesAll one.mid one.files (read_records 0 row) two.one two.mid two.files) from two.before in
@@ -169,11 +169,11 @@ copies_track tidy sure source rate c h marks more disk old new told after course
     let bay = ap (λ (bays : Two Bay). in_bay bays 1) reads.bays in
     let medium : (bay_of two.mid.station 1).medium ≡ Some formats.next = ap (λ (b : Bay). b.medium) bay ∙ formats.ready.medium in
     let bay_rate : (bay_of two.mid.station 1).rate ≡ rate = ap (λ (b : Bay). b.rate) bay ∙ formats.ready.bay_rate in
-    let writes = all_writes tidy formats.next c h 1 sectors reads.marks two.mid new two.files after two.two asked_writes reads.count (omega arith) (omega (arith, few)) there formats.ready.valid formats.ready.regular has_next laid reads.size (omega (arith, fell_format.second, fell_reads.second, faultless.0), faultless.1) medium (bay_rate ∙ sym formats.ready.rate) in
+    let writes = all_writes tidy 1 formats.next c h 1 sectors reads.marks two.mid new two.files after two.two asked_writes reads.count (omega arith) (omega (arith, few)) there formats.ready.valid formats.ready.regular has_next laid reads.size (omega (arith, fell_format.second, fell_reads.second, faultless.0), faultless.1) medium (bay_rate ∙ sym formats.ready.rate) in
     record {
       final = writes.final;
       ready = record {
-        first = ap (λ (b : Bay). b.medium) writes.first ∙ ap (λ (bays : Two Bay). (in_bay bays 0).medium) reads.bays ∙ formats.ready.first;
+        first = ap (λ (b : Bay). b.medium) (writes.first refl) ∙ ap (λ (bays : Two Bay). (in_bay bays 0).medium) reads.bays ∙ formats.ready.first;
         medium = writes.medium;
         bay_rate = writes.bay_rate ∙ bay_rate;
         valid = writes.keeps.alike.valid;

@@ -17,7 +17,7 @@ pub prints_status : (report : Option (List ℕ)) (line : List ℕ) (wanted ended
 prints_status report line wanted ended after sound (plays.Whole told same) = (told, same)
 prints_status report line wanted ended after sound (plays.Part grows fault) = absurd (sound fault)
 
-no_stop_is_ok : (cause : Stop) → status.AllOk ≡ stop_status cause → ⊥
+pub no_stop_is_ok : (cause : Stop) → status.AllOk ≡ stop_status cause → ⊥
 no_stop_is_ok (stop.BadImage name error) same = cc same
 no_stop_is_ok (stop.TooLong name most) same = cc same
 no_stop_is_ok (stop.Absent name) same = cc same

@@ -42,12 +42,13 @@ lays_keep format disk (laying ∷ later) after valid only lays =
     }
 
 -- what one format made of the disk in bay 0
-record FormatsOne (rate : Rate) (c h : ℕ) (disk : Disk) (old : State) (told : Option Files) (new : State) (after : Option Files) : Type 0 where
+pub record FormatsOne (rate : Rate) (c h : ℕ) (disk : Disk) (old : State) (told : Option Files) (new : State) (after : Option Files) : Type 0 where
   pub next : Disk
   pub medium : (bay_of new.station 0).medium ≡ Some next
   pub bay_rate : (bay_of new.station 0).rate ≡ rate
   pub keeps : KeepsTracks disk c h next
   pub laid : track_of next c h ≡ formatted (format_at c h rate (gap_at rate) standard_fill) disk.words_per_track
+  pub memory : new.station.memory ≡ old.station.memory
   pub names : new.names ≡ old.names
   pub files : after ≡ told
 
@@ -73,7 +74,7 @@ drive_formats bay rate c h disk old new called drive ok faultless medium valid =
     let keeps = lays_keep _ disk drive.layings laid.0 valid (drive.only faultless) (lays_in _ _ _ disk laid.0 drive.layings medium laid.1 drive.lays) in
     (laid.0, laid.1, keeps, laid.2)
 
-one_format : (rate : Rate) (c h : ℕ) (disk : Disk) (old new : State) (told after : Option Files) (answer : Reply) → Does old told (request.Format 0 c h) answer new after → is_refusal answer ≡ false → IsFaultless 0 old.station.counters new.station.counters → (bay_of old.station 0).medium ≡ Some disk → (bay_of old.station 0).rate ≡ rate → IsDisk disk → FormatsOne rate c h disk old told new after
+pub one_format : (rate : Rate) (c h : ℕ) (disk : Disk) (old new : State) (told after : Option Files) (answer : Reply) → Does old told (request.Format 0 c h) answer new after → is_refusal answer ≡ false → IsFaultless 0 old.station.counters new.station.counters → (bay_of old.station 0).medium ≡ Some disk → (bay_of old.station 0).rate ≡ rate → IsDisk disk → FormatsOne rate c h disk old told new after
 one_format rate c h disk old new told after answer does done faultless medium bay_rate valid =
     let called = does.1.0 in
     let ok = ok_called called answer does.1.1 done in
@@ -86,6 +87,7 @@ one_format rate c h disk old new told after answer does done faultless medium ba
       bay_rate = ap (λ (s : StationState). (bay_of s 0).rate) drive.becomes ∙ bay_rate;
       keeps = formats.2;
       laid = formats.3;
+      memory = ap (λ (s : StationState). s.memory) drive.becomes;
       names = does.0.names;
       files = does.0.files;
     }

@@ -9,7 +9,7 @@ use Rattle.raw_image.specs.Disk.{Disk, HasTrack, track_of}
 use Rattle.bay_model.specs.Bays.{Two, in_bay}
 use Rattle.bay_model.specs.Counters.{Counters}
 use Rattle.track_model.specs.Fields.{IsAddressAt}
-use Rattle.track_model.specs.Sectors.{IsSector, IsLone}
+use Rattle.track_model.specs.Sectors.{IsSector, IsUnder, IsLone}
 use Rattle.sector_map.proofs.RegularTracks.{key_cylinder}
 use Rattle.bay_model.specs.Memory.{user_bytes, bytes_from, with_bytes}
 use Rattle.track_model.specs.Bytes.{byte_at, bytes_at}
@@ -50,6 +50,7 @@ pub record ReadsOne (c h r : ℕ) (source : Disk) (old : State) (told : Option F
   pub bays : new.station.bays ≡ old.station.bays
   pub names : new.names ≡ old.names
   pub files : after ≡ told
+  pub field : (b : ℕ) × HasTrack source b h × IsUnder (track_of source b h) (key_of c h r) deleted content
   pub sector : IsSure source old.station.counters new.station.counters → IsSector (track_of source c h) (key_of c h r) deleted content
 
 -- a field that was read of a regular disk is a sector of the track of its key
@@ -80,6 +81,7 @@ one_record c h r source old new told after answer does done medium =
     let drive = reached (read_refusal old.station 0 key address) does.1.0 old.station new.station does.1.2 is_ok in
     let there = subst (λ (r : Result Bool Code). ReadsDrive old.station 0 key address r new.station) ok.1 drive in
     let found = there.found in
+    let same : found.disk ≡ source = cc (found.medium, medium) in
     record {
       deleted = ok.0;
       mark = ap (mark_of (request.Read 0 key address)) (does.1.1 ∙ ap read_reply ok.1) ∙ told_mark key address ok.0;
@@ -89,6 +91,9 @@ one_record c h r source old new told after answer does done medium =
       bays = ap (λ (s : StationState). s.bays) found.becomes;
       names = does.0.names;
       files = does.0.files;
+      field =
+          subst (λ (d : Disk). (b : ℕ) × HasTrack d b h × IsUnder (track_of d b h) key ok.0 found.content) same
+          (found.cylinder, found.track, (found.place, found.mark, found.address_field, found.data_mark, found.whole));
       sector = read_sector c h r address ok.0 source old.station new.station found medium;
     }
 

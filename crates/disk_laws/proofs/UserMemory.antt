@@ -9,16 +9,16 @@ pub length-with : (memory : List ℕ) (address : ℕ) (bytes : List ℕ) → add
 unfolding with_bytes with_words
 length-with memory address bytes fits = length-with_words memory address bytes fits
 
-with_before : (memory : List ℕ) (address : ℕ) (bytes : List ℕ) → address + length bytes ≤ length memory → (k : ℕ) → k < address → get_or (with_bytes memory address bytes) k 0 ≡ get_or memory k 0
+pub with_before : (memory : List ℕ) (address : ℕ) (bytes : List ℕ) → address + length bytes ≤ length memory → (k : ℕ) → k < address → get_or (with_bytes memory address bytes) k 0 ≡ get_or memory k 0
 unfolding with_bytes with_words
 with_before memory address bytes fits k before = with_words_before memory address bytes fits k before
 
-with_at : (memory : List ℕ) (address : ℕ) (bytes : List ℕ) → address + length bytes ≤ length memory → (k : ℕ) → k < length bytes → get_or (with_bytes memory address bytes) (address + k) 0 ≡ get_or bytes k 0
+pub with_at : (memory : List ℕ) (address : ℕ) (bytes : List ℕ) → address + length bytes ≤ length memory → (k : ℕ) → k < length bytes → get_or (with_bytes memory address bytes) (address + k) 0 ≡ get_or bytes k 0
 unfolding with_bytes with_words
 with_at memory address bytes fits k at = with_words_at memory address bytes fits (address + k) k refl at
 
 -- the bytes of a range, one by one
-byte_from : (memory : List ℕ) (place count k : ℕ) → k < count → get_or (bytes_from memory place count) k 0 ≡ get_or memory (place + k) 0
+pub byte_from : (memory : List ℕ) (place count k : ℕ) → k < count → get_or (bytes_from memory place count) k 0 ≡ get_or memory (place + k) 0
 byte_from memory place count k below = get_or-take count (drop place memory) k 0 below ∙ get_or-drop place memory k 0
 
 pub length-bytes_from : (memory : List ℕ) (place count : ℕ) → place + count ≤ length memory → length (bytes_from memory place count) ≡ count

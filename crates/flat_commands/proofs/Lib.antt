@@ -1,5 +1,5 @@
 mod Carrying
-mod Gathering
+pub mod Gathering
 mod Working
 mod Ending
 mod Tied

@@ -10,6 +10,8 @@ mod disks;
 #[cfg(test)]
 mod failures;
 #[cfg(test)]
+mod flat;
+#[cfg(test)]
 mod images;
 #[cfg(test)]
 mod jobs;
