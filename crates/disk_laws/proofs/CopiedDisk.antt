@@ -64,7 +64,7 @@ some_zeroes w m =
       | inr enough ↦ (w, take-replicate w m 0 (omega arith))
     ]
 
-blank_regular : (count : ℕ) (rate : Rate) → IsRegularDisk (blank_of count rate)
+pub blank_regular : (count : ℕ) (rate : Rate) → IsRegularDisk (blank_of count rate)
 blank_regular count rate c h has =
     let words = count * 2 * words_at rate in
     let start = (c * 2 + h) * words_at rate in
