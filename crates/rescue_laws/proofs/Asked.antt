@@ -7,7 +7,7 @@ use Rattle.flop_base.specs.Shelf.{Files, file_at}
 use Rattle.flop_base.specs.Standard.{sectors_at}
 use Rattle.flop_base.specs.declared.key.Chrn.{Chrn}
 use Rattle.raw_image.specs.Disk.{Disk}
-use Rattle.sector_map.specs.Standard as standard
+use Rattle.sector_map.specs.Standard.{standard_keys as disk_keys}
 use Rattle.floppy_session.specs.Shapes.{shape_of}
 use Rattle.disk_laws.specs.Verified.{IsStandardKey}
 use Rattle.disk_laws.proofs.Verified.{standard_all}
@@ -27,8 +27,8 @@ pub record IsAsked (disk : Disk) (key : Chrn) : Type 0 where
   pub sector : (1 ≤ key.r) × (key.r ≤ sectors_at disk.rate)
   pub size : key.n ≡ 2
 
-same_standard : (disk : Disk) → standard_keys disk.rate disk.cylinders disk.heads ≡ standard.standard_keys disk
-unfolding standard_keys standard.standard_keys
+same_standard : (disk : Disk) → standard_keys disk.rate disk.cylinders disk.heads ≡ disk_keys disk
+unfolding standard_keys disk_keys
 same_standard disk = refl
 
 pub all_standard : (disk : Disk) → All (IsStandardKey disk) (standard_keys disk.rate disk.cylinders disk.heads)

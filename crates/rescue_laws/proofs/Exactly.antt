@@ -72,7 +72,7 @@ module _ (disk : Disk) (few_cylinders : disk.cylinders ≤ 80) (few_heads : disk
         let here = call_fell old took.read.after told took.files took.call in
         let there = fell took.read.after took.files took.later took.run took.follows in
         let parts = quiet_parts old.station.counters took.read.after.station.counters new.station.counters here there quiet in
-        let tells = tells_key disk count key (Err took.code) old took.read.after told took.files few_cylinders few_heads unmistaken asked took.call took.reads holds parts.0 here in
+        let tells = tells_key disk count key (Err took.cause) old took.read.after told took.files few_cylinders few_heads unmistaken asked took.call took.reads holds parts.0 here in
         let same = tells.one failing.0 failing.2 in
         let all = next failing.1 took.read.after new took.files after took.later took.run took.follows others failing.4 tells.holds parts.1 in
         record {
@@ -83,7 +83,7 @@ module _ (disk : Disk) (few_cylinders : disk.cylinders ≤ 80) (few_heads : disk
           is = ap (λ (row : List Taken). took.read ∷ row) all.is;
           run = all.run;
           follows = all.follows;
-          lines = lines_more disk key failing.0 failed failing.1 ((key, took.code) ∷ []) (line_at took.read.asked took.read.answer) (log_of all.one) failing.3 (tells.told ∙ ap (told_of key) (sym same)) (line_of_refused key took.code took.read took.asked took.answered) all.lines;
+          lines = lines_more disk key failing.0 failed failing.1 ((key, took.cause) ∷ []) (line_at took.read.asked took.read.answer) (log_of all.one) failing.3 (tells.told ∙ ap (told_of key) (sym same)) (line_of_refused key took.cause took.read took.asked took.answered) all.lines;
         }
 
     written : (took : KeyWritten key Behind old told new after) → TellsKeys (key ∷ keys) failed rest (took.read ∷ took.write ∷ took.later) new after

@@ -1,10 +1,10 @@
 -- Two files that are stored one after the other, under different names.
-use Rattle.std.proofs.Common.{◌≡◌, ◌≢◌, ◌∙◌, ℕ, Bool, true, false, cond, List, Option, Some, refl, sym, ap, ap₂}
+use Rattle.std.proofs.Common.{◌≡◌, ◌≢◌, ◌∙◌, ℕ, Bool, true, false, cond, List, Option, Some, refl, ap}
 use Rattle.std.specs.Cmp.Lexicographic.{slice_cmp, nat_list_cmp_total}
 use Rattle.std.specs.FinMap as fin
 use Rattle.std.specs.Ordering.{nat_cmp, eq_by_cmp}
 use Rattle.std.proofs.lemmas.Cmp.{eq_by_cmp_equiv}
-use Rattle.std.proofs.lemmas.Map.{tells_apart}
+use Rattle.std.proofs.lemmas.Map.Views.{tells_apart}
 use Rattle.flop_base.specs.Shelf.{Files, file_at}
 
 abbrev same_name : List ℕ → List ℕ → Bool

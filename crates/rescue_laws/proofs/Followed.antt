@@ -18,7 +18,7 @@ use Rattle.rescue_commands.specs.Tasks.{Task, Ask, Rescue, after_answer, Follows
 
 -- ---- requests that a rescue can't go on without
 
-ask_done : (answer : Reply) (more : List Task) → (if is_refusal answer then None else Some []) ≡ Some more → (is_refusal answer ≡ false) × (more ≡ [])
+pub ask_done : (answer : Reply) (more : List Task) → (if is_refusal answer then None else Some []) ≡ Some more → (is_refusal answer ≡ false) × (more ≡ [])
 ask_done answer more e = go (is_refusal answer) e
   where
     go : (b : Bool) → (if b then None else Some []) ≡ Some more → (b ≡ false) × (more ≡ [])
@@ -90,14 +90,14 @@ pub record KeyWritten (key : Chrn) (rest : List Task) (old : State) (told : Opti
 
 -- it was read, the drive refused it, and then what is left was gone through
 pub record KeyLogged (key : Chrn) (rest : List Task) (old : State) (told : Option Files) (new : State) (after : Option Files) : Type 0 where
-  pub code : Code
+  pub cause : Code
   pub read : Taken
   pub later : List Taken
   pub files : Option Files
   pub asked : read.asked ≡ read_of key
-  pub answered : read.answer ≡ read_reply (Err code)
+  pub answered : read.answer ≡ read_reply (Err cause)
   pub call : IsDriverCall old told read.after files
-  pub reads : Reads old.station 0 key 0x10000 (Err code) read.after.station
+  pub reads : Reads old.station 0 key 0x10000 (Err cause) read.after.station
   pub run : Run read.after files later new after
   pub follows : Follows rest later []
 
@@ -154,7 +154,7 @@ by_called key rest old new told after files read later (Ok deleted) more asked a
     by_write key deleted rest old new told after files read later asked answered call reads run (subst (λ (m : List Task). Follows (m ++ rest) later []) next follows)
 by_called key rest old new told after files read later (Err cause) more asked answered call reads run next follows =
     IsRefused (record {
-      code = cause;
+      cause = cause;
       read = read;
       later = later;
       files = files;

@@ -8,6 +8,7 @@ pub mod KeySteps
 pub mod Laying
 pub mod Once
 pub mod Opening
+pub mod Order
 pub mod Plain
 pub mod Reading
 pub mod Ready

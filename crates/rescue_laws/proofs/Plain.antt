@@ -69,10 +69,11 @@ plain_writes [] e = refl
 plain_writes (taken ∷ later) e =
     let both = and_both (is_plain taken.asked) (list_all is_plain (requests_of later)) e in
     let first = (plain_facts taken.asked both.0).0 in
-    rw first (plain_writes later both.1)
+    let rest = plain_writes later both.1 in
+    rw first (omega (arith, rest))
 
 pub writes_join : (one two : List Taken) → count_writes (one ++ two) ≡ count_writes one + count_writes two
-writes_join [] two = refl
+writes_join [] two = omega arith
 writes_join (taken ∷ one) two = let rest = writes_join one two in omega (arith, rest)
 
 -- no line where nothing was refused

@@ -107,14 +107,14 @@ module _ (tidy : AllTidy) (heads : ℕ) (rest : List Task) (keep : list_all task
     -- its read was refused
     refused : (took : KeyLogged key Behind old told new after) → IsGuarded heads disk old (took.read ∷ took.later) → SavesKeys disk (key ∷ keys) rest old told (took.read ∷ took.later) new after
     refused took guarded =
-        let keeps = read_keeps key old.station took.read.after.station (Err took.code) can.size size took.reads in
+        let keeps = read_keeps key old.station took.read.after.station (Err took.cause) can.size size took.reads in
         let here = call_fell old took.read.after told took.files took.call in
         let there = fell took.read.after took.files took.later took.run took.follows in
         let guard = guard_later heads disk old took.read took.later guarded in
         let still = ap (λ (bays : Two Bay). (in_bay bays 1).medium) keeps.bays ∙ medium in
         let all = next disk took.read.after new took.files after took.later took.run took.follows cans others regular (keeps.size ∙ size) still guard (omega (arith, here.second, faultless.0), faultless.1) in
-        let line : LogLine = record { key = key; code = took.code } in
-        let is_line = line_of_refused key took.code took.read took.asked took.answered in
+        let line : LogLine = record { key = key; code = took.cause } in
+        let is_line = line_of_refused key took.cause took.read took.asked took.answered in
         record {
           mid = all.mid;
           files = all.files;
@@ -129,10 +129,10 @@ module _ (tidy : AllTidy) (heads : ℕ) (rest : List Task) (keep : list_all task
           regular = all.regular;
           names = all.names ∙ took.call.names;
           same_files = all.same_files ∙ took.call.files;
-          reads = reads_refused key keys distinct took.read took.asked took.code all.one took.answered all.reads;
+          reads = reads_refused key keys distinct took.read took.asked took.cause all.one took.answered all.reads;
           settled = (
             inl (record {
-              code = took.code;
+              code = took.cause;
               read = inl (took.asked, took.answered);
               line = subst (λ (row : List LogLine). Contains (row ++ log_of all.one) line) (sym is_line) (0, omega arith, refl);
             }),

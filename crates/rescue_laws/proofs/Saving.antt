@@ -105,7 +105,7 @@ module _ (heads : ℕ) (disk next : Disk) (c h : ℕ) (keeps : KeepsTracks disk 
 
 -- ---- the write
 
-write_does : (key : Chrn) (deleted : Bool) (old new : State) (told after : Option Files) (answer : Reply) → Step old told (write_of key deleted) answer new after
+pub write_does : (key : Chrn) (deleted : Bool) (old new : State) (told after : Option Files) (answer : Reply) → Step old told (write_of key deleted) answer new after
     → IsDriverCall old told new after × ((called : Result (Unit {0}) Code) × (answer ≡ reply_of called) × WritesTo old.station 1 key 0x10000 deleted called new.station)
 write_does key true old new told after answer step = step
 write_does key false old new told after answer step = step
@@ -136,7 +136,9 @@ module _ (tidy : AllTidy) (heads : ℕ) (disk : Disk) (key : Chrn) (deleted : Bo
   goes = goes_to_field key 0x10000 deleted disk old.station new.station called regular drive ok faultless medium
 
   long : length content ≡ content_size key.n
-  long = length-bytes_from old.station.memory 0x10000 (content_size key.n) (subst (λ (n : ℕ). 0x10000 + content_size n ≤ length old.station.memory) (sym sized) (omega (arith, size)))
+  long =
+      let few : 0x10000 + 512 ≤ length old.station.memory = omega (arith, size) in
+      length-bytes_from old.station.memory 0x10000 (content_size key.n) (subst (λ (n : ℕ). 0x10000 + content_size n ≤ length old.station.memory) (sym sized) few)
 
   field : HasFieldFor (track_of disk key.c key.h) goes.field.place content
   field = (key, record { address = goes.field.address; size = long })

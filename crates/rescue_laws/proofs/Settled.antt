@@ -106,8 +106,9 @@ module _ (keys : List Chrn) (start : Disk) (to : List ℕ) (files : Files) (mid 
         last_reads = plain_reads last last_plain;
         log = ap log_of whole ∙ log_join top (body ++ last) ∙ ap (λ (row : List LogLine). row ++ log_of (body ++ last)) none
             ∙ log_join body last ∙ ap (λ (row : List LogLine). log_of body ++ row) end ∙ append-nil (log_of body);
-        writes = ap count_writes whole ∙ writes_join top (body ++ last) ∙ ap (λ (n : ℕ). n + count_writes (body ++ last)) first
-            ∙ writes_join body last ∙ (omega (arith, more));
+        writes = (let above : count_writes course ≡ count_writes top + count_writes (body ++ last) = ap count_writes whole ∙ writes_join top (body ++ last) in
+            let below = writes_join body last in
+            omega (arith, above, below, first, more));
       }
 
   settles_each : (some : List Chrn) → AllByRecursion (IsTold all.saves.one saved) some → AllByRecursion (IsSettled course saved (log_of course)) some

@@ -34,7 +34,7 @@ none_left [] follows = refl
 none_left (taken ∷ later) follows = absurd follows
 
 -- the last request alone
-ejects_alone : (old new : State) (told after : Option Files) (course : List Taken) → Run old told course new after → Follows last_tasks course [] → DoesAll old told (request.Eject 1 ∷ []) course new after
+pub ejects_alone : (old new : State) (told after : Option Files) (course : List Taken) → Run old told course new after → Follows last_tasks course [] → DoesAll old told (request.Eject 1 ∷ []) course new after
 ejects_alone old new told after course run follows =
     let split = splits_asks (request.Eject 1 ∷ []) [] old new told after course run follows in
     let none = none_left split.two split.follows in

@@ -48,7 +48,7 @@ pub record TellsKey (disk : Disk) (count : ℕ) (key : Chrn) (called : Result Bo
 on_disk : (disk : Disk) (count : ℕ) (key : Chrn) (called : Result Bool Code) (old new : State) (told after : Option Files) → disk.cylinders ≤ 80 → disk.heads ≤ 2 → IsUnmistaken disk → IsAsked disk key → HasTrack disk key.c key.h → IsDriverCall old told new after → Reads old.station 0 key 0x10000 called new.station → Holds disk count old.station → IsUndisturbed 0 old.station.counters new.station.counters → NeverFell old.station.counters new.station.counters → TellsKey disk count key called new.station
 on_disk disk count key called old new told after few_cylinders few_heads unmistaken asked has call reads holds quiet fell =
     let standard : IsStandardKey disk key = record { track = has; sector = asked.sector; size = asked.size } in
-    let tells = one_read disk count key old new told after (read_reply called) few_cylinders few_heads unmistaken standard (call, called, refl, reads) holds quiet fell in
+    let tells = one_read disk count key old new told after (read_reply called) few_cylinders few_heads unmistaken standard (call, (called, refl, reads)) holds quiet fell in
     record {
       look = tells.look;
       one = λ other on. one_look_for (track_of disk key.c key.h) key other tells.look (on.there has) tells.looked;

@@ -61,9 +61,9 @@ missing_not none.FileFault report after ended whole misses = subst IsEndStatus m
 missing_not none.NoMemory report after ended whole misses = subst IsEndStatus misses.1 whole
 
 -- the log was stored
-pub record LogStored (log : List ℕ) (lines : List LogLine) (asked : ℕ) (files : Option Files) (report : Option (List ℕ)) (after : Option Files) (told : Option (List ℕ)) (ended : Status) : Type 0 where
+pub record LogStored (log : List ℕ) (lines : List LogLine) (asked : ℕ) (files : Option Files) (before : Option (List ℕ)) (after : Option Files) (told : Option (List ℕ)) (ended : Status) : Type 0 where
   pub stores : after ≡ stored files log (log_text lines)
-  pub report : told ≡ grown report (last_text (outcome_of asked lines))
+  pub report : told ≡ grown before (last_text (outcome_of asked lines))
   pub status : ended ≡ outcome_status (outcome_of asked lines)
 
 log_stored : (log : List ℕ) (lines : List LogLine) (asked : ℕ) (files : Option Files) (report : Option (List ℕ)) (after : Option Files) (told : Option (List ℕ)) (ended : Status) → IsEndStatus ended → StoresLog log lines asked files report after told ended → LogStored log lines asked files report after told ended

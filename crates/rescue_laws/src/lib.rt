@@ -3,7 +3,9 @@
 #![tactic(auto)]
 
 mod rescue_logs;
+mod rescue_order;
 mod rescue_stores;
 
 pub use rescue_logs::rescue_logs_what_is_not_found;
+pub use rescue_order::rescue_stores_the_log_last;
 pub use rescue_stores::rescue_settles_each_record;
