@@ -1,5 +1,5 @@
 -- Writes of the records of a formatted track in bay 1.
-use Rattle.std.proofs.Common.{arith, ◌≡◌, ◌≢◌, ◌↔◌, ◌∙◌, ◌+◌, ◌<◌, ◌≤◌, ℕ, zero, suc, Bool, true, false, List, [], ◌∷◌, ◌++◌, length, refl, sym, ap, subst, inl, Option, Some, Result, IsOk}
+use Rattle.std.proofs.Common.{arith, ◌≡◌, ◌≢◌, ◌↔◌, ◌∙◌, ◌+◌, ◌<◌, ◌≤◌, ℕ, zero, suc, Bool, true, false, List, [], ◌∷◌, length, refl, sym, ap, subst, Option, Some, Result}
 use Rattle.std.specs.List.{list_all}
 use Rattle.flop_base.specs.Shelf.{Files}
 use Rattle.flop_base.specs.declared.key.Chrn.{Chrn}

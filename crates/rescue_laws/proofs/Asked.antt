@@ -1,6 +1,6 @@
 -- The keys that a rescue asks for: standard ones, each once.
 use Rattle.std.proofs.Common.{arith, ◌≡◌, ◌≤◌, ℕ, All, List, refl, sym, subst, Option, Some, None}
-use Rattle.std.specs.Prelude.{IsSomeAnd, map, length}
+use Rattle.std.specs.Prelude.{IsSomeAnd, length}
 use Rattle.std.specs.List.{AllByRecursion}
 use Rattle.std.proofs.lemmas.List.Elements.{All-map, All-weaker, recursion_from_All}
 use Rattle.flop_base.specs.Shelf.{Files, file_at}

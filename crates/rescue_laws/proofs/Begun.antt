@@ -1,15 +1,14 @@
 -- The other diskette before the first record: a formatted one, each track of which is Laid, or that of an earlier run.
-use Rattle.std.proofs.Common.{arith, ◌≡◌, ◌∙◌, ◌≤◌, ◌<◌, ℕ, List, [], ◌∷◌, length, refl, sym, ap, subst, inl, inr, Option, Some}
+use Rattle.std.proofs.Common.{arith, ◌≡◌, ◌∙◌, ℕ, List, [], ◌∷◌, length, refl, ap, inl, Option, Some}
 use Rattle.flop_base.specs.Shelf.{Files}
-use Rattle.flop_base.specs.Standard.{words_at}
-use Rattle.raw_image.specs.Disk.{Disk, IsDisk, HasTrack}
+use Rattle.raw_image.specs.Disk.{Disk, HasTrack}
 use Rattle.bay_model.specs.Bays.{Two, in_bay}
 use Rattle.bay_model.specs.Memory.{user_bytes}
-use Rattle.bay_model.specs.Counters.{IsFaultless, Counters}
+use Rattle.bay_model.specs.Counters.{IsFaultless}
 use Rattle.floppy_jobs.specs.declared.request.Request.TheVariants as request
 use Rattle.sector_map.specs.Disks.{IsRegularDisk}
 use Rattle.sector_map.proofs.KeptTracks.{alike_tracks}
-use Rattle.sector_model.specs.Stations.{StationState, bay_of}
+use Rattle.sector_model.specs.Stations.{bay_of}
 use Rattle.sector_model.specs.States.{State}
 use Rattle.sector_model.specs.Steps.{IsImageOf, blank_of}
 use Rattle.sector_model.specs.Runs.{Taken}
@@ -18,11 +17,11 @@ use Rattle.disk_laws.specs.Done.{DoesAll}
 use Rattle.disk_laws.specs.Requests.{tracks_of, format_each}
 use Rattle.disk_laws.proofs.CopiedDisk.{blank_regular}
 use Rattle.disk_laws.proofs.CopiedTrack.{IsReady}
-use Rattle.disk_laws.proofs.Steps.{NeverFell, ends_there, never_fell}
+use Rattle.disk_laws.proofs.Steps.{ends_there, never_fell}
 use Rattle.disk_laws.proofs.Tracks.{Among, among_all, among_only}
 use Rattle.disk_laws.proofs.Verified.{image_ranges, one_image}
 use Rattle.rescue_laws.proofs.Laying.{formats_keep, lays_tracks}
-use Rattle.rescue_laws.proofs.Opening.{AreOpen, opens_blank, opens_other}
+use Rattle.rescue_laws.proofs.Opening.{opens_blank, opens_other}
 use Rattle.rescue_laws.proofs.Ready.{ready_requests}
 use Rattle.rescue_laws.proofs.Saving.{AreLaid}
 

@@ -1,5 +1,5 @@
 -- The log of a rescue that nothing disturbed: the keys that aren't found, in their order.
-use Rattle.std.proofs.Common.{arith, ◌≡◌, ◌∙◌, ◌+◌, ◌≤◌, ℕ, Bool, true, false, List, [], ◌∷◌, ◌++◌, map, refl, sym, ap, subst, Option, Some, Result, Ok, Err}
+use Rattle.std.proofs.Common.{arith, ◌≡◌, ◌∙◌, ◌+◌, ◌≤◌, ℕ, true, List, [], ◌∷◌, ◌++◌, map, refl, sym, ap, subst, Option, Ok, Err}
 use Rattle.std.specs.List.{AllByRecursion, list_all}
 use Rattle.std.proofs.lemmas.List.{map-append}
 use Rattle.flop_base.specs.Shelf.{Files}
@@ -26,7 +26,7 @@ use Rattle.rescue_laws.proofs.Followed.{KeyWritten, KeyLogged, IsWritten, IsRefu
 use Rattle.rescue_laws.proofs.Keeping.{task_keeps, follows_keep, keys_keep}
 use Rattle.rescue_laws.proofs.Reading.{call_fell, line_of_refused, line_of_done, read_done, write_keeps}
 use Rattle.rescue_laws.proofs.Saving.{write_does}
-use Rattle.rescue_laws.proofs.Telling.{TellsKey, tells_key}
+use Rattle.rescue_laws.proofs.Telling.{tells_key}
 use Rattle.sector_model.specs.Texts.{is_refusal}
 
 -- the lines of refusals

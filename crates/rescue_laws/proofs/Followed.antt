@@ -11,7 +11,7 @@ use Rattle.sector_model.specs.States.{State}
 use Rattle.sector_model.specs.Reads.{Reads}
 use Rattle.sector_model.specs.Steps.{Step, IsDriverCall, read_reply}
 use Rattle.sector_model.specs.Texts.{is_refusal}
-use Rattle.sector_model.specs.Runs.{Taken, Run, requests_of, has_refusal}
+use Rattle.sector_model.specs.Runs.{Taken, Run, requests_of}
 use Rattle.disk_laws.specs.Done.{DoesAll}
 use Rattle.rescue.specs.Course.{read_of, write_of}
 use Rattle.rescue_commands.specs.Tasks.{Task, Ask, Rescue, after_answer, Follows}

@@ -1,5 +1,5 @@
 -- Tracks of a blank disk in bay 1 that are formatted, one after the other: each is Laid.
-use Rattle.std.proofs.Common.{arith, ◌≡◌, ◌∙◌, ℕ, Bool, true, List, [], ◌∷◌, refl, sym, ap, subst, inl, inr, Option}
+use Rattle.std.proofs.Common.{arith, ◌≡◌, ◌∙◌, ℕ, true, List, [], ◌∷◌, refl, sym, ap, subst, inl, inr, Option}
 use Rattle.std.specs.Prelude.{◌⊎◌}
 use Rattle.std.specs.List.{list_all}
 use Rattle.flop_base.specs.Shelf.{Files}
@@ -7,7 +7,6 @@ use Rattle.flop_base.specs.declared.answers.Rate.{Rate}
 use Rattle.raw_image.specs.Disk.{Disk, HasTrack, track_of}
 use Rattle.bay_model.specs.Counters.{IsFaultless}
 use Rattle.track_model.specs.Laid.{IsLaid}
-use Rattle.floppy_jobs.specs.declared.request.Request.{Request}
 use Rattle.floppy_jobs.specs.declared.request.Request.TheVariants as request
 use Rattle.sector_map.specs.KeptDisks.{AreAlike}
 use Rattle.sector_map.proofs.KeptTracks.{alike_itself, alike_both, alike_tracks}
@@ -21,7 +20,7 @@ use Rattle.disk_laws.specs.Requests.{Track, format_each}
 use Rattle.disk_laws.proofs.Copied.{laid_still}
 use Rattle.disk_laws.proofs.CopiedTrack.{IsReady, formats_it, small}
 use Rattle.disk_laws.proofs.Sectors.{track_laid}
-use Rattle.disk_laws.proofs.Steps.{NeverFell, begins, ends_there, never_fell, keeps_drives, ok_called, reached}
+use Rattle.disk_laws.proofs.Steps.{begins, ends_there, never_fell, keeps_drives, ok_called, reached}
 use Rattle.disk_laws.proofs.Tracks.{Among}
 
 pub formats_keep : (tracks : List Track) → list_all keeps_drives (format_each 1 tracks) ≡ true

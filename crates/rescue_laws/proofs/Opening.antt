@@ -1,6 +1,6 @@
 -- What comes before the records of a rescue: both diskettes are put in and made ready.
-use Rattle.std.proofs.Common.{arith, ◌≡◌, ◌∙◌, ℕ, Bool, true, false, List, [], ◌∷◌, ◌++◌, map, length, refl, sym, ap, subst, Option, Some}
-use Rattle.std.specs.List.{flat_map, range_with_len, list_all}
+use Rattle.std.proofs.Common.{◌≡◌, ◌∙◌, ℕ, Bool, true, false, List, [], ◌∷◌, ◌++◌, map, refl, sym, ap, subst, Option, Some}
+use Rattle.std.specs.List.{flat_map, range_with_len}
 use Rattle.flop_base.specs.Shelf.{Files}
 use Rattle.flop_base.specs.declared.answers.Rate.{Rate}
 use Rattle.flop_base.specs.declared.answers.Rate.TheVariants.{R500, R250}
@@ -9,7 +9,7 @@ use Rattle.raw_image.specs.Disk.{Disk, IsDisk}
 use Rattle.bay_model.specs.Bays.{Two, in_bay}
 use Rattle.floppy_jobs.specs.declared.request.Request.{Request}
 use Rattle.floppy_jobs.specs.declared.request.Request.TheVariants as request
-use Rattle.sector_model.specs.Stations.{StationState, Bay, bay_of}
+use Rattle.sector_model.specs.Stations.{StationState, bay_of}
 use Rattle.sector_model.specs.States.{State}
 use Rattle.sector_model.specs.Steps.{Step, IsImageOf, blank_of}
 use Rattle.sector_model.specs.Texts.{is_refusal}

@@ -1,6 +1,6 @@
 -- What a rescue stores, however it ends, and in which order.
-use Rattle.std.proofs.Common.{◌≡◌, ◌∙◌, ◌&&◌, ℕ, Bool, true, false, true≢false, List, [], ◌∷◌, ◌++◌, map, length, append-nil, refl, sym, ap, subst, append_assoc, Option, Some, None, Result, Ok, Err}
-use Rattle.std.specs.Prelude.{MatchOption, if◌then◌else◌, is_some}
+use Rattle.std.proofs.Common.{◌≡◌, ◌∙◌, ℕ, Bool, true, false, true≢false, List, [], ◌∷◌, ◌++◌, map, length, append-nil, refl, sym, ap, subst, append_assoc, Option, Some}
+use Rattle.std.specs.Prelude.{is_some}
 use Rattle.std.specs.List.{list_all}
 use Rattle.flop_base.specs.Shelf.{Files, stored}
 use Rattle.flop_base.specs.declared.key.Chrn.{Chrn}
@@ -27,13 +27,13 @@ use Rattle.disk_laws.proofs.Steps.{either, begins, ends_there, done_does, and_bo
 use Rattle.disk_laws.specs.Requests.{Track, format_each, tracks_of}
 use Rattle.rescue.specs.Log.{log_text}
 use Rattle.rescue.specs.declared.line.LogLine.{LogLine}
-use Rattle.rescue_commands.specs.Tasks.{Task, Ask, Rescue, request_of, following, Follows, log_of, asked_keys, rescue_tasks, open_tasks}
+use Rattle.rescue_commands.specs.Tasks.{Task, Ask, Rescue, request_of, Follows, log_of, asked_keys, rescue_tasks, open_tasks}
 use Rattle.rescue_commands.specs.Commands.{Halts, AtRefusal, AtStop, ForMemory, StoresLog, IsStored, NotStored, IsRescued, RescuesDisk, LogMissing, RescueHalts, Rescued, Rescues, NotOpened, Opened}
 use Rattle.rescue.specs.Course.{write_of}
 use Rattle.rescue_laws.specs.Rescued.{StoresInOrder, Nothing, DiskAlone, DiskThenLog}
 use Rattle.rescue_laws.proofs.Followed.{ask_done, splits_asks}
 use Rattle.rescue_laws.proofs.Keeping.{both_hold, all-append, all_following, all_followed, all_keys}
-use Rattle.rescue_laws.proofs.Opening.{opening, formats_for, second_request, rescue_asks}
+use Rattle.rescue_laws.proofs.Opening.{formats_for, second_request, rescue_asks}
 use Rattle.rescue_laws.proofs.Ready.{ready_requests}
 use Rattle.rescue_laws.proofs.Stored.{last_tasks, ejects_alone}
 

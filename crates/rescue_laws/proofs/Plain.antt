@@ -1,6 +1,6 @@
 -- Courses that neither read nor write: they leave no trace of a key.
-use Rattle.std.proofs.Common.{arith, ◌≡◌, ◌∙◌, ◌+◌, ℕ, Bool, true, false, true≢false, List, [], ◌∷◌, ◌++◌, refl, sym, ap, subst, inl, inr}
-use Rattle.std.specs.Prelude.{◌⊎◌, ◌||◌}
+use Rattle.std.proofs.Common.{arith, ◌≡◌, ◌∙◌, ◌+◌, ℕ, Bool, true, false, true≢false, List, [], ◌∷◌, ◌++◌, refl, sym, ap, inl, inr}
+use Rattle.std.specs.Prelude.{◌⊎◌}
 use Rattle.std.specs.List.{list_all}
 use Rattle.flop_base.specs.declared.key.Chrn.{Chrn}
 use Rattle.flop_base.specs.declared.answers.Rate.{Rate}
@@ -14,8 +14,7 @@ use Rattle.floppy_session.specs.declared.shape.Shape.{Shape}
 use Rattle.disk_laws.specs.Copied.{SomeStep}
 use Rattle.disk_laws.specs.Requests.{Track, format_each, tracks_of}
 use Rattle.disk_laws.proofs.Steps.{keeps_drives, and_both, or_false}
-use Rattle.rescue.specs.declared.line.LogLine.{LogLine}
-use Rattle.rescue_commands.specs.Tasks.{line_at, log_of}
+use Rattle.rescue_commands.specs.Tasks.{log_of}
 use Rattle.rescue_laws.specs.Rescued.{is_write, count_writes}
 use Rattle.rescue_laws.proofs.KeySteps.{ReadsKey}
 use Rattle.rescue_laws.proofs.Opening.{opening}

@@ -1,5 +1,5 @@
 -- The read of a record, as it leaves the state; and how its step shows in a course.
-use Rattle.std.proofs.Common.{arith, ◌≡◌, ◌∙◌, ◌+◌, ◌≤◌, ℕ, Bool, true, false, true≢false, List, [], ◌∷◌, ◌++◌, length, refl, sym, ap, ap₂, subst, Option, Result, Ok, Err}
+use Rattle.std.proofs.Common.{arith, ◌≡◌, ◌∙◌, ◌+◌, ℕ, Bool, true, false, true≢false, List, [], ◌∷◌, length, refl, ap, ap₂, Option, Result, Ok, Err}
 use Rattle.flop_base.specs.Shelf.{Files}
 use Rattle.flop_base.specs.declared.key.Chrn.{Chrn}
 use Rattle.flop_base.specs.declared.answers.Code.{Code}
@@ -23,7 +23,6 @@ use Rattle.disk_laws.proofs.Records.{length-bytes_at}
 use Rattle.disk_laws.proofs.Steps.{NeverFell, either, keeps_drives}
 use Rattle.disk_laws.proofs.UserMemory.{length-with}
 use Rattle.rescue.specs.Course.{read_of, write_of}
-use Rattle.rescue.specs.declared.line.LogLine.{LogLine}
 use Rattle.rescue_commands.specs.Tasks.{line_at}
 use Rattle.rescue_laws.specs.Rescued.{is_write}
 

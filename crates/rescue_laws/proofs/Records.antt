@@ -1,38 +1,34 @@
 -- The records of a rescue, one after the other: each is saved, or its line is in the log.
-use Rattle.std.proofs.Common.{arith, ◌≡◌, ◌≢◌, ◌↔◌, ◌∙◌, ◌+◌, ◌<◌, ◌≤◌, ℕ, Bool, true, false, List, [], ◌∷◌, ◌++◌, map, length, refl, sym, ap, subst, inl, inr, Option, Some, Ok, Err, length-append, append_assoc}
+use Rattle.std.proofs.Common.{arith, ◌≡◌, ◌≢◌, ◌↔◌, ◌∙◌, ◌+◌, ◌<◌, ℕ, true, List, [], ◌∷◌, ◌++◌, map, length, refl, sym, ap, subst, inl, inr, Option, Some, Ok, Err}
 use Rattle.std.specs.Prelude.{◌⊎◌, Contains}
 use Rattle.std.specs.List.{AllByRecursion, list_all}
-use Rattle.std.proofs.lemmas.List.Elements.{Contains-append_left, Contains-append_right, Contains-get_or}
+use Rattle.std.proofs.lemmas.List.Elements.{Contains-append_right}
 use Rattle.flop_base.specs.Shelf.{Files}
 use Rattle.flop_base.specs.declared.key.Chrn.{Chrn}
-use Rattle.flop_base.specs.declared.answers.Code.{Code}
 use Rattle.raw_image.specs.Disk.{Disk, IsDisk}
 use Rattle.bay_model.specs.Bays.{Two, in_bay}
 use Rattle.bay_model.specs.Memory.{user_bytes, bytes_from}
 use Rattle.bay_model.specs.Counters.{IsFaultless}
 use Rattle.track_model.specs.Fields.{content_size}
-use Rattle.floppy_jobs.specs.declared.request.Request.{Request}
-use Rattle.floppy_jobs.specs.declared.request.Request.TheVariants as request
 use Rattle.sector_map.specs.Disks.{Entry, IsOnMap, IsRegularDisk}
 use Rattle.sector_map.specs.KeptDisks.{AreAlike}
 use Rattle.sector_map.proofs.KeptTracks.{alike_itself, alike_both}
 use Rattle.sector_model.specs.Stations.{Bay, bay_of}
 use Rattle.sector_model.specs.States.{State}
 use Rattle.sector_model.specs.Runs.{Taken, Run}
-use Rattle.disk_laws.specs.Copied.{SomeStep, Gave}
-use Rattle.disk_laws.proofs.Steps.{NeverFell, step_never_fell, run_never_fell, keeps_drives}
+use Rattle.disk_laws.specs.Copied.{Gave}
+use Rattle.disk_laws.proofs.Steps.{NeverFell, step_never_fell, run_never_fell}
 use Rattle.disk_laws.proofs.Written.{AllTidy}
-use Rattle.rescue.specs.Course.{read_of, write_of}
+use Rattle.rescue.specs.Course.{write_of}
 use Rattle.rescue.specs.declared.line.LogLine.{LogLine}
 use Rattle.rescue_commands.specs.Tasks.{Task, Rescue, Follows, line_at, log_of}
-use Rattle.rescue_laws.specs.Tidy.{AreTidy}
 use Rattle.rescue_laws.specs.Rescued.{IsLogged, IsSaved, WasNotRead, entry_at}
 use Rattle.rescue_laws.proofs.Followed.{KeyWritten, KeyLogged, IsWritten, IsRefused, takes_key}
 use Rattle.rescue_laws.proofs.Keeping.{task_keeps, follows_keep, keys_keep}
 use Rattle.rescue_laws.proofs.Once.{IsAmong, AreDistinct}
 use Rattle.rescue_laws.proofs.KeySteps.{ReadsKeys, some_apart, gave_reads, reads_none, reads_written, reads_refused}
 use Rattle.rescue_laws.proofs.Reading.{read_keeps, call_fell, gave, line_of_refused, write_keeps}
-use Rattle.rescue_laws.proofs.Saving.{AreLaid, IsGuarded, saves_key}
+use Rattle.rescue_laws.proofs.Saving.{IsGuarded, saves_key}
 
 -- the key is in the log, or saved
 abbrev pub IsTold : List Taken → Disk → Chrn → Type 0

@@ -1,9 +1,9 @@
 -- What a rescue that went through all its tasks has stored.
-use Rattle.std.proofs.Common.{arith, ◌≡◌, ◌≢◌, ◌↔◌, ◌∙◌, ◌+◌, ◌-◌, ℕ, Bool, true, false, All, List, [], ◌∷◌, ◌++◌, map, length, refl, sym, ap, ap₂, subst, inl, inr, append-nil, Option, Some, None}
-use Rattle.std.specs.Prelude.{◌⊎◌, Contains, is_some, IfSome}
+use Rattle.std.proofs.Common.{arith, ◌≡◌, ◌↔◌, ◌∙◌, ◌+◌, ◌-◌, ℕ, true, false, All, List, [], ◌∷◌, ◌++◌, map, length, refl, sym, ap, ap₂, subst, inl, inr, append-nil, Option, Some, None}
+use Rattle.std.specs.Prelude.{◌⊎◌, Contains, is_some}
 use Rattle.std.specs.List.{AllByRecursion, list_all}
 use Rattle.std.proofs.lemmas.List.Elements.{All-from_recursion}
-use Rattle.flop_base.specs.Shelf.{Files, file_at, stored}
+use Rattle.flop_base.specs.Shelf.{Files, stored}
 use Rattle.flop_base.specs.Standard.{sectors_at}
 use Rattle.flop_base.specs.declared.key.Chrn.{Chrn}
 use Rattle.raw_image.specs.Disk.{Disk}
@@ -11,14 +11,12 @@ use Rattle.raw_image.specs.Image.{file_of}
 use Rattle.bay_model.specs.Counters.{IsFaultless}
 use Rattle.bay_model.specs.Memory.{user_bytes}
 use Rattle.floppy_jobs.specs.declared.request.Request.{Request}
-use Rattle.floppy_jobs.specs.declared.request.Request.TheVariants as request
 use Rattle.sector_map.specs.Disks.{Entry, IsOnMap, IsRegularDisk}
 use Rattle.sector_model.specs.States.{State}
 use Rattle.sector_model.specs.Steps.{IsImageOf}
 use Rattle.sector_model.specs.Runs.{Taken, Run, requests_of, has_refusal}
 use Rattle.floppy_session.specs.Shapes.{shape_of}
 use Rattle.disk_laws.specs.Copied.{SomeStep}
-use Rattle.disk_laws.specs.Done.{DoesAll}
 use Rattle.disk_laws.proofs.Marks.{some_first, some_second}
 use Rattle.disk_laws.proofs.Steps.{NeverFell, never_fell, run_never_fell}
 use Rattle.rescue.specs.declared.line.LogLine.{LogLine}
@@ -34,7 +32,7 @@ use Rattle.rescue_laws.proofs.Keeping.{follows_keep, keys_keep}
 use Rattle.rescue_laws.proofs.KeySteps.{ReadsKey, some_apart, refused_reads, gave_reads}
 use Rattle.rescue_laws.proofs.Opening.{opening}
 use Rattle.rescue_laws.proofs.Plain.{is_plain, plain_keep, plain_reads, plain_writes, writes_join, done_lines, opening_plain, some_either}
-use Rattle.rescue_laws.proofs.Records.{IsTold, SavesKeys}
+use Rattle.rescue_laws.proofs.Records.{IsTold}
 use Rattle.rescue_laws.proofs.Stored.{StoresKeys, last_tasks, stores_keys}
 
 -- ---- a course: the opening, the records, and the last request

@@ -1,8 +1,7 @@
 -- What the reads of a rescue tell, where nothing disturbs them and no address field can be mistaken.
-use Rattle.std.proofs.Common.{arith, ◌≡◌, ◌∙◌, ◌+◌, ◌<◌, ◌≤◌, ℕ, Bool, true, false, List, [], ◌∷◌, ◌++◌, map, refl, sym, ap, subst, inl, inr, Option, Some, None, Result, Ok, Err}
+use Rattle.std.proofs.Common.{arith, ◌≡◌, ◌∙◌, ◌≤◌, ℕ, Bool, true, false, List, [], ◌∷◌, refl, sym, subst, inl, inr, Option, None, Result, Ok, Err}
 use Rattle.std.proofs.lemmas.Bool.{cases_lt}
 use Rattle.flop_base.specs.Shelf.{Files}
-use Rattle.flop_base.specs.Standard.{sectors_at}
 use Rattle.flop_base.specs.declared.key.Chrn.{Chrn}
 use Rattle.flop_base.specs.declared.answers.Code.{Code}
 use Rattle.flop_base.specs.declared.answers.Code.TheVariants as code
@@ -14,7 +13,6 @@ use Rattle.track_model.proofs.Unique.{one_look_for}
 use Rattle.floppy_jobs.specs.declared.request.Request.TheVariants as request
 use Rattle.sector_map.specs.Disks.{LookOn}
 use Rattle.sector_map.specs.MetTracks.{HasNothing}
-use Rattle.sector_map.specs.Standard.{key_of}
 use Rattle.sector_map.proofs.MetTracks.{by_met, in_is_on, nothing_unrecorded}
 use Rattle.sector_model.specs.Stations.{StationState, bay_of, met}
 use Rattle.sector_model.specs.Orders.{read_refusal}

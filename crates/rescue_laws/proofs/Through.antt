@@ -1,5 +1,5 @@
 -- A rescue that ends with status 0 or 1, and that no refusal stopped, went through all its tasks, and its last line was printed.
-use Rattle.std.proofs.Common.{◌≡◌, ◌∙◌, ℕ, Bool, true, false, true≢false, List, [], ◌∷◌, ◌++◌, length, refl, sym, ap, subst, Option, Some}
+use Rattle.std.proofs.Common.{◌≡◌, ◌∙◌, ℕ, true≢false, List, [], ◌++◌, length, sym, ap, subst, Option}
 use Rattle.std.specs.Prelude.{is_some}
 use Rattle.flop_base.specs.Shelf.{Files, stored}
 use Rattle.flop_base.specs.Sink.{grown}
@@ -8,7 +8,7 @@ use Rattle.flop_base.specs.declared.answers.Status.{Status}
 use Rattle.flop_base.specs.declared.answers.Status.TheVariants as status
 use Rattle.sector_model.specs.Texts.{is_refusal, stop_status}
 use Rattle.sector_model.specs.Runs.{Taken, Run}
-use Rattle.sector_model.specs.Plays.{World, IsPutFault}
+use Rattle.sector_model.specs.Plays.{World}
 use Rattle.floppy_session.specs.declared.shape.Shape.{Shape}
 use Rattle.disk_commands.specs.Commands.{IsShapePutIn}
 use Rattle.disk_laws.specs.VerifyRuns.{IsEndStatus}

@@ -1,7 +1,6 @@
 -- Rescues, by the status with which they end: what is stored and told, and when the log is exactly the keys that aren't found.
-use Rattle.std.proofs.Common.{arith, ◌≡◌, ◌≢◌, ◌∙◌, ◌+◌, ◌-◌, ◌≤◌, ℕ, Bool, true, false, List, [], ◌∷◌, ◌++◌, map, length, refl, sym, ap, subst, append-nil, Option, Some, None}
+use Rattle.std.proofs.Common.{arith, ◌≡◌, ◌≢◌, ◌∙◌, ◌+◌, ◌-◌, ◌≤◌, ℕ, Bool, true, false, List, [], ◌++◌, map, length, refl, sym, ap, subst, append-nil, Option, Some, None}
 use Rattle.std.specs.Prelude.{is_some, IfSome}
-use Rattle.std.specs.List.{AllByRecursion, list_all}
 use Rattle.std.specs.FinMap as fin
 use Rattle.flop_base.specs.Shelf.{Files, file_at, stored}
 use Rattle.flop_base.specs.Sink.{grown}
@@ -13,15 +12,12 @@ use Rattle.raw_image.specs.Image.{file_of}
 use Rattle.bay_model.specs.Counters.{IsFaultless, IsUndisturbed, faults_of}
 use Rattle.bay_model.specs.Memory.{user_bytes}
 use Rattle.track_model.specs.declared.Look.{Look}
-use Rattle.floppy_jobs.specs.declared.request.Request.{Request}
-use Rattle.floppy_jobs.specs.declared.request.Request.TheVariants as request
 use Rattle.sector_map.specs.Failing.{AreFailing}
 use Rattle.sector_model.specs.Stations.{Bay, bay_of}
 use Rattle.sector_model.specs.States.{State}
 use Rattle.sector_model.specs.Steps.{IsImageOf}
-use Rattle.sector_model.specs.Runs.{Taken, Run, requests_of, has_refusal}
+use Rattle.sector_model.specs.Runs.{Taken, Run}
 use Rattle.sector_model.specs.Plays.{World}
-use Rattle.floppy_session.specs.Blanks.{blank_request}
 use Rattle.floppy_session.specs.declared.shape.Shape.{Shape}
 use Rattle.floppy_session.specs.Shapes.{shape_of}
 use Rattle.disk_commands.specs.Commands.{IsShapePutIn}
@@ -40,9 +36,9 @@ use Rattle.rescue.specs.declared.line.LogLine.{LogLine}
 use Rattle.rescue.specs.declared.outcome.Outcome.{Outcome}
 use Rattle.rescue_commands.specs.Commands.{Rescues, outcome_of, last_text}
 use Rattle.rescue_commands.specs.Logs.{IsLogFound}
-use Rattle.rescue_commands.specs.Tasks.{Task, Rescue, Follows, asked_keys, rescue_tasks, open_tasks, log_of}
+use Rattle.rescue_commands.specs.Tasks.{Task, Rescue, Follows, asked_keys, log_of}
 use Rattle.rescue_commands.proofs.Carrying.{log_join}
-use Rattle.rescue_laws.specs.Rescued.{IsNotStopped, HasTarget, StoresRescue, TellsRescue, count_writes, outcome_in, failing_lines, IsRescue, LogsNotFound}
+use Rattle.rescue_laws.specs.Rescued.{IsNotStopped, HasTarget, count_writes, outcome_in, failing_lines, IsRescue, LogsNotFound}
 use Rattle.rescue_laws.proofs.Asked.{asked_all}
 use Rattle.rescue_laws.proofs.Exactly.{tells_keys}
 use Rattle.rescue_laws.proofs.Files.{first_there, last_there}
@@ -51,7 +47,7 @@ use Rattle.rescue_laws.proofs.Keeping.{follows_keep, keys_keep}
 use Rattle.rescue_laws.proofs.Laying.{first_stays, formats_keep}
 use Rattle.rescue_laws.proofs.Opening.{AreOpen, opening, formats_for, rescue_asks, opened_shape, opens_blank, opens_other}
 use Rattle.rescue_laws.proofs.Plain.{done_lines}
-use Rattle.rescue_laws.proofs.Settled.{Settles, settles}
+use Rattle.rescue_laws.proofs.Settled.{settles}
 use Rattle.rescue_laws.proofs.Stored.{last_tasks, ejects_alone}
 use Rattle.rescue_laws.proofs.Through.{GoesThrough, goes_through}
 
