@@ -2,3 +2,4 @@ pub mod Carrying
 pub mod Reading
 pub mod Numbered
 pub mod Ending
+pub mod Missing

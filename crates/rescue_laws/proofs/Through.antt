@@ -17,11 +17,10 @@ use Rattle.disk_laws.proofs.VerifyRun.{not_put, not_stop}
 use Rattle.rescue.specs.Course.{outcome_status}
 use Rattle.rescue.specs.Log.{log_text}
 use Rattle.rescue.specs.declared.line.LogLine.{LogLine}
-use Rattle.rescue_commands.specs.declared.logs.NoLog.{NoLog}
-use Rattle.rescue_commands.specs.declared.logs.NoLog.TheVariants as none
 use Rattle.rescue_commands.specs.Logs.{IsLogFound, IsStoreFault}
 use Rattle.rescue_commands.specs.Tasks.{Task, Follows, log_of, asked_keys, rescue_tasks, open_tasks}
-use Rattle.rescue_commands.specs.Commands.{Halts, AtRefusal, AtStop, ForMemory, Misses, StoresLog, IsStored, NotStored, IsRescued, RescuesDisk, LogMissing, RescueHalts, Rescued, Rescues, NotOpened, Opened, outcome_of, last_text}
+use Rattle.rescue_commands.specs.Commands.{Halts, AtRefusal, AtStop, ForMemory, StoresLog, IsStored, NotStored, IsRescued, RescuesDisk, LogMissing, RescueHalts, Rescued, Rescues, NotOpened, Opened, outcome_of, last_text}
+use Rattle.rescue_commands.proofs.Missing.{IsMissingStatus, missing_status}
 use Rattle.rescue_laws.specs.Rescued.{IsNotStopped}
 
 -- all tasks were gone through, the new log was stored, and the last line printed
@@ -55,10 +54,16 @@ halts_not tasks old course new ended whole fine (AtStop p) =
     not_stop p.cause (subst IsEndStatus told.1 whole)
 halts_not tasks old course new ended whole fine (ForMemory p) = subst IsEndStatus p.status whole
 
-missing_not : (cause : NoLog) (report after : Option (List ℕ)) (ended : Status) → IsEndStatus ended → Misses cause report after ended → ⊥
-missing_not (none.BadLine line) report after ended whole misses = subst IsEndStatus (prints_status _ _ status.BadJob ended _ (not_put ended whole) misses).1 whole
-missing_not none.FileFault report after ended whole misses = subst IsEndStatus misses.1 whole
-missing_not none.NoMemory report after ended whole misses = subst IsEndStatus misses.1 whole
+missing_not : (ended : Status) → IsEndStatus ended → IsMissingStatus ended → ⊥
+missing_not status.AllOk whole missing = missing
+missing_not status.SomeRefused whole missing = missing
+missing_not status.BadImage whole missing = whole
+missing_not status.Absent whole missing = whole
+missing_not status.FileFault whole missing = whole
+missing_not status.BadJob whole missing = whole
+missing_not status.BadWords whole missing = whole
+missing_not status.NoMemory whole missing = whole
+missing_not status.SinkFault whole missing = whole
 
 -- the log was stored
 pub record LogStored (log : List ℕ) (lines : List LogLine) (asked : ℕ) (files : Option Files) (before : Option (List ℕ)) (after : Option Files) (told : Option (List ℕ)) (ended : Status) : Type 0 where
@@ -87,7 +92,7 @@ through from to log shape found old course new ended put there whole p =
     }
 
 disk_through : (from to log : List ℕ) (shape : Shape) (old : World) (course : List Taken) (new : World) (ended : Status) → IsShapePutIn course shape → IsEndStatus ended → IsNotStopped course → RescuesDisk from to log shape old course new ended → (found : Option (List LogLine)) × GoesThrough from to log shape found old course new ended
-disk_through from to log shape old course new ended put whole fine (LogMissing cause there p) = absurd (missing_not cause old.report new.report ended whole p.misses)
+disk_through from to log shape old course new ended put whole fine (LogMissing cause there p) = absurd (missing_not ended whole (missing_status cause old.report new.report ended p.misses))
 disk_through from to log shape old course new ended put whole fine (RescueHalts found there p) = absurd (halts_not _ old course new ended whole fine p)
 disk_through from to log shape old course new ended put whole fine (Rescued found there p) = (found, through from to log shape found old course new ended put there whole p)
 
