@@ -67,7 +67,7 @@ given_elsewhere sure source whole disk b g next c h r keeps other (place, delete
 
 module _ (rate : Rate) (b g : ℕ) (later : List Track) (disk next : Disk) (keeps : KeepsTracks disk b g next) where
   -- after the first track
-  laid_still : IsLaid (track_of next b g) → (c h : ℕ) → HasTrack disk c h → (Among ((b, g) ∷ later) c h ⊎ IsLaid (track_of disk c h)) → (Among later c h ⊎ IsLaid (track_of next c h))
+  pub laid_still : IsLaid (track_of next b g) → (c h : ℕ) → HasTrack disk c h → (Among ((b, g) ∷ later) c h ⊎ IsLaid (track_of disk c h)) → (Among later c h ⊎ IsLaid (track_of next c h))
   laid_still first c h has (inl (inr among)) = inl among
   laid_still first c h has (inl (inl here)) = inr (subst (λ k. IsLaid (track_of next k h)) here.0 (subst (λ k. IsLaid (track_of next b k)) here.1 first))
   laid_still first c h has (inr laid) = elim (cases_eq c b) [

@@ -59,7 +59,7 @@ pub record CopiesTrack (sure : Type 0) (source : Disk) (at : Rate) (c h : ℕ) (
 
 -- ---- the format
 
-record FormatsIt (at : Rate) (source : Disk) (c h : ℕ) (disk : Disk) (old : State) (told : Option Files) (new : State) (after : Option Files) : Type 0 where
+pub record FormatsIt (at : Rate) (source : Disk) (c h : ℕ) (disk : Disk) (old : State) (told : Option Files) (new : State) (after : Option Files) : Type 0 where
   pub next : Disk
   pub ready : IsReady at source next new
   pub keeps : KeepsTracks disk c h next
@@ -70,7 +70,7 @@ record FormatsIt (at : Rate) (source : Disk) (c h : ℕ) (disk : Disk) (old : St
 pub small : (disk : Disk) (c h : ℕ) → IsDisk disk → HasTrack disk c h → (c < 256) × (h < 256)
 small disk c h valid has = (omega (arith, has.0, valid.cylinders.1), omega (arith, has.1, valid.heads.1))
 
-formats_it : (rate : Rate) (source : Disk) (c h : ℕ) (disk : Disk) (old new : State) (told after : Option Files) (course : List Taken) → DoesAll old told (request.Format 1 c h ∷ []) course new after → IsReady rate source disk old → HasTrack disk c h → IsFaultless 1 old.station.counters new.station.counters → FormatsIt rate source c h disk old told new after
+pub formats_it : (rate : Rate) (source : Disk) (c h : ℕ) (disk : Disk) (old new : State) (told after : Option Files) (course : List Taken) → DoesAll old told (request.Format 1 c h ∷ []) course new after → IsReady rate source disk old → HasTrack disk c h → IsFaultless 1 old.station.counters new.station.counters → FormatsIt rate source c h disk old told new after
 formats_it rate source c h disk old new told after course all ready has faultless =
     let first = begins old new told after (request.Format 1 c h) [] course all in
     let end = ends_there first.mid new first.files after first.later first.behind in

@@ -30,3 +30,4 @@ pub mod VerifyPlan
 pub mod VerifyRun
 pub mod WholeWindow
 pub mod Written
+pub mod WrittenHere

@@ -16,7 +16,7 @@ use Rattle.sector_model.specs.Stations.{StationState}
 use Rattle.sector_model.specs.Reads.{IsReadCause}
 use Rattle.disk_laws.specs.Verified.{told_of}
 
-rose_by : (n before now : ℕ) → RoseBy n before now → now < last_count → before + n ≤ now
+pub rose_by : (n before now : ℕ) → RoseBy n before now → now < last_count → before + n ≤ now
 rose_by n before now rose below = omega (arith, rose, below)
 
 module _ (track : List ℕ) (key : Chrn) (plain : IsPlain track) (single : (p q : ℕ) → IsAddressAt track p key → IsAddressAt track q key → p ≡ q) where

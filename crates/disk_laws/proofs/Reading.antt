@@ -40,7 +40,7 @@ pub record Holds (disk : Disk) (count : ℕ) (station : StationState) : Type 0 w
   pub faults : faults_of station.counters 0 ≡ count
 
 -- such a read reaches the drive
-not_refused : (station : StationState) (c h r count : ℕ) → c ≤ 79 → h ≤ 1 → 1 ≤ r → (bay_of station 0).acknowledged ≡ Some count → read_refusal station 0 (key_of c h r) 0x10000 ≡ None
+pub not_refused : (station : StationState) (c h r count : ℕ) → c ≤ 79 → h ≤ 1 → 1 ≤ r → (bay_of station 0).acknowledged ≡ Some count → read_refusal station 0 (key_of c h r) 0x10000 ≡ None
 not_refused station c h r count cylinder head sector acknowledged =
     let one : nat_le c 79 ≡ true = le-leb c 79 cylinder in
     let two : nat_le h 1 ≡ true = le-leb h 1 head in
@@ -52,10 +52,10 @@ reaches Q None e p = p
 reaches Q (Some code) e q = absurd (cc e)
 
 -- the bays after a call that changed memory and counters alone
-bays_stay : (old new : StationState) (memory : List ℕ) → new ≡ record (record old { memory = memory }) { counters = new.counters } → bay_of new 0 ≡ bay_of old 0
+pub bays_stay : (old new : StationState) (memory : List ℕ) → new ≡ record (record old { memory = memory }) { counters = new.counters } → bay_of new 0 ≡ bay_of old 0
 bays_stay old new memory becomes = ap (λ (s : StationState). bay_of s 0) becomes
 
-holds_on : (disk : Disk) (count : ℕ) (old new : StationState) → Holds disk count old → bay_of new 0 ≡ bay_of old 0 → faults_of new.counters 0 ≡ count → Holds disk count new
+pub holds_on : (disk : Disk) (count : ℕ) (old new : StationState) → Holds disk count old → bay_of new 0 ≡ bay_of old 0 → faults_of new.counters 0 ≡ count → Holds disk count new
 holds_on disk count old new holds same faults = record {
   medium = ap (λ (b : Bay). b.medium) same ∙ holds.medium;
   rate = ap (λ (b : Bay). b.rate) same ∙ holds.rate;
@@ -64,7 +64,7 @@ holds_on disk count old new holds same faults = record {
 }
 
 -- what one read told
-record Tells (disk : Disk) (count : ℕ) (key : Chrn) (answer : Reply) (new : StationState) : Type 0 where
+pub record Tells (disk : Disk) (count : ℕ) (key : Chrn) (answer : Reply) (new : StationState) : Type 0 where
   pub look : Look
   pub looked : LookFor (track_of disk key.c key.h) key look
   pub told : refused_read (request.Read 0 key 0x10000) answer ≡ told_of key look
@@ -117,11 +117,11 @@ module _ (disk : Disk) (unmistaken : IsUnmistaken disk) (count : ℕ) (key : Chr
         holds = holds_on disk count old new holds (bays_stay old new _ drive.refused.becomes) same_faults;
       }
 
-key_is : (key : Chrn) → key.n ≡ standard_code → key ≡ key_of key.c key.h key.r
+pub key_is : (key : Chrn) → key.n ≡ standard_code → key ≡ key_of key.c key.h key.r
 key_is key size = ap (λ (n : ℕ). record { c = key.c; h = key.h; r = key.r; n = n }) size
 
 -- a read of a standard key
-one_read : (disk : Disk) (count : ℕ) (key : Chrn) (old new : State) (told after : Option Files) (answer : Reply) → disk.cylinders ≤ 80 → disk.heads ≤ 2 → IsUnmistaken disk → IsStandardKey disk key → Does old told (request.Read 0 key 0x10000) answer new after → Holds disk count old.station → IsUndisturbed 0 old.station.counters new.station.counters → NeverFell old.station.counters new.station.counters → Tells disk count key answer new.station
+pub one_read : (disk : Disk) (count : ℕ) (key : Chrn) (old new : State) (told after : Option Files) (answer : Reply) → disk.cylinders ≤ 80 → disk.heads ≤ 2 → IsUnmistaken disk → IsStandardKey disk key → Does old told (request.Read 0 key 0x10000) answer new after → Holds disk count old.station → IsUndisturbed 0 old.station.counters new.station.counters → NeverFell old.station.counters new.station.counters → Tells disk count key answer new.station
 one_read disk count key old new told after answer few_cylinders few_heads unmistaken standard does holds quiet fell =
     let cylinder : key.c ≤ 79 = omega (arith, standard.track.0, few_cylinders) in
     let head : key.h ≤ 1 = omega (arith, standard.track.1, few_heads) in
@@ -156,7 +156,7 @@ told_alone key NoSector = refl
 told_alone key NoData = refl
 told_alone key BadCrc = refl
 
-told_more : (key : Chrn) (look : Look) (rest : List (Chrn × Look)) → all_told_of (unless_found key look ++ rest) ≡ told_of key look ++ all_told_of rest
+pub told_more : (key : Chrn) (look : Look) (rest : List (Chrn × Look)) → all_told_of (unless_found key look ++ rest) ≡ told_of key look ++ all_told_of rest
 told_more key look rest =
     flat_map-append (λ (pair : Chrn × Look). told_of pair.0 pair.1) (unless_found key look) rest
     ∙ ap (λ (row : List (Chrn × Code)). row ++ all_told_of rest) (told_alone key look)

@@ -33,7 +33,7 @@ use Rattle.disk_laws.proofs.UserMemory.{length-with, below_stays, at_stands}
 
 -- ---- one read
 
-length-bytes_at : (track : List ℕ) (place count : ℕ) → length (bytes_at track place count) ≡ count
+pub length-bytes_at : (track : List ℕ) (place count : ℕ) → length (bytes_at track place count) ≡ count
 length-bytes_at track place count = length-map-range_with_len (λ i. byte_at track (place + 16 * i)) 0 count
 
 ok_read : (called : Result Bool Code) (answer : Reply) → answer ≡ read_reply called → is_refusal answer ≡ false → (deleted : Bool) × (called ≡ Ok deleted)

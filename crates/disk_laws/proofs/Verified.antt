@@ -39,7 +39,7 @@ all_range : {X : Type 0} (P : X → Type 0) (f : ℕ → List X) (a n : ℕ) →
 all_range P f a zero each = All-nil P
 all_range P f a (suc n) each = All-append P (f a) _ (each a (omega arith)) (all_range P f (a + 1) n (λ k below. each k (omega arith)))
 
-standard_all : (disk : Disk) → All (IsStandardKey disk) (standard_keys disk)
+pub standard_all : (disk : Disk) → All (IsStandardKey disk) (standard_keys disk)
 unfolding standard_keys cylinder_keys
 standard_all disk =
     all_range (IsStandardKey disk) (cylinder_keys (sectors_at disk.rate) disk.heads) 0 disk.cylinders (λ c cylinder.

@@ -40,7 +40,7 @@ use Rattle.disk_laws.proofs.VerifyPlan.{open_asks, verify_asks, standard_count}
 
 -- ---- statuses
 
-not_put : (ended : Status) → IsEndStatus ended → IsPutFault ended → ⊥
+pub not_put : (ended : Status) → IsEndStatus ended → IsPutFault ended → ⊥
 not_put status.NoMemory whole fault = whole
 not_put status.SinkFault whole fault = whole
 not_put status.AllOk whole fault = fault
@@ -51,7 +51,7 @@ not_put status.FileFault whole fault = fault
 not_put status.BadJob whole fault = fault
 not_put status.BadWords whole fault = fault
 
-not_stop : (cause : Stop) → IsEndStatus (stop_status cause) → ⊥
+pub not_stop : (cause : Stop) → IsEndStatus (stop_status cause) → ⊥
 not_stop (stop.BadImage name error) whole = whole
 not_stop (stop.TooLong name most) whole = whole
 not_stop (stop.Absent name) whole = whole

@@ -1,4 +1,5 @@
-mod Carrying
-mod Reading
-mod Numbered
-mod Ending
+pub mod Carrying
+pub mod Reading
+pub mod Numbered
+pub mod Ending
+pub mod Missing

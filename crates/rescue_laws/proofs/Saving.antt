@@ -1,0 +1,180 @@
+-- One write of a rescue to a regular disk, each write to which is Tidy: its record is saved, and all others stay.
+use Rattle.std.proofs.Common.{arith, ◌≡◌, ◌≢◌, ◌↔◌, ◌∙◌, ◌+◌, ◌<◌, ◌≤◌, ℕ, Bool, true, false, List, [], ◌∷◌, ◌++◌, length, sym, ap, subst, inl, inr, Option, Some, Result, IsOk}
+use Rattle.std.specs.Prelude.{◌⊎◌}
+use Rattle.std.proofs.lemmas.Bool.{cases_eq}
+use Rattle.flop_base.specs.Shelf.{Files}
+use Rattle.flop_base.specs.declared.key.Chrn.{Chrn}
+use Rattle.flop_base.specs.declared.answers.Code.{Code}
+use Rattle.raw_image.specs.Disk.{Disk, HasTrack, track_of}
+use Rattle.bay_model.specs.Memory.{user_bytes, bytes_from}
+use Rattle.bay_model.specs.Counters.{IsFaultless}
+use Rattle.track_model.specs.Fields.{IsAddressAt, content_size}
+use Rattle.track_model.specs.Laid.{IsLaid}
+use Rattle.track_model.specs.Windows.{HasFieldFor, IsTidy}
+use Rattle.track_model.proofs.Laid.{written_laid}
+use Rattle.floppy_jobs.specs.declared.request.Request.{Request}
+use Rattle.sector_map.specs.Changes.{Change, Written, IsChange}
+use Rattle.sector_map.specs.Disks.{Entry, IsOnMap, IsRegularDisk}
+use Rattle.sector_map.specs.KeptDisks.{AreAlike, KeepsTracks}
+use Rattle.sector_map.proofs.Changed.{change_keeps_tracks}
+use Rattle.sector_map.proofs.KeptTracks.{alike_tracks}
+use Rattle.sector_map.proofs.RegularTracks.{key_cylinder}
+use Rattle.sector_model.specs.declared.reply.Reply.{Reply}
+use Rattle.sector_model.specs.Orders.{write_refusal}
+use Rattle.sector_model.specs.Stations.{StationState, bay_of}
+use Rattle.sector_model.specs.States.{State}
+use Rattle.sector_model.specs.Steps.{Step, IsDriverCall, reply_of}
+use Rattle.sector_model.specs.Texts.{is_refusal}
+use Rattle.sector_model.specs.Writes.{ChangesDisk, WritesTo, WritesDrive, written_from}
+use Rattle.sector_model.specs.Runs.{Taken}
+use Rattle.disk_laws.proofs.Steps.{ok_called, reached}
+use Rattle.disk_laws.proofs.UserMemory.{length-bytes_from}
+use Rattle.disk_laws.proofs.Written.{AllTidy}
+use Rattle.disk_laws.proofs.WrittenHere.{WritesHere, writes_here, reaches_in}
+use Rattle.rescue.specs.Course.{write_of}
+use Rattle.rescue_laws.specs.Tidy.{IsTidyWrite, IsTidyFor, AreTidy}
+use Rattle.rescue_laws.specs.Rescued.{entry_at}
+
+-- the tracks of these heads are Laid
+abbrev pub AreLaid : ℕ → Disk → Type 0
+AreLaid heads disk = (c h : ℕ) → HasTrack disk c h → h < heads → IsLaid (track_of disk c h)
+
+-- no write of a course brings up an address mark: its tracks are Laid, or each write is Tidy
+abbrev pub IsGuarded : ℕ → Disk → State → List Taken → Type 0
+IsGuarded heads disk state course = AreLaid heads disk ⊎ AreTidy state course
+
+-- ---- changes of a disk
+
+-- the disk of a list of changes that isn't empty has an address field for the first of them
+first_change : (written : Written) (disk : Disk) (earlier : List Change) (last : Change) (after : Disk) → ChangesDisk written disk (earlier ++ last ∷ []) after → (change : Change) × (next : Disk) × IsChange written disk change next
+first_change written disk [] last after changes = (last, changes.0, changes.1)
+first_change written disk (change ∷ earlier) last after changes = (change, changes.0, changes.1)
+
+same_rate : (written : Written) (disk : Disk) (changes : List Change) (after : Disk) → ChangesDisk written disk changes after → after.rate ≡ disk.rate
+same_rate written disk [] after same = ap (λ (d : Disk). d.rate) same
+same_rate written disk (change ∷ later) after changes =
+    same_rate written changes.0 later after changes.2 ∙ (change_keeps_tracks written disk change changes.0 changes.1).alike.rate
+
+-- where a write goes: to the address field of its key
+pub record HasField (disk : Disk) (key : Chrn) : Type 0 where
+  pub has : HasTrack disk key.c key.h
+  pub place : ℕ
+  pub address : IsAddressAt (track_of disk key.c key.h) place key
+
+has_field : (disk : Disk) (key : Chrn) (c p : ℕ) → IsRegularDisk disk → HasTrack disk c key.h → IsAddressAt (track_of disk c key.h) p key → HasField disk key
+has_field disk key c p regular has address =
+    let cylinder = sym (key_cylinder disk c key.h p key regular has address).0 in
+    record {
+      has = subst (λ (b : ℕ). HasTrack disk b key.h) cylinder has;
+      place = p;
+      address = subst (λ (b : ℕ). IsAddressAt (track_of disk b key.h) p key) cylinder address;
+    }
+
+-- a write that was done went to a field, at the rate of the disk
+pub record GoesToField (disk : Disk) (key : Chrn) (old : StationState) : Type 0 where
+  pub field : HasField disk key
+  pub rate : (bay_of old 1).rate ≡ disk.rate
+
+goes_to_field : (key : Chrn) (address : ℕ) (deleted : Bool) (disk : Disk) (old new : StationState) (called : Result (Unit {0}) Code) → IsRegularDisk disk → WritesDrive (written_from old key address deleted) 1 called old new → IsOk called → IsFaultless 1 old.counters new.counters → (bay_of old 1).medium ≡ Some disk → GoesToField disk key old
+goes_to_field key address deleted disk old new called regular drive ok faultless medium =
+    let written = written_from old key address deleted in
+    let done = drive.done ok in
+    let last = done.last faultless in
+    let reach = reaches_in written _ _ disk done.disk drive.changes medium done.medium drive.reach in
+    let first = first_change written disk last.0 last.1 done.disk (subst (λ (row : List Change). ChangesDisk written disk row done.disk) last.2 reach) in
+    record {
+      field = has_field disk key first.0.cylinder first.0.place regular first.2.track first.2.address;
+      rate = sym done.same_rate ∙ same_rate written disk drive.changes done.disk reach;
+    }
+
+-- ---- Laid tracks
+
+module _ (heads : ℕ) (disk next : Disk) (c h : ℕ) (keeps : KeepsTracks disk c h next) where
+  still_laid : AreLaid heads disk → IsLaid (track_of next c h) → AreLaid heads next
+  still_laid laid here b g has few =
+      let had = (alike_tracks disk next b g keeps.alike).1 has in
+      elim (cases_eq b c) [
+        | inl same_c ↦ elim (cases_eq g h) [
+          | inl same_h ↦ subst (λ k. IsLaid (track_of next k g)) (sym same_c) (subst (λ k. IsLaid (track_of next c k)) (sym same_h) here)
+          | inr other ↦ subst IsLaid (sym (keeps.others b g had (λ _ e. other e))) (laid b g had few)
+        ]
+        | inr other ↦ subst IsLaid (sym (keeps.others b g had (λ e _. other e))) (laid b g had few)
+      ]
+
+-- ---- the write
+
+pub write_does : (key : Chrn) (deleted : Bool) (old new : State) (told after : Option Files) (answer : Reply) → Step old told (write_of key deleted) answer new after
+    → IsDriverCall old told new after × ((called : Result (Unit {0}) Code) × (answer ≡ reply_of called) × WritesTo old.station 1 key 0x10000 deleted called new.station)
+write_does key true old new told after answer step = step
+write_does key false old new told after answer step = step
+
+tidy_write : (key : Chrn) (deleted : Bool) (state : State) → IsTidyFor state (write_of key deleted) → IsTidyWrite state.station 1 key 0x10000 deleted
+tidy_write key true state tidy = tidy
+tidy_write key false state tidy = tidy
+
+-- what it made of the disk in bay 1
+pub record SavesKey (heads : ℕ) (disk : Disk) (key : Chrn) (deleted : Bool) (old : State) (told : Option Files) (new : State) (after : Option Files) (later : List Taken) : Type 0 where
+  pub next : Disk
+  pub medium : (bay_of new.station 1).medium ≡ Some next
+  pub alike : AreAlike disk next
+  pub regular : IsRegularDisk next
+  pub guarded : IsGuarded heads next new later
+  pub others : (entry : Entry) → entry.key ≢ key → IsOnMap disk entry ↔ IsOnMap next entry
+  pub place : ℕ
+  pub entry : IsOnMap next (entry_at key place deleted (bytes_from old.station.memory 0x10000 (content_size key.n)))
+  pub memory : new.station.memory ≡ old.station.memory
+  pub names : new.names ≡ old.names
+  pub files : after ≡ told
+
+module _ (tidy : AllTidy) (heads : ℕ) (disk : Disk) (key : Chrn) (deleted : Bool) (old new : State) (called : Result (Unit {0}) Code) (regular : IsRegularDisk disk) (size : length old.station.memory ≡ user_bytes) (sized : key.n ≡ 2) (head : key.h < heads) (drive : WritesDrive (written_from old.station key 0x10000 deleted) 1 called old.station new.station) (ok : IsOk called) (faultless : IsFaultless 1 old.station.counters new.station.counters) (medium : (bay_of old.station 1).medium ≡ Some disk) where
+  abbrev content : List ℕ
+  content = bytes_from old.station.memory 0x10000 (content_size key.n)
+
+  goes : GoesToField disk key old.station
+  goes = goes_to_field key 0x10000 deleted disk old.station new.station called regular drive ok faultless medium
+
+  long : length content ≡ content_size key.n
+  long =
+      let few : 0x10000 + 512 ≤ length old.station.memory = omega (arith, size) in
+      length-bytes_from old.station.memory 0x10000 (content_size key.n) (subst (λ (n : ℕ). 0x10000 + content_size n ≤ length old.station.memory) (sym sized) few)
+
+  field : HasFieldFor (track_of disk key.c key.h) goes.field.place content
+  field = (key, record { address = goes.field.address; size = long })
+
+  here : IsTidy (track_of disk key.c key.h) goes.field.place deleted content → WritesHere disk key goes.field.place 0x10000 deleted old.station new.station
+  here neat = writes_here key 0x10000 deleted disk regular goes.field.has goes.field.place goes.field.address old.station new.station neat called drive ok faultless medium goes.rate
+
+  saves : (told after : Option Files) (later : List Taken) (neat : IsTidy (track_of disk key.c key.h) goes.field.place deleted content) → IsDriverCall old told new after → IsGuarded heads (here neat).next new later → SavesKey heads disk key deleted old told new after later
+  saves told after later neat call guarded = record {
+    next = (here neat).next;
+    medium = (here neat).medium;
+    alike = (here neat).keeps.alike;
+    regular = (here neat).regular;
+    guarded = guarded;
+    others = (here neat).others;
+    place = goes.field.place;
+    entry = (here neat).entry;
+    memory = ap (λ (s : StationState). s.memory) drive.becomes;
+    names = call.names;
+    files = call.files;
+  }
+
+  pub guarded_saves : (told after : Option Files) (later : List Taken) → IsDriverCall old told new after → (AreLaid heads disk ⊎ (IsTidyWrite old.station 1 key 0x10000 deleted × AreTidy new later)) → SavesKey heads disk key deleted old told new after later
+  guarded_saves told after later call (inl laid) =
+      let on = laid key.c key.h goes.field.has head in
+      let neat = tidy (track_of disk key.c key.h) goes.field.place deleted content on field in
+      let still = subst IsLaid (sym (here neat).window) (written_laid (track_of disk key.c key.h) goes.field.place deleted content on field) in
+      saves told after later neat call (inl (still_laid heads disk (here neat).next key.c key.h (here neat).keeps laid still))
+  guarded_saves told after later call (inr (first, rest)) =
+      saves told after later (first disk key.c goes.field.place medium goes.field.has goes.field.address) call (inr rest)
+
+pub saves_key : (tidy : AllTidy) (heads : ℕ) (disk : Disk) (key : Chrn) (deleted : Bool) (old : State) (told : Option Files) (taken : Taken) (after : Option Files) (later : List Taken) → IsRegularDisk disk → length old.station.memory ≡ user_bytes → key.n ≡ 2 → key.h < heads → taken.asked ≡ write_of key deleted → Step old told (write_of key deleted) taken.answer taken.after after → is_refusal taken.answer ≡ false → IsFaultless 1 old.station.counters taken.after.station.counters → (bay_of old.station 1).medium ≡ Some disk → IsGuarded heads disk old (taken ∷ later) → SavesKey heads disk key deleted old told taken.after after later
+saves_key tidy heads disk key deleted old told taken after later regular size sized head asked step done faultless medium guarded =
+    let call = write_does key deleted old taken.after told after taken.answer step in
+    let ok = ok_called call.1.0 taken.answer call.1.1 done in
+    let drive = reached (write_refusal old.station 1 key 0x10000) call.1.0 old.station taken.after.station call.1.2 ok in
+    let both : AreLaid heads disk ⊎ (IsTidyWrite old.station 1 key 0x10000 deleted × AreTidy taken.after later) = elim guarded [
+      | inl laid ↦ inl laid
+      | inr neat ↦ inr (tidy_write key deleted old (subst (λ (q : Request). IsTidyFor old q) asked neat.0), neat.1)
+    ] in
+    guarded_saves tidy heads disk key deleted old taken.after call.1.0 regular size sized head drive ok faultless medium told after later call.0 both
