@@ -1,6 +1,7 @@
 //! The program: files of the current folder, standard output, the words of the command line, and a machine of two drives.
 #![tactic(auto)]
 
+mod drives;
 mod plan;
 mod run;
 
