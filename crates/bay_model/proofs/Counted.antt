@@ -4,23 +4,23 @@ use Rattle.std.specs.Prelude.{◌==◌, if◌then◌else◌}
 use Rattle.flop_base.specs.Counts.{Spends}
 use Rattle.bay_model.specs.Counters.{DriveCounts, Counters, DriveGoesOn, GoesOn, faults_of}
 
-spends_twice : (a b c : ℕ) (l m n : Option ℕ) → Spends a l b m → Spends b m c n → Spends a l c n
+pub spends_twice : (a b c : ℕ) (l m n : Option ℕ) → Spends a l b m → Spends b m c n → Spends a l c n
 spends_twice a b c None m n first second = subst (λ (o : Option ℕ). Spends b o c n) first second
 spends_twice a b c (Some most) m n first second =
     let next = subst (λ (o : Option ℕ). Spends b o c n) first.1 second in
     (next.0, next.1, omega (arith, first.2, next.2))
 
-drive_twice : (a b c : DriveCounts) → DriveGoesOn a b → DriveGoesOn b c → DriveGoesOn a c
+pub drive_twice : (a b c : DriveCounts) → DriveGoesOn a b → DriveGoesOn b c → DriveGoesOn a c
 drive_twice a b c first second = record {
   never_falls = omega (arith, first.never_falls, second.never_falls);
   spends = spends_twice a.faults b.faults c.faults a.left b.left c.left first.spends second.spends;
 }
 
-spends_itself : (a : ℕ) (l : Option ℕ) → Spends a l a l
+pub spends_itself : (a : ℕ) (l : Option ℕ) → Spends a l a l
 spends_itself a None = refl
 spends_itself a (Some most) = (most, refl, omega arith)
 
-drive_itself : (a : DriveCounts) → DriveGoesOn a a
+pub drive_itself : (a : DriveCounts) → DriveGoesOn a a
 drive_itself a = record { never_falls = omega arith; spends = spends_itself a.faults a.left }
 
 pub drive_same : (a b : DriveCounts) → b ≡ a → DriveGoesOn a b

@@ -2,10 +2,10 @@
 use Rattle.std.specs.Prelude.{◌≡◌, ◌⊎◌, ℕ, ◌+◌, ◌-◌, ◌≤◌, min, Bool, true, false, not, ◌&&◌, ◌==◌, nat_lt, nat_le, if◌then◌else◌, List, [], slice_index, Option, Some, None, is_some, IsTrue, IfSome}
 use Rattle.flop_base.specs.declared.answers.Rate.{Rate}
 use Rattle.flop_base.specs.declared.answers.Rate.TheVariants.{R500}
-use Rattle.flop_base.specs.Counts.{last_count, Rose, CanTell as CanTellOf, Spends as SpendsOf}
+use Rattle.flop_base.specs.Counts.{last_count, Rose, CanTell, Spends}
 use Rattle.raw_image.specs.Disk.{Disk, IsDisk, track_of, with_word}
 
--- a drive: the medium in it or none, the cylinder under its heads, the place that passes them next, its motor, for how many word times the medium has spun up, its change line, its write gate, whether the gate was cut, and its count of faults
+-- a drive: the medium in it or none, the cylinder under its heads, the place that passes them next, its motor, for how many word times the medium has spun up, its change line, its write gate, whether the gate was cut, its count of faults, and the most by which that count can still rise, where the drive tells it
 pub record DriveState : Type 0 where
   pub medium : Option Disk
   pub cylinder : ℕ
@@ -16,6 +16,7 @@ pub record DriveState : Type 0 where
   pub gate : Bool
   pub cut : Bool
   pub faults : ℕ
+  pub left : Option ℕ
 
 -- how many words a track of the medium has; with no medium none
 abbrev pub track_words : Option Disk → ℕ
@@ -113,10 +114,11 @@ written head word s = record (passed s) {
 abbrev pub cut_off : DriveState → DriveState
 cut_off s = record (passed s) { cut = true }
 
--- the drive is then as this, but for its count of faults, which doesn't fall
+-- the drive is then as this, but for its count of faults, which doesn't fall and rises by no more than what was left of it
 pub record Becomes (old target new : DriveState) : Type 0 where
-  pub becomes : new ≡ record target { faults = new.faults }
+  pub becomes : new ≡ record target { faults = new.faults; left = new.left }
   pub never_falls : old.faults ≤ new.faults
+  pub spends : Spends old.faults old.left new.faults new.left
 
 -- a pulse moves the heads, or is lost and counted
 abbrev pub Pulses : DriveState → Bool → DriveState → Type 0
@@ -132,19 +134,11 @@ Writes old head word new =
     Becomes old (written head word old) new
     ⊎ (IsTrue (can_write old) × Becomes old (cut_off old) new × Rose old.faults new.faults)
 
--- the ranges of a drive
+-- the ranges of a drive; it tells what is left of its faults only where their count can't reach its last value by it
 pub record InRange (s : DriveState) : Type 0 where
   pub cylinder : s.cylinder ≤ 82
   pub place : s.place ≤ track_words s.medium - 1
   pub spin : s.spin ≤ 6250
   pub medium : IfSome s.medium IsDisk
   pub faults : s.faults ≤ last_count
-
--- what is left is told only where the count can't reach its last value by it
-abbrev pub CanTell : DriveState → Option ℕ → Type 0
-CanTell s left = CanTellOf s.faults left
-
--- where it is told what is left: the rise and what is left then are at most what was left; a drive that doesn't tell it goes on not telling it
-pub record Spends (old : DriveState) (left : Option ℕ) (new : DriveState) (then_left : Option ℕ) : Type 0 where
-  pub tells : CanTell old left
-  pub spends : SpendsOf old.faults left new.faults then_left
+  pub told : CanTell s.faults s.left

@@ -1,11 +1,11 @@
 -- What a mechanism shows.
-use Rattle.std.specs.Prelude.{ℕ, true, false, None}
+use Rattle.std.specs.Prelude.{ℕ, true, false, Option, Some, None}
 use Rattle.drive_model.specs.Drive.{DriveState}
 use Rattle.drive_model.specs.declared.mechanics.Mechanics.{Mechanics}
 
--- a drive with this mechanism and this count of faults
-abbrev pub state_of : Mechanics → ℕ → DriveState
-state_of m faults = record {
+-- a drive with this mechanism, this count of faults, and so many left
+abbrev pub state_of : Mechanics → ℕ → Option ℕ → DriveState
+state_of m faults left = record {
   medium = m.medium;
   cylinder = m.cylinder;
   place = m.place;
@@ -15,11 +15,16 @@ state_of m faults = record {
   gate = m.gate;
   cut = m.cut;
   faults = faults;
+  left = left;
 }
 
--- a drive as it comes: without a medium, at cylinder 0, the motor off, the change line set
-abbrev pub at_rest : ℕ → DriveState
-at_rest faults = record {
+-- a drive of this mechanism alone, which has no faults
+abbrev pub faultless : Mechanics → DriveState
+faultless m = state_of m 0 (Some 0)
+
+-- a drive as it comes: without a medium, at cylinder 0, the motor off, the change line set, no fault counted
+abbrev pub at_rest : Option ℕ → DriveState
+at_rest left = record {
   medium = None;
   cylinder = 0;
   place = 0;
@@ -28,5 +33,6 @@ at_rest faults = record {
   change = true;
   gate = false;
   cut = false;
-  faults = faults;
+  faults = 0;
+  left = left;
 }

@@ -1,8 +1,8 @@
 -- What a drive without faults shows.
 use Rattle.drive_model.specs.Drive.{DriveState}
-use Rattle.drive_model.specs.Mechanics.{state_of}
+use Rattle.drive_model.specs.Mechanics.{faultless}
 use Rattle.drive_model.specs.declared.plain.PlainDrive.{PlainDrive}
 
--- its state, with a count of 0
+-- its state: its count is 0 for ever
 abbrev pub plain_state : PlainDrive → DriveState
-plain_state drive = state_of drive.mechanics 0
+plain_state drive = faultless drive.mechanics

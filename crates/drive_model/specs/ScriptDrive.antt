@@ -9,10 +9,6 @@ use Rattle.drive_model.specs.declared.fault.Event.{Event}
 use Rattle.drive_model.specs.declared.fault.Event.TheVariants.{Read, Write, Pulse}
 use Rattle.drive_model.specs.declared.script.ScriptDrive.{ScriptDrive}
 
--- its state
-abbrev pub script_state : ScriptDrive → DriveState
-script_state drive = state_of drive.mechanics drive.faults
-
 -- the faults that are planned
 abbrev pub script_of : ScriptDrive → List Fault
 script_of drive = drive.script.items
@@ -21,9 +17,9 @@ script_of drive = drive.script.items
 abbrev pub told : ℕ → ℕ → Option ℕ
 told counted left = if nat_lt (counted + left) last_count then Some left else None
 
--- what it tells
-abbrev pub script_left : ScriptDrive → Option ℕ
-script_left drive = told drive.faults (total_left drive.script.items)
+-- its state
+abbrev pub script_state : ScriptDrive → DriveState
+script_state drive = state_of drive.mechanics drive.faults (told drive.faults (total_left drive.script.items))
 
 -- a read of the word that passes under a head
 abbrev pub read_of : DriveState → ℕ → Event

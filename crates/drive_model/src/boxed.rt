@@ -6,8 +6,6 @@ use raw_image::Medium;
 impl Drive for Box<dyn Drive> {
     ghost state = { λ b. (Drive-box b).state b.value };
 
-    ghost left = { λ b. (Drive-box b).left b.value };
-
     fn insert(&mut self, medium: Medium) -> Result<(), Medium> {
         (**self).insert(medium)
     }

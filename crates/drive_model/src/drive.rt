@@ -1,6 +1,6 @@
 // What every drive does.
-ghost use Rattle.std.specs.Prelude.{◌≡◌, ◌↔◌, ℕ, Option, IsTrue, IsErr, IsSome, OnOk, IfErr, is_some};
-ghost use Rattle.drive_model.specs.Drive.{DriveState, Becomes, InRange, Spends, CanTell};
+ghost use Rattle.std.specs.Prelude.{◌≡◌, ◌↔◌, IsTrue, IsErr, IsSome, OnOk, IfErr, is_some};
+ghost use Rattle.drive_model.specs.Drive.{DriveState, Becomes, InRange};
 ghost use Rattle.drive_model.specs.Drive.{loaded, unloaded, with_motor, with_gate, passed, at_index};
 ghost use Rattle.drive_model.specs.Drive.{is_protected, rate_of, Pulses, Reads, Writes};
 
@@ -24,33 +24,26 @@ pub trait Drive: Drop {
     /// All that the rules of the calls speak of.
     ghost state: { Self → DriveState };
 
-    /// The most by which the count of faults can still rise, where the drive tells it.
-    ghost left: { Self → Option ℕ };
-
     /// Puts a medium in. Where one is in already, the new one is given back.
     fn insert(&mut self, medium: Medium) -> Result<(), Medium>
         ensures refused { IsErr result ↔ IsSome (state self.old).medium }
         ensures ok { OnOk result
             (Becomes (state self.old) (loaded medium (state self.old)) (state self.new)) }
         ensures err { IfErr result (λ back. (back ≡ medium)
-            × Becomes (state self.old) (state self.old) (state self.new)) }
-        ensures left { Spends (state self.old) (left self.old) (state self.new) (left self.new) };
+            × Becomes (state self.old) (state self.old) (state self.new)) };
 
     /// Takes the medium out.
     fn eject(&mut self) -> Option<Medium>
         ensures medium { result ≡ (state self.old).medium }
-        ensures becomes { Becomes (state self.old) (unloaded (state self.old)) (state self.new) }
-        ensures left { Spends (state self.old) (left self.old) (state self.new) (left self.new) };
+        ensures becomes { Becomes (state self.old) (unloaded (state self.old)) (state self.new) };
 
     /// Turns the motor on or off.
     fn motor(&mut self, on: bool)
-        ensures becomes { Becomes (state self.old) (with_motor on (state self.old)) (state self.new) }
-        ensures left { Spends (state self.old) (left self.old) (state self.new) (left self.new) };
+        ensures becomes { Becomes (state self.old) (with_motor on (state self.old)) (state self.new) };
 
     /// A step pulse, to a higher cylinder where `inward`.
     fn pulse(&mut self, inward: bool)
-        ensures moves { Pulses (state self.old) inward (state self.new) }
-        ensures left { Spends (state self.old) (left self.old) (state self.new) (left self.new) };
+        ensures moves { Pulses (state self.old) inward (state self.new) };
 
     /// The heads stand over cylinder 0.
     fn track0(&self) -> bool
@@ -70,14 +63,12 @@ pub trait Drive: Drop {
 
     /// Opens or closes the write gate.
     fn gate(&mut self, on: bool)
-        ensures becomes { Becomes (state self.old) (with_gate on (state self.old)) (state self.new) }
-        ensures left { Spends (state self.old) (left self.old) (state self.new) (left self.new) };
+        ensures becomes { Becomes (state self.old) (with_gate on (state self.old)) (state self.new) };
 
     /// Lets one word time pass, and tells whether the index came at its end.
     fn pass(&mut self) -> bool
         ensures becomes { Becomes (state self.old) (passed (state self.old)) (state self.new) }
         ensures index { result ≡ at_index (state self.old) }
-        ensures left { Spends (state self.old) (left self.old) (state self.new) (left self.new) }
         ensures range_before { InRange (state self.old) }
         ensures range { InRange (state self.new) };
 
@@ -86,7 +77,6 @@ pub trait Drive: Drop {
         ensures becomes { Becomes (state self.old) (passed (state self.old)) (state self.new) }
         ensures word { Reads (state self.old) head result.word (state self.new) }
         ensures index { result.index ≡ at_index (state self.old) }
-        ensures left { Spends (state self.old) (left self.old) (state self.new) (left self.new) }
         ensures range_before { InRange (state self.old) }
         ensures range { InRange (state self.new) };
 
@@ -95,13 +85,11 @@ pub trait Drive: Drop {
     fn write_word(&mut self, head: u8, word: u16) -> bool
         ensures writes { Writes (state self.old) head word (state self.new) }
         ensures index { result ≡ at_index (state self.old) }
-        ensures left { Spends (state self.old) (left self.old) (state self.new) (left self.new) }
         ensures range_before { InRange (state self.old) }
         ensures range { InRange (state self.new) };
 
     /// The count of faults, which stays at its last value.
     fn faults(&self) -> u64
         ensures count { result ≡ (state self.now).faults }
-        ensures range { InRange (state self.now) }
-        ensures left { CanTell (state self.now) (left self.now) };
+        ensures range { InRange (state self.now) };
 }

@@ -1,5 +1,5 @@
 // A drive without its faults: the parts that move, and the lines.
-ghost use Rattle.std.specs.Prelude.{◌≡◌, ◌↔◌, ◌≤◌, ◌<◌, ◌-◌, ℕ, is_some, IsErr, IsSome, OnOk, IfErr, IfSome, MatchOption, slice_index, false, if◌then◌else◌};
+ghost use Rattle.std.specs.Prelude.{◌≡◌, ◌↔◌, ◌≤◌, ◌<◌, ◌-◌, ℕ, Some, is_some, IsErr, IsSome, OnOk, IfErr, IfSome, MatchOption, slice_index, false, if◌then◌else◌};
 ghost use Rattle.std.specs.Option.{ForSome};
 ghost use Rattle.raw_image.specs.Disk.{IsDisk};
 ghost use Rattle.drive_model.specs.Drive.{track_words, rewritten};
@@ -53,11 +53,11 @@ pub(crate) struct Mechanics {
 impl Mechanics {
     ghost use Rattle.drive_model.specs.Drive.{loaded, unloaded, with_motor, with_gate, moved, passed, written, cut_off};
     ghost use Rattle.drive_model.specs.Drive.{at_speed, can_write, at_index, word_under, words_on, is_protected, rate_of};
-    ghost use Rattle.drive_model.specs.Mechanics.{state_of, at_rest};
+    ghost use Rattle.drive_model.specs.Mechanics.{faultless, at_rest};
 
     /// Without a medium, at cylinder 0, with the change line set.
     pub(crate) fn new() -> Mechanics
-        ensures { state_of result 0 ≡ at_rest 0 }
+        ensures { faultless result ≡ at_rest (Some 0) }
     {
         Mechanics {
             medium: None,
@@ -75,9 +75,9 @@ impl Mechanics {
     pub(crate) fn insert(&mut self, medium: Medium) -> Result<(), Medium>
         ensures refused { IsErr result ↔ IsSome self.old.medium }
         ensures ok { OnOk result
-            (state_of self.new 0 ≡ loaded medium (state_of self.old 0)) }
+            (faultless self.new ≡ loaded medium (faultless self.old)) }
         ensures back { IfErr result (λ back. back ≡ medium) }
-        ensures err { IfErr result (λ _. state_of self.new 0 ≡ state_of self.old 0) }
+        ensures err { IfErr result (λ _. faultless self.new ≡ faultless self.old) }
     {
         if self.medium.is_some() {
             return Err(medium);
@@ -94,7 +94,7 @@ impl Mechanics {
     /// Takes the medium out.
     pub(crate) fn eject(&mut self) -> Option<Medium>
         ensures medium { result ≡ self.old.medium }
-        ensures state { state_of self.new 0 ≡ unloaded (state_of self.old 0) }
+        ensures state { faultless self.new ≡ unloaded (faultless self.old) }
     {
         let medium = self.medium.take()?;
         self.spin = 0;
@@ -104,7 +104,7 @@ impl Mechanics {
     }
 
     pub(crate) fn motor(&mut self, on: bool)
-        ensures { state_of self.new 0 ≡ with_motor on (state_of self.old 0) }
+        ensures { faultless self.new ≡ with_motor on (faultless self.old) }
     {
         self.motor = on;
         if !on {
@@ -114,7 +114,7 @@ impl Mechanics {
 
     /// A pulse that isn't lost.
     pub(crate) fn pulse(&mut self, inward: bool)
-        ensures { state_of self.new 0 ≡ moved inward (state_of self.old 0) }
+        ensures { faultless self.new ≡ moved inward (faultless self.old) }
     {
         if !inward {
             self.cylinder = self.cylinder.saturating_sub(1);
@@ -145,7 +145,7 @@ impl Mechanics {
     }
 
     pub(crate) fn gate(&mut self, on: bool)
-        ensures { state_of self.new 0 ≡ with_gate on (state_of self.old 0) }
+        ensures { faultless self.new ≡ with_gate on (faultless self.old) }
     {
         self.gate = on;
         if on {
@@ -155,26 +155,26 @@ impl Mechanics {
 
     /// A word passes in the next word time.
     pub(crate) fn is_at_speed(&self) -> bool
-        ensures { result ≡ at_speed (state_of self.now 0) }
+        ensures { result ≡ at_speed (faultless self.now) }
     {
         self.motor && self.medium.is_some() && self.spin >= SPIN_UP
     }
 
     /// The gate is open and not cut, and a word passes in the next word time.
     pub(crate) fn can_write(&self) -> bool
-        ensures { result ≡ can_write (state_of self.now 0) }
+        ensures { result ≡ can_write (faultless self.now) }
     {
         self.is_at_speed() && self.gate && !self.cut
     }
 
     /// Lets a word time pass, and gives the place of the word that passed, if the medium is spun up.
     pub(crate) fn advance(&mut self) -> Option<Passing>
-        ensures state { state_of self.new 0 ≡ passed (state_of self.old 0) }
-        ensures passing { is_some result ≡ at_speed (state_of self.old 0) }
+        ensures state { faultless self.new ≡ passed (faultless self.old) }
+        ensures passing { is_some result ≡ at_speed (faultless self.old) }
         ensures place { IfSome result (λ word. word.place ≡ self.old.place) }
         ensures within { IfSome result (λ word. word.place < track_words self.old.medium) }
-        ensures index { MatchOption result (at_index (state_of self.old 0) ≡ false)
-            (λ word. word.index ≡ at_index (state_of self.old 0)) }
+        ensures index { MatchOption result (at_index (faultless self.old) ≡ false)
+            (λ word. word.index ≡ at_index (faultless self.old)) }
     {
         let Some(medium) = &self.medium else {
             return None;
@@ -195,8 +195,8 @@ impl Mechanics {
 
     /// Lets a word time pass, and tells whether the index came.
     pub(crate) fn pass(&mut self) -> bool
-        ensures state { state_of self.new 0 ≡ passed (state_of self.old 0) }
-        ensures index { result ≡ at_index (state_of self.old 0) }
+        ensures state { faultless self.new ≡ passed (faultless self.old) }
+        ensures index { result ≡ at_index (faultless self.old) }
     {
         match self.advance() {
             Some(passing) => passing.index,
@@ -220,9 +220,9 @@ impl Mechanics {
 
     /// Lets a word time pass, and reads the word that passes under a head.
     pub(crate) fn read(&mut self, head: u8) -> Turn
-        ensures state { state_of self.new 0 ≡ passed (state_of self.old 0) }
-        ensures word { result.word ≡ word_under (state_of self.old 0) head }
-        ensures index { result.index ≡ at_index (state_of self.old 0) }
+        ensures state { faultless self.new ≡ passed (faultless self.old) }
+        ensures word { result.word ≡ word_under (faultless self.old) head }
+        ensures index { result.index ≡ at_index (faultless self.old) }
     {
         match self.advance() {
             Some(passing) => Turn {
@@ -239,7 +239,7 @@ impl Mechanics {
     /// Replaces the word at a place under a head, where it can be.
     fn replace(&mut self, head: u8, place: u16, word: u16)
         requires { place < track_words self.old.medium }
-        ensures { state_of self.new 0 ≡ record (state_of self.old 0) {
+        ensures { faultless self.new ≡ record (faultless self.old) {
           medium = rewritten self.old.medium self.old.cylinder head place word;
         } }
     {
@@ -251,8 +251,8 @@ impl Mechanics {
 
     /// Lets a word time pass, and writes the word that passes under a head, where the gate is open and not cut.
     pub(crate) fn write(&mut self, head: u8, word: u16) -> bool
-        ensures state { state_of self.new 0 ≡ written head word (state_of self.old 0) }
-        ensures index { result ≡ at_index (state_of self.old 0) }
+        ensures state { faultless self.new ≡ written head word (faultless self.old) }
+        ensures index { result ≡ at_index (faultless self.old) }
     {
         let Some(passing) = self.advance() else {
             return false;
@@ -265,8 +265,8 @@ impl Mechanics {
 
     /// Lets a word time pass, and cuts the gate.
     pub(crate) fn cut_off(&mut self) -> bool
-        ensures state { state_of self.new 0 ≡ cut_off (state_of self.old 0) }
-        ensures index { result ≡ at_index (state_of self.old 0) }
+        ensures state { faultless self.new ≡ cut_off (faultless self.old) }
+        ensures index { result ≡ at_index (faultless self.old) }
     {
         let index = self.pass();
         self.cut = true;

@@ -18,7 +18,7 @@ impl PlainDrive {
 
     /// A drive with no medium, at cylinder 0, its motor off, its change line set.
     pub fn new() -> PlainDrive
-        ensures { plain_state result ≡ at_rest 0 }
+        ensures { plain_state result ≡ at_rest (Some 0) }
     {
         PlainDrive {
             mechanics: Mechanics::new(),
@@ -30,8 +30,6 @@ impl Drive for PlainDrive {
     ghost use Rattle.drive_model.specs.PlainDrive.{plain_state};
 
     ghost state = { plain_state };
-
-    ghost left = { λ _. Some 0 };
 
     fn insert(&mut self, medium: Medium) -> Result<(), Medium> {
         self.mechanics.insert(medium)

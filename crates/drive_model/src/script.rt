@@ -2,7 +2,7 @@
 ghost use Rattle.std.specs.Prelude.{◌≡◌, ◌≤◌, ◌↔◌, IsErr, IsSome, OnOk, IfErr};
 ghost use Rattle.std.specs.Bool.{OnTrue, OnFalse};
 ghost use Rattle.flop_base.specs.Counts.{last_count, Rose};
-ghost use Rattle.drive_model.specs.Drive.{Becomes, InRange, Spends, loaded, unloaded, with_motor, with_gate, moved, passed, written, cut_off, at_index, word_under, Pulses, Reads, Writes};
+ghost use Rattle.drive_model.specs.Drive.{Becomes, InRange, loaded, unloaded, with_motor, with_gate, moved, passed, written, cut_off, at_index, word_under, Pulses, Reads, Writes};
 ghost use Rattle.drive_model.specs.Fault.{comes};
 
 use crate::fault::{Event, take_fault};
@@ -22,13 +22,14 @@ pub struct ScriptDrive {
 }
 
 impl ScriptDrive {
-    ghost use Rattle.drive_model.specs.Mechanics.{at_rest, state_of};
-    ghost use Rattle.drive_model.specs.ScriptDrive.{script_state, script_left, script_of, Accounts};
+    ghost use Rattle.drive_model.specs.Mechanics.{at_rest};
+    ghost use Rattle.drive_model.specs.Fault.{total_left};
+    ghost use Rattle.drive_model.specs.ScriptDrive.{script_state, script_of, told, Accounts};
     ghost use Rattle.drive_model.specs.ScriptDrive.{loses, drops, cuts, pulse_of, read_of, write_of};
 
     /// A drive with no medium, at cylinder 0, its motor off, its change line set.
     pub fn new(faults: Vec<Fault>) -> ScriptDrive
-        ensures state { script_state result ≡ at_rest 0 }
+        ensures state { script_state result ≡ at_rest (told 0 (total_left faults.items)) }
         ensures script { script_of result ≡ faults.items }
     {
         ScriptDrive {
@@ -44,9 +45,8 @@ impl ScriptDrive {
         ensures accounts { Accounts result event self.old self.new }
         ensures rose { OnTrue result
             (Rose (script_state self.old).faults (script_state self.new).faults) }
-        ensures parts { state_of self.new.mechanics 0 ≡ state_of self.old.mechanics 0 }
-        ensures left { Spends (script_state self.old) (script_left self.old)
-            (script_state self.new) (script_left self.new) }
+        ensures becomes { Becomes (script_state self.old)
+            (script_state self.old) (script_state self.new) }
     {
         let comes = take_fault(&mut self.script, event);
         if comes {
@@ -62,10 +62,8 @@ impl ScriptDrive {
             (pulse_of (script_state self.old) inward) self.old self.new }
         ensures rose { OnTrue result
             (Rose (script_state self.old).faults (script_state self.new).faults) }
-        ensures never_falls { (script_state self.old).faults ≤ (script_state self.new).faults }
-        ensures parts { state_of self.new.mechanics 0 ≡ state_of self.old.mechanics 0 }
-        ensures left { Spends (script_state self.old) (script_left self.old)
-            (script_state self.new) (script_left self.new) }
+        ensures becomes { Becomes (script_state self.old)
+            (script_state self.old) (script_state self.new) }
     {
         let c = self.mechanics.cylinder;
         self.fails(Event::Pulse { c, inward })
@@ -78,10 +76,8 @@ impl ScriptDrive {
             (read_of (script_state self.old) head) self.old self.new }
         ensures rose { OnTrue result
             (Rose (script_state self.old).faults (script_state self.new).faults) }
-        ensures never_falls { (script_state self.old).faults ≤ (script_state self.new).faults }
-        ensures parts { state_of self.new.mechanics 0 ≡ state_of self.old.mechanics 0 }
-        ensures left { Spends (script_state self.old) (script_left self.old)
-            (script_state self.new) (script_left self.new) }
+        ensures becomes { Becomes (script_state self.old)
+            (script_state self.old) (script_state self.new) }
     {
         let event = Event::Read {
             c: self.mechanics.cylinder,
@@ -98,10 +94,8 @@ impl ScriptDrive {
             (write_of (script_state self.old) head) self.old self.new }
         ensures rose { OnTrue result
             (Rose (script_state self.old).faults (script_state self.new).faults) }
-        ensures never_falls { (script_state self.old).faults ≤ (script_state self.new).faults }
-        ensures parts { state_of self.new.mechanics 0 ≡ state_of self.old.mechanics 0 }
-        ensures left { Spends (script_state self.old) (script_left self.old)
-            (script_state self.new) (script_left self.new) }
+        ensures becomes { Becomes (script_state self.old)
+            (script_state self.old) (script_state self.new) }
     {
         let event = Event::Write {
             c: self.mechanics.cylinder,
@@ -113,12 +107,10 @@ impl ScriptDrive {
 }
 
 impl Drive for ScriptDrive {
-    ghost use Rattle.drive_model.specs.ScriptDrive.{script_state, script_left, script_of, Accounts, NoFault};
+    ghost use Rattle.drive_model.specs.ScriptDrive.{script_state, script_of, Accounts, NoFault};
     ghost use Rattle.drive_model.specs.ScriptDrive.{loses, drops, cuts, pulse_of, read_of, write_of};
 
     ghost state = { script_state };
-
-    ghost left = { script_left };
 
     fn insert(&mut self, medium: Medium) -> Result<(), Medium>
         ensures refused { IsErr result ↔ IsSome (script_state self.old).medium }
@@ -127,8 +119,6 @@ impl Drive for ScriptDrive {
             (loaded medium (script_state self.old)) (script_state self.new)) }
         ensures err { IfErr result (λ back. (back ≡ medium)
             × Becomes (script_state self.old) (script_state self.old) (script_state self.new)) }
-        ensures left { Spends (script_state self.old) (script_left self.old)
-            (script_state self.new) (script_left self.new) }
         ensures no_fault { NoFault self.old self.new }
     {
         self.mechanics.insert(medium)
@@ -138,8 +128,6 @@ impl Drive for ScriptDrive {
         ensures medium { result ≡ (script_state self.old).medium }
         ensures becomes { Becomes (script_state self.old)
             (unloaded (script_state self.old)) (script_state self.new) }
-        ensures left { Spends (script_state self.old) (script_left self.old)
-            (script_state self.new) (script_left self.new) }
         ensures no_fault { NoFault self.old self.new }
     {
         self.mechanics.eject()
@@ -148,8 +136,6 @@ impl Drive for ScriptDrive {
     fn motor(&mut self, on: bool)
         ensures becomes { Becomes (script_state self.old)
             (with_motor on (script_state self.old)) (script_state self.new) }
-        ensures left { Spends (script_state self.old) (script_left self.old)
-            (script_state self.new) (script_left self.new) }
         ensures no_fault { NoFault self.old self.new }
     {
         self.mechanics.motor(on);
@@ -157,8 +143,6 @@ impl Drive for ScriptDrive {
 
     fn pulse(&mut self, inward: bool)
         ensures moves { Pulses (script_state self.old) inward (script_state self.new) }
-        ensures left { Spends (script_state self.old) (script_left self.old)
-            (script_state self.new) (script_left self.new) }
 
         ensures lost { OnTrue (loses self.old inward)
             (Becomes (script_state self.old) (script_state self.old) (script_state self.new)) }
@@ -193,8 +177,6 @@ impl Drive for ScriptDrive {
     fn gate(&mut self, on: bool)
         ensures becomes { Becomes (script_state self.old)
             (with_gate on (script_state self.old)) (script_state self.new) }
-        ensures left { Spends (script_state self.old) (script_left self.old)
-            (script_state self.new) (script_left self.new) }
         ensures no_fault { NoFault self.old self.new }
     {
         self.mechanics.gate(on);
@@ -204,8 +186,6 @@ impl Drive for ScriptDrive {
         ensures becomes { Becomes (script_state self.old)
             (passed (script_state self.old)) (script_state self.new) }
         ensures index { result ≡ at_index (script_state self.old) }
-        ensures left { Spends (script_state self.old) (script_left self.old)
-            (script_state self.new) (script_left self.new) }
         ensures range_before { InRange (script_state self.old) }
         ensures range { InRange (script_state self.new) }
         ensures no_fault { NoFault self.old self.new }
@@ -218,8 +198,6 @@ impl Drive for ScriptDrive {
             (passed (script_state self.old)) (script_state self.new) }
         ensures word { Reads (script_state self.old) head result.word (script_state self.new) }
         ensures index { result.index ≡ at_index (script_state self.old) }
-        ensures left { Spends (script_state self.old) (script_left self.old)
-            (script_state self.new) (script_left self.new) }
         ensures range_before { InRange (script_state self.old) }
         ensures range { InRange (script_state self.new) }
 
@@ -241,8 +219,6 @@ impl Drive for ScriptDrive {
     fn write_word(&mut self, head: u8, word: u16) -> bool
         ensures writes { Writes (script_state self.old) head word (script_state self.new) }
         ensures index { result ≡ at_index (script_state self.old) }
-        ensures left { Spends (script_state self.old) (script_left self.old)
-            (script_state self.new) (script_left self.new) }
         ensures range_before { InRange (script_state self.old) }
         ensures range { InRange (script_state self.new) }
 

@@ -1,6 +1,7 @@
 -- Drives that turn on, while words are read and written.
 use Rattle.std.proofs.Common.{◌≡◌, inl, inr, ℕ, ◌+◌, ◌≤◌, ◌&&◌, nat_lt, not, Bool, true, false, Option, Some, None, is_some, if◌then◌else◌, refl, sym, ◌∙◌, ap, subst, arith}
 use Rattle.raw_image.specs.Disk.{Disk, with_word}
+use Rattle.bay_model.proofs.Counted.{spends_twice}
 use Rattle.drive_model.specs.Drive.{DriveState, Becomes, Writes, can_write, has_track, passed, rewritten, turns, with_gate}
 use Rattle.fdc_core.specs.Steps.{let_pass}
 use Rattle.fdc_core.specs.Times.{WordTime, Saw, KeptOut, Wrote, Stopped, IsTime, Opens, Closes}
@@ -10,7 +11,7 @@ use Rattle.machine_quiet.proofs.Turning.{turned_passed, turned_let, turned_still
 use Rattle.machine_awaits.specs.Awaits.{TurnsOn}
 
 pub as_turned : (old new : DriveState) → Turned old new → TurnsOn old new
-as_turned old new turned = record { stays_in = ap is_some turned.medium; cylinder = turned.cylinder; change = turned.change; motor = turned.motor; spin = turned.spin; never_falls = turned.faults }
+as_turned old new turned = record { stays_in = ap is_some turned.medium; cylinder = turned.cylinder; change = turned.change; motor = turned.motor; spin = turned.spin; never_falls = turned.faults; spends = turned.spends }
 
 pub on_passed : (old new : DriveState) → Becomes old (passed old) new → TurnsOn old new
 on_passed old new is = as_turned old new (turned_passed old new is)
@@ -29,6 +30,7 @@ on_further a b c one two = record {
   motor = two.motor ∙ one.motor;
   spin = let first = one.spin in let second = two.spin in omega arith;
   never_falls = let first = one.never_falls in let second = two.never_falls in omega arith;
+  spends = spends_twice a.faults b.faults c.faults a.left b.left c.left one.spends two.spends;
 }
 
 on_gate : (opened : Bool) (old new : DriveState) → Becomes old (with_gate opened old) new → TurnsOn old new
@@ -39,6 +41,7 @@ on_gate opened old new is = record {
   motor = ap (λ s. s.motor) is.becomes;
   spin = let same : new.spin ≡ old.spin = ap (λ s. s.spin) is.becomes in omega arith;
   never_falls = is.never_falls;
+  spends = is.spends;
 }
 
 spin_on : (b : Bool) (spin : ℕ) → spin ≤ (if b then spin + 1 else spin)
@@ -65,6 +68,7 @@ on_written head word old new (inl wrote) = record {
   motor = ap (λ s. s.motor) wrote.becomes;
   spin = subst (λ n. old.spin ≤ n) (sym (ap (λ s. s.spin) wrote.becomes)) (spin_on (turns old && nat_lt old.spin 6250) old.spin);
   never_falls = wrote.never_falls;
+  spends = wrote.spends;
 }
 on_written head word old new (inr (can, becomes, rose)) = record {
   stays_in = ap (λ s. is_some s.medium) becomes.becomes;
@@ -73,6 +77,7 @@ on_written head word old new (inr (can, becomes, rose)) = record {
   motor = ap (λ s. s.motor) becomes.becomes;
   spin = subst (λ n. old.spin ≤ n) (sym (ap (λ s. s.spin) becomes.becomes)) (spin_on (turns old && nat_lt old.spin 6250) old.spin);
   never_falls = becomes.never_falls;
+  spends = becomes.spends;
 }
 
 on_opened : (opened : Bool) (old new : DriveState) → Opens opened old new → TurnsOn old new

@@ -1,5 +1,6 @@
 -- A data command from its beginning to the interrupt at its end.
 use Rattle.std.specs.Prelude.{◌≡◌, ◌≤◌, ◌%◌, ℕ, Bool, true, false, [], None, is_some}
+use Rattle.flop_base.specs.Counts.{Spends}
 use Rattle.drive_model.specs.Drive.{DriveState}
 use Rattle.fdc_core.specs.Answers.{is_fresh}
 use Rattle.fdc_core.specs.Listening.{is_executing}
@@ -10,7 +11,7 @@ use Rattle.fdc_core.specs.declared.phases.Phase.TheVariants.{Result}
 use Rattle.pc_bus.specs.Boards.{Board, controller_of, latch_of}
 use Rattle.machine_quiet.specs.Quiet.{IsHushed}
 
--- heads, change line and motor stay; the medium, whatever is written on it, stays in and loses no speed; no fault is taken back
+-- heads, change line and motor stay; the medium, whatever is written on it, stays in and loses no speed; no fault is taken back, and no more come than were left
 pub record TurnsOn (old new : DriveState) : Type 0 where
   pub stays_in : is_some new.medium ≡ is_some old.medium
   pub cylinder : new.cylinder ≡ old.cylinder
@@ -18,6 +19,7 @@ pub record TurnsOn (old new : DriveState) : Type 0 where
   pub motor : new.motor ≡ old.motor
   pub spin : old.spin ≤ new.spin
   pub never_falls : old.faults ≤ new.faults
+  pub spends : Spends old.faults old.left new.faults new.left
 
 -- one of the two drives is selected, INT and DRQ are let out, no seek runs, and no poll is to come
 pub record IsLetOut (fdc : Fdc) : Type 0 where

@@ -1,6 +1,7 @@
 -- Counts, step by step and access by access.
 use Rattle.std.proofs.Common.{◌≡◌, ℕ, zero, suc, ◌+◌, ◌≤◌, min, nat_lt, Bool, true, false, List, [], ◌∷◌, if◌then◌else◌, refl, sym, ◌∙◌, ap, subst, arith}
 use Rattle.flop_base.specs.Counts.{last_count}
+use Rattle.bay_model.proofs.Counted.{drive_itself, drive_twice}
 use Rattle.dma_8237.specs.Channel.{grants, after_read}
 use Rattle.fdc_core.specs.Dma.{to_memory_of}
 use Rattle.fdc_core.specs.Ports.{after_read as controller_after}
@@ -14,7 +15,8 @@ use Rattle.pc_bus.specs.Ports.{is_controllers, port_read, WritesPort, RunsGap, I
 use Rattle.pc_bus.specs.Steps.{Step, Runs, RunsUnset, Waits, stirred}
 use Rattle.pc_bus.specs.Transfers.{can_move, moved, moved_to_memory, moved_from_memory, moved_up_to, looked_at, shown_again, granted, dma_stepped}
 use Rattle.pc_bus.specs.declared.chips.Chips.{Chips}
-use Rattle.machine_counts.specs.Counts.{long_holds, CountsGoOn}
+use Rattle.machine_counts.specs.Counts.{counts_of, long_holds, CountsGoOn}
+use Rattle.machine_counts.proofs.Spending.{DrivesGoOn, drives_step, drives_written, drives_same}
 
 -- ---- the holds
 
@@ -99,20 +101,35 @@ dma_holds chips = by_due (is_due (looked_at chips).holding.request) (grants chip
 
 -- ---- device steps
 
-counts_of : (old new : Board) → HoldsGoOn (holds_of old) (holds_of new) → new.bus.taken ≡ old.bus.taken → new.bus.direct ≡ old.bus.direct → CountsGoOn old new
-counts_of old new holds taken direct = record { stalls = holds.stalls; spent = holds.spent; taken = taken; direct = direct }
+all_counts : (old new : Board) → DrivesGoOn old new → HoldsGoOn (holds_of old) (holds_of new) → new.bus.taken ≡ old.bus.taken → new.bus.direct ≡ old.bus.direct → CountsGoOn old new
+all_counts old new drives holds taken direct =
+    record { first = drives.first; second = drives.second; stalls = holds.stalls; spent = holds.spent; taken = taken; direct = direct }
 
 counts_on : (a b c : Board) → CountsGoOn a b → CountsGoOn b c → CountsGoOn a c
 counts_on a b c first second =
     let one = first.stalls in let two = second.stalls in let three = first.spent in let four = second.spent in
-    record { stalls = omega arith; spent = omega arith; taken = second.taken ∙ first.taken; direct = second.direct ∙ first.direct }
+    record {
+      first = drive_twice (counts_of a.first) (counts_of b.first) (counts_of c.first) first.first second.first;
+      second = drive_twice (counts_of a.second) (counts_of b.second) (counts_of c.second) first.second second.second;
+      stalls = omega arith;
+      spent = omega arith;
+      taken = second.taken ∙ first.taken;
+      direct = second.direct ∙ first.direct;
+    }
 
 counts_same : (board : Board) → CountsGoOn board board
-counts_same board = record { stalls = omega arith; spent = omega arith; taken = refl; direct = refl }
+counts_same board = record {
+  first = drive_itself (counts_of board.first);
+  second = drive_itself (counts_of board.second);
+  stalls = omega arith;
+  spent = omega arith;
+  taken = refl;
+  direct = refl;
+}
 
 pub step_counts : (old new : Board) → Step old new → CountsGoOn old new
 step_counts old new step =
-    counts_of old new
+    all_counts old new (drives_step old new step)
     (subst (λ holding. HoldsGoOn (holds_of old) holding) (sym (ap (λ bus. bus.chips.holding) step.bus)) (dma_holds (record old.bus.chips { controller = step.between })))
     (ap (λ bus. bus.taken) step.bus) (ap (λ bus. bus.direct) step.bus)
 
@@ -127,23 +144,23 @@ unset_count zero old new same = subst (CountsGoOn old) (sym same) (counts_same o
 unset_count (suc n) old new (between, runs, unset, step) = counts_on old between new (unset_count n old between runs) (step_counts between new step)
 
 pub wait_count : (n : ℕ) (old new : Board) → Runs n (stirred old) new → CountsGoOn old new
-wait_count n old new runs = let on = runs_count n (stirred old) new runs in record { stalls = on.stalls; spent = on.spent; taken = on.taken; direct = on.direct }
+wait_count n old new runs = let on = runs_count n (stirred old) new runs in record { first = on.first; second = on.second; stalls = on.stalls; spent = on.spent; taken = on.taken; direct = on.direct }
 
 pub waits_count : (most : ℕ) (set : Bool) (old new : Board) → Waits most old set new → CountsGoOn old new
 waits_count most set old new waits =
-    let on = unset_count waits.steps (stirred old) new waits.runs in record { stalls = on.stalls; spent = on.spent; taken = on.taken; direct = on.direct }
+    let on = unset_count waits.steps (stirred old) new waits.runs in record { first = on.first; second = on.second; stalls = on.stalls; spent = on.spent; taken = on.taken; direct = on.direct }
 
 -- ---- port accesses
 
 gap_count : (between new : Board) → RunsGap between new → CountsGoOn between new
 gap_count between new gap =
     let on = runs_count (next_entry between.bus.gaps) (record between { bus = record between.bus { gaps = rest_of between.bus.gaps } }) new gap.runs in
-    record { stalls = on.stalls; spent = on.spent; taken = on.taken; direct = on.direct }
+    record { first = on.first; second = on.second; stalls = on.stalls; spent = on.spent; taken = on.taken; direct = on.direct }
 
 pub input_counts : (port value : ℕ) (old new : Board) → Inputs port value old new → CountsGoOn old new
 input_counts port value old new access =
     let between : Board = record old { bus = record old.bus { chips = port_read port old.bus.chips; fresh = false } } in
-    counts_on old between new (counts_of old between (same_on (holds_of old) (holds_of between) (port_holds (is_controllers port))) refl refl) (gap_count between new access.gap)
+    counts_on old between new (all_counts old between (drives_same old between refl refl) (same_on (holds_of old) (holds_of between) (port_holds (is_controllers port))) refl refl) (gap_count between new access.gap)
   where
     port_holds : (b : Bool) → SameHolds old.bus.chips.holding
         (if b then shown_again (record old.bus.chips { controller = controller_after port (controller_of old) }) else record old.bus.chips { channel = after_read port old.bus.chips.channel }).holding
@@ -163,5 +180,5 @@ output_counts port value old new access =
     let holds = write_holds port value old between access.writes (is_controllers port) refl in
     let same : SameHolds (holds_of old) (holds_of between) = subst (λ holding. SameHolds (holds_of old) holding) (sym (ap (λ bus. bus.chips.holding) access.writes.bus)) holds in
     counts_on old between new
-    (counts_of old between (same_on (holds_of old) (holds_of between) same) (ap (λ bus. bus.taken) access.writes.bus) (ap (λ bus. bus.direct) access.writes.bus))
+    (all_counts old between (drives_written port access.writes.chips.controller old between access.writes.motors) (same_on (holds_of old) (holds_of between) same) (ap (λ bus. bus.taken) access.writes.bus) (ap (λ bus. bus.direct) access.writes.bus))
     (gap_count between new access.gap)

@@ -5,8 +5,8 @@ ghost use Rattle.pc_bus.specs.Boards.{Board};
 ghost use Rattle.pc_bus.specs.Ports.{Inputs, Outputs};
 ghost use Rattle.pc_bus.specs.Steps.{Runs, Step, Waits, stirred};
 
-/// Stalls never fall, and rise by no more than the long holds that are left; device steps, waits and port accesses take no
-/// interrupt.
+/// The faults of a drive and the stalls never fall; faults rise by no more than what the drive tells is left of them, and stalls by
+/// no more than the long holds that are left. Device steps, waits and port accesses take no interrupt.
 pub fn counts_go_on()
     ensures step { (old new : Board) → Step old new → CountsGoOn old new }
     ensures runs { (n : ℕ) (old new : Board) → Runs n old new → CountsGoOn old new }

@@ -1,6 +1,8 @@
 -- Drives that turn on.
 use Rattle.std.proofs.Common.{◌≡◌, ℕ, ◌+◌, ◌<◌, ◌≤◌, ◌==◌, ◌&&◌, nat_lt, Bool, true, false, Option, None, if◌then◌else◌, refl, sym, ◌∙◌, ap, subst, arith}
 use Rattle.std.proofs.lemmas.Bool.Decides.{nat_tests}
+use Rattle.flop_base.specs.Counts.{Spends}
+use Rattle.bay_model.proofs.Counted.{spends_itself, spends_twice}
 use Rattle.drive_model.specs.Drive.{DriveState, Becomes, passed, at_speed, turns, track_words}
 use Rattle.fdc_core.specs.Steps.{let_pass, Moves}
 use Rattle.machine_quiet.specs.Quiet.{Turned}
@@ -31,6 +33,7 @@ turned_passed old new is = record {
   place = λ inside. subst (λ n. n < track_words old.medium) (sym (ap (λ s. s.place) is.becomes))
       (place_on (at_speed old) old.place (track_words old.medium) inside);
   faults = is.never_falls;
+  spends = is.spends;
 }
 
 pub turned_let : (old new : DriveState) → Becomes old (let_pass old) new → Turned old new
@@ -43,6 +46,7 @@ turned_let old new is = record {
   place = λ inside. subst (λ n. n < track_words old.medium) (sym (ap (λ s. s.place) is.becomes))
       (place_on (at_speed old) old.place (track_words old.medium) inside);
   faults = is.never_falls;
+  spends = is.spends;
 }
 
 pub turned_moves : (pulse : Option Bool) (old new : DriveState) → pulse ≡ None → Moves pulse old new → Turned old new
@@ -57,6 +61,7 @@ turned_still old new same = record {
   spin = let is = ap (λ s. s.spin) same in omega arith;
   place = λ inside. subst (λ n. n < track_words old.medium) (sym (ap (λ s. s.place) same)) inside;
   faults = let is = ap (λ s. s.faults) same in omega arith;
+  spends = subst (λ (s : DriveState). Spends old.faults old.left s.faults s.left) (sym same) (spends_itself old.faults old.left);
 }
 
 pub turned_on : (a b c : DriveState) → Turned a b → Turned b c → Turned a c
@@ -69,4 +74,5 @@ turned_on a b c first second = record {
   place = λ inside. subst (λ medium. c.place < track_words medium) first.medium
       (second.place (subst (λ medium. b.place < track_words medium) (sym first.medium) (first.place inside)));
   faults = let one = first.faults in let two = second.faults in omega arith;
+  spends = spends_twice a.faults b.faults c.faults a.left b.left c.left first.spends second.spends;
 }

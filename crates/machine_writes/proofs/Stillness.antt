@@ -1,6 +1,8 @@
 -- Device steps with no seek.
 use Rattle.std.proofs.Common.{◌≡◌, inl, inr, ℕ, zero, suc, ◌+◌, ◌^◌, ◌/◌, ◌%◌, ◌≤◌, ◌==◌, ◌&&◌, not, nat_le, nat_lt, Bool, true, false, Option, Some, None, is_some, length, if◌then◌else◌, refl, sym, ◌∙◌, ap, subst, arith}
 use Rattle.std.proofs.lemmas.Bool.Decides.{nat_tests}
+use Rattle.flop_base.specs.Counts.{Spends}
+use Rattle.bay_model.proofs.Counted.{spends_itself, spends_twice}
 use Rattle.raw_image.specs.Disk.{Disk, with_word}
 use Rattle.drive_model.specs.Drive.{DriveState, Becomes, Writes, at_speed, can_write, has_track, passed, rewritten, turns, with_gate}
 use Rattle.fdc_fifo.specs.Fifo.{Fifo}
@@ -50,6 +52,7 @@ still_further a b c one two = record {
   motor = two.motor ∙ one.motor;
   speed = λ fast. two.speed (one.speed fast);
   never_falls = let first = one.never_falls in let second = two.never_falls in omega arith;
+  spends = spends_twice a.faults b.faults c.faults a.left b.left c.left one.spends two.spends;
 }
 
 pub still_same : (a b : DriveState) → b ≡ a → IsStill a b
@@ -59,6 +62,7 @@ still_same a b same = record {
   motor = ap (λ s. s.motor) same;
   speed = λ fast. ap at_speed same ∙ fast;
   never_falls = let is = ap (λ s. s.faults) same in omega arith;
+  spends = subst (λ (s : DriveState). Spends a.faults a.left s.faults s.left) (sym same) (spends_itself a.faults a.left);
 }
 
 not_below : (n : ℕ) → nat_le 6250 n ≡ true → nat_lt n 6250 ≡ false
@@ -89,6 +93,7 @@ still_passed before after becomes = record {
   motor = ap (λ s. s.motor) becomes.becomes;
   speed = λ fast. ap at_speed becomes.becomes ∙ (ap (λ n. turns before && nat_le 6250 n) (same_spin before fast) ∙ fast);
   never_falls = becomes.never_falls;
+  spends = becomes.spends;
 }
 
 still_let : (before after : DriveState) → Becomes before (let_pass before) after → IsStill before after
@@ -98,6 +103,7 @@ still_let before after becomes = record {
   motor = ap (λ s. s.motor) becomes.becomes;
   speed = λ fast. ap at_speed becomes.becomes ∙ (ap (λ n. turns before && nat_le 6250 n) (same_spin (with_gate false before) fast) ∙ fast);
   never_falls = becomes.never_falls;
+  spends = becomes.spends;
 }
 
 still_gate : (on : Bool) (before after : DriveState) → Becomes before (with_gate on before) after → IsStill before after
@@ -107,6 +113,7 @@ still_gate on before after becomes = record {
   motor = ap (λ s. s.motor) becomes.becomes;
   speed = λ fast. ap at_speed becomes.becomes ∙ fast;
   never_falls = becomes.never_falls;
+  spends = becomes.spends;
 }
 
 some_rewritten : (medium : Option Disk) (c h place word : ℕ) → is_some (rewritten medium c h place word) ≡ is_some medium
@@ -130,6 +137,7 @@ still_written before after head word (inl wrote) = record {
       ∙ (ap (λ b. before.motor && b && nat_le 6250 (passed before).spin) (some_if (can_write before) before.medium before.cylinder head before.place word)
       ∙ (ap (λ n. turns before && nat_le 6250 n) (same_spin before fast) ∙ fast));
   never_falls = wrote.never_falls;
+  spends = wrote.spends;
 }
 still_written before after head word (inr (can, becomes, rose)) = record {
   cylinder = ap (λ s. s.cylinder) becomes.becomes;
@@ -137,6 +145,7 @@ still_written before after head word (inr (can, becomes, rose)) = record {
   motor = ap (λ s. s.motor) becomes.becomes;
   speed = λ fast. ap at_speed becomes.becomes ∙ (ap (λ n. turns before && nat_le 6250 n) (same_spin before fast) ∙ fast);
   never_falls = becomes.never_falls;
+  spends = becomes.spends;
 }
 
 still_opened : (opened : Bool) (old new : DriveState) → Opens opened old new → IsStill old new
