@@ -22,9 +22,7 @@ struct StuckDrive {
 impl Drive for StuckDrive {
     ghost use Rattle.drive_model.specs.PlainDrive.{plain_state};
 
-    ghost state = { λ drive. record (plain_state drive.inside) { faults = drive.faults } };
-
-    ghost left = { λ _. None };
+    ghost state = { λ drive. record (plain_state drive.inside) { faults = drive.faults; left = None } };
 
     fn insert(&mut self, medium: Medium) -> Result<(), Medium> {
         self.inside.insert(medium)
