@@ -79,7 +79,7 @@ impl Drive for StuckDrive {
 }
 
 /// A drive as it comes, behind a box.
-fn boxed<D: Drive>(alloc: Global, drive: D) -> Result<Box<dyn Drive>, AllocError>
+fn boxed<D: Drive + 'static>(alloc: Global, drive: D) -> Result<Box<dyn Drive>, AllocError>
     requires { IsEmpty (D.state drive) }
     ensures { IfOk result (λ boxed. IsEmpty ((Drive-box boxed).state boxed.value)) }
 {
