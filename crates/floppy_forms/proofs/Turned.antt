@@ -251,3 +251,6 @@ starved_runs asked error old is spelled reads =
 
 pub read_none : (asked : Result (Option Form) NoMemory) (spelled : Option Form) → asked ≡ Ok None → Reads asked spelled → spelled ≡ None
 read_none asked spelled is reads = sym (subst (λ (read : Result (Option Form) NoMemory). Reads read spelled) is reads)
+
+pub none_asked : (asked : Result (Option Form) NoMemory) (form : Option Form) → asked ≡ Ok form → form ≡ None → asked ≡ Ok None
+none_asked asked form is none = is ∙ ap (λ (o : Option Form). Ok o) none
