@@ -52,9 +52,16 @@ fn run_planned<R: Env + AllocGlobal, S: Shelf, K: Sink>(
     shelf: &mut S,
     out: &mut K,
 ) -> Status {
-    let bays = Drives::scripted(plan.bay0, plan.bay1);
-    let spare = Drives::scripted(plan.spare0, plan.spare1);
-    run_with(rt, bays, spare, plan.pace, shelf, out)
+    let FaultPlan {
+        bay0,
+        bay1,
+        spare0,
+        spare1,
+        pace,
+    } = plan;
+    let bays = Drives::scripted(bay0, bay1);
+    let spare = Drives::scripted(spare0, spare1);
+    run_with(rt, bays, spare, pace, shelf, out)
 }
 
 fn no_delays(alloc: Global) -> Pace {

@@ -1,6 +1,6 @@
 // Machines of the tests, and runs of the program over them. In the texts `;` stands for the end of a line.
 ghost use Rattle.std.specs.Prelude.{◌≡◌, All, IfOk};
-ghost use Rattle.drive_model.specs.Drive.{DriveState};
+ghost use Rattle.drive_model.specs.PlainDrive.{plain_state};
 ghost use Rattle.pc_bus.specs.Boards.{board, IsEmpty};
 ghost use Rattle.machine_station.specs.Started.{IsFreshBoard};
 
@@ -52,7 +52,7 @@ pub(crate) fn machine_with<D: Drive>(
 
 /// A drive without faults, as it comes.
 fn plain() -> PlainDrive
-    ensures { IsEmpty (PlainDriveDrive.state result) }
+    ensures { IsEmpty (plain_state result) }
 {
     PlainDrive::new()
 }
