@@ -1,13 +1,14 @@
 -- READ ID.
-use Rattle.std.proofs.Common.{◌≡◌, ◌⊎◌, inl, inr, ℕ, zero, suc, ◌+◌, ◌*◌, ◌/◌, ◌%◌, ◌<◌, ◌≤◌, ◌==◌, Bool, true, false, List, [], ◌∷◌, ◌++◌, Option, Some, Result as result, Ok, Err, IfOk, IfErr, if◌then◌else◌, refl, sym, ◌∙◌, ap, subst, arith}
+use Rattle.std.proofs.Common.{◌≡◌, ◌⊎◌, inl, inr, ℕ, zero, suc, ◌+◌, ◌*◌, ◌/◌, ◌%◌, ◌<◌, ◌≤◌, ◌==◌, Bool, true, false, List, [], ◌∷◌, ◌++◌, Option, Some, Result as result, Ok, Err, IfOk, IfErr, if◌then◌else◌, refl, sym, ◌∙◌, ap, subst, arith, is_some}
 use Rattle.std.proofs.lemmas.Bool.{false≢true}
-use Rattle.flop_base.specs.Counts.{last_count}
+use Rattle.flop_base.specs.Counts.{last_count, Spends}
 use Rattle.flop_base.specs.declared.key.Chrn.{Chrn}
 use Rattle.flop_base.specs.declared.answers.Code.{Code}
 use Rattle.flop_base.specs.declared.answers.Rate.{Rate}
 use Rattle.flop_base.specs.declared.answers.Rate.TheVariants.{R500, R250}
 use Rattle.bay_model.specs.Bays.{in_bay}
 use Rattle.bay_model.specs.Counters.{IsFaultless, faults_of}
+use Rattle.bay_model.proofs.Counted.{spends_itself}
 use Rattle.track_model.specs.Fields.{IsAddressAt}
 use Rattle.sector_map.specs.Met.{HasClearAddress, met_in}
 use Rattle.drive_model.specs.Drive.{DriveState, InRange}
@@ -28,7 +29,7 @@ use Rattle.fdc_core.specs.State.{data_commands_of}
 use Rattle.fdc_core.specs.declared.controller.Fdc.{Fdc}
 use Rattle.machine_awaits.specs.Awaits.{IsAwaited, IsLetOut, HoldsSet, TurnsOn}
 use Rattle.machine_awaits.proofs.Awaiting.{runs_await}
-use Rattle.machine_counts.specs.Counts.{CountsGoOn}
+use Rattle.machine_counts.specs.Counts.{CountsGoOn, counts_of}
 use Rattle.machine_ids.specs.Ids.{IdUnderway, IdEnded, IdEndedIn, IdEndsAs, KeepsId, CanBeginId, id_scene}
 use Rattle.machine_ids.proofs.Accesses.{inputs_keep, outputs_begin, begins_quietly, can_begin}
 use Rattle.machine_pace.specs.Entries.{next_entry}
@@ -50,7 +51,7 @@ use Rattle.machine_commands.specs.Codes.{rate_byte}
 use Rattle.machine_commands.specs.Idling.{KeepsAll, StaysIdle, Idles}
 use Rattle.machine_commands.specs.Ready.{IsIdle}
 use Rattle.machine_commands.specs.Sending.{latch_taken}
-use Rattle.machine_commands.specs.Shown.{counts_of, rig_of, user_part, page_part}
+use Rattle.machine_commands.specs.Shown.{rig_of, user_part, page_part}
 use Rattle.machine_commands.specs.declared.motors.Motors.{Motors}
 use Rattle.machine_commands.specs.declared.results.Done.{Done}
 use Rattle.machine_commands.proofs.Accesses.{gapped}
@@ -91,11 +92,13 @@ kept_id laws scene = record {
 
 turns_still : (old new : DriveState) → new ≡ old → TurnsOn old new
 turns_still old new same = record {
+  stays_in = ap (λ s. is_some s.medium) same;
   cylinder = ap (λ s. s.cylinder) same;
   change = ap (λ s. s.change) same;
   motor = ap (λ s. s.motor) same;
   spin = let is = ap (λ s. s.spin) same in omega arith;
   never_falls = let is = ap (λ s. s.faults) same in omega arith;
+  spends = subst (λ (s : DriveState). Spends old.faults old.left s.faults s.left) (sym same) (spends_itself old.faults old.left);
 }
 
 -- what the last byte leaves of the controller: like a law of lower crates, but with no byte of a further command left

@@ -9,6 +9,7 @@ pub mod FormatRigs
 pub mod Identifying
 pub mod Landing
 pub mod Moving
+pub mod PastDriver
 pub mod Preparing
 pub mod Questions
 pub mod ReadCourses

@@ -2,7 +2,8 @@
 use Rattle.std.proofs.Common.{◌≡◌, ◌≢◌, ◌⊎◌, inl, inr, ℕ, zero, suc, ◌+◌, ◌-◌, ◌<◌, ◌≤◌, ◌==◌, ◌||◌, Bool, true, false, Some, None, min, nat_lt, if◌then◌else◌, is_some, refl, sym, ◌∙◌, ap, subst, arith}
 use Rattle.std.proofs.lemmas.Bool.{false≢true}
 use Rattle.std.proofs.lemmas.Bool.Decides.{nat_tests}
-use Rattle.flop_base.specs.Counts.{RoseBy, RoseLess, Rose}
+use Rattle.flop_base.specs.Counts.{RoseBy, RoseLess, Rose, Spends}
+use Rattle.bay_model.proofs.Counted.{spends_twice}
 use Rattle.drive_model.specs.Drive.{DriveState, Becomes, moved}
 use Rattle.fdc_seek.specs.Seeking.{ended, with_motion, has_ended, neighbour, sought, recalibrated}
 use Rattle.fdc_seek.specs.declared.motion.Motion.{Motion}
@@ -19,10 +20,11 @@ pub record MovesDrive (old new : DriveState) : Type 0 where
   pub medium : new.medium ≡ old.medium
   pub speed : KeepsSpeed old new
   pub never_falls : old.faults ≤ new.faults
+  pub spends : Spends old.faults old.left new.faults new.left
   pub change : (new.change ≡ old.change) ⊎ ((is_some old.medium ≡ true) × (new.change ≡ false))
 
 pub turns_move : (old new : DriveState) → KeepsDrive old new → KeepsSpeed old new → MovesDrive old new
-turns_move old new keeps speed = record { medium = keeps.medium; speed = speed; never_falls = keeps.never_falls; change = inl keeps.change }
+turns_move old new keeps speed = record { medium = keeps.medium; speed = speed; never_falls = keeps.never_falls; spends = keeps.spends; change = inl keeps.change }
 
 pub moves_then : (a b c : DriveState) → MovesDrive a b → MovesDrive b c → MovesDrive a c
 moves_then a b c one two = record {
@@ -32,6 +34,7 @@ moves_then a b c one two = record {
     spin = λ on. let first = one.speed.spin on in let second = two.speed.spin (one.speed.motor ∙ on) in omega arith;
   };
   never_falls = let first = one.never_falls in let second = two.never_falls in omega arith;
+  spends = spends_twice a.faults b.faults c.faults a.left b.left c.left one.spends two.spends;
   change = elim two.change [
     | inl same ↦ (elim one.change [
       | inl before ↦ inl (same ∙ before)
@@ -53,6 +56,7 @@ pulse_moves inward old new becomes = record {
   medium = ap (λ d. d.medium) becomes.becomes;
   speed = same_speed_by old new (ap (λ d. d.motor) becomes.becomes) (ap (λ d. d.spin) becomes.becomes);
   never_falls = becomes.never_falls;
+  spends = becomes.spends;
   change = cleared_by (is_some old.medium) old.change new.change (ap (λ d. d.change) becomes.becomes);
 }
 
@@ -61,6 +65,7 @@ lost_moves old new becomes = record {
   medium = ap (λ d. d.medium) becomes.becomes;
   speed = same_speed_by old new (ap (λ d. d.motor) becomes.becomes) (ap (λ d. d.spin) becomes.becomes);
   never_falls = becomes.never_falls;
+  spends = becomes.spends;
   change = inl (ap (λ d. d.change) becomes.becomes);
 }
 

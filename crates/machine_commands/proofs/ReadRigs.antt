@@ -1,10 +1,11 @@
 -- What a driver sees of a data command that reads.
 use Rattle.std.proofs.Common.{◌≡◌, ℕ, ◌+◌, ◌≤◌, nat_lt, min, true, List, [], ◌∷◌, slice_index, if◌then◌else◌, refl, sym, ◌∙◌, ap, arith}
 use Rattle.std.specs.Prelude.{fold}
-use Rattle.flop_base.specs.Counts.{last_count}
+use Rattle.flop_base.specs.Counts.{last_count, Spends}
 use Rattle.flop_base.specs.declared.answers.Code.{Code}
 use Rattle.bay_model.specs.Bays.{Two}
 use Rattle.bay_model.specs.Counters.{GoesOn, IsDriven}
+use Rattle.bay_model.proofs.Counted.{spends_twice}
 use Rattle.drive_model.specs.Drive.{DriveState}
 use Rattle.fdc_core.specs.State.{data_commands_of}
 use Rattle.machine_counts.specs.Counts.{long_holds}
@@ -38,6 +39,7 @@ pub record DriveOn (old new : DriveState) : Type 0 where
   pub cylinder : new.cylinder ≡ old.cylinder
   pub change : new.change ≡ old.change
   pub never_falls : old.faults ≤ new.faults
+  pub spends : Spends old.faults old.left new.faults new.left
   pub spun : is_spun old ≡ true → is_spun new ≡ true
 
 drive_on : (old start at new : DriveState) → KeepsDrive old start → KeepsSpeed old start → Turned start at → KeepsDrive at new → KeepsSpeed at new → DriveOn old new
@@ -46,6 +48,8 @@ drive_on old start at new one fast turned two faster = record {
   cylinder = two.cylinder ∙ (turned.cylinder ∙ one.cylinder);
   change = two.change ∙ (turned.change ∙ one.change);
   never_falls = let a = one.never_falls in let b = turned.faults in let c = two.never_falls in omega arith;
+  spends = spends_twice old.faults start.faults new.faults old.left start.left new.left one.spends
+      (spends_twice start.faults at.faults new.faults start.left at.left new.left turned.spends two.spends);
   spun = at_speed_on old new (two.medium ∙ (turned.medium ∙ one.medium))
       (λ on. (let on_start = fast.motor ∙ on in let on_at = turned.motor ∙ on_start in (faster.motor ∙ on_at, spin_on old.spin start.spin at.spin new.spin (fast.spin on) turned.spin (faster.spin on_at))));
 }
@@ -110,8 +114,8 @@ module _ (motors : Motors) (bay : ℕ) (Task : Board → Type 0) (old start new 
 
   pub goes_on : GoesOn (counters_of old) (counters_of new)
   goes_on = record {
-    first = record { never_falls = first_on.never_falls; spends = refl };
-    second = record { never_falls = second_on.never_falls; spends = refl };
+    first = record { never_falls = first_on.never_falls; spends = first_on.spends };
+    second = record { never_falls = second_on.never_falls; spends = second_on.spends };
     spares = refl;
     stalls = stalls_rise;
     stalls_spent = let left = holds_left in omega arith;

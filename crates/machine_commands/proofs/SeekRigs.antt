@@ -7,7 +7,7 @@ use Rattle.std.proofs.lemmas.Grind.{get_or-set_at}
 use Rattle.std.proofs.lemmas.Bool.{false≢true}
 use Rattle.std.proofs.lemmas.Bool.Decides.{nat_tests}
 use Rattle.flop_base.specs.Counts.{RoseBy}
-use Rattle.bay_model.specs.Counters.{GoesOn, IsDriven}
+use Rattle.bay_model.specs.Counters.{DriveGoesOn, GoesOn, IsDriven}
 use Rattle.drive_model.specs.Drive.{DriveState, InRange}
 use Rattle.fdc_commands.specs.Table.{answer}
 use Rattle.fdc_commands.specs.declared.bytes.Accepted.TheVariants.{Ready}
@@ -20,11 +20,12 @@ use Rattle.fdc_core.specs.declared.controller.Fdc.{Fdc}
 use Rattle.pc_bus.specs.Boards.{Board, controller_of, holds_of, drive_in}
 use Rattle.single_commands.specs.Heads.{MovesHeads, Recalibrates, Seeks}
 use Rattle.machine_commands.specs.Asked.{SendsRecalibrate, SendsSeek}
-use Rattle.machine_commands.specs.Idling.{KeepsSpeed}
+use Rattle.machine_commands.specs.Idling.{KeepsDrive, KeepsSpeed}
 use Rattle.machine_commands.specs.Ready.{dor_with, IsReady, IsIdle, AreSeeksOver}
 use Rattle.machine_commands.specs.Shown.{user_part, page_part, stalls_left, counters_of, number_of, rig_of}
 use Rattle.machine_commands.specs.declared.motors.Motors.{Motors}
 use Rattle.machine_commands.proofs.Bytes.{AreMore}
+use Rattle.machine_counts.specs.Counts.{counts_of}
 use Rattle.machine_commands.proofs.Moving.{MovesDrive, OutwardWay, OutwardOver, TowardWay, TowardOver, turns_move, outward_rule, toward_rule}
 use Rattle.machine_commands.proofs.Seeking.{on_way, at_end}
 use Rattle.machine_commands.proofs.SeekEnds.{Leaves, SeekCommand, SeekDone, after_sense_of, seek_done}
@@ -217,14 +218,20 @@ sought_idle motors bay number code old new idle small within moves left at low f
 
 -- ---- the rig
 
-counting : (old new : Board) → old.first.faults ≤ new.first.faults → old.second.faults ≤ new.second.faults → (holds_of new).entries ≡ (holds_of old).entries
+drive_goes : {old new : DriveState} → KeepsDrive old new → DriveGoesOn (counts_of old) (counts_of new)
+drive_goes keeps = record { never_falls = keeps.never_falls; spends = keeps.spends }
+
+heads_go : {old new : DriveState} → MovesDrive old new → DriveGoesOn (counts_of old) (counts_of new)
+heads_go moves = record { never_falls = moves.never_falls; spends = moves.spends }
+
+counting : (old new : Board) → DriveGoesOn (counts_of old.first) (counts_of new.first) → DriveGoesOn (counts_of old.second) (counts_of new.second) → (holds_of new).entries ≡ (holds_of old).entries
     → (holds_of new).stalls ≡ (holds_of old).stalls → new.bus.direct ≡ old.bus.direct → old.bus.taken ≤ new.bus.taken
     → data_commands_of (controller_of new) ≡ data_commands_of (controller_of old) → GoesOn (counters_of old) (counters_of new) × IsDriven 0 (counters_of old) (counters_of new)
 counting old new first second entries stalls direct taken sent =
     let left : stalls_left (holds_of new).entries ≡ stalls_left (holds_of old).entries = ap stalls_left entries in (
       record {
-        first = record { never_falls = first; spends = refl };
-        second = record { never_falls = second; spends = refl };
+        first = first;
+        second = second;
         spares = refl;
         stalls = omega arith;
         stalls_spent = omega arith;
@@ -241,7 +248,7 @@ some_or_none medium some none = false≢true (sym (ap is_some none) ∙ some)
 moves_heads : (bay : ℕ) (old new : Board) → bay ≤ 1 → MovesDrive (drive_in old bay) (drive_in new bay) → Leaves bay old new → number_of new (1 - bay) ≡ number_of old (1 - bay)
     → data_commands_of (controller_of new) ≡ data_commands_of (controller_of old) → MovesHeads (rig_of old) bay (rig_of new)
 moves_heads zero old new small moves left number sent =
-    let (counts, driven) = counting old new moves.never_falls left.keeps.never_falls left.entries left.stalls left.direct left.taken sent in
+    let (counts, driven) = counting old new (heads_go moves) (drive_goes left.keeps) left.entries left.stalls left.direct left.taken sent in
     let same : new.first.change ≡ old.first.change → (rig_of new).changes ≡ (rig_of old).changes =
     λ is. two_same new.first.change new.second.change old.first.change old.second.change is left.keeps.change in
     record {
@@ -263,7 +270,7 @@ moves_heads zero old new small moves left number sent =
       driven = driven;
     }
 moves_heads (suc zero) old new small moves left number sent =
-    let (counts, driven) = counting old new left.keeps.never_falls moves.never_falls left.entries left.stalls left.direct left.taken sent in
+    let (counts, driven) = counting old new (drive_goes left.keeps) (heads_go moves) left.entries left.stalls left.direct left.taken sent in
     let same : new.second.change ≡ old.second.change → (rig_of new).changes ≡ (rig_of old).changes =
     λ is. two_same new.first.change new.second.change old.first.change old.second.change left.keeps.change is in
     record {

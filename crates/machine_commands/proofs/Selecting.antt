@@ -82,6 +82,7 @@ switched_by on before after becomes = record {
     cylinder = ap (λ d. d.cylinder) becomes.becomes;
     change = ap (λ d. d.change) becomes.becomes;
     never_falls = becomes.never_falls;
+    spends = becomes.spends;
   };
   motor = ap (λ d. d.motor) becomes.becomes;
   spin = λ is. ap (λ d. d.spin) becomes.becomes ∙ ap (λ b. if b then before.spin else 0) is;

@@ -5,6 +5,8 @@ use Rattle.fdc_core.specs.Steps.{polled}
 use Rattle.fdc_core.specs.declared.controller.Fdc.{Fdc}
 use Rattle.pc_bus.specs.Boards.{Board, controller_of}
 use Rattle.pc_bus.specs.Steps.{Step, Runs, stirred}
+use Rattle.flop_base.specs.Counts.{Spends}
+use Rattle.drive_model.specs.Drive.{DriveState}
 use Rattle.machine_commands.specs.Idling.{IsResting, KeepsSpeed, KeepsAll, is_up}
 use Rattle.machine_commands.specs.Sending.{Settles}
 use Rattle.machine_commands.proofs.Steps.{step_to, unpolled, keeps_none, keeps_then, speed_none, speed_then}
@@ -35,12 +37,14 @@ settles_to old new fdc settles poll rest =
           cylinder = ap (λ b. b.first.cylinder) is ∙ to.keeps.first.cylinder;
           change = ap (λ b. b.first.change) is ∙ to.keeps.first.change;
           never_falls = let same : new.first.faults ≡ settles.between.first.faults = ap (λ b. b.first.faults) is in let more = to.keeps.first.never_falls in omega arith;
+          spends = subst (λ (d : DriveState). Spends old.first.faults old.first.left d.faults d.left) (sym (ap (λ b. b.first) is)) to.keeps.first.spends;
         };
         second = record {
           medium = ap (λ b. b.second.medium) is ∙ to.keeps.second.medium;
           cylinder = ap (λ b. b.second.cylinder) is ∙ to.keeps.second.cylinder;
           change = ap (λ b. b.second.change) is ∙ to.keeps.second.change;
           never_falls = let same : new.second.faults ≡ settles.between.second.faults = ap (λ b. b.second.faults) is in let more = to.keeps.second.never_falls in omega arith;
+          spends = subst (λ (d : DriveState). Spends old.second.faults old.second.left d.faults d.left) (sym (ap (λ b. b.second) is)) to.keeps.second.spends;
         };
         direct = ap (λ b. b.bus.direct) is ∙ to.keeps.direct;
         taken = settles.counts;

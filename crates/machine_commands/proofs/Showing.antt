@@ -20,8 +20,8 @@ two_same a b c d one two = ap (λ v. let x : Two _ = record { first = v; second 
 
 pub keeps_counting : (old new : Board) → KeepsAll old new → data_commands_of (controller_of new) ≡ data_commands_of (controller_of old) → GoesOn (counters_of old) (counters_of new)
 keeps_counting old new keeps sent = record {
-  first = record { never_falls = keeps.first.never_falls; spends = refl };
-  second = record { never_falls = keeps.second.never_falls; spends = refl };
+  first = record { never_falls = keeps.first.never_falls; spends = keeps.first.spends };
+  second = record { never_falls = keeps.second.never_falls; spends = keeps.second.spends };
   spares = refl;
   stalls = let same = keeps.stalls in omega arith;
   stalls_spent = let same = keeps.stalls in let left : stalls_left (holds_of new).entries ≡ stalls_left (holds_of old).entries = ap stalls_left keeps.entries in omega arith;

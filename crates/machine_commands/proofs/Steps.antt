@@ -2,6 +2,7 @@
 use Rattle.std.proofs.Common.{◌≡◌, ◌⊎◌, inl, inr, ℕ, zero, suc, ◌+◌, ◌≤◌, ◌==◌, ◌&&◌, ◌||◌, not, Bool, true, false, Option, Some, None, if◌then◌else◌, nat_lt, is_some, min, add-one, refl, sym, ◌∙◌, ap, subst, arith}
 use Rattle.std.specs.Option.{option_map_or}
 use Rattle.std.proofs.lemmas.Bool.Decides.{nat_tests}
+use Rattle.bay_model.proofs.Counted.{spends_itself, spends_twice}
 use Rattle.drive_model.specs.Drive.{DriveState, Becomes, passed, with_gate, turns}
 use Rattle.fdc_seek.specs.Seeking.{Seeking, with_polls, stepped, stepped_seek, is_seeking, has_ended, pulse_due, pulse_of}
 use Rattle.fdc_seek.specs.declared.motion.Seek.{Seek}
@@ -130,6 +131,7 @@ turned_by before target after becomes medium cylinder change motor spin =
         cylinder = ap (λ d. d.cylinder) becomes.becomes ∙ cylinder;
         change = ap (λ d. d.change) becomes.becomes ∙ change;
         never_falls = becomes.never_falls;
+        spends = becomes.spends;
       };
       speed = record {
         motor = ap (λ d. d.motor) becomes.becomes ∙ motor;
@@ -244,7 +246,7 @@ step_idles old new step rest =
 -- ---- several
 
 pub drive_none : (drive : DriveState) → KeepsDrive drive drive
-drive_none drive = record { medium = refl; cylinder = refl; change = refl; never_falls = omega arith }
+drive_none drive = record { medium = refl; cylinder = refl; change = refl; never_falls = omega arith; spends = spends_itself drive.faults drive.left }
 
 pub speed_none : (drive : DriveState) → KeepsSpeed drive drive
 speed_none drive = record { motor = refl; spin = λ _. omega arith }
@@ -255,6 +257,7 @@ drive_then a b c one two = record {
   cylinder = two.cylinder ∙ one.cylinder;
   change = two.change ∙ one.change;
   never_falls = let first = one.never_falls in let second = two.never_falls in omega arith;
+  spends = spends_twice a.faults b.faults c.faults a.left b.left c.left one.spends two.spends;
 }
 
 pub speed_then : (a b c : DriveState) → KeepsSpeed a b → KeepsSpeed b c → KeepsSpeed a c

@@ -3,8 +3,9 @@ use Rattle.std.proofs.Common.{◌≡◌, ℕ, zero, suc, ◌+◌, ◌-◌, ◌�
 use Rattle.std.proofs.lemmas.List.Sums.{sum_by-cons}
 use Rattle.std.proofs.lemmas.Bool.{false≢true}
 use Rattle.std.proofs.lemmas.Bool.Decides.{nat_tests}
-use Rattle.flop_base.specs.Counts.{last_count, RoseBy}
+use Rattle.flop_base.specs.Counts.{last_count, RoseBy, Spends}
 use Rattle.bay_model.specs.Bays.{Two, in_bay}
+use Rattle.bay_model.proofs.Counted.{spends_twice}
 use Rattle.bay_model.specs.Counters.{GoesOn, IsDriven, IsFaultless, IsUndisturbed, faults_of}
 use Rattle.drive_model.specs.Drive.{DriveState}
 use Rattle.fdc_core.specs.State.{data_commands_of}
@@ -56,6 +57,7 @@ record StaysDrive (old new : DriveState) : Type 0 where
   change : new.change ≡ old.change
   spun : is_spun old ≡ true → is_spun new ≡ true
   never_falls : old.faults ≤ new.faults
+  spends : Spends old.faults old.left new.faults new.left
 
 all_three : (a b c : Bool) → a ≡ true → b ≡ true → c ≡ true → ((a && b) && c) ≡ true
 all_three true true true one two three = refl
@@ -89,6 +91,8 @@ stays_drive old start now new before before_speed turns after after_speed = reco
       let three = after_speed.spin went in
       (after_speed.motor ∙ went, omega arith));
   never_falls = let one = before.never_falls in let two = turns.never_falls in let three = after.never_falls in omega arith;
+  spends = spends_twice old.faults start.faults new.faults old.left start.left new.left before.spends
+      (spends_twice start.faults now.faults new.faults start.left now.left new.left turns.spends after.spends);
 }
 
 pub in_first_or_second : (bay : ℕ) (board : Board) → (drive_in board bay).medium ≡ in_bay (rig_of board).media bay
@@ -190,8 +194,8 @@ module _ (bay : ℕ) (old start now new : Board) (is : IsCourse bay old start no
 
   goes : GoesOn (counters_of old) (counters_of new)
   goes = record {
-    first = record { never_falls = first.never_falls; spends = refl };
-    second = record { never_falls = second.never_falls; spends = refl };
+    first = record { never_falls = first.never_falls; spends = first.spends };
+    second = record { never_falls = second.never_falls; spends = second.spends };
     spares = refl;
     stalls = stalls_rise;
     stalls_spent = stalls_spent;

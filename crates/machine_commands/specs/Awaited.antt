@@ -24,6 +24,7 @@ pub record AreCounts (board : Board) : Type 0 where
   pub stalls : (holds_of board).stalls ≤ last_count
   pub data_commands : data_commands_of (controller_of board) ≤ last_count
   pub taken : board.bus.taken ≤ last_count
+  pub direct : board.bus.direct ≤ last_count
 
 -- a bay is selected, and the data rate set
 pub record Prepares (motors : Motors) (bay : ℕ) (rate : Rate) (old new : Board) : Type 0 where

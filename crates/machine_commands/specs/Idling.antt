@@ -1,5 +1,6 @@
 -- Device steps in which no command and no seek goes on.
 use Rattle.std.specs.Prelude.{◌≡◌, ◌≤◌, ◌&&◌, Bool, true, false, not}
+use Rattle.flop_base.specs.Counts.{Spends}
 use Rattle.drive_model.specs.Drive.{DriveState}
 use Rattle.fdc_seek.specs.Seeking.{is_seeking}
 use Rattle.fdc_core.specs.Listening.{is_executing}
@@ -20,6 +21,7 @@ pub record KeepsDrive (old new : DriveState) : Type 0 where
   pub cylinder : new.cylinder ≡ old.cylinder
   pub change : new.change ≡ old.change
   pub never_falls : old.faults ≤ new.faults
+  pub spends : Spends old.faults old.left new.faults new.left
 
 -- its motor goes on as it did, and its speed doesn't fall
 pub record KeepsSpeed (old new : DriveState) : Type 0 where

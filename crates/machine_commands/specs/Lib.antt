@@ -8,3 +8,4 @@ pub mod Codes
 pub mod Awaited
 pub mod Channels
 pub mod WriteSent
+pub mod Handled

@@ -1,15 +1,16 @@
 -- The machine as its driver sees it.
-use Rattle.std.specs.Prelude.{ℕ, Bool, List, [], None, take, drop, slice_index, nat_lt, count_by}
-use Rattle.bay_model.specs.Counters.{Counters, DriveCounts}
+use Rattle.std.specs.Prelude.{ℕ, Bool, List, [], take, drop, slice_index, nat_lt, count_by}
+use Rattle.bay_model.specs.Counters.{Counters}
 use Rattle.bay_model.specs.Memory.{user_bytes}
 use Rattle.drive_model.specs.Drive.{DriveState, at_speed}
 use Rattle.fdc_core.specs.State.{data_commands_of}
 use Rattle.pc_bus.specs.Boards.{Board, board, controller_of, memory_of, holds_of}
 use Rattle.single_commands.specs.Rigs.{Rig}
+use Rattle.machine_counts.specs.Counts.{counts_of}
 use Rattle.machine_commands.specs.Ready.{IsIdle}
 use Rattle.machine_commands.specs.declared.machine.CommandedMachine.{CommandedMachine}
 
--- a medium turns, at speed
+-- a medium is in, and turns at speed
 abbrev pub is_spun : DriveState → Bool
 is_spun drive = at_speed drive
 
@@ -19,10 +20,6 @@ user_part memory = take user_bytes memory
 
 unfoldable pub page_part : List ℕ → List ℕ
 page_part memory = drop user_bytes memory
-
--- what is counted of a drive: what is left of its faults isn't told
-abbrev pub counts_of : DriveState → DriveCounts
-counts_of drive = record { faults = drive.faults; left = None }
 
 -- the holds that are too long
 abbrev pub stalls_left : List ℕ → ℕ

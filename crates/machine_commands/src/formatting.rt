@@ -1,25 +1,16 @@
 // FORMAT TRACK.
-ghost use Rattle.std.specs.Prelude.{◌≡◌, ◌≤◌, ◌+◌, ◌*◌, ℕ, true, false, length, Option};
-ghost use Rattle.std.specs.Option.{option_map_or};
-ghost use Rattle.bay_model.specs.Bays.{in_bay};
+ghost use Rattle.std.specs.Prelude.{◌≡◌, ◌≤◌, ◌+◌, ◌*◌, ℕ, length};
 ghost use Rattle.flop_base.specs.Standard.{sectors_at};
 ghost use Rattle.pc_bus.specs.Boards.{memory_of};
-ghost use Rattle.sector_map.specs.Layings.{Laying};
-ghost use Rattle.single_commands.specs.Writing.{FormatsTrack};
-ghost use Rattle.machine_commands.specs.Shown.{board_of, rig_shown, is_idle};
+ghost use Rattle.machine_commands.specs.Shown.{board_of};
 ghost use Rattle.machine_commands.specs.WriteSent.{PutsByte, PutsKey, PutsKeys, SendsFormatBytes, keys_at};
 
 use crate::channel::Way;
 use crate::machine::CommandedMachine;
 use crate::results::Done;
-use crate::writing::told;
 use drive_model::Drive;
 use flop_base::standard::SIZE_CODE;
 use flop_base::{Code, Rate};
-use machine_awaits::a_format_goes_on;
-use machine_formats::a_format_tells_of_the_medium;
-use machine_holds::a_data_command_ends;
-use write_commands::writes_are_spelled;
 
 /// FORMAT TRACK, of MFM.
 const FORMAT_TRACK: u8 = 0x4D;
@@ -31,40 +22,15 @@ const KEYS: u32 = 0xF_8000;
 const KEY_BYTES: u32 = 4;
 
 impl<D: Drive> CommandedMachine<D> {
-    /// Formats the track under a head with the records of the rate, for this cylinder and head. Part of the driver's page
-    /// is written over.
-    pub fn format(
+    /// FORMAT TRACK by the keys in the driver's page.
+    pub(crate) fn format_track(
         &mut self,
         bay: u8,
-        c: u8,
         h: u8,
         rate: Rate,
         gap3: u8,
         fill: u8,
-    ) -> Result<(), Code>
-        requires idle { is_idle D.state self.old }
-        requires bay { bay ≤ 1 }
-        requires head { h ≤ 1 }
-        requires gap { 16 ≤ gap3 }
-        requires spun { in_bay (rig_shown D.state self.old).spun bay ≡ true }
-        requires unprotected { option_map_or (λ disk. disk.protected) (in_bay (rig_shown D.state self.old).media bay) false ≡ false }
-        ensures step { (laying : Option Laying) × FormatsTrack (rig_shown D.state self.old) bay
-            (record { c = c; h = h; rate = rate; gap3 = gap3; fill = fill }) laying result (rig_shown D.state self.new) }
-        ensures idle { is_idle D.state self.new }
-    {
-        a_format_goes_on();
-        a_data_command_ends();
-        a_format_tells_of_the_medium();
-        writes_are_spelled();
-        self.keep_memory();
-        self.put_keys(c, h, rate);
-        let outcome = self.format_track(bay, h, rate, gap3, fill);
-        self.keep_ranges();
-        told(outcome)
-    }
-
-    /// FORMAT TRACK by the keys in the driver's page.
-    fn format_track(&mut self, bay: u8, h: u8, rate: Rate, gap3: u8, fill: u8) -> Result<Done, Code>
+    ) -> Result<Done, Code>
         requires bay { bay ≤ 1 }
         requires head { h ≤ 1 }
         ensures sends { (c : ℕ) → SendsFormatBytes self.old.motors bay (record { c = c; h = h; rate = rate; gap3 = gap3; fill = fill }) result (board_of D.state self.old) (board_of D.state self.new) }
@@ -78,7 +44,7 @@ impl<D: Drive> CommandedMachine<D> {
     }
 
     /// Puts the keys of the records of a rate, from 1 on, into the driver's page.
-    fn put_keys(&mut self, c: u8, h: u8, rate: Rate)
+    pub(crate) fn put_keys(&mut self, c: u8, h: u8, rate: Rate)
         requires { length (memory_of (board_of D.state self.old)) ≡ 1048576 }
         ensures keys { PutsKeys c h (sectors_at rate) (board_of D.state self.old) (board_of D.state self.new) }
         ensures few { sectors_at rate ≤ 18 }

@@ -1,10 +1,8 @@
 // Commands that move the heads.
 ghost use Rattle.std.specs.Prelude.{◌≡◌, ◌≤◌};
-ghost use Rattle.single_commands.specs.Rigs.{IsSound};
-ghost use Rattle.single_commands.specs.Heads.{Recalibrates, Seeks};
 ghost use Rattle.machine_commands.specs.Asked.{EndsSeek, SendsRecalibrate, SendsSeek};
 ghost use Rattle.machine_commands.specs.Sending.{Senses, TakesNumber};
-ghost use Rattle.machine_commands.specs.Shown.{board_of, rig_shown, is_idle};
+ghost use Rattle.machine_commands.specs.Shown.{board_of};
 
 use crate::machine::CommandedMachine;
 use drive_model::Drive;
@@ -22,40 +20,14 @@ const SEEK: u8 = 0x0F;
 const NONE_PENDING: u8 = 0x80;
 
 /// Status register 0: track 0 was not reached.
-const EQUIPMENT_CHECK: u8 = 0x10;
+pub(crate) const EQUIPMENT_CHECK: u8 = 0x10;
 
 /// The device steps in which a seek of at most 79 pulses ends, one for each pulse and one for its end.
 const LONGEST_SEEK: u32 = 80;
 
 impl<D: Drive> CommandedMachine<D> {
-    /// Steps outward until track 0; false where it wasn't reached in 79 pulses.
-    pub fn recalibrate(&mut self, bay: u8) -> bool
-        requires idle { is_idle D.state self.old }
-        requires bay { bay ≤ 1 }
-        ensures step { Recalibrates (rig_shown D.state self.old) bay result (rig_shown D.state self.new) }
-        ensures sound { IsSound (rig_shown D.state self.new) }
-        ensures idle { is_idle D.state self.new }
-    {
-        let status = self.step_outward(bay);
-        self.keep_ranges();
-        status & EQUIPMENT_CHECK == 0
-    }
-
-    /// Steps to a cylinder by the controller's number.
-    pub fn seek(&mut self, bay: u8, target: u8)
-        requires idle { is_idle D.state self.old }
-        requires bay { bay ≤ 1 }
-        requires target { target ≤ 79 }
-        ensures step { Seeks (rig_shown D.state self.old) bay target (rig_shown D.state self.new) }
-        ensures sound { IsSound (rig_shown D.state self.new) }
-        ensures idle { is_idle D.state self.new }
-    {
-        self.step_toward(bay, target);
-        self.keep_ranges();
-    }
-
     /// RECALIBRATE: its status register 0.
-    fn step_outward(&mut self, bay: u8) -> u8
+    pub(crate) fn step_outward(&mut self, bay: u8) -> u8
         requires { bay ≤ 1 }
         ensures sends { SendsRecalibrate self.old.motors bay result (board_of D.state self.old) (board_of D.state self.new) }
         ensures motors { self.new.motors ≡ self.old.motors }
@@ -66,7 +38,7 @@ impl<D: Drive> CommandedMachine<D> {
     }
 
     /// SEEK.
-    fn step_toward(&mut self, bay: u8, target: u8)
+    pub(crate) fn step_toward(&mut self, bay: u8, target: u8)
         requires { bay ≤ 1 }
         ensures sends { SendsSeek self.old.motors bay target (board_of D.state self.old) (board_of D.state self.new) }
         ensures motors { self.new.motors ≡ self.old.motors }

@@ -7,7 +7,9 @@
 mod asking;
 mod channel;
 mod codes;
+mod commands;
 mod formatting;
+mod handling;
 mod heads;
 mod laws;
 mod machine;

@@ -1,4 +1,8 @@
 // The machine with what its commands keep.
+ghost use Rattle.std.specs.Prelude.{◌≡◌};
+ghost use Rattle.pc_bus.specs.Boards.{board};
+ghost use Rattle.machine_commands.specs.Shown.{board_of};
+
 use crate::motors::Motors;
 use drive_model::Drive;
 use pc_bus::MachineOf;
@@ -13,7 +17,9 @@ pub struct CommandedMachine<D> {
 
 impl<D: Drive> CommandedMachine<D> {
     /// A machine as it stands. It has to be reset before any other command.
-    pub fn new(machine: MachineOf<D>) -> CommandedMachine<D> {
+    pub fn new(machine: MachineOf<D>) -> CommandedMachine<D>
+        ensures { board_of D.state result ≡ board D.state machine }
+    {
         CommandedMachine {
             machine,
             motors: Motors::OFF,
@@ -21,7 +27,17 @@ impl<D: Drive> CommandedMachine<D> {
     }
 
     /// The machine under the commands.
-    pub fn machine(&self) -> &MachineOf<D> {
+    pub fn machine(&self) -> &MachineOf<D>
+        ensures { board D.state result.now ≡ board_of D.state self.now }
+    {
         &self.machine
+    }
+
+    /// The machine, with no commands any more.
+    pub fn into_machine(self) -> MachineOf<D>
+        ensures { board D.state result ≡ board_of D.state self }
+    {
+        let CommandedMachine { machine, motors: _ } = self;
+        machine
     }
 }

@@ -1,19 +1,13 @@
 // Commands that read.
-ghost use Rattle.std.specs.Prelude.{◌≡◌, ◌≤◌, ◌+◌, ◌-◌, ◌/◌, true};
-ghost use Rattle.bay_model.specs.Bays.{in_bay};
-ghost use Rattle.bay_model.specs.Memory.{user_bytes};
+ghost use Rattle.std.specs.Prelude.{◌≡◌, ◌≤◌, ◌+◌, ◌-◌};
 ghost use Rattle.track_model.specs.Fields.{IsSizeCode, content_size};
 ghost use Rattle.machine_commands.specs.Awaited.{sector_bytes, SendsReadId, SendsRead};
 ghost use Rattle.machine_commands.specs.Sending.{Sends};
-ghost use Rattle.machine_commands.specs.Shown.{board_of, rig_shown, is_idle};
-ghost use Rattle.single_commands.specs.Rigs.{IsSound};
-ghost use Rattle.single_commands.specs.Reading.{ReadsBack, ReadsData, ReadsId};
+ghost use Rattle.machine_commands.specs.Shown.{board_of};
 
-use crate::asking::PAGE_START;
 use crate::channel::Way;
-use crate::laws::{a_read_id_is_done, a_read_is_done};
 use crate::machine::CommandedMachine;
-use crate::results::{Done, key_of, mark_of};
+use crate::results::Done;
 use drive_model::Drive;
 use flop_base::{Chrn, Code, Rate, sector_size};
 
@@ -27,60 +21,8 @@ const READ_DATA: u8 = 0x46;
 const DATA_LENGTH: u8 = 0xFF;
 
 impl<D: Drive> CommandedMachine<D> {
-    /// The key of some address field on the track under the head.
-    pub fn read_id(&mut self, bay: u8, head: u8, rate: Rate) -> Result<Chrn, Code>
-        requires idle { is_idle D.state self.old }
-        requires bay { bay ≤ 1 }
-        requires head { head ≤ 1 }
-        requires spun { in_bay (rig_shown D.state self.old).spun bay ≡ true }
-        ensures step { ReadsId (rig_shown D.state self.old) bay head rate result (rig_shown D.state self.new) }
-        ensures sound { IsSound (rig_shown D.state self.new) }
-        ensures idle { is_idle D.state self.new }
-    {
-        a_read_id_is_done();
-        let outcome = self.identify(bay, head, rate);
-        self.keep_ranges();
-        key_of(outcome)
-    }
-
-    /// Reads the record of a key from the track under its head to user memory; true where it is marked deleted.
-    pub fn read(&mut self, bay: u8, key: Chrn, rate: Rate, address: u32) -> Result<bool, Code>
-        requires idle { is_idle D.state self.old }
-        requires bay { bay ≤ 1 }
-        requires head { key.h ≤ 1 }
-        requires coded { IsSizeCode key.n }
-        requires range { address + content_size key.n ≤ user_bytes }
-        requires page { address / 65536 ≡ (address + content_size key.n - 1) / 65536 }
-        requires spun { in_bay (rig_shown D.state self.old).spun bay ≡ true }
-        ensures step { ReadsData (rig_shown D.state self.old) bay key rate address result (rig_shown D.state self.new) }
-        ensures sound { IsSound (rig_shown D.state self.new) }
-        ensures idle { is_idle D.state self.new }
-    {
-        a_read_is_done();
-        let outcome = self.read_to(bay, key, rate, address);
-        self.keep_ranges();
-        mark_of(outcome)
-    }
-
-    /// Reads the record of a key to the beginning of the driver's page.
-    pub fn read_back(&mut self, bay: u8, key: Chrn, rate: Rate) -> Result<bool, Code>
-        requires idle { is_idle D.state self.old }
-        requires bay { bay ≤ 1 }
-        requires head { key.h ≤ 1 }
-        requires coded { IsSizeCode key.n }
-        requires spun { in_bay (rig_shown D.state self.old).spun bay ≡ true }
-        ensures step { ReadsBack (rig_shown D.state self.old) bay key rate result (rig_shown D.state self.new) }
-        ensures sound { IsSound (rig_shown D.state self.new) }
-        ensures idle { is_idle D.state self.new }
-    {
-        a_read_is_done();
-        let outcome = self.read_to(bay, key, rate, PAGE_START);
-        self.keep_ranges();
-        mark_of(outcome)
-    }
-
     /// READ ID.
-    fn identify(&mut self, bay: u8, head: u8, rate: Rate) -> Result<Done, Code>
+    pub(crate) fn identify(&mut self, bay: u8, head: u8, rate: Rate) -> Result<Done, Code>
         requires bay { bay ≤ 1 }
         requires head { head ≤ 1 }
         ensures sends { SendsReadId self.old.motors bay head rate result (board_of D.state self.old) (board_of D.state self.new) }
@@ -92,7 +34,13 @@ impl<D: Drive> CommandedMachine<D> {
     }
 
     /// READ DATA to memory.
-    fn read_to(&mut self, bay: u8, key: Chrn, rate: Rate, address: u32) -> Result<Done, Code>
+    pub(crate) fn read_to(
+        &mut self,
+        bay: u8,
+        key: Chrn,
+        rate: Rate,
+        address: u32,
+    ) -> Result<Done, Code>
         requires bay { bay ≤ 1 }
         requires head { key.h ≤ 1 }
         requires coded { IsSizeCode key.n }

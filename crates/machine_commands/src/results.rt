@@ -128,11 +128,12 @@ impl<D: Drive> CommandedMachine<D> {
     }
 
     /// The ranges of the counts; it does nothing.
-    fn keep_counts(&self)
+    pub(crate) fn keep_counts(&self)
         ensures counts { AreCounts (board_of D.state self.now) }
     {
         let _stalls = self.machine.stalls();
         let _commands = self.machine.data_commands();
         let _taken = self.machine.taken();
+        let _direct = self.machine.direct();
     }
 }

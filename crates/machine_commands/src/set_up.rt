@@ -1,8 +1,7 @@
 // Reset and set-up.
 ghost use Rattle.std.specs.Prelude.{◌≡◌};
-ghost use Rattle.single_commands.specs.Rigs.{IsReset};
 ghost use Rattle.machine_commands.specs.Asked.{TakesPolls, Resets, none_on};
-ghost use Rattle.machine_commands.specs.Shown.{board_of, rig_shown, is_idle};
+ghost use Rattle.machine_commands.specs.Shown.{board_of};
 
 use crate::machine::CommandedMachine;
 use crate::motors::Motors;
@@ -22,17 +21,8 @@ const HELD: u8 = 0x00;
 const FASTEST: u8 = 0x00;
 
 impl<D: Drive> CommandedMachine<D> {
-    /// Resets the controller and sets the machine up for the other calls. All motors are off then.
-    pub fn reset(&mut self)
-        ensures resets { IsReset (rig_shown D.state self.old) (rig_shown D.state self.new) }
-        ensures idle { is_idle D.state self.new }
-    {
-        self.set_up();
-        self.keep_ranges();
-    }
-
     /// The accesses of a reset.
-    fn set_up(&mut self)
+    pub(crate) fn set_up(&mut self)
         ensures resets { Resets (board_of D.state self.old) (board_of D.state self.new) }
         ensures motors { self.new.motors ≡ none_on }
     {

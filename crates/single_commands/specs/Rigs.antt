@@ -16,7 +16,7 @@ pub record Rig : Type 0 where
   pub numbers : Two ℕ
   -- the change line of each drive: set from an exchange of the medium on, until a pulse with a medium in
   pub changes : Two Bool
-  -- the medium of each drive is at speed
+  -- a medium is in each drive and turns at speed
   pub spun : Two Bool
   -- user memory
   pub memory : List ℕ

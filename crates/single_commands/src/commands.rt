@@ -17,7 +17,7 @@ use flop_base::{Chrn, Code, Rate};
 /// A machine with two diskette bays, command by command: a controller, a DMA channel, an interrupt line and two drives,
 /// or what behaves as they do.
 ///
-/// Each call ends with the controller idle. `bay` is 0 or 1. A data command needs the medium at speed, or no medium.
+/// Each call ends with the controller idle. `bay` is 0 or 1. A data command needs a medium in the bay that turns at speed.
 pub trait Commands: Drop {
     /// All that the commands speak of.
     ghost rig: { Self → Rig };

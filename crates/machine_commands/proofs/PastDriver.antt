@@ -1,0 +1,394 @@
+-- Calls past the driver, as a driver sees them.
+use Rattle.std.proofs.Common.{◌≡◌, ◌↔◌, ℕ, zero, suc, ◌+◌, ◌-◌, ◌<◌, ◌≤◌, ◌==◌, Bool, true, false, Option, Some, None, is_some, IsSome, IsErr, OnOk, IfErr, if◌then◌else◌, nat_lt, Result, Ok, Err, IsTrue, refl, sym, ◌∙◌, ap, subst, arith}
+use Rattle.std.specs.Int.{IsBitSet}
+use Rattle.std.specs.Prelude.{slice_set}
+use Rattle.std.proofs.lemmas.Bool.{false≢true}
+use Rattle.std.proofs.lemmas.List.{drop-set-lt}
+use Rattle.std.proofs.Math.Seq.{take-set-lt}
+use Rattle.std.specs.Prelude.{List}
+use Rattle.flop_base.specs.Counts.{last_count}
+use Rattle.raw_image.specs.Disk.{Disk}
+use Rattle.bay_model.specs.Bays.{Two, in_bay, with_bay}
+use Rattle.bay_model.specs.Counters.{Counters, DriveGoesOn, GoesOn, IsPastDriver}
+use Rattle.bay_model.proofs.Counted.{drive_same}
+use Rattle.bay_model.specs.Memory.{user_bytes}
+use Rattle.drive_model.specs.Drive.{DriveState, Becomes, InRange, at_speed, loaded, unloaded, with_motor}
+use Rattle.fdc_core.specs.State.{data_commands_of, dor_of}
+use Rattle.machine_pace.specs.Holds.{Holds, counted}
+use Rattle.pc_bus.specs.Boards.{Board, IsEmpty, controller_of, drive_in, holds_of, memory_of}
+use Rattle.pc_bus.specs.Handling.{Touches, byte_set, touched}
+use Rattle.pc_bus.specs.Ports.{FollowsMotor}
+use Rattle.pc_bus.specs.declared.bus.Bus.{Bus}
+use Rattle.machine_commands.specs.Handled.{Exchanged, ExchangesDrive, PutsIn, PutsMemory, TakesDrive, TakesOut, Untouched}
+use Rattle.machine_commands.specs.Idling.{is_up}
+use Rattle.machine_commands.specs.Ready.{IsIdle, IsReady}
+use Rattle.machine_counts.specs.Counts.{counts_of}
+use Rattle.machine_commands.specs.Shown.{counters_of, is_spun, page_part, rig_of, stalls_left, user_part}
+use Rattle.machine_commands.specs.declared.motors.Motors.{Motors}
+use Rattle.machine_commands.proofs.Selecting.{is_dor, switched}
+use Rattle.machine_commands.proofs.Showing.{two_same}
+
+-- ---- counts
+
+-- no hold, no data command and no interrupt came, and at most one access past the driver
+record LeavesCounts (old new : Board) : Type 0 where
+  holding : holds_of new ≡ holds_of old
+  sent : data_commands_of (controller_of new) ≡ data_commands_of (controller_of old)
+  taken : new.bus.taken ≡ old.bus.taken
+  never_falls : old.bus.direct ≤ new.bus.direct
+  most : new.bus.direct ≤ old.bus.direct + 1
+
+touched_leaves : (old new : Board) → old.bus.direct ≤ last_count → new.bus ≡ touched old.bus → LeavesCounts old new
+touched_leaves old new few is =
+    let same : new.bus.direct ≡ counted old.bus.direct = ap (λ (b : Bus). b.direct) is in
+    record {
+      holding = ap (λ (b : Bus). b.chips.holding) is;
+      sent = ap (λ (b : Bus). data_commands_of b.chips.controller) is;
+      taken = ap (λ (b : Bus). b.taken) is;
+      never_falls = omega arith;
+      most = omega arith;
+    }
+
+counts_on : (old new : Board) → LeavesCounts old new → DriveGoesOn (counts_of old.first) (counts_of new.first) → DriveGoesOn (counts_of old.second) (counts_of new.second) → GoesOn (counters_of old) (counters_of new)
+counts_on old new leaves first second =
+    let stalls : (holds_of new).stalls ≡ (holds_of old).stalls = ap (λ (h : Holds). h.stalls) leaves.holding in
+    let left : stalls_left (holds_of new).entries ≡ stalls_left (holds_of old).entries = ap (λ (h : Holds). stalls_left h.entries) leaves.holding in
+    let sent = leaves.sent in
+    let taken = leaves.taken in
+    record {
+      first = first;
+      second = second;
+      spares = refl;
+      stalls = omega arith;
+      stalls_spent = omega arith;
+      data_commands = omega arith;
+      taken = omega arith;
+      direct = leaves.never_falls;
+    }
+
+past_driver : (old new : Board) → LeavesCounts old new → IsPastDriver 1 (counters_of old) (counters_of new)
+past_driver old new leaves = record { accesses = leaves.most; no_commands = leaves.sent }
+
+-- ---- drives
+
+-- nothing but the count of faults was changed
+record SameDrive (old new : DriveState) : Type 0 where
+  medium : new.medium ≡ old.medium
+  cylinder : new.cylinder ≡ old.cylinder
+  change : new.change ≡ old.change
+  spun : is_spun new ≡ is_spun old
+  counts : DriveGoesOn (counts_of old) (counts_of new)
+
+same_drive : (old new : DriveState) → new ≡ old → SameDrive old new
+same_drive old new is = record {
+  medium = ap (λ (d : DriveState). d.medium) is;
+  cylinder = ap (λ (d : DriveState). d.cylinder) is;
+  change = ap (λ (d : DriveState). d.change) is;
+  spun = ap (λ (d : DriveState). at_speed d) is;
+  counts = drive_same (counts_of old) (counts_of new) (ap counts_of is);
+}
+
+becomes_same : (old new : DriveState) → Becomes old old new → SameDrive old new
+becomes_same old new becomes = record {
+  medium = ap (λ (d : DriveState). d.medium) becomes.becomes;
+  cylinder = ap (λ (d : DriveState). d.cylinder) becomes.becomes;
+  change = ap (λ (d : DriveState). d.change) becomes.becomes;
+  spun = ap (λ (d : DriveState). at_speed d) becomes.becomes;
+  counts = record { never_falls = becomes.never_falls; spends = becomes.spends };
+}
+
+-- it has another medium, or none
+record Swapped (medium : Option Disk) (old new : DriveState) : Type 0 where
+  is : new.medium ≡ medium
+  cylinder : new.cylinder ≡ old.cylinder
+  change : new.change ≡ true
+  counts : DriveGoesOn (counts_of old) (counts_of new)
+
+becomes_loaded : (medium : Disk) (old new : DriveState) → Becomes old (loaded medium old) new → Swapped (Some medium) old new
+becomes_loaded medium old new becomes = record {
+  is = ap (λ (d : DriveState). d.medium) becomes.becomes;
+  cylinder = ap (λ (d : DriveState). d.cylinder) becomes.becomes;
+  change = ap (λ (d : DriveState). d.change) becomes.becomes;
+  counts = record { never_falls = becomes.never_falls; spends = becomes.spends };
+}
+
+becomes_unloaded : (old new : DriveState) → IsSome old.medium → Becomes old (unloaded old) new → Swapped None old new
+becomes_unloaded old new some becomes = record {
+  is = ap (λ (d : DriveState). d.medium) becomes.becomes;
+  cylinder = ap (λ (d : DriveState). d.cylinder) becomes.becomes;
+  change = ap (λ (d : DriveState). d.change) becomes.becomes ∙ ap (λ b. if b then true else old.change) some;
+  counts = record { never_falls = becomes.never_falls; spends = becomes.spends };
+}
+
+unloaded_empty : (s : DriveState) → s.medium ≡ None → unloaded s ≡ s
+unloaded_empty s none =
+    ap (λ (b : Bool). let d : DriveState = record s { medium = None; spin = if b then 0 else s.spin; place = if b then 0 else s.place; change = if b then true else s.change } in d) (ap is_some none)
+    ∙ ap (λ (m : Option Disk). let d : DriveState = record s { medium = m } in d) (sym none)
+
+-- ---- the rig
+
+untouched_by : (old new : Board) → old.bus.direct ≤ last_count → new.bus ≡ touched old.bus → SameDrive old.first new.first → SameDrive old.second new.second → Untouched (rig_of old) (rig_of new)
+untouched_by old new few bus first second =
+    let leaves = touched_leaves old new few bus in
+    record {
+      media = two_same new.first.medium new.second.medium old.first.medium old.second.medium first.medium second.medium;
+      changes = two_same new.first.change new.second.change old.first.change old.second.change first.change second.change;
+      spun = two_same (is_spun new.first) (is_spun new.second) (is_spun old.first) (is_spun old.second) first.spun second.spun;
+      cylinders = two_same new.first.cylinder new.second.cylinder old.first.cylinder old.second.cylinder first.cylinder second.cylinder;
+      numbers = ap (λ (b : Bus). (rig_of (record old { bus = b })).numbers) bus;
+      memory = ap (λ (b : Bus). user_part b.chips.memory) bus;
+      page = ap (λ (b : Bus). page_part b.chips.memory) bus;
+      counts = counts_on old new leaves first.counts second.counts;
+      past_driver = past_driver old new leaves;
+      taken = leaves.taken;
+    }
+
+untouched : (old new : Board) (bay : ℕ) → bay ≤ 1 → old.bus.direct ≤ last_count → Touches bay old new → Becomes (drive_in old bay) (drive_in old bay) (drive_in new bay) → Untouched (rig_of old) (rig_of new)
+untouched old new zero small few touches becomes = untouched_by old new few touches.bus (becomes_same old.first new.first becomes) (same_drive old.second new.second touches.other)
+untouched old new (suc zero) small few touches becomes = untouched_by old new few touches.bus (same_drive old.first new.first touches.other) (becomes_same old.second new.second becomes)
+untouched old new (suc (suc bay)) small few touches becomes = absurd (omega arith)
+
+exchanged : (old new : Board) (bay : ℕ) (medium : Option Disk) → bay ≤ 1 → old.bus.direct ≤ last_count → Touches bay old new → Swapped medium (drive_in old bay) (drive_in new bay) → Exchanged (rig_of old) bay medium (rig_of new)
+exchanged old new zero medium small few touches swapped =
+    let leaves = touched_leaves old new few touches.bus in
+    let other = same_drive old.second new.second touches.other in
+    record {
+      media = two_same new.first.medium new.second.medium medium old.second.medium swapped.is other.medium;
+      changes = two_same new.first.change new.second.change true old.second.change swapped.change other.change;
+      other_spun = other.spun;
+      cylinders = two_same new.first.cylinder new.second.cylinder old.first.cylinder old.second.cylinder swapped.cylinder other.cylinder;
+      numbers = ap (λ (b : Bus). (rig_of (record old { bus = b })).numbers) touches.bus;
+      memory = ap (λ (b : Bus). user_part b.chips.memory) touches.bus;
+      page = ap (λ (b : Bus). page_part b.chips.memory) touches.bus;
+      counts = counts_on old new leaves swapped.counts other.counts;
+      past_driver = past_driver old new leaves;
+      taken = leaves.taken;
+    }
+exchanged old new (suc zero) medium small few touches swapped =
+    let leaves = touched_leaves old new few touches.bus in
+    let other = same_drive old.first new.first touches.other in
+    record {
+      media = two_same new.first.medium new.second.medium old.first.medium medium other.medium swapped.is;
+      changes = two_same new.first.change new.second.change old.first.change true other.change swapped.change;
+      other_spun = other.spun;
+      cylinders = two_same new.first.cylinder new.second.cylinder old.first.cylinder old.second.cylinder other.cylinder swapped.cylinder;
+      numbers = ap (λ (b : Bus). (rig_of (record old { bus = b })).numbers) touches.bus;
+      memory = ap (λ (b : Bus). user_part b.chips.memory) touches.bus;
+      page = ap (λ (b : Bus). page_part b.chips.memory) touches.bus;
+      counts = counts_on old new leaves other.counts swapped.counts;
+      past_driver = past_driver old new leaves;
+      taken = leaves.taken;
+    }
+exchanged old new (suc (suc bay)) medium small few touches swapped = absurd (omega arith)
+
+media_in : (board : Board) (bay : ℕ) → (drive_in board bay).medium ≡ in_bay (rig_of board).media bay
+media_in board bay = by_bay (bay == 0)
+  where
+    by_bay : (b : Bool) → (if b then board.first else board.second).medium ≡ (if b then board.first.medium else board.second.medium)
+    by_bay true = refl
+    by_bay false = refl
+
+-- ---- media
+
+none_in : (m : Option Disk) → (IsSome m → ⊥) → m ≡ None
+none_in None empty = refl
+none_in (Some disk) empty = absurd (empty refl)
+
+pub puts_in : (old new : Board) (bay : ℕ) (medium : Disk) (answer : Result (Unit {0}) Disk) → bay ≤ 1 → old.bus.direct ≤ last_count → Touches bay old new
+    → (IsErr answer ↔ IsSome (drive_in old bay).medium) → OnOk answer (Becomes (drive_in old bay) (loaded medium (drive_in old bay)) (drive_in new bay))
+    → IfErr answer (λ back. (back ≡ medium) × Becomes (drive_in old bay) (drive_in old bay) (drive_in new bay)) → PutsIn (rig_of old) bay medium answer (rig_of new)
+puts_in old new bay medium (Ok _) small few touches refused ok err = (
+  sym (media_in old bay) ∙ none_in (drive_in old bay).medium (λ some. false≢true (refused.1 some)),
+  exchanged old new bay (Some medium) small few touches (becomes_loaded medium (drive_in old bay) (drive_in new bay) ok),
+)
+puts_in old new bay medium (Err back) small few touches refused ok (same, becomes) =
+    (ap is_some (sym (media_in old bay)) ∙ refused.0 refl, same, untouched old new bay small few touches becomes)
+
+pub takes_out : (old new : Board) (bay : ℕ) (answer : Option Disk) → bay ≤ 1 → old.bus.direct ≤ last_count → Touches bay old new
+    → answer ≡ (drive_in old bay).medium → Becomes (drive_in old bay) (unloaded (drive_in old bay)) (drive_in new bay) → TakesOut (rig_of old) bay answer (rig_of new)
+takes_out old new bay answer small few touches is becomes = record {
+  medium = is ∙ media_in old bay;
+  taken_out = λ some. exchanged old new bay None small few touches (becomes_unloaded (drive_in old bay) (drive_in new bay) (ap is_some (sym is) ∙ some) becomes);
+  empty = λ none. untouched old new bay small few touches
+      (subst (λ d. Becomes (drive_in old bay) d (drive_in new bay)) (unloaded_empty (drive_in old bay) (sym is ∙ none)) becomes);
+}
+
+-- ---- drives
+
+takes_drive : (old new : Board) (bay : ℕ) (drive : DriveState) → bay ≤ 1 → LeavesCounts old new → drive_in new (1 - bay) ≡ drive_in old (1 - bay) → DriveGoesOn (counts_of drive) (counts_of (drive_in new bay))
+    → TakesDrive (counters_of old) bay (counts_of drive) (counters_of new)
+takes_drive old new zero drive small leaves other goes = record {
+  drive = goes;
+  other = ap counts_of other;
+  spares = refl;
+  stalls = ap (λ (h : Holds). h.stalls) leaves.holding;
+  stalls_left = ap (λ (h : Holds). stalls_left h.entries) leaves.holding;
+  taken = leaves.taken;
+  data_commands = leaves.sent;
+  direct = leaves.never_falls;
+  past_driver = past_driver old new leaves;
+}
+takes_drive old new (suc zero) drive small leaves other goes = record {
+  drive = goes;
+  other = ap counts_of other;
+  spares = refl;
+  stalls = ap (λ (h : Holds). h.stalls) leaves.holding;
+  stalls_left = ap (λ (h : Holds). stalls_left h.entries) leaves.holding;
+  taken = leaves.taken;
+  data_commands = leaves.sent;
+  direct = leaves.never_falls;
+  past_driver = past_driver old new leaves;
+}
+takes_drive old new (suc (suc bay)) drive small leaves other goes = absurd (omega arith)
+
+-- a drive with no medium and its change line set took the place of the one in a bay
+record Replaced (old : Board) (bay : ℕ) (new : Board) : Type 0 where
+  media : (rig_of new).media ≡ with_bay (rig_of old).media bay None
+  changes : (rig_of new).changes ≡ with_bay (rig_of old).changes bay true
+  other_spun : in_bay (rig_of new).spun (1 - bay) ≡ in_bay (rig_of old).spun (1 - bay)
+  other_cylinder : in_bay (rig_of new).cylinders (1 - bay) ≡ in_bay (rig_of old).cylinders (1 - bay)
+
+replaced : (old new : Board) (bay : ℕ) → bay ≤ 1 → drive_in new (1 - bay) ≡ drive_in old (1 - bay) → (drive_in new bay).medium ≡ None → (drive_in new bay).change ≡ true → Replaced old bay new
+replaced old new zero small same none set =
+    let other = same_drive old.second new.second same in
+    record {
+      media = two_same new.first.medium new.second.medium None old.second.medium none other.medium;
+      changes = two_same new.first.change new.second.change true old.second.change set other.change;
+      other_spun = other.spun;
+      other_cylinder = other.cylinder;
+    }
+replaced old new (suc zero) small same none set =
+    let other = same_drive old.first new.first same in
+    record {
+      media = two_same new.first.medium new.second.medium old.first.medium None other.medium none;
+      changes = two_same new.first.change new.second.change old.first.change true other.change set;
+      other_spun = other.spun;
+      other_cylinder = other.cylinder;
+    }
+replaced old new (suc (suc bay)) small same none set = absurd (omega arith)
+
+pub exchanges : (old new : Board) (bay : ℕ) (drive : DriveState) → bay ≤ 1 → old.bus.direct ≤ last_count → Touches bay old new → IsEmpty drive
+    → FollowsMotor bay (controller_of old) drive (drive_in new bay) → ExchangesDrive (rig_of old) bay (counts_of drive) (rig_of new)
+exchanges old new bay drive small few touches empty (on, lines, becomes) =
+    let is = replaced old new bay small touches.other (ap (λ (d : DriveState). d.medium) becomes.becomes ∙ empty.medium) (ap (λ (d : DriveState). d.change) becomes.becomes ∙ empty.change) in
+    record {
+      media = is.media;
+      changes = is.changes;
+      other_spun = is.other_spun;
+      other_cylinder = is.other_cylinder;
+      numbers = ap (λ (b : Bus). (rig_of (record old { bus = b })).numbers) touches.bus;
+      memory = ap (λ (b : Bus). user_part b.chips.memory) touches.bus;
+      page = ap (λ (b : Bus). page_part b.chips.memory) touches.bus;
+      counters = takes_drive old new bay drive small (touched_leaves old new few touches.bus) touches.other (record { never_falls = becomes.never_falls; spends = becomes.spends });
+    }
+
+-- ---- memory
+
+user_set : (memory : List ℕ) (address byte : ℕ) → address < user_bytes → user_part (slice_set memory address byte) ≡ slice_set (user_part memory) address byte
+unfolding user_part
+user_set memory address byte below = take-set-lt user_bytes memory address byte below
+
+page_set : (memory : List ℕ) (address byte : ℕ) → address < user_bytes → page_part (slice_set memory address byte) ≡ page_part memory
+unfolding page_part
+page_set memory address byte below = drop-set-lt user_bytes memory address byte below
+
+counted_if : (b : Bool) (n : ℕ) → n ≤ last_count → (n ≤ (if b then counted n else n)) × ((if b then counted n else n) ≤ n + 1)
+counted_if true n few = (omega arith, omega arith)
+counted_if false n few = (omega arith, omega arith)
+
+byte_leaves : (address byte : ℕ) (old new : Board) → old.bus.direct ≤ last_count → new ≡ record old { bus = byte_set address byte old.bus } → LeavesCounts old new
+byte_leaves address byte old new few is =
+    let same : new.bus.direct ≡ (if nat_lt address user_bytes then counted old.bus.direct else old.bus.direct) = ap (λ (b : Board). b.bus.direct) is in
+    let (up, most) = counted_if (nat_lt address user_bytes) old.bus.direct few in
+    record {
+      holding = ap holds_of is;
+      sent = ap (λ (b : Board). data_commands_of (controller_of b)) is;
+      taken = ap (λ (b : Board). b.bus.taken) is;
+      never_falls = subst (λ n. old.bus.direct ≤ n) (sym same) up;
+      most = subst (λ n. n ≤ old.bus.direct + 1) (sym same) most;
+    }
+
+pub puts_memory : (address byte : ℕ) (old new : Board) → address < user_bytes → old.bus.direct ≤ last_count → new ≡ record old { bus = byte_set address byte old.bus }
+    → PutsMemory (rig_of old) address byte (rig_of new)
+puts_memory address byte old new below few is =
+    let leaves = byte_leaves address byte old new few is in
+    let first = same_drive old.first new.first (ap (λ (b : Board). b.first) is) in
+    let second = same_drive old.second new.second (ap (λ (b : Board). b.second) is) in
+    record {
+      memory = ap (λ (b : Board). user_part (memory_of b)) is ∙ user_set (memory_of old) address byte below;
+      media = ap (λ (b : Board). (rig_of b).media) is;
+      changes = ap (λ (b : Board). (rig_of b).changes) is;
+      spun = ap (λ (b : Board). (rig_of b).spun) is;
+      cylinders = ap (λ (b : Board). (rig_of b).cylinders) is;
+      numbers = ap (λ (b : Board). (rig_of b).numbers) is;
+      page = ap (λ (b : Board). page_part (memory_of b)) is ∙ page_set (memory_of old) address byte below;
+      counts = counts_on old new leaves first.counts second.counts;
+      past_driver = past_driver old new leaves;
+      taken = leaves.taken;
+    }
+
+-- ---- the machine stays idle
+
+still_idle : (motors : Motors) (old new : Board) → controller_of new ≡ controller_of old → is_up new ≡ is_up old → new.first.motor ≡ motors.first → new.second.motor ≡ motors.second
+    → InRange new.first → InRange new.second → IsIdle motors old → IsIdle motors new
+still_idle motors old new controller up first second first_in second_in was = record {
+  ready = subst IsReady (sym controller) was.ready;
+  motors_are = record {
+    bay = was.motors_are.bay;
+    bay_in = was.motors_are.bay_in;
+    dor = ap dor_of controller ∙ was.motors_are.dor;
+    first = first;
+    second = second;
+  };
+  low = up ∙ was.low;
+  first = first_in;
+  second = second_in;
+}
+
+pub memory_idle : (motors : Motors) (address byte : ℕ) (old new : Board) → new ≡ record old { bus = byte_set address byte old.bus } → InRange new.first → InRange new.second → IsIdle motors old → IsIdle motors new
+memory_idle motors address byte old new is first second was =
+    still_idle motors old new (ap controller_of is) (ap is_up is) (ap (λ (b : Board). b.first.motor) is ∙ was.motors_are.first) (ap (λ (b : Board). b.second.motor) is ∙ was.motors_are.second) first second was
+
+touched_idle : (motors : Motors) (old new : Board) (bay : ℕ) → bay ≤ 1 → Touches bay old new → (drive_in new bay).motor ≡ (drive_in old bay).motor → InRange new.first → InRange new.second → IsIdle motors old → IsIdle motors new
+touched_idle motors old new zero small touches motor first second was =
+    still_idle motors old new (ap (λ (b : Bus). b.chips.controller) touches.bus) (ap (λ (b : Bus). b.latch.level) touches.bus) (motor ∙ was.motors_are.first)
+    (ap (λ (d : DriveState). d.motor) touches.other ∙ was.motors_are.second) first second was
+touched_idle motors old new (suc zero) small touches motor first second was =
+    still_idle motors old new (ap (λ (b : Bus). b.chips.controller) touches.bus) (ap (λ (b : Bus). b.latch.level) touches.bus)
+    (ap (λ (d : DriveState). d.motor) touches.other ∙ was.motors_are.first) (motor ∙ was.motors_are.second) first second was
+touched_idle motors old new (suc (suc bay)) small touches motor first second was = absurd (omega arith)
+
+put_motor : (old new : DriveState) (medium : Disk) (answer : Result (Unit {0}) Disk) → OnOk answer (Becomes old (loaded medium old) new)
+    → IfErr answer (λ back. (back ≡ medium) × Becomes old old new) → new.motor ≡ old.motor
+put_motor old new medium (Ok _) ok err = ap (λ (d : DriveState). d.motor) ok.becomes
+put_motor old new medium (Err back) ok (same, becomes) = ap (λ (d : DriveState). d.motor) becomes.becomes
+
+pub put_idle : (motors : Motors) (old new : Board) (bay : ℕ) (medium : Disk) (answer : Result (Unit {0}) Disk) → bay ≤ 1 → Touches bay old new
+    → OnOk answer (Becomes (drive_in old bay) (loaded medium (drive_in old bay)) (drive_in new bay))
+    → IfErr answer (λ back. (back ≡ medium) × Becomes (drive_in old bay) (drive_in old bay) (drive_in new bay)) → InRange new.first → InRange new.second → IsIdle motors old → IsIdle motors new
+put_idle motors old new bay medium answer small touches ok err = touched_idle motors old new bay small touches (put_motor (drive_in old bay) (drive_in new bay) medium answer ok err)
+
+pub taken_idle : (motors : Motors) (old new : Board) (bay : ℕ) → bay ≤ 1 → Touches bay old new → Becomes (drive_in old bay) (unloaded (drive_in old bay)) (drive_in new bay)
+    → InRange new.first → InRange new.second → IsIdle motors old → IsIdle motors new
+taken_idle motors old new bay small touches becomes = touched_idle motors old new bay small touches (ap (λ (d : DriveState). d.motor) becomes.becomes)
+
+-- the motor of a drive that takes the place of another goes on as DOR says
+follows : (motors : Motors) (old : Board) (bay : ℕ) (drive after : DriveState) → bay ≤ 1 → IsIdle motors old → FollowsMotor bay (controller_of old) drive after
+    → after.motor ≡ (if bay == 0 then motors.first else motors.second)
+follows motors old zero drive after small was moves =
+    let has = was.motors_are in
+    (switched 4 (dor_of (controller_of old)) motors.first drive after (subst (λ n. IsTrue motors.first ↔ IsBitSet n 4) (sym has.dor) (is_dor motors has.bay has.bay_in).first) moves).motor
+follows motors old (suc zero) drive after small was moves =
+    let has = was.motors_are in
+    (switched 5 (dor_of (controller_of old)) motors.second drive after (subst (λ n. IsTrue motors.second ↔ IsBitSet n 5) (sym has.dor) (is_dor motors has.bay has.bay_in).second) moves).motor
+follows motors old (suc (suc bay)) drive after small was moves = absurd (omega arith)
+
+pub exchange_idle : (motors : Motors) (old new : Board) (bay : ℕ) (drive : DriveState) → bay ≤ 1 → Touches bay old new → FollowsMotor bay (controller_of old) drive (drive_in new bay)
+    → InRange new.first → InRange new.second → IsIdle motors old → IsIdle motors new
+exchange_idle motors old new zero drive small touches moves first second was =
+    still_idle motors old new (ap (λ (b : Bus). b.chips.controller) touches.bus) (ap (λ (b : Bus). b.latch.level) touches.bus) (follows motors old 0 drive new.first small was moves)
+    (ap (λ (d : DriveState). d.motor) touches.other ∙ was.motors_are.second) first second was
+exchange_idle motors old new (suc zero) drive small touches moves first second was =
+    still_idle motors old new (ap (λ (b : Bus). b.chips.controller) touches.bus) (ap (λ (b : Bus). b.latch.level) touches.bus)
+    (ap (λ (d : DriveState). d.motor) touches.other ∙ was.motors_are.first) (follows motors old 1 drive new.second small was moves) first second was
+exchange_idle motors old new (suc (suc bay)) drive small touches moves first second was = absurd (omega arith)

@@ -1,0 +1,19 @@
+use Rattle.machine_commands.specs.Shown.{board_of}
+use Rattle.machine_commands.proofs.Questions.{reads_line, line_idle, line_asks}
+use Rattle.machine_commands.proofs.commands.CommandedMachineCommands.is_changed.Goals as goal
+
+pub returns-clause-line : goal.returns-clause-line
+returns-clause-line g c =
+    (reads_line c.args.self.now.motors c.args.bay c.read_line-changed.result (board_of g.D.Drive.state c.args.self.now) (board_of g.D.Drive.state c.read_line-changed.new.self)
+    c.requires.idle c.requires.bay c.read_line-changed.ensures.reads).line
+
+pub returns-clause-asks : goal.returns-clause-asks
+returns-clause-asks g c =
+    line_asks c.args.self.now.motors c.args.bay c.read_line-changed.result (board_of g.D.Drive.state c.args.self.now) (board_of g.D.Drive.state c.read_line-changed.new.self)
+    c.requires.idle c.requires.bay c.read_line-changed.ensures.reads
+
+pub returns-clause-idle : goal.returns-clause-idle
+returns-clause-idle g c =
+    rw c.read_line-changed.ensures.motors
+    (line_idle c.args.self.now.motors c.args.bay c.read_line-changed.result (board_of g.D.Drive.state c.args.self.now) (board_of g.D.Drive.state c.read_line-changed.new.self)
+    c.requires.idle c.requires.bay c.read_line-changed.ensures.reads c.keep_ranges.ensures.first c.keep_ranges.ensures.second)

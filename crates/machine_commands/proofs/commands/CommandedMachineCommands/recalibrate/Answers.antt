@@ -1,0 +1,14 @@
+use Rattle.machine_commands.specs.Shown.{board_of}
+use Rattle.machine_commands.proofs.SeekRigs.{recalibrates, recalibrate_idle}
+use Rattle.machine_commands.proofs.commands.CommandedMachineCommands.recalibrate.Goals as goal
+
+pub returns-clause-step : goal.returns-clause-step
+returns-clause-step g c =
+    recalibrates c.args.self.now.motors c.args.bay c.step_outward-status.result (board_of g.D.Drive.state c.args.self.now) (board_of g.D.Drive.state c.step_outward-status.new.self)
+    c.requires.idle c.requires.bay c.step_outward-status.ensures.sends
+
+pub returns-clause-idle : goal.returns-clause-idle
+returns-clause-idle g c =
+    rw c.step_outward-status.ensures.motors
+    (recalibrate_idle c.args.self.now.motors c.args.bay c.step_outward-status.result (board_of g.D.Drive.state c.args.self.now) (board_of g.D.Drive.state c.step_outward-status.new.self)
+    c.requires.idle c.requires.bay c.step_outward-status.ensures.sends c.keep_ranges.ensures.first c.keep_ranges.ensures.second)

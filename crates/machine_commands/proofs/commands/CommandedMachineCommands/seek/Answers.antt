@@ -1,0 +1,13 @@
+use Rattle.machine_commands.specs.Shown.{board_of}
+use Rattle.machine_commands.proofs.SeekRigs.{seeks, seek_idle}
+use Rattle.machine_commands.proofs.commands.CommandedMachineCommands.seek.Goals as goal
+
+pub returns-clause-step : goal.returns-clause-step
+returns-clause-step g c =
+    seeks c.args.self.now.motors c.args.bay c.args.target (board_of g.D.Drive.state c.args.self.now) (board_of g.D.Drive.state c.step_toward.new.self) c.requires.idle c.requires.bay c.requires.target c.step_toward.ensures.sends
+
+pub returns-clause-idle : goal.returns-clause-idle
+returns-clause-idle g c =
+    rw c.step_toward.ensures.motors
+    (seek_idle c.args.self.now.motors c.args.bay c.args.target (board_of g.D.Drive.state c.args.self.now) (board_of g.D.Drive.state c.step_toward.new.self) c.requires.idle c.requires.bay c.requires.target
+    c.step_toward.ensures.sends c.keep_ranges.ensures.first c.keep_ranges.ensures.second)

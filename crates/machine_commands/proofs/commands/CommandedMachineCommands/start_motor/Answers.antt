@@ -1,0 +1,17 @@
+use Rattle.machine_commands.specs.Shown.{board_of}
+use Rattle.machine_commands.proofs.Spinning.{starts_asking, starts_spinning, start_idle}
+use Rattle.machine_commands.proofs.commands.CommandedMachineCommands.start_motor.Goals as goal
+
+pub returns-clause-asks : goal.returns-clause-asks
+returns-clause-asks g c =
+    starts_asking c.args.self.now.motors c.args.bay (board_of g.D.Drive.state c.args.self.now) (board_of g.D.Drive.state c.spin_up.new.self) c.requires.idle c.requires.bay c.spin_up.ensures.starts
+
+pub returns-clause-spun : goal.returns-clause-spun
+returns-clause-spun g c =
+    starts_spinning c.args.self.now.motors c.args.bay (board_of g.D.Drive.state c.args.self.now) (board_of g.D.Drive.state c.spin_up.new.self) c.requires.idle c.requires.bay c.spin_up.ensures.starts
+
+pub returns-clause-idle : goal.returns-clause-idle
+returns-clause-idle g c =
+    rw c.spin_up.ensures.motors
+    (start_idle c.args.self.now.motors c.args.bay (board_of g.D.Drive.state c.args.self.now) (board_of g.D.Drive.state c.spin_up.new.self) c.requires.idle c.requires.bay c.spin_up.ensures.starts
+    c.keep_ranges.ensures.first c.keep_ranges.ensures.second)

@@ -1,0 +1,85 @@
+-- What calls past the driver make of a machine: a medium is put in or taken out, a drive is exchanged, a byte of user memory is set.
+use Rattle.std.specs.Prelude.{◌≡◌, ◌≤◌, ◌-◌, ℕ, true, slice_set, Option, Some, None, IsSome, Result, Ok, Err}
+use Rattle.raw_image.specs.Disk.{Disk}
+use Rattle.bay_model.specs.Bays.{in_bay, with_bay}
+use Rattle.bay_model.specs.Counters.{Counters, DriveCounts, DriveGoesOn, GoesOn, IsPastDriver}
+use Rattle.single_commands.specs.Rigs.{Rig}
+
+-- nothing but counts was changed
+pub record Untouched (old new : Rig) : Type 0 where
+  pub media : new.media ≡ old.media
+  pub changes : new.changes ≡ old.changes
+  pub spun : new.spun ≡ old.spun
+  pub cylinders : new.cylinders ≡ old.cylinders
+  pub numbers : new.numbers ≡ old.numbers
+  pub memory : new.memory ≡ old.memory
+  pub page : new.page ≡ old.page
+  pub counts : GoesOn old.counters new.counters
+  pub past_driver : IsPastDriver 1 old.counters new.counters
+  pub taken : new.counters.taken ≡ old.counters.taken
+
+-- ---- media
+
+-- a bay has another medium, or none, and its change line is set
+pub record Exchanged (old : Rig) (bay : ℕ) (medium : Option Disk) (new : Rig) : Type 0 where
+  pub media : new.media ≡ with_bay old.media bay medium
+  pub changes : new.changes ≡ with_bay old.changes bay true
+  pub other_spun : in_bay new.spun (1 - bay) ≡ in_bay old.spun (1 - bay)
+  pub cylinders : new.cylinders ≡ old.cylinders
+  pub numbers : new.numbers ≡ old.numbers
+  pub memory : new.memory ≡ old.memory
+  pub page : new.page ≡ old.page
+  pub counts : GoesOn old.counters new.counters
+  pub past_driver : IsPastDriver 1 old.counters new.counters
+  pub taken : new.counters.taken ≡ old.counters.taken
+
+-- a medium was put into an empty bay, or was given back
+abbrev pub PutsIn : Rig → ℕ → Disk → Result (Unit {0}) Disk → Rig → Type 0
+PutsIn old bay medium (Ok _) new = (in_bay old.media bay ≡ None) × Exchanged old bay (Some medium) new
+PutsIn old bay medium (Err back) new = IsSome (in_bay old.media bay) × (back ≡ medium) × Untouched old new
+
+-- the medium of a bay was taken out, where one was in
+pub record TakesOut (old : Rig) (bay : ℕ) (answer : Option Disk) (new : Rig) : Type 0 where
+  pub medium : answer ≡ in_bay old.media bay
+  pub taken_out : IsSome answer → Exchanged old bay None new
+  pub empty : answer ≡ None → Untouched old new
+
+-- ---- drives
+
+-- how counters go on where a drive with these counts takes the place of the one in a bay
+pub record TakesDrive (old : Counters) (bay : ℕ) (counts : DriveCounts) (new : Counters) : Type 0 where
+  pub drive : DriveGoesOn counts (in_bay new.drives bay)
+  pub other : in_bay new.drives (1 - bay) ≡ in_bay old.drives (1 - bay)
+  pub spares : new.spares ≡ old.spares
+  pub stalls : new.stalls ≡ old.stalls
+  pub stalls_left : new.stalls_left ≡ old.stalls_left
+  pub taken : new.taken ≡ old.taken
+  pub data_commands : new.data_commands ≡ old.data_commands
+  pub direct : old.direct ≤ new.direct
+  pub past_driver : IsPastDriver 1 old new
+
+-- a drive with these counts and no medium took the place of the one in a bay
+pub record ExchangesDrive (old : Rig) (bay : ℕ) (counts : DriveCounts) (new : Rig) : Type 0 where
+  pub media : new.media ≡ with_bay old.media bay None
+  pub changes : new.changes ≡ with_bay old.changes bay true
+  pub other_spun : in_bay new.spun (1 - bay) ≡ in_bay old.spun (1 - bay)
+  pub other_cylinder : in_bay new.cylinders (1 - bay) ≡ in_bay old.cylinders (1 - bay)
+  pub numbers : new.numbers ≡ old.numbers
+  pub memory : new.memory ≡ old.memory
+  pub page : new.page ≡ old.page
+  pub counters : TakesDrive old.counters bay counts new.counters
+
+-- ---- memory
+
+-- a byte of user memory was set
+pub record PutsMemory (old : Rig) (address byte : ℕ) (new : Rig) : Type 0 where
+  pub memory : new.memory ≡ slice_set old.memory address byte
+  pub media : new.media ≡ old.media
+  pub changes : new.changes ≡ old.changes
+  pub spun : new.spun ≡ old.spun
+  pub cylinders : new.cylinders ≡ old.cylinders
+  pub numbers : new.numbers ≡ old.numbers
+  pub page : new.page ≡ old.page
+  pub counts : GoesOn old.counters new.counters
+  pub past_driver : IsPastDriver 1 old.counters new.counters
+  pub taken : new.counters.taken ≡ old.counters.taken
