@@ -1,0 +1,4 @@
+pub mod Flagged
+pub mod Shown
+pub mod Ready
+pub mod Started

@@ -1,0 +1,26 @@
+-- A station before the first request.
+use Rattle.std.specs.Prelude.{◌≡◌, List}
+use Rattle.bay_model.specs.Counters.{DriveCounts, GoesOn}
+use Rattle.drive_model.specs.Drive.{DriveState}
+use Rattle.irq_events.specs.declared.pace.Pace.{Pace}
+use Rattle.pc_bus.specs.Boards.{Board, IsEmpty, IsNew}
+use Rattle.sector_model.specs.Stations.{StationState}
+use Rattle.machine_commands.specs.Shown.{counters_of}
+use Rattle.floppy_driver.specs.Shown.{with_waiting}
+
+-- the board of a machine as it is made, with some pace and two empty drives
+pub record IsFreshBoard (board : Board) : Type 0 where
+  pub pace : Pace
+  pub bay0 : DriveState
+  pub bay1 : DriveState
+  pub first : IsEmpty bay0
+  pub second : IsEmpty bay1
+  pub new : IsNew pace bay0 bay1 board
+
+-- a station was set up on this board: its spare drives have these counts, its counts go on from the board's, and no data
+-- command was sent nor anything done past the driver
+pub record Starts (board : Board) (spares : List DriveCounts) (station : StationState) : Type 0 where
+  pub spares_are : station.counters.spares ≡ spares
+  pub counts : GoesOn (with_waiting (counters_of board) spares) station.counters
+  pub data_commands : station.counters.data_commands ≡ (counters_of board).data_commands
+  pub direct : station.counters.direct ≡ (counters_of board).direct
