@@ -1,8 +1,6 @@
 -- A spare drive takes the place of one in a bay.
-use Rattle.std.proofs.Common.{◌≡◌, ℕ, ◌+◌, ◌-◌, ◌≤◌, ◌∷◌, [], ◌++◌, List, length, map, Bool, true, false, refl, sym, ap, ◌∙◌, subst, arith}
-use Rattle.std.specs.Prelude.{All, Option, Some, None}
-use Rattle.std.proofs.lemmas.List.{length-map}
-use Rattle.bay_model.specs.Counters.{DriveCounts, GoesOn}
+use Rattle.std.proofs.Common.{◌≡◌, ℕ, ◌-◌, ◌∷◌, List, length, ap, ◌∙◌, arith}
+use Rattle.std.specs.Prelude.{None}
 use Rattle.bay_model.specs.Bays.{with_bay}
 use Rattle.drive_model.specs.Drive.{DriveState}
 use Rattle.single_commands.specs.Rigs.{Rig}

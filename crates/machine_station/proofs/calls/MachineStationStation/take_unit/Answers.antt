@@ -1,7 +1,6 @@
-use Rattle.std.proofs.Common.{length, refl, sym, ◌∙◌}
+use Rattle.std.proofs.Common.{length, sym}
 use Rattle.std.specs.Prelude.{◌∷◌, None}
 use Rattle.std.proofs.lemmas.List.Elements.{All-head, All-rest, All-same}
-use Rattle.drive_model.specs.Drive.{DriveState}
 use Rattle.pc_bus.specs.Boards.{IsEmpty}
 use Rattle.sector_model.specs.Stations.{fresh_bay}
 use Rattle.machine_counts.specs.Counts.{counts_of}
