@@ -2,7 +2,7 @@
 use crate::disks::{formatted, with_words};
 use crate::whole::answers;
 use flop_base::{MemShelf, MemSink, Rate, Status};
-use floppy_tools::floppy;
+use floppy_forms::run_words as floppy;
 use memory_station::MemoryStation;
 use std::alloc::{AllocError, Global};
 use std::test::Fail;

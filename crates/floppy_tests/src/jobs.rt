@@ -1,7 +1,7 @@
 // The words of the program, and the text of a job.
 use crate::runs::plays;
 use flop_base::{MemShelf, MemSink, Status};
-use floppy_tools::floppy;
+use floppy_forms::run_words as floppy;
 use memory_station::MemoryStation;
 use std::test::Fail;
 

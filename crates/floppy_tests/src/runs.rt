@@ -1,7 +1,7 @@
 // Runs of the program over a shelf and a sink in memory and a station with two spare drives. In the tables `;` stands
 // for the end of a line.
 use flop_base::{MemShelf, MemSink, Status};
-use floppy_tools::floppy;
+use floppy_forms::run_words as floppy;
 use memory_station::MemoryStation;
 use std::alloc::{AllocError, Global};
 use std::process::Abort;

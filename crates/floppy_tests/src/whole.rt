@@ -2,7 +2,7 @@
 use crate::disks::{formatted, patched, push_track, push_zeros, with_words};
 use crate::runs::{plays, report};
 use flop_base::{MemShelf, MemSink, Rate, Status};
-use floppy_tools::floppy;
+use floppy_forms::run_words as floppy;
 use memory_station::MemoryStation;
 use std::alloc::Global;
 use std::process::Abort;

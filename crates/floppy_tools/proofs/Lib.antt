@@ -1,2 +1,1 @@
-pub mod OnFiles
-pub mod Turned
+pub mod Machines

@@ -1,9 +1,10 @@
-//! The program's forms over a shelf and a sink: a session runs the requests of a job, and a report tells their answers.
+//! The program over a machine: the driver is set up on it, a session runs the requests of a form through them, and a report
+//! tells the answers.
 #![tactic(auto)]
 
-mod play;
 mod program;
+mod session;
 
-pub use floppy_session::Session;
 pub use program::floppy;
 pub use sector_model::{Reason, Reply, Stop};
+pub use session::Session;

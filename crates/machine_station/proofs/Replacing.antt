@@ -1,14 +1,12 @@
 -- A spare drive takes the place of one in a bay.
-use Rattle.std.proofs.Common.{◌≡◌, ℕ, ◌+◌, ◌-◌, ◌≤◌, ◌∷◌, [], ◌++◌, List, length, map, Bool, true, false, refl, sym, ap, ◌∙◌, subst, arith}
-use Rattle.std.specs.Prelude.{All, Option, Some, None}
-use Rattle.std.proofs.lemmas.List.{length-map}
-use Rattle.bay_model.specs.Counters.{DriveCounts, GoesOn}
+use Rattle.std.proofs.Common.{◌≡◌, ℕ, ◌-◌, ◌∷◌, List, length, ap, ◌∙◌, arith}
+use Rattle.std.specs.Prelude.{None}
 use Rattle.bay_model.specs.Bays.{with_bay}
 use Rattle.drive_model.specs.Drive.{DriveState}
 use Rattle.single_commands.specs.Rigs.{Rig}
 use Rattle.sector_model.specs.Stations.{StationState, fresh_bay}
 use Rattle.sector_model.specs.Calls.{IsExchanged}
-use Rattle.machine_commands.specs.Shown.{counts_of}
+use Rattle.machine_counts.specs.Counts.{counts_of}
 use Rattle.machine_commands.specs.Handled.{ExchangesDrive}
 use Rattle.floppy_driver.specs.declared.driver.Driver.{Driver}
 use Rattle.floppy_driver.specs.Shown.{shown}

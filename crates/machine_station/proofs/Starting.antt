@@ -1,23 +1,23 @@
 -- A station before the first request.
-use Rattle.std.proofs.Common.{◌≡◌, ℕ, ◌+◌, ◌<◌, ◌≤◌, ◌^◌, List, length, map, take, replicate, Bool, true, false, refl, sym, ap, ◌∙◌, subst, arith}
+use Rattle.std.proofs.Common.{◌≡◌, ℕ, ◌+◌, ◌<◌, ◌≤◌, ◌^◌, List, length, take, Bool, false, refl, sym, ap, ◌∙◌, subst, arith}
 use Rattle.std.specs.Prelude.{◌&&◌, not, nat_lt, All, Option, Some, None, if◌then◌else◌}
 use Rattle.std.proofs.lemmas.List.{length-take-le, take-replicate}
 use Rattle.std.proofs.lemmas.List.Sums.{count_by-le-length}
 use Rattle.flop_base.specs.declared.answers.Rate.TheVariants.{R500}
 use Rattle.raw_image.specs.Disk.{Disk}
 use Rattle.bay_model.specs.Bays.{Two, both}
-use Rattle.bay_model.specs.Counters.{DriveCounts, Counters, GoesOn, DriveTells}
+use Rattle.bay_model.specs.Counters.{DriveCounts, DriveTells}
 use Rattle.bay_model.specs.Memory.{user_bytes, zeroes}
 use Rattle.drive_model.specs.Drive.{DriveState}
 use Rattle.machine_pace.specs.Holds.{Holds}
 use Rattle.pc_bus.specs.declared.bus.Bus.{Bus}
-use Rattle.pc_bus.specs.Boards.{Board, memory_of, holds_of}
+use Rattle.pc_bus.specs.Boards.{Board, holds_of}
 use Rattle.single_commands.specs.Rigs.{Rig, IsReset}
 use Rattle.sector_model.specs.Stations.{Bay, IsFresh, fresh_bay}
-use Rattle.machine_commands.specs.Shown.{user_part, stalls_left, rig_of, counters_of}
+use Rattle.machine_commands.specs.Shown.{user_part, stalls_left, rig_of}
 use Rattle.floppy_driver.specs.declared.driver.Notes.{Notes}
 use Rattle.floppy_driver.specs.declared.driver.Driver.{Driver}
-use Rattle.floppy_driver.specs.Shown.{shown, bay_shown, with_waiting, IsFreshDriver}
+use Rattle.floppy_driver.specs.Shown.{shown, bay_shown, IsFreshDriver}
 use Rattle.floppy_driver.specs.Attached.{CanSetUp}
 use Rattle.machine_station.specs.Flagged.{flags_of_both}
 use Rattle.machine_station.specs.Started.{IsFreshBoard, Starts}

@@ -1,10 +1,10 @@
-use Rattle.std.proofs.Common.{length, refl, sym, ◌∙◌}
+use Rattle.std.proofs.Common.{length, sym}
 use Rattle.std.specs.Prelude.{◌∷◌, None}
 use Rattle.std.proofs.lemmas.List.Elements.{All-head, All-rest, All-same}
-use Rattle.drive_model.specs.Drive.{DriveState}
 use Rattle.pc_bus.specs.Boards.{IsEmpty}
 use Rattle.sector_model.specs.Stations.{fresh_bay}
-use Rattle.machine_commands.specs.Shown.{counts_of, rig_shown}
+use Rattle.machine_counts.specs.Counts.{counts_of}
+use Rattle.machine_commands.specs.Shown.{rig_shown}
 use Rattle.floppy_driver.specs.Shown.{shown}
 use Rattle.machine_station.specs.Flagged.{bays_flagged, flags_of, flags_shown}
 use Rattle.machine_station.specs.Shown.{all_counts, station_shown}

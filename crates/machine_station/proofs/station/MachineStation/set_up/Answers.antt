@@ -1,12 +1,12 @@
 use Rattle.std.proofs.Common.{length, sym, subst, ap, ◌∙◌}
-use Rattle.std.specs.Prelude.{All}
 use Rattle.std.proofs.lemmas.List.{length-map}
 use Rattle.std.proofs.lemmas.List.Elements.{All-map, All-same}
 use Rattle.bay_model.specs.Counters.{DriveTells}
 use Rattle.pc_bus.specs.Boards.{Board, board, IsEmpty}
 use Rattle.single_commands.specs.Rigs.{IsReset}
 use Rattle.floppy_driver.specs.Attached.{CanSetUp}
-use Rattle.machine_commands.specs.Shown.{counts_of, rig_of, rig_shown}
+use Rattle.machine_counts.specs.Counts.{counts_of}
+use Rattle.machine_commands.specs.Shown.{rig_of, rig_shown}
 use Rattle.machine_station.specs.Shown.{all_counts}
 use Rattle.machine_station.proofs.Starting.{can_set_up, flags_free, starts_fresh, starts_so}
 use Rattle.machine_station.proofs.station.MachineStation.set_up.Goals as goal

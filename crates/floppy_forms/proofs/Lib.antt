@@ -1,0 +1,2 @@
+pub mod OnFiles
+pub mod Turned

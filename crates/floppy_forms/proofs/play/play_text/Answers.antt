@@ -1,0 +1,17 @@
+use Rattle.std.proofs.Common.{refl}
+use Rattle.std.specs.Prelude.{Vec}
+use Rattle.std.specs.declared.alloc.Global.{Global}
+use Rattle.floppy_jobs.specs.declared.request.Request.{Request}
+use Rattle.floppy_jobs.specs.Texts.{job_of}
+use Rattle.floppy_session.specs.Session.{state_of}
+use Rattle.floppy_forms.specs.Turns.{world}
+use Rattle.floppy_forms.proofs.Turned.{parsed_plays, read_bad, unparsed_tells}
+use Rattle.floppy_forms.proofs.play.play_text.Goals as goal
+
+pub returns-in-Ok-clause-plays : goal.returns-in-Ok-clause-plays
+returns-in-Ok-clause-plays g c =
+    parsed_plays (world (state_of g.D.Station.shown c.args.session.now) (g.S.Shelf.told c.args.shelf.now) (g.K.Sink.told c.args.out.now)) (world (state_of g.D.Station.shown c.play_requests.new.session) (g.S.Shelf.told c.play_requests.new.shelf) (g.K.Sink.told c.play_requests.new.out)) c.args.text.now c.deref.result.now c.in-Ok.requests.items c.play_requests.result c.in-Ok.ensures.read c.deref.ensures.value c.play_requests.ensures.plays
+
+pub returns-in-Err-BadLine-clause-plays : goal.returns-in-Err-BadLine-clause-plays
+returns-in-Err-BadLine-clause-plays g c =
+    unparsed_tells (world (state_of g.D.Station.shown c.args.session.now) (g.S.Shelf.told c.args.shelf.now) (g.K.Sink.told c.args.out.now)) (world (state_of g.D.Station.shown c.args.session.now) (g.S.Shelf.told c.args.shelf.now) (g.K.Sink.told c.put_last_bad_line.new.out)) c.args.text.now c.in-Err-BadLine.line c.put_last_bad_line.result (read_bad (λ (requests : Vec Request Global). requests.items) c.in-Err-BadLine.field-0 (job_of c.args.text.now) c.in-Err-BadLine.line c.in-Err-BadLine.ensures.read c.in-Err-BadLine.field-0-is) (record { state = refl; files = refl; prints = c.put_last_bad_line.ensures.prints })

@@ -1,0 +1,10 @@
+use Rattle.std.proofs.Common.{refl}
+use Rattle.disk_commands.specs.Worlds.{world_of}
+use Rattle.floppy_forms.proofs.Turned.{runs_asked, runs_none}
+use Rattle.floppy_forms.proofs.words.perform_any.Goals as goal
+
+pub returns-in-Some-clause-runs : goal.returns-in-Some-clause-runs
+returns-in-Some-clause-runs g c = runs_asked c.args.form c.in-Some.form (world_of g.D.Station.shown g.S.Shelf.told g.K.Sink.told c.args.session.now c.args.shelf.now c.args.out.now) (world_of g.D.Station.shown g.S.Shelf.told g.K.Sink.told c.perform_form.new.session c.perform_form.new.shelf c.perform_form.new.out) c.perform_form.result c.in-Some.is c.perform_form.ensures.runs
+
+pub returns-in-None-clause-runs : goal.returns-in-None-clause-runs
+returns-in-None-clause-runs g c = runs_none c.args.form (world_of g.D.Station.shown g.S.Shelf.told g.K.Sink.told c.args.session.now c.args.shelf.now c.args.out.now) (world_of g.D.Station.shown g.S.Shelf.told g.K.Sink.told c.args.session.now c.args.shelf.now c.put_last_bad_words.new.out) c.put_last_bad_words.result c.in-None.is (record { state = refl; files = refl; prints = c.put_last_bad_words.ensures.prints })

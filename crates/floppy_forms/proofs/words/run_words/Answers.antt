@@ -1,0 +1,11 @@
+use Rattle.std.proofs.Common.{arith, ap}
+use Rattle.sector_model.specs.Stations.{StationState}
+use Rattle.sector_model.specs.States.{State}
+use Rattle.floppy_forms.proofs.words.run_words.Goals as goal
+
+pub returns-clause-accesses : goal.returns-clause-accesses
+returns-clause-accesses g c = λ job requests named is.
+    let made = ap (λ (s : State). s.station.counters.direct) c.new-session.ensures.start in
+    let given = ap (λ (s : StationState). s.counters.direct) c.into_station.ensures.shown in
+    let within = c.perform-status.ensures.accesses job requests named is in
+    omega (arith, made, given, within)

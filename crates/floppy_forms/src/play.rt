@@ -1,0 +1,221 @@
+// The form `play JOB`: a job is read and run to its end, or up to what stops it.
+ghost use Rattle.std.specs.Prelude.{◌≡◌, ◌≢◌, ◌≤◌, ◌||◌, All, List, IfOk, IfErr, IsErrOf, Err};
+ghost use Rattle.sector_model.specs.Faults.{Blames};
+ghost use Rattle.sector_model.specs.Texts.{is_refusal};
+ghost use Rattle.sector_model.specs.Runs.{Taken};
+ghost use Rattle.sector_model.specs.Plays.{Plays, whole_status};
+ghost use Rattle.floppy_session.specs.Session.{state_of, IsRunning};
+ghost use Rattle.floppy_session.specs.Tries.{HasTries};
+ghost use Rattle.disk_commands.specs.Worlds.{world_of};
+ghost use Rattle.floppy_forms.specs.Turns.{IsTurn, Breaks, HasRun, HasPlayed, EndsAs, PlaysOrStarves, Misses};
+
+use flop_base::{LoadError, Shelf, Sink, Status};
+use floppy_jobs::{JobError, Request, parse_job};
+use floppy_report::{put_last, put_last_absent, put_last_bad_line, put_reply, stop_status};
+use floppy_session::Session;
+use sector_model::{Reply, Station, Stop};
+use std::alloc::Global;
+
+/// The longest text of a job, in bytes.
+const MOST_JOB_BYTES: usize = 4_194_304;
+
+/// Runs a request and tells its answer; true where it was refused. The error is the status of a run that ends here.
+fn run_one<S: Shelf, K: Sink, D: Station>(
+    alloc: Global,
+    session: &mut Session<D>,
+    request: &Request,
+    shelf: &mut S,
+    out: &mut K,
+) -> Result<bool, Status>
+    requires running { IsRunning D.shown D.is_ready session.old }
+    requires tries { HasTries request.now }
+    ensures turn { IfOk result (λ refused. IsTurn
+        (world_of D.shown S.told K.told session.old shelf.old out.old) request.now refused
+        (world_of D.shown S.told K.told session.new shelf.new out.new)) }
+    ensures breaks { IfErr result (λ ended. Breaks
+        (world_of D.shown S.told K.told session.old shelf.old out.old) request.now
+        (world_of D.shown S.told K.told session.new shelf.new out.new) ended) }
+    ensures running { IsRunning D.shown D.is_ready session.new }
+    ensures is_form { result ≢ Err Status.BadWords }
+    ensures shelf_faults { Blames (IsErrOf result Status.FileFault) (S.fault_count shelf.old)
+        (S.fault_count shelf.new) }
+    ensures sink_faults { Blames (IsErrOf result Status.SinkFault) (K.fault_count out.old)
+        (K.fault_count out.new) }
+{
+    match session.run(shelf, request) {
+        Ok(reply) => match put_reply(alloc, out, request, &reply) {
+            Ok(()) => Ok(is_refusal(&reply)),
+            Err(ended) => Err(ended),
+        },
+        Err(stop) => Err(put_last(alloc, out, &stop)),
+    }
+}
+
+fn is_refusal(reply: &Reply) -> bool
+    ensures { result ≡ is_refusal reply.now }
+{
+    match reply {
+        Reply::Refused(_) => true,
+        Reply::Done | Reply::DoneDeleted | Reply::Bytes { .. } => false,
+    }
+}
+
+fn either(first: bool, second: bool) -> bool
+    ensures { result ≡ (first || second) }
+{
+    first || second
+}
+
+/// Runs and tells the requests of a job in order; true where one was refused. The error is the status of a run that
+/// ends here.
+fn run_requests<S: Shelf, K: Sink, D: Station>(
+    alloc: Global,
+    session: &mut Session<D>,
+    requests: &[Request],
+    shelf: &mut S,
+    out: &mut K,
+) -> Result<bool, Status>
+    requires running { IsRunning D.shown D.is_ready session.old }
+    requires tries { All HasTries requests.now }
+    ensures run { IfOk result (λ refused. HasRun
+        (world_of D.shown S.told K.told session.old shelf.old out.old) requests.now refused
+        (world_of D.shown S.told K.told session.new shelf.new out.new)) }
+    ensures plays { IfErr result (λ ended. HasPlayed
+        (world_of D.shown S.told K.told session.old shelf.old out.old) requests.now
+        (world_of D.shown S.told K.told session.new shelf.new out.new) ended) }
+    ensures running { IsRunning D.shown D.is_ready session.new }
+    ensures is_form { result ≢ Err Status.BadWords }
+    ensures shelf_faults { Blames (IsErrOf result Status.FileFault) (S.fault_count shelf.old)
+        (S.fault_count shelf.new) }
+    ensures sink_faults { Blames (IsErrOf result Status.SinkFault) (K.fault_count out.old)
+        (K.fault_count out.new) }
+{
+    let mut refused = false;
+    for request in requests {
+        match run_one(alloc, session, request, shelf, out) {
+            Ok(refusal) => refused = either(refused, refusal),
+            Err(ended) => return Err(ended),
+        }
+    }
+    Ok(refused)
+}
+
+/// Stores what is left in the bays of a session, and gives the status of a run to the end.
+fn finish<S: Shelf, D: Station>(session: &mut Session<D>, shelf: &mut S, refused: bool) -> Status
+    requires running { IsRunning D.shown D.is_ready session.old }
+    ensures ends { EndsAs (state_of D.shown session.old) (S.told shelf.old) refused
+        (state_of D.shown session.new) (S.told shelf.new) result }
+    ensures running { IsRunning D.shown D.is_ready session.new }
+    ensures is_form { result ≢ Status.BadWords }
+    ensures shelf_faults { Blames (result ≡ Status.FileFault) (S.fault_count shelf.old)
+        (S.fault_count shelf.new) }
+    ensures no_sink_fault { result ≢ Status.SinkFault }
+{
+    match session.end(shelf) {
+        Ok(()) => whole_status(refused),
+        Err(stop) => stop_status(&stop),
+    }
+}
+
+fn whole_status(refused: bool) -> Status
+    ensures { result ≡ whole_status refused }
+{
+    if refused {
+        Status::SomeRefused
+    } else {
+        Status::AllOk
+    }
+}
+
+/// Plays the requests of a job.
+fn play_requests<S: Shelf, K: Sink, D: Station>(
+    alloc: Global,
+    session: &mut Session<D>,
+    requests: &[Request],
+    shelf: &mut S,
+    out: &mut K,
+) -> Status
+    requires running { IsRunning D.shown D.is_ready session.old }
+    requires tries { All HasTries requests.now }
+    ensures plays { HasPlayed
+        (world_of D.shown S.told K.told session.old shelf.old out.old) requests.now
+        (world_of D.shown S.told K.told session.new shelf.new out.new) result }
+    ensures running { IsRunning D.shown D.is_ready session.new }
+    ensures is_form { result ≢ Status.BadWords }
+    ensures shelf_faults { Blames (result ≡ Status.FileFault) (S.fault_count shelf.old)
+        (S.fault_count shelf.new) }
+    ensures sink_faults { Blames (result ≡ Status.SinkFault) (K.fault_count out.old)
+        (K.fault_count out.new) }
+{
+    match run_requests(alloc, session, requests, shelf, out) {
+        Ok(refused) => finish(session, shelf, refused),
+        Err(ended) => ended,
+    }
+}
+
+/// Plays the job with this text.
+fn play_text<S: Shelf, K: Sink, D: Station>(
+    alloc: Global,
+    session: &mut Session<D>,
+    text: &[u8],
+    shelf: &mut S,
+    out: &mut K,
+) -> Status
+    requires running { IsRunning D.shown D.is_ready session.old }
+    ensures plays { PlaysOrStarves
+        (world_of D.shown S.told K.told session.old shelf.old out.old) text.now
+        (world_of D.shown S.told K.told session.new shelf.new out.new) result }
+    ensures running { IsRunning D.shown D.is_ready session.new }
+    ensures is_form { result ≢ Status.BadWords }
+    ensures shelf_faults { Blames (result ≡ Status.FileFault) (S.fault_count shelf.old)
+        (S.fault_count shelf.new) }
+    ensures sink_faults { Blames (result ≡ Status.SinkFault) (K.fault_count out.old)
+        (K.fault_count out.new) }
+{
+    match parse_job(alloc, text) {
+        Ok(requests) => play_requests(alloc, session, &requests, shelf, out),
+        Err(JobError::BadLine { line }) => put_last_bad_line(alloc, out, line),
+        Err(JobError::NoMemory) => Status::NoMemory,
+    }
+}
+
+/// Ends a run whose job wasn't loaded.
+fn not_loaded<K: Sink>(alloc: Global, job: &str, out: &mut K, error: LoadError) -> Status
+    ensures ends { Misses error job.now (K.told out.old) (K.told out.new) result }
+    ensures is_form { result ≢ Status.BadWords }
+    ensures shelf_fault { result ≡ Status.FileFault → error ≡ LoadError.Failed }
+    ensures sink_faults { Blames (result ≡ Status.SinkFault) (K.fault_count out.old)
+        (K.fault_count out.new) }
+{
+    match error {
+        LoadError::Absent => put_last_absent(alloc, out, job),
+        LoadError::TooLong => put_last_bad_line(alloc, out, 0),
+        LoadError::Failed => Status::FileFault,
+        LoadError::NoMemory => Status::NoMemory,
+    }
+}
+
+/// Reads the job of this name and plays it.
+pub(crate) fn play<S: Shelf, K: Sink, D: Station>(
+    alloc: Global,
+    session: &mut Session<D>,
+    job: &str,
+    shelf: &mut S,
+    out: &mut K,
+) -> Status
+    requires running { IsRunning D.shown D.is_ready session.old }
+    ensures plays { (course : List Taken) × Plays
+        (world_of D.shown S.told K.told session.old shelf.old out.old) job.now course
+        (world_of D.shown S.told K.told session.new shelf.new out.new) result }
+    ensures running { IsRunning D.shown D.is_ready session.new }
+    ensures is_form { result ≢ Status.BadWords }
+    ensures shelf_faults { Blames (result ≡ Status.FileFault) (S.fault_count shelf.old)
+        (S.fault_count shelf.new) }
+    ensures sink_faults { Blames (result ≡ Status.SinkFault) (K.fault_count out.old)
+        (K.fault_count out.new) }
+{
+    match shelf.load(alloc, job, MOST_JOB_BYTES) {
+        Ok(text) => play_text(alloc, session, &text, shelf, out),
+        Err(error) => not_loaded(alloc, job, out, error),
+    }
+}

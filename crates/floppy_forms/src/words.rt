@@ -1,0 +1,186 @@
+// The words of the program, done over a session.
+ghost use Rattle.std.specs.Prelude.{◌≡◌, ◌≢◌, ◌≤◌, ◌+◌, ℕ, List, Option, Some, None, Ok, map, string_bytes};
+ghost use Rattle.floppy_jobs.specs.declared.request.Request.{Request};
+ghost use Rattle.bay_model.specs.Bays.{Two};
+ghost use Rattle.sector_model.specs.Faults.{Blames};
+ghost use Rattle.sector_model.specs.Ties.{IsJob, accesses_of_job};
+ghost use Rattle.sector_model.specs.Stations.{IsFresh};
+ghost use Rattle.sector_model.specs.States.{start_of};
+ghost use Rattle.floppy_session.specs.Session.{state_of, IsRunning};
+ghost use Rattle.floppy_words.specs.declared.form.Form.TheVariants as form;
+ghost use Rattle.floppy_words.specs.declared.form.Form.{Form};
+ghost use Rattle.floppy_words.specs.Forms.{form_of, Reads};
+ghost use Rattle.disk_commands.specs.Commands.{Runs};
+ghost use Rattle.disk_commands.specs.Worlds.{world_of};
+ghost use Rattle.floppy_forms.specs.Turns.{world};
+ghost use Rattle.floppy_forms.specs.Programs.{Does, DoesForm};
+
+use crate::play::play;
+use archive_commands::{from_imd, remaster_disk, survey_disk, to_imd};
+use bios_commands::serve_calls;
+use disk_commands::{copy_disk, format_disk, verify_disk};
+use flat_commands::{exercise_disk, export_disk, import_disk};
+use flop_base::{NoMemory, Rate, Shelf, Sink, Status};
+use floppy_report::put_last_bad_words;
+use floppy_session::Session;
+use floppy_words::{Form, form_named};
+use rescue_commands::rescue_disk;
+use sector_model::Station;
+use std::alloc::Global;
+
+/// Does what the words after the program's name say, on a station that is as it comes: `play JOB` runs a job, `format NAME CYLS` and
+/// `formatdd NAME CYLS` store a formatted disk, `copy FROM TO` copies one, `verify NAME` reads all of one; `import FLAT NAME` and
+/// `export NAME FLAT` go between a flat file and a disk, `exercise SEED COUNT` runs a generated workload; `fromimd IMD NAME` and
+/// `toimd NAME IMD` turn ImageDisk files into disks and back, `survey NAME` lists the address fields of a disk, `remaster FROM TO`
+/// lays one out anew; `int13 FILE` serves calls of INT 13h; `rescue FROM TO LOG` reads what it can of a disk, and keeps a log of
+/// the rest. It prints a report to the sink, and the status says how it ended. The station comes back in every case.
+pub fn run_words<S: Shelf, K: Sink, D: Station>(
+    alloc: Global,
+    words: &[String],
+    shelf: &mut S,
+    out: &mut K,
+    station: D,
+) -> (Status, D)
+    requires fresh { IsFresh (D.shown station) }
+    requires ready { D.is_ready station }
+    // The headline: what is printed and stored is a run of the sector model, whose counts are those that the station shows
+    // before and after it.
+    ensures runs { (names : Two (Option (List ℕ))) × Runs (Does (form_of (map string_bytes words.now)))
+        (world (start_of (D.shown station)) (S.told shelf.old) (K.told out.old))
+        (world (record { station = D.shown result.1; names = names }) (S.told shelf.new) (K.told out.new))
+        result.0 }
+    ensures accesses { (job : List ℕ) (requests : List Request)
+        → form_of (map string_bytes words.now) ≡ Some (form.Play job) → IsJob (S.told shelf.old) job requests
+        → (D.shown result.1).counters.direct
+        ≤ (D.shown station).counters.direct + accesses_of_job requests }
+    // 2 exactly where the words are no form, also where nothing is told.
+    ensures bad_words { result.0 ≡ Status.BadWords → form_of (map string_bytes words.now) ≡ None }
+    ensures ready { D.is_ready result.1 }
+    ensures shelf_faults { Blames (result.0 ≡ Status.FileFault) (S.fault_count shelf.old) (S.fault_count shelf.new) }
+    ensures sink_faults { Blames (result.0 ≡ Status.SinkFault) (K.fault_count out.old) (K.fault_count out.new) }
+{
+    let mut session = Session::new(alloc, station);
+    let status = perform(alloc, &mut session, words, shelf, out);
+    (status, session.into_station())
+}
+
+/// Does what the words say.
+fn perform<S: Shelf, K: Sink, D: Station>(
+    alloc: Global,
+    session: &mut Session<D>,
+    words: &[String],
+    shelf: &mut S,
+    out: &mut K,
+) -> Status
+    requires running { IsRunning D.shown D.is_ready session.old }
+    ensures runs { Runs (Does (form_of (map string_bytes words.now)))
+        (world_of D.shown S.told K.told session.old shelf.old out.old)
+        (world_of D.shown S.told K.told session.new shelf.new out.new) result }
+    ensures accesses { (job : List ℕ) (requests : List Request)
+        → form_of (map string_bytes words.now) ≡ Some (form.Play job) → IsJob (S.told shelf.old) job requests
+        → (state_of D.shown session.new).station.counters.direct
+        ≤ (state_of D.shown session.old).station.counters.direct + accesses_of_job requests }
+    ensures bad_words { result ≡ Status.BadWords → form_of (map string_bytes words.now) ≡ None }
+    ensures running { IsRunning D.shown D.is_ready session.new }
+    ensures shelf_faults { Blames (result ≡ Status.FileFault) (S.fault_count shelf.old) (S.fault_count shelf.new) }
+    ensures sink_faults { Blames (result ≡ Status.SinkFault) (K.fault_count out.old) (K.fault_count out.new) }
+{
+    run_asked(alloc, session, form_named(alloc, words), shelf, out)
+}
+
+/// Does what was read of the words: what a form asks for, or nothing where they are none, or where memory for them couldn't be had.
+pub fn run_asked<S: Shelf, K: Sink, D: Station>(
+    alloc: Global,
+    session: &mut Session<D>,
+    asked: Result<Option<Form>, NoMemory>,
+    shelf: &mut S,
+    out: &mut K,
+) -> Status
+    requires running { IsRunning D.shown D.is_ready session.old }
+    ensures runs { (spelled : Option Form) → Reads asked spelled → Runs (Does spelled)
+        (world_of D.shown S.told K.told session.old shelf.old out.old)
+        (world_of D.shown S.told K.told session.new shelf.new out.new) result }
+    ensures bad_words { result ≡ Status.BadWords → asked ≡ Ok None }
+    ensures running { IsRunning D.shown D.is_ready session.new }
+    ensures shelf_faults { Blames (result ≡ Status.FileFault) (S.fault_count shelf.old) (S.fault_count shelf.new) }
+    ensures sink_faults { Blames (result ≡ Status.SinkFault) (K.fault_count out.old) (K.fault_count out.new) }
+{
+    match asked {
+        Ok(form) => perform_any(alloc, session, form, shelf, out),
+        Err(NoMemory) => Status::NoMemory,
+    }
+}
+
+/// Does what a form asks for, if the words are one.
+fn perform_any<S: Shelf, K: Sink, D: Station>(
+    alloc: Global,
+    session: &mut Session<D>,
+    form: Option<Form>,
+    shelf: &mut S,
+    out: &mut K,
+) -> Status
+    requires running { IsRunning D.shown D.is_ready session.old }
+    ensures runs { Runs (Does form)
+        (world_of D.shown S.told K.told session.old shelf.old out.old)
+        (world_of D.shown S.told K.told session.new shelf.new out.new) result }
+    ensures bad_words { result ≡ Status.BadWords → form ≡ None }
+    ensures running { IsRunning D.shown D.is_ready session.new }
+    ensures shelf_faults { Blames (result ≡ Status.FileFault) (S.fault_count shelf.old) (S.fault_count shelf.new) }
+    ensures sink_faults { Blames (result ≡ Status.SinkFault) (K.fault_count out.old) (K.fault_count out.new) }
+{
+    match form {
+        Some(form) => perform_form(alloc, session, form, shelf, out),
+        None => put_last_bad_words(out),
+    }
+}
+
+/// Does what a form asks for.
+fn perform_form<S: Shelf, K: Sink, D: Station>(
+    alloc: Global,
+    session: &mut Session<D>,
+    form: Form,
+    shelf: &mut S,
+    out: &mut K,
+) -> Status
+    requires running { IsRunning D.shown D.is_ready session.old }
+    ensures runs { Runs (DoesForm form)
+        (world_of D.shown S.told K.told session.old shelf.old out.old)
+        (world_of D.shown S.told K.told session.new shelf.new out.new) result }
+    ensures running { IsRunning D.shown D.is_ready session.new }
+    ensures is_form { result ≢ Status.BadWords }
+    ensures shelf_faults { Blames (result ≡ Status.FileFault) (S.fault_count shelf.old) (S.fault_count shelf.new) }
+    ensures sink_faults { Blames (result ≡ Status.SinkFault) (K.fault_count out.old) (K.fault_count out.new) }
+{
+    match form {
+        Form::Play { job } => play(alloc, session, job.as_str(), shelf, out),
+        Form::Format { name, cylinders } => format_disk(
+            alloc,
+            session,
+            name,
+            cylinders.count(),
+            Rate::R500,
+            shelf,
+            out,
+        ),
+        Form::FormatDd { name, cylinders } => format_disk(
+            alloc,
+            session,
+            name,
+            cylinders.count(),
+            Rate::R250,
+            shelf,
+            out,
+        ),
+        Form::Copy { from, to } => copy_disk(alloc, session, from, to, shelf, out),
+        Form::Verify { name } => verify_disk(alloc, session, name, shelf, out),
+        Form::FromImd { imd, name } => from_imd(alloc, imd, name, shelf, out),
+        Form::ToImd { name, imd } => to_imd(alloc, name, imd, shelf, out),
+        Form::Survey { name } => survey_disk(alloc, name, shelf, out),
+        Form::Remaster { from, to } => remaster_disk(alloc, from, to, shelf, out),
+        Form::Import { flat, name } => import_disk(alloc, session, flat, name, shelf, out),
+        Form::Export { name, flat } => export_disk(alloc, session, name, flat, shelf, out),
+        Form::Exercise { seed, count } => exercise_disk(alloc, session, seed, count, shelf, out),
+        Form::Int13 { calls } => serve_calls(alloc, session, calls, shelf, out),
+        Form::Rescue { from, to, log } => { rescue_disk(alloc, session, from, to, log, shelf, out) }
+    }
+}

@@ -1,0 +1,30 @@
+-- The program over a machine: from the driver's set-up to the machine that comes back.
+use Rattle.std.specs.Prelude.{◌≡◌, List, Option, None}
+use Rattle.flop_base.specs.declared.answers.Status.{Status}
+use Rattle.bay_model.specs.Bays.{both}
+use Rattle.bay_model.specs.Counters.{DriveCounts}
+use Rattle.pc_bus.specs.Boards.{Board}
+use Rattle.sector_model.specs.Stations.{IsFresh}
+use Rattle.sector_model.specs.States.{State}
+use Rattle.machine_station.specs.Shown.{ShowsStation}
+use Rattle.machine_station.specs.Started.{Starts}
+use Rattle.floppy_words.specs.declared.form.Form.{Form}
+use Rattle.disk_commands.specs.Commands.{Runs}
+use Rattle.archive_commands.specs.Files.{Desk}
+use Rattle.floppy_forms.specs.Turns.{world}
+use Rattle.floppy_forms.specs.Programs.{Does}
+
+-- a session before its first request, whose driver was set up on this board, with spare drives of these counts
+pub record IsSetUp (board : Board) (spares : List DriveCounts) (state : State) : Type 0 where
+  pub names : state.names ≡ both None
+  pub fresh : IsFresh state.station
+  pub starts : Starts board spares state.station
+
+-- the program ran over a machine: its run begins with the session that was set up, and the machine that comes back shows the
+-- station at its end
+pub record RunsOver (asked : Option Form) (old : Board) (spares : List DriveCounts) (before : Desk) (new : Board) (after : Desk) (ended : Status) : Type 0 where
+  pub start : State
+  pub last : State
+  pub set_up : IsSetUp old spares start
+  pub shows : ShowsStation new last.station
+  pub runs : Runs (Does asked) (world start before.files before.report) (world last after.files after.report) ended

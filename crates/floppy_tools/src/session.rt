@@ -1,0 +1,98 @@
+// A session over a machine.
+ghost use Rattle.std.specs.Prelude.{◌≡◌, All, IfErr, IfOk, IsErrOf, List, OnOk, Option};
+ghost use Rattle.flop_base.specs.Shelf.{Files};
+ghost use Rattle.pc_bus.specs.Boards.{board, IsEmpty};
+ghost use Rattle.sector_model.specs.Steps.{Step, StopsAt};
+ghost use Rattle.sector_model.specs.Runs.{Taken, Ends, EndStopsAt, IsEndStop};
+ghost use Rattle.sector_model.specs.Faults.{Blames};
+ghost use Rattle.floppy_session.specs.Services.{Serves};
+ghost use Rattle.floppy_session.specs.Tries.{HasTries};
+ghost use Rattle.machine_station.specs.Shown.{all_counts, ShowsStation};
+ghost use Rattle.machine_station.specs.Started.{IsFreshBoard};
+
+use drive_model::Drive;
+use flop_base::Shelf;
+use floppy_jobs::Request;
+use floppy_session::Session as StationSession;
+use int13::{Int13, Regs};
+use machine_station::MachineStation;
+use pc_bus::MachineOf;
+use sector_model::{Reply, Stop};
+use std::alloc::Global;
+
+/// A session over a machine, whose driver runs requests one after the other.
+#[derive(Drop)]
+pub struct Session<D> {
+    pub(crate) over: StationSession<MachineStation<D>>,
+}
+
+impl<D: Drive> Session<D> {
+    ghost use Rattle.floppy_tools.specs.Machines.{IsSetUp};
+    ghost use Rattle.floppy_tools.specs.Sessions.{session_state, is_running};
+
+    /// Sets the driver up on a machine that is as it was made. The first of the spare drives is taken first. The session keeps
+    /// the allocator for `run`, and takes no memory itself.
+    pub fn new(alloc: Global, machine: MachineOf<D>, spare: Vec<D>) -> Session<D>
+        requires machine { IsFreshBoard (board D.state machine) }
+        requires spare { All (λ drive. IsEmpty (D.state drive)) spare.items }
+        ensures set_up { IsSetUp (board D.state machine) (all_counts D.state spare.items) (session_state D.state result) }
+        ensures running { is_running D.state result }
+    {
+        let station = MachineStation::set_up(machine, spare);
+        Session {
+            over: StationSession::new(alloc, station),
+        }
+    }
+
+    /// Runs one request.
+    pub fn run<S: Shelf>(&mut self, shelf: &mut S, request: &Request) -> Result<Reply, Stop>
+        requires running { is_running D.state self.old }
+        requires tries { HasTries request.now }
+        ensures step { IfOk result (λ reply. Step (session_state D.state self.old) (S.told shelf.old) request.now reply
+            (session_state D.state self.new) (S.told shelf.new)) }
+        ensures stop { IfErr result (λ stop. StopsAt (session_state D.state self.old) (S.told shelf.old) request.now stop
+            (session_state D.state self.new) (S.told shelf.new)) }
+        ensures running { is_running D.state self.new }
+        ensures faults { Blames (IsErrOf result Stop.FileFault) (S.fault_count shelf.old) (S.fault_count shelf.new) }
+    {
+        self.over.run(shelf, request)
+    }
+
+    /// Ends a run: the medium of bay 0, and then that of bay 1, is taken out and stored under its name.
+    pub fn end<S: Shelf>(&mut self, shelf: &mut S) -> Result<(), Stop>
+        requires { is_running D.state self.old }
+        ensures ends { OnOk result (Ends (session_state D.state self.old) (S.told shelf.old)
+            (session_state D.state self.new) (S.told shelf.new)) }
+        ensures stop { IfErr result (λ stop. IsEndStop stop × EndStopsAt (session_state D.state self.old) (S.told shelf.old)
+            (session_state D.state self.new) (S.told shelf.new)) }
+        ensures running { is_running D.state self.new }
+        ensures faults { Blames (IsErrOf result Stop.FileFault) (S.fault_count shelf.old) (S.fault_count shelf.new) }
+    {
+        self.over.end(shelf)
+    }
+
+    /// Serves a call of INT 13h (PC/AT), with the service that keeps the status. It takes no memory.
+    pub fn int13(&mut self, front: &mut Int13, regs: Regs) -> Regs
+        requires { is_running D.state self.old }
+        ensures serves { (told : Option Files) → (course : List Taken) × Serves front.old regs
+            (session_state D.state self.old) told result front.new course (session_state D.state self.new) }
+        ensures running { is_running D.state self.new }
+    {
+        self.over.int13(front, regs)
+    }
+
+    /// The machine, which shows what was counted.
+    pub fn machine(&self) -> &MachineOf<D>
+        ensures { ShowsStation (board D.state result.now) (session_state D.state self.now).station }
+    {
+        self.over.station().machine()
+    }
+
+    /// The machine as it stands. The spare drives that are left are dropped.
+    pub fn into_machine(self) -> MachineOf<D>
+        ensures { ShowsStation (board D.state result) (session_state D.state self).station }
+    {
+        let Session { over } = self;
+        over.into_station().into_machine()
+    }
+}
