@@ -5,5 +5,5 @@ mod play;
 mod words;
 
 pub use floppy_session::Session;
-pub use words::{run_asked, run_words};
 pub use sector_model::{Reason, Reply, Stop};
+pub use words::{run_asked, run_words};

@@ -114,7 +114,10 @@ fn a_spare_whose_pulses_are_lost(rt: HostRuntime) -> Result<(), Fail> {
         spare,
     );
     assert_eq!(rt; status, Status::SomeRefused);
-    assert_eq!(rt; sink.bytes(), b"unit ok\ninsert ok\nack refused 80\n".as_slice());
+    assert_eq!(rt;
+        sink.bytes(),
+        b"unit ok\ninsert ok\nack refused 80\n".as_slice()
+    );
     assert!(rt; machine.faults(0) >= 3);
     assert_eq!(rt; machine.faults(1), 0);
     Ok(())
