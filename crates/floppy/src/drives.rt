@@ -65,7 +65,9 @@ impl<D: Drive> Drives<D> {
         ensures { IfOk result (λ spare. All (λ drive. IsEmpty (D.state drive)) spare.items) }
     {
         let Drives { first, second } = self;
-        let spare = vec![in alloc; first, second]?;
+        let mut spare = Vec::new(alloc);
+        spare.push(first)?;
+        spare.push(second)?;
         Ok(spare)
     }
 }

@@ -1,5 +1,5 @@
 -- What is said of a run over a machine.
-use Rattle.std.proofs.Common.{arith, ◌≡◌, ◌+◌, ◌≤◌, ℕ, List, Option, Some, refl, ap, ◌∙◌, sym, subst}
+use Rattle.std.proofs.Common.{arith, ◌≡◌, ◌+◌, ◌≤◌, ℕ, List, Option, Some, refl, ap, sym, subst}
 use Rattle.flop_base.specs.declared.answers.Status.{Status}
 use Rattle.floppy_jobs.specs.declared.request.Request.{Request}
 use Rattle.bay_model.specs.Counters.{Counters, DriveCounts}

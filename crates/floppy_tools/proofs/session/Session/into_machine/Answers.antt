@@ -3,5 +3,5 @@ use Rattle.machine_station.specs.Shown.{station_shown}
 use Rattle.floppy_tools.proofs.Machines.{shows_as}
 use Rattle.floppy_tools.proofs.session.Session.into_machine.Goals as goal
 
-pub returns-clause : goal.returns-clause
-returns-clause g c = shows_as (board g.D.Drive.state c.into_machine.result) (station_shown g.D.Drive.state c.into_station.result) (station_shown g.D.Drive.state c.args.self.over.station) c.into_station.ensures.shown c.into_machine.ensures.shows
+pub returns : goal.returns
+returns g c = shows_as (board g.D.Drive.state c.into_machine.result) (station_shown g.D.Drive.state c.into_station.result) (station_shown g.D.Drive.state c.args.self.over.station) c.into_station.ensures.shown c.into_machine.ensures.shows

@@ -3,5 +3,5 @@ use Rattle.machine_station.specs.Shown.{station_shown}
 use Rattle.floppy_tools.proofs.Machines.{shows_as}
 use Rattle.floppy_tools.proofs.session.Session.machine.Goals as goal
 
-pub returns-clause : goal.returns-clause
-returns-clause g c = shows_as (board g.D.Drive.state c.machine.result.now) (station_shown g.D.Drive.state c.station.result.now) (station_shown g.D.Drive.state c.args.self.now.over.station) c.station.ensures c.machine.ensures.shows
+pub returns : goal.returns
+returns g c = shows_as (board g.D.Drive.state c.machine.result.now) (station_shown g.D.Drive.state c.station.result.now) (station_shown g.D.Drive.state c.args.self.now.over.station) c.station.ensures c.machine.ensures.shows
