@@ -1,14 +1,12 @@
 // A drive of the tests' own, handed in as a spare.
-ghost use Rattle.std.specs.Prelude.{◌≡◌, ◌≤◌, None, IfOk};
+ghost use Rattle.std.specs.Prelude.{◌≡◌, ◌≤◌, None};
 ghost use Rattle.flop_base.specs.Counts.{last_count};
-ghost use Rattle.pc_bus.specs.Boards.{IsEmpty};
 
 use crate::machines::{lines, machine_with, run, words};
 use drive_model::{Drive, PlainDrive, Turn};
 use flop_base::{MemShelf, MemSink, Rate, Status};
 use floppy_tools::floppy;
 use raw_image::Medium;
-use std::alloc::{AllocError, Global};
 use std::test::Fail;
 
 /// A drive whose pulses are all lost.
@@ -78,15 +76,6 @@ impl Drive for StuckDrive {
     }
 }
 
-/// A drive as it comes, behind a box.
-fn boxed<D: Drive + 'static>(alloc: Global, drive: D) -> Result<Box<dyn Drive>, AllocError>
-    requires { IsEmpty (D.state drive) }
-    ensures { IfOk result (λ boxed. IsEmpty ((Drive-box boxed).state boxed.value)) }
-{
-    let boxed: Box<dyn Drive> = Box::new(alloc, drive)?;
-    Ok(boxed)
-}
-
 #[test]
 fn a_spare_whose_pulses_are_lost(rt: HostRuntime) -> Result<(), Fail> {
     let alloc = rt.alloc();
@@ -97,13 +86,12 @@ fn a_spare_whose_pulses_are_lost(rt: HostRuntime) -> Result<(), Fail> {
         inside: PlainDrive::new(),
         faults: 0,
     };
-    let mut spare: Vec<Box<dyn Drive>> = Vec::new(alloc);
-    spare.push(boxed(alloc, stuck)?)?;
-    let machine = machine_with(
-        alloc,
-        boxed(alloc, PlainDrive::new())?,
-        boxed(alloc, PlainDrive::new())?,
-    )?;
+    let first: Box<dyn Drive> = Box::new(alloc, PlainDrive::new())?;
+    let second: Box<dyn Drive> = Box::new(alloc, PlainDrive::new())?;
+    let next: Box<dyn Drive> = Box::new(alloc, stuck)?;
+    let mut spare = Vec::new(alloc);
+    spare.push(next)?;
+    let machine = machine_with(alloc, first, second)?;
     let mut sink = MemSink::new(alloc, Vec::new(alloc));
     let (status, machine) = floppy(
         alloc,
