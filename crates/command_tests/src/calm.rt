@@ -1,10 +1,7 @@
-// Commands at a pace with no gap, hold or stray, and calls past the driver.
+// Commands at a pace with no gap, hold or stray.
 use crate::bench::{calm, diskette, machine};
 use crate::orders::{Sector, format, passing, read, read_back, recalibrate, seek, write};
-use drive_model::PlainDrive;
 use flop_base::{Code, Rate};
-use machine_commands::CommandedMachine;
-use pc_bus::MachineOf;
 use single_commands::Commands;
 use std::test::Fail;
 
@@ -21,37 +18,6 @@ fn the_heads_move(rt: HostRuntime) -> Result<(), Fail> {
     assert_eq!(rt; machine.machine().data_commands(), 2);
     // one for the poll, four for seeks, two for data commands
     assert_eq!(rt; machine.machine().taken(), 7);
-    Ok(())
-}
-
-#[test]
-fn change_lines_are_cleared_by_pulses(rt: HostRuntime) -> Result<(), Fail> {
-    let empty = MachineOf::new(
-        rt.alloc(),
-        PlainDrive::new(),
-        PlainDrive::new(),
-        calm(rt.alloc()),
-    )?;
-    let mut machine = CommandedMachine::new(empty);
-    machine.reset();
-    machine.seek(1, 1);
-    assert!(rt; machine.is_changed(1));
-    let medium = diskette(rt.alloc())?;
-    assert!(rt; machine.insert(1, medium).is_ok());
-    let other = diskette(rt.alloc())?;
-    assert!(rt; machine.insert(1, other).is_err());
-    machine.seek(1, 2);
-    assert!(rt; !machine.is_changed(1));
-    assert!(rt; machine.is_changed(0));
-    assert!(rt; !machine.is_protected(1));
-    assert!(rt; machine.eject(1).is_some());
-    assert!(rt; machine.is_changed(1));
-    assert!(rt; machine.eject(1).is_none());
-    machine.set_memory(7, 0x5A);
-    assert_eq!(rt; machine.memory(7), 0x5A);
-    let _ = machine.exchange(1, PlainDrive::new());
-    let board = machine.into_machine();
-    assert_eq!(rt; board.direct(), 6);
     Ok(())
 }
 
