@@ -10,8 +10,6 @@ mod disks;
 #[cfg(test)]
 mod failures;
 #[cfg(test)]
-mod flat;
-#[cfg(test)]
 mod images;
 #[cfg(test)]
 mod jobs;

@@ -8,22 +8,6 @@ use std::alloc::Global;
 use std::process::Abort;
 use std::test::Fail;
 
-/// Runs the program with these words over a shelf: its report, and its status.
-pub(crate) fn told(
-    alloc: Global,
-    shelf: &mut MemShelf,
-    text: &str,
-) -> Result<(Vec<u8>, Status), Fail> {
-    let mut words: Vec<String> = Vec::new(alloc);
-    for word in text.split_whitespace() {
-        words.push(String::from_str(alloc, word)?)?;
-    }
-    let mut sink = MemSink::new(alloc, Vec::new(alloc));
-    let station = MemoryStation::new(alloc, 2)?;
-    let (status, _) = floppy(alloc, &words, shelf, &mut sink, station);
-    Ok((sink.bytes().to_vec(alloc)?, status))
-}
-
 /// Runs the program with these words over a shelf, and compares its report and its status.
 pub(crate) fn answers(
     rt: &impl Abort,
@@ -32,9 +16,15 @@ pub(crate) fn answers(
     text: &str,
     wanted: (&str, Status),
 ) -> Result<(), Fail> {
-    let (bytes, status) = told(alloc, shelf, text)?;
+    let mut words: Vec<String> = Vec::new(alloc);
+    for word in text.split_whitespace() {
+        words.push(String::from_str(alloc, word)?)?;
+    }
+    let mut sink = MemSink::new(alloc, Vec::new(alloc));
+    let station = MemoryStation::new(alloc, 2)?;
+    let (status, _) = floppy(alloc, &words, shelf, &mut sink, station);
     let lines = report(alloc, wanted.0)?;
-    assert_eq!(rt; bytes.as_slice(), lines.as_slice(), "report of {text}");
+    assert_eq!(rt; sink.bytes(), lines.as_slice(), "report of {text}");
     assert_eq!(rt; status, wanted.1, "status of {text}");
     Ok(())
 }
