@@ -9,5 +9,6 @@ mod service;
 mod session;
 mod shape;
 
+pub use loading::{load_medium, store_medium};
 pub use session::Session;
 pub use shape::Shape;

@@ -19,12 +19,9 @@ const MOST_IMAGE_BYTES: usize = 5_242_894;
 /// The bytes that the reader of images is given at a time.
 const PIECE_BYTES: usize = 4_096;
 
-/// The medium of the image file of this name.
-pub(crate) fn load_medium<S: Shelf>(
-    alloc: Global,
-    shelf: &mut S,
-    name: &Name,
-) -> Result<Medium, Stop>
+/// The medium of the image file of this name. A missing name, a file past the longest image and one that is no image stop
+/// the run, each with its cause.
+pub fn load_medium<S: Shelf>(alloc: Global, shelf: &mut S, name: &Name) -> Result<Medium, Stop>
     ensures image { IfOk result (λ medium. IsImageOf (S.told shelf.old) name.now medium) }
     ensures cause { IfErr result (λ stop. (bay : ℕ) → StopCause (S.told shelf.old) (Request.Insert bay name.now) stop) }
     ensures stays { S.told shelf.new ≡ S.told shelf.old }
@@ -76,8 +73,8 @@ fn stop_at_load(alloc: Global, name: &Name, error: LoadError) -> Result<Stop, No
     })
 }
 
-/// Puts the image of a medium under its name.
-pub(crate) fn store_medium<S: Shelf>(
+/// Puts the image of a medium under its name. After an error the files are as they were.
+pub fn store_medium<S: Shelf>(
     alloc: Global,
     shelf: &mut S,
     name: &Name,
