@@ -6,7 +6,7 @@ use Rattle.floppy_session.specs.Session.{state_of}
 use Rattle.machine_station.specs.Shown.{all_counts, station_shown}
 use Rattle.floppy_tools.specs.Sessions.{session_state}
 use Rattle.floppy_tools.proofs.Machines.{machine_accesses}
-use Rattle.floppy_tools.proofs.program.floppy.Goals as goal
+use Rattle.floppy_tools.proofs.program.over_driver.Goals as goal
 
 pub returns-clause-runs : goal.returns-clause-runs
 returns-clause-runs g c = record {
