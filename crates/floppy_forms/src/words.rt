@@ -33,7 +33,8 @@ use std::alloc::Global;
 /// `export NAME FLAT` go between a flat file and a disk, `exercise SEED COUNT` runs a generated workload; `fromimd IMD NAME` and
 /// `toimd NAME IMD` turn ImageDisk files into disks and back, `survey NAME` lists the address fields of a disk, `remaster FROM TO`
 /// lays one out anew; `int13 FILE` serves calls of INT 13h; `rescue FROM TO LOG` reads what it can of a disk, and keeps a log of
-/// the rest. It prints a report to the sink, and the status says how it ended. The station comes back in every case.
+/// the rest. `ports FILE` is none of these forms, since a station has no ports. It prints a report to the sink, and the status says
+/// how it ended. The station comes back in every case.
 pub fn run_words<S: Shelf, K: Sink, D: Station>(
     alloc: Global,
     words: &[String],

@@ -1,22 +1,26 @@
 // The top call.
-ghost use Rattle.std.specs.Prelude.{◌≡◌, ◌≤◌, ◌+◌, All, List, ℕ, None, Some, map, string_bytes};
+ghost use Rattle.std.specs.Prelude.{◌≡◌, ◌≢◌, ◌≤◌, ◌+◌, All, List, ℕ, None, Some, map, string_bytes};
 ghost use Rattle.floppy_jobs.specs.declared.request.Request.{Request};
 ghost use Rattle.pc_bus.specs.Boards.{board, IsEmpty};
 ghost use Rattle.sector_model.specs.Faults.{Blames};
 ghost use Rattle.sector_model.specs.Ties.{IsJob, accesses_of_job};
 ghost use Rattle.floppy_words.specs.declared.form.Form.TheVariants as form;
-ghost use Rattle.floppy_words.specs.Forms.{form_of};
+ghost use Rattle.floppy_words.specs.Forms.{form_of, ports_file_of};
 ghost use Rattle.archive_commands.specs.Files.{desk_of};
 ghost use Rattle.machine_station.specs.Shown.{all_counts};
 ghost use Rattle.machine_station.specs.Started.{IsFreshBoard};
+ghost use Rattle.port_commands.specs.Benches.{Names, no_names};
+ghost use Rattle.port_commands.specs.Guards.{RunsPorts};
+ghost use Rattle.port_commands.specs.Plays.{world_of};
 ghost use Rattle.floppy_tools.specs.Machines.{RunsOver};
 
 use crate::session::Session;
 use drive_model::Drive;
-use flop_base::{Shelf, Sink, Status};
+use flop_base::{NoMemory, Shelf, Sink, Status};
 use floppy_forms::run_asked;
-use floppy_words::form_named;
+use floppy_words::{form_named, ports_file};
 use pc_bus::MachineOf;
+use port_commands::run_ports;
 use std::alloc::Global;
 
 /// Does what the words after the program's name say, on a machine that is as it was made: `play JOB` runs a job, `format NAME
@@ -24,8 +28,8 @@ use std::alloc::Global;
 /// NAME` and `export NAME FLAT` go between a flat file and a disk, `exercise SEED COUNT` runs a generated workload; `fromimd IMD
 /// NAME` and `toimd NAME IMD` turn ImageDisk files into disks and back, `survey NAME` lists the address fields of a disk,
 /// `remaster FROM TO` lays one out anew; `int13 FILE` serves calls of INT 13h; `rescue FROM TO LOG` reads what it can of a disk,
-/// and keeps a log of the rest. It prints a report to the sink, and the status says how it ended. The machine comes back in every
-/// case; the spare drives that are left are dropped.
+/// and keeps a log of the rest. `ports FILE` runs a text of port accesses on the machine itself, with no driver. It prints a report
+/// to the sink, and the status says how it ended. The machine comes back in every case; the spare drives that are left are dropped.
 pub fn floppy<S: Shelf, K: Sink, D: Drive>(
     alloc: Global,
     words: &[String],
@@ -38,13 +42,68 @@ pub fn floppy<S: Shelf, K: Sink, D: Drive>(
     requires spare { All (λ drive. IsEmpty (D.state drive)) spare.items }
     // The headline: what is printed and stored is a run of the sector model, whose counts are those that the machine shows
     // before and after it.
+    ensures runs { ports_file_of (map string_bytes words.now) ≡ None
+        → RunsOver (form_of (map string_bytes words.now)) (board D.state machine) (all_counts D.state spare.items)
+        (desk_of S.told K.told shelf.old out.old) (board D.state result.1) (desk_of S.told K.told shelf.new out.new)
+        result.0 }
+    // Port accesses run on the machine that is handed in, up to the one that comes back.
+    ensures ports { (file : List ℕ) → ports_file_of (map string_bytes words.now) ≡ Some file → (names : Names)
+        × RunsPorts (world_of D.state S.told K.told machine no_names shelf.old out.old) file
+        (world_of D.state S.told K.told result.1 names shelf.new out.new) result.0 }
+    ensures accesses { (job : List ℕ) (requests : List Request)
+        → form_of (map string_bytes words.now) ≡ Some (form.Play job) → IsJob (S.told shelf.old) job requests
+        → (board D.state result.1).bus.direct ≤ (board D.state machine).bus.direct + accesses_of_job requests }
+    // 2 exactly where the words are neither a form nor `ports FILE`, also where nothing is told.
+    ensures bad_words { result.0 ≡ Status.BadWords → form_of (map string_bytes words.now) ≡ None }
+    ensures no_ports { result.0 ≡ Status.BadWords → ports_file_of (map string_bytes words.now) ≡ None }
+    ensures shelf_faults { Blames (result.0 ≡ Status.FileFault) (S.fault_count shelf.old) (S.fault_count shelf.new) }
+    ensures sink_faults { Blames (result.0 ≡ Status.SinkFault) (K.fault_count out.old) (K.fault_count out.new) }
+{
+    match ports_file(alloc, words) {
+        Ok(Some(file)) => at_ports(alloc, file.as_str(), shelf, out, machine),
+        Ok(None) => over_driver(alloc, words, shelf, out, machine, spare),
+        Err(NoMemory) => (Status::NoMemory, machine),
+    }
+}
+
+/// Runs the port accesses of the text of this name.
+fn at_ports<S: Shelf, K: Sink, D: Drive>(
+    alloc: Global,
+    file: &str,
+    shelf: &mut S,
+    out: &mut K,
+    machine: MachineOf<D>,
+) -> (Status, MachineOf<D>)
+    requires { IsFreshBoard (board D.state machine) }
+    ensures ports { (names : Names)
+        × RunsPorts (world_of D.state S.told K.told machine no_names shelf.old out.old) file.now
+        (world_of D.state S.told K.told result.1 names shelf.new out.new) result.0 }
+    ensures is_form { result.0 ≢ Status.BadWords }
+    ensures shelf_faults { Blames (result.0 ≡ Status.FileFault) (S.fault_count shelf.old) (S.fault_count shelf.new) }
+    ensures sink_faults { Blames (result.0 ≡ Status.SinkFault) (K.fault_count out.old) (K.fault_count out.new) }
+{
+    let mut machine = machine;
+    let status = run_ports(alloc, &mut machine, file, shelf, out);
+    (status, machine)
+}
+
+/// Does the form that the words spell, with a driver that is set up on the machine.
+fn over_driver<S: Shelf, K: Sink, D: Drive>(
+    alloc: Global,
+    words: &[String],
+    shelf: &mut S,
+    out: &mut K,
+    machine: MachineOf<D>,
+    spare: Vec<D>,
+) -> (Status, MachineOf<D>)
+    requires machine { IsFreshBoard (board D.state machine) }
+    requires spare { All (λ drive. IsEmpty (D.state drive)) spare.items }
     ensures runs { RunsOver (form_of (map string_bytes words.now)) (board D.state machine) (all_counts D.state spare.items)
         (desk_of S.told K.told shelf.old out.old) (board D.state result.1) (desk_of S.told K.told shelf.new out.new)
         result.0 }
     ensures accesses { (job : List ℕ) (requests : List Request)
         → form_of (map string_bytes words.now) ≡ Some (form.Play job) → IsJob (S.told shelf.old) job requests
         → (board D.state result.1).bus.direct ≤ (board D.state machine).bus.direct + accesses_of_job requests }
-    // 2 exactly where the words are no form, also where nothing is told.
     ensures bad_words { result.0 ≡ Status.BadWords → form_of (map string_bytes words.now) ≡ None }
     ensures shelf_faults { Blames (result.0 ≡ Status.FileFault) (S.fault_count shelf.old) (S.fault_count shelf.new) }
     ensures sink_faults { Blames (result.0 ≡ Status.SinkFault) (K.fault_count out.old) (K.fault_count out.new) }

@@ -47,7 +47,7 @@ none_or : {X : Type 0} (o : Option X) → (o ≡ None) ⊎ ((x : X) × (o ≡ So
 none_or None = inl refl
 none_or (Some x) = inr (x, refl)
 
-dash_name : (word : List ℕ) → begins_with_dash word ≡ true → name_of word ≡ None
+pub dash_name : (word : List ℕ) → begins_with_dash word ≡ true → name_of word ≡ None
 dash_name word dash = elim (none_or (name_of word)) [
   | inl e ↦ e
   | inr found ↦ let plain = name_plain word found.0 found.1 in absurd cc
@@ -56,7 +56,7 @@ dash_name word dash = elim (none_or (name_of word)) [
 dash_cylinders : (word : List ℕ) → begins_with_dash word ≡ true → cylinders_of word ≡ None
 dash_cylinders word dash = let is = is_dash word dash in rw is.1 (dash_count is.0)
 
-any_one : (a : Bool) → (a || false) ≡ true → a ≡ true
+pub any_one : (a : Bool) → (a || false) ≡ true → a ≡ true
 any_one true e = refl
 any_one false e = absurd cc
 
@@ -205,6 +205,11 @@ int13_none [] e = refl
 int13_none (word ∷ []) e = let none = dash_name word (any_one _ e) in rw none refl
 int13_none (word ∷ next ∷ rest) e = refl
 
+-- one of two
+pub either_or : (a b : Bool) → (a || b) ≡ true → (a ≡ true) ⊎ (b ≡ true)
+either_or true b e = inl refl
+either_or false b e = inr e
+
 -- a choice between what gives nothing
 chosen_none : {X : Type 0} (b : Bool) (x y : Option X) → x ≡ None → y ≡ None → (if b then x else y) ≡ None
 chosen_none true x y e f = e
@@ -221,10 +226,6 @@ dash_none ((d ∷ rest) ∷ words) e = elim (either_or _ _ e) [
       (chosen_none _ _ _ (formatdd_none words behind) (chosen_none _ _ _ (copy_none words behind)
       (chosen_none _ _ _ (verify_none words behind) (chosen_none _ _ _ (fromimd_none words behind) (chosen_none _ _ _ (toimd_none words behind) (chosen_none _ _ _ (survey_none words behind) (chosen_none _ _ _ (remaster_none words behind) (chosen_none _ _ _ (import_none words behind) (chosen_none _ _ _ (export_none words behind) (chosen_none _ _ _ (exercise_none words behind) (chosen_none _ _ _ (int13_none words behind) (chosen_none _ _ _ (rescue_none words behind) refl)))))))))))))
 ]
-  where
-    either_or : (a b : Bool) → (a || b) ≡ true → (a ≡ true) ⊎ (b ≡ true)
-    either_or true b e = inl refl
-    either_or false b e = inr e
 
 -- so they are read as none
 pub reads_none : (read : Result (Option Form) NoMemory) (words : List (List ℕ)) → Reads read (form_of words)

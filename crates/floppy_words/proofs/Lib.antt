@@ -1,3 +1,4 @@
 pub mod DashLemmas
 pub mod NumberLemmas
 pub mod PlaceLemmas
+pub mod PortsLemmas

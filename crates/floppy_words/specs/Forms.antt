@@ -155,7 +155,12 @@ form_of (verb ∷ words) =
     else (if bytes_eq verb (codes "rescue") then rescue_of words
     else None)))))))))))))
 
--- the words were read as the form that they spell; memory can be wanted only where they spell one
+-- ports FILE: a text of port accesses, which has no driver and is no form
+unfoldable pub ports_file_of : List (List ℕ) → Option (List ℕ)
+ports_file_of (verb ∷ word ∷ []) = if bytes_eq verb (codes "ports") then name_of word else None
+ports_file_of _ = None
+
+-- the words were read as what they spell; memory can be wanted only where they spell one
 abbrev pub Reads : {T : Type 0} → Result (Option T) NoMemory → Option T → Type 0
 Reads (Ok read) spelled = read ≡ spelled
 Reads (Err _) spelled = IsSome spelled

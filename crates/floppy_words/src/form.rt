@@ -39,7 +39,7 @@ impl Cylinders {
     }
 }
 
-/// What the program is asked to do.
+/// What the program is asked to do with its driver.
 #[derive(Drop)]
 pub enum Form {
     /// Runs the job of this name.

@@ -1,4 +1,4 @@
-//! What the words of the command line ask for: one of the program's forms, or none.
+//! What the words of the command line ask for: one of the program's forms, a text of port accesses, or nothing.
 #![tactic(auto)]
 
 mod form;
@@ -7,4 +7,4 @@ mod read;
 mod seed;
 
 pub use form::{Cylinders, Form};
-pub use read::form_named;
+pub use read::{form_named, ports_file};

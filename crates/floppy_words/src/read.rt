@@ -1,7 +1,7 @@
 // The form that the words of the command line spell.
 ghost use Rattle.std.specs.Prelude.{◌≡◌, map, string_bytes, true};
 ghost use Rattle.std.specs.List.{list_any};
-ghost use Rattle.floppy_words.specs.Forms.{Reads, begins_with_dash, cylinders_of, disk_of, play_of, format_of, formatdd_of, copy_of, verify_of, fromimd_of, toimd_of, survey_of, remaster_of, names_of, form_of, import_of, export_of, count_of, workload_of, exercise_of, int13_of, rescue_of};
+ghost use Rattle.floppy_words.specs.Forms.{Reads, ports_file_of, begins_with_dash, cylinders_of, disk_of, play_of, format_of, formatdd_of, copy_of, verify_of, fromimd_of, toimd_of, survey_of, remaster_of, names_of, form_of, import_of, export_of, count_of, workload_of, exercise_of, int13_of, rescue_of};
 
 use crate::places::{one_place, three_places, two_places};
 use crate::seed::seed_number;
@@ -18,6 +18,30 @@ pub fn form_named(alloc: Global, words: &[String]) -> Result<Option<Form>, NoMem
     ensures no_dash { list_any begins_with_dash (map string_bytes words.now) ≡ true → result ≡ Ok None }
 {
     form(alloc, words)
+}
+
+/// The name of the text where the words after the program's name are `ports FILE`, which is no form: it has no driver. Other words
+/// are told without any memory.
+pub fn ports_file(alloc: Global, words: &[String]) -> Result<Option<Name>, NoMemory>
+    ensures file { Reads result (ports_file_of (map string_bytes words.now)) }
+    ensures no_dash { list_any begins_with_dash (map string_bytes words.now) ≡ true → result ≡ Ok None }
+{
+    ports(alloc, words)
+}
+
+#[tactic(auto, unfolding(crate::specs::Forms::ports_file_of))]
+fn ports(alloc: Global, words: &[String]) -> Result<Option<Name>, NoMemory>
+    ensures { Reads result (ports_file_of (map string_bytes words.now)) }
+{
+    let [verb, file] = words else { return Ok(None) };
+    if !is_verb(verb.as_bytes(), "ports") {
+        return Ok(None);
+    }
+    let Some(file) = name_text(file.as_bytes()) else {
+        return Ok(None);
+    };
+    let file = one_place(alloc, "ports", file)?;
+    Ok(Some(file))
 }
 
 #[tactic(auto, unfolding(crate::specs::Forms::form_of))]

@@ -1,28 +1,26 @@
-use Rattle.std.specs.Prelude.{map, string_bytes}
-use Rattle.pc_bus.specs.Boards.{board}
-use Rattle.floppy_words.specs.Forms.{form_of}
-use Rattle.archive_commands.specs.Files.{desk_of}
-use Rattle.floppy_session.specs.Session.{state_of}
-use Rattle.machine_station.specs.Shown.{all_counts, station_shown}
-use Rattle.floppy_tools.specs.Sessions.{session_state}
-use Rattle.floppy_tools.proofs.Machines.{machine_accesses}
+use Rattle.std.proofs.Common.{◌≡◌, ◌∙◌, List, Option, Some, ℕ, refl, subst, sym}
+use Rattle.std.specs.Prelude.{IsSome, map, string_bytes}
+use Rattle.floppy_words.specs.Forms.{ports_file_of}
+use Rattle.port_commands.specs.Benches.{Names, no_names}
+use Rattle.port_commands.specs.Guards.{RunsPorts}
+use Rattle.port_commands.specs.Plays.{world_of}
+use Rattle.port_commands.proofs.Guarding.{starves}
+use Rattle.floppy_tools.proofs.Ports.{named_file, plays_none, wants_file}
 use Rattle.floppy_tools.proofs.program.floppy.Goals as goal
 
-pub returns-clause-runs : goal.returns-clause-runs
-returns-clause-runs g c = record {
-  start = session_state g.D.Drive.state c.new-session.result;
-  last = state_of (station_shown g.D.Drive.state) c.run_asked-status.new.session;
-  set_up = c.new-session.ensures.set_up;
-  shows = c.into_machine.ensures;
-  runs = c.run_asked-status.ensures.runs (form_of (map string_bytes c.args.words.now)) c.form_named-asked.ensures.form;
-}
+pub returns-in-Ok-Some-clause-ports : goal.returns-in-Ok-Some-clause-ports
+returns-in-Ok-Some-clause-ports g c = λ file named.
+    let is : c.as_str.result.now ≡ file = c.as_str.ensures ∙ named_file c.in-Ok-Some.field-0 (ports_file_of (map string_bytes c.args.words.now)) c.in-Ok-Some.file file c.in-Ok-Some.field-0-is c.in-Ok-Some.ensures.file named in
+    subst (λ (f : List ℕ). (names : Names) × RunsPorts (world_of g.D.Drive.state g.S.Shelf.told g.K.Sink.told c.args.machine no_names c.args.shelf.now c.args.out.now) f (world_of g.D.Drive.state g.S.Shelf.told g.K.Sink.told c.at_ports.result.1 names c.at_ports.new.shelf c.at_ports.new.out) c.at_ports.result.0) is c.at_ports.ensures.ports
 
-pub returns-clause-accesses : goal.returns-clause-accesses
-returns-clause-accesses g c = λ job requests named is. machine_accesses (form_of (map string_bytes c.args.words.now)) (board g.D.Drive.state c.args.machine) (board g.D.Drive.state c.into_machine.result) (all_counts g.D.Drive.state c.args.spare.items) (desk_of g.S.Shelf.told g.K.Sink.told c.args.shelf.now c.args.out.now) (desk_of g.S.Shelf.told g.K.Sink.told c.run_asked-status.new.shelf c.run_asked-status.new.out) c.run_asked-status.result
-    (record {
-      start = session_state g.D.Drive.state c.new-session.result;
-      last = state_of (station_shown g.D.Drive.state) c.run_asked-status.new.session;
-      set_up = c.new-session.ensures.set_up;
-      shows = c.into_machine.ensures;
-      runs = c.run_asked-status.ensures.runs (form_of (map string_bytes c.args.words.now)) c.form_named-asked.ensures.form;
-    }) job requests named is
+pub returns-in-Ok-Some-clause-runs : goal.returns-in-Ok-Some-clause-runs
+returns-in-Ok-Some-clause-runs g c = λ none. absurd (wants_file (ports_file_of (map string_bytes c.args.words.now)) (subst (λ (o : Option (List ℕ)). IsSome o) (sym c.in-Ok-Some.field-0-is ∙ c.in-Ok-Some.ensures.file) refl) none)
+
+pub returns-in-Ok-Some-clause-accesses : goal.returns-in-Ok-Some-clause-accesses
+returns-in-Ok-Some-clause-accesses g c = λ job requests plays is. absurd (plays_none (map string_bytes c.args.words.now) c.in-Ok-Some.field-0 c.in-Ok-Some.file job c.in-Ok-Some.field-0-is c.in-Ok-Some.ensures.file plays)
+
+pub returns-clause-runs : goal.returns-clause-runs
+returns-clause-runs g c = λ none. absurd (wants_file (ports_file_of (map string_bytes c.args.words.now)) c.in-Err.ensures.file none)
+
+pub returns-clause-ports : goal.returns-clause-ports
+returns-clause-ports g c = λ file named. (no_names, starves (world_of g.D.Drive.state g.S.Shelf.told g.K.Sink.told c.args.machine no_names c.args.shelf.now c.args.out.now) file)

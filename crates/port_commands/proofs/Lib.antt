@@ -1,0 +1,4 @@
+mod Turned
+mod Named
+pub mod Guarding
+mod Exchanged

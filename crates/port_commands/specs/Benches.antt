@@ -1,0 +1,42 @@
+-- A machine on a bench, with no driver: its board, the name of the file that each medium came from, and the files.
+use Rattle.std.specs.Prelude.{◌≡◌, ℕ, Bool, List, Option, None, is_some}
+use Rattle.bay_model.specs.Bays.{Two, in_bay}
+use Rattle.flop_base.specs.Shelf.{Files}
+use Rattle.drive_model.specs.Drive.{DriveState}
+use Rattle.pc_bus.specs.Boards.{Board, board}
+use Rattle.pc_bus.specs.declared.machine.MachineOf.{MachineOf}
+
+-- the names of the media that are in, one for each bay
+abbrev pub Names : Type 0
+Names = Two (Option (List ℕ))
+
+-- all that a line may change beside the report
+pub record Bench : Type 0 where
+  pub board : Board
+  pub names : Names
+  pub files : Option Files
+
+abbrev pub bench_of : {D S : Type 0} → (D → DriveState) → (S → Option Files) → MachineOf D → Names → S → Bench
+bench_of state told machine names shelf = record { board = board state machine; names = names; files = told shelf }
+
+-- a bay has a medium, and its name
+abbrev pub is_loaded : Names → ℕ → Bool
+is_loaded names bay = is_some (in_bay names bay)
+
+-- a bay has a name exactly where a medium is in
+pub record AreNamed (names : Names) (board : Board) : Type 0 where
+  pub first : is_some names.first ≡ is_some board.first.medium
+  pub second : is_some names.second ≡ is_some board.second.medium
+
+-- no medium is in, as in a machine that was just made
+pub record IsBare (board : Board) : Type 0 where
+  pub first : board.first.medium ≡ None
+  pub second : board.second.medium ≡ None
+
+-- both bays without a name
+abbrev pub no_names : Names
+no_names = record { first = None; second = None }
+
+-- the bench of a machine whose bays are empty
+abbrev pub bare_bench : {D S : Type 0} → (D → DriveState) → (S → Option Files) → MachineOf D → S → Bench
+bare_bench state told machine shelf = bench_of state told machine no_names shelf

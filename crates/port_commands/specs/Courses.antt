@@ -1,0 +1,58 @@
+-- Lines done one after the other, with the text that tells their answers; and the end, which stores what is left in.
+use Rattle.std.specs.Prelude.{◌≡◌, ℕ, ◌+◌, Bool, true, false, ◌||◌, List, [], ◌∷◌, ◌++◌, map}
+use Rattle.floppy_jobs.specs.declared.ports.PortLine.{PortLine}
+use Rattle.port_commands.specs.declared.answer.Answer.{Answer}
+use Rattle.port_commands.specs.Benches.{Bench, is_loaded}
+use Rattle.port_commands.specs.Lines.{DoesLine, StoresMedium, DropsMedium, is_refusal, waits_in}
+use Rattle.port_commands.specs.Texts.{answer_text}
+
+-- a line that was done: the line, its answer, and the bench that it leads to
+pub record Taken : Type 0 where
+  pub asked : PortLine
+  pub answer : Answer
+  pub after : Bench
+
+-- the course of a run: its lines were done one after the other
+abbrev pub PortRun : Bench → List Taken → Bench → Type 0
+PortRun old [] new = new ≡ old
+PortRun old (taken ∷ later) new = DoesLine old taken.asked taken.answer taken.after × PortRun taken.after later new
+
+-- the lines of a course
+abbrev pub lines_of : List Taken → List PortLine
+lines_of course = map (λ taken. taken.asked) course
+
+-- the text that tells its answers
+abbrev pub course_text : List Taken → List ℕ
+course_text [] = []
+course_text (taken ∷ later) = answer_text taken.asked taken.answer ++ course_text later
+
+-- some answer is a refusal
+abbrev pub has_refusal : List Taken → Bool
+has_refusal [] = false
+has_refusal (taken ∷ later) = is_refusal taken.answer || has_refusal later
+
+-- the device steps that its lines ask for
+abbrev pub waits_of : List Taken → ℕ
+waits_of [] = 0
+waits_of (taken ∷ later) = waits_in taken.asked + waits_of later
+
+-- a bay without a medium at the end
+pub record IsLeft (old : Bench) (bay : ℕ) (new : Bench) : Type 0 where
+  pub empty : is_loaded old.names bay ≡ false
+  pub same : new ≡ old
+
+-- the end of a bay: its medium is stored, if one is in
+pub data EndsBay (old : Bench) (bay : ℕ) (new : Bench) : Type 0 where
+  Stored : is_loaded old.names bay ≡ true → StoresMedium old bay new → EndsBay old bay new
+  Left : IsLeft old bay new → EndsBay old bay new
+
+-- the end of a run: bay 0, then bay 1
+pub record Ends (old new : Bench) : Type 0 where
+  pub mid : Bench
+  pub first : EndsBay old 0 mid
+  pub second : EndsBay mid 1 new
+
+-- where the end of a run stopped: at the store of bay 0, or at that of bay 1 after the end of bay 0
+pub data EndStopsAt (old new : Bench) : Type 0 where
+  AtFirst : DropsMedium old 0 new → EndStopsAt old new
+  AtSecond : (mid : Bench) → EndsBay old 0 mid → DropsMedium mid 1 new → EndStopsAt old new

@@ -1,0 +1,43 @@
+-- What port accesses can't do, whatever they are: to media, and to the count of device steps.
+use Rattle.std.specs.Prelude.{◌≡◌, ◌≤◌, ℕ, zero, suc, true, List, [], ◌∷◌}
+use Rattle.flop_base.specs.Counts.{RoseBy}
+use Rattle.flop_base.specs.declared.answers.Status.{Status}
+use Rattle.drive_model.specs.Drive.{is_protected}
+use Rattle.pc_bus.specs.Boards.{Board, drive_in}
+use Rattle.machine_writes.specs.Guards.{GuardsMedia}
+use Rattle.port_commands.specs.Benches.{Bench}
+use Rattle.port_commands.specs.Courses.{Taken, waits_of}
+use Rattle.port_commands.specs.Lines.{leaves_bay}
+use Rattle.port_commands.specs.Plays.{World, Plays}
+use Rattle.floppy_jobs.specs.declared.ports.PortLine.{PortLine}
+
+-- both media are as they were
+pub record SameMedia (old new : Board) : Type 0 where
+  pub first : new.first.medium ≡ old.first.medium
+  pub second : new.second.medium ≡ old.second.medium
+
+-- in so many device steps each medium changed, in each by one word at most, and not at all while it is protected
+unfoldable pub ChangesWords : ℕ → Board → Board → Type 0
+ChangesWords zero old new = SameMedia old new
+ChangesWords (suc n) old new = (between : Board) × ChangesWords n old between × GuardsMedia between new
+
+-- the medium of a bay, if it is a protected one, is as it was
+abbrev pub GuardsBay : ℕ → Board → Board → Type 0
+GuardsBay bay old new = is_protected (drive_in old bay).medium ≡ true → (drive_in new bay).medium ≡ (drive_in old bay).medium
+
+-- a line leaves the protected media that it doesn't take out
+abbrev pub GuardsLine : Bench → PortLine → Bench → Type 0
+GuardsLine old asked new =
+    (bay : ℕ) → bay ≤ 1 → leaves_bay bay asked ≡ true → GuardsBay bay old.board new.board
+
+-- each line of a course does
+abbrev pub GuardsCourse : Bench → List Taken → Type 0
+GuardsCourse old [] = Unit {0}
+GuardsCourse old (taken ∷ later) = GuardsLine old taken.asked taken.after × GuardsCourse taken.after later
+
+-- how a file of port accesses is run, how many device steps passed at least, and that protected media stayed as they were
+pub record RunsPorts (old : World) (name : List ℕ) (new : World) (ended : Status) : Type 0 where
+  pub course : List Taken
+  pub plays : Plays old name course new ended
+  pub steps : RoseBy (waits_of course) old.bench.board.bus.steps new.bench.board.bus.steps
+  pub media : GuardsCourse old.bench course

@@ -1,0 +1,6 @@
+pub mod Benches
+pub mod Lines
+pub mod Courses
+pub mod Plays
+pub mod Guards
+pub mod Texts

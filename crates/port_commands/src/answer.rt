@@ -1,0 +1,18 @@
+// What a line of port accesses answers.
+
+use sector_model::Reason;
+
+/// The answer to a line that was done.
+#[derive(Drop)]
+pub enum Answer {
+    /// A write or a wait, which tells nothing.
+    Nothing,
+    /// The byte that a port gave.
+    Byte { port: u16, value: u8 },
+    /// Whether the interrupt latch was set before it was taken.
+    Latch { set: bool },
+    /// A medium was put in or taken out.
+    Done,
+    /// It wasn't.
+    Refused(Reason),
+}

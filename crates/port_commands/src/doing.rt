@@ -1,0 +1,60 @@
+// Each line by its call of the machine.
+ghost use Rattle.std.specs.Prelude.{IfOk, IfErr, IsErrOf};
+ghost use Rattle.sector_model.specs.Faults.{Blames};
+ghost use Rattle.pc_bus.specs.Boards.{board};
+ghost use Rattle.port_commands.specs.Benches.{AreNamed, bench_of};
+ghost use Rattle.port_commands.specs.Lines.{DoesLine, ReadsPort, StopsAt};
+
+use crate::answer::Answer;
+use crate::media::{eject, insert};
+use crate::names::Names;
+use drive_model::Drive;
+use flop_base::Shelf;
+use floppy_jobs::PortLine;
+use pc_bus::MachineOf;
+use sector_model::Stop;
+use std::alloc::Global;
+
+/// Does a line.
+pub(crate) fn do_line<S: Shelf, D: Drive>(
+    alloc: Global,
+    machine: &mut MachineOf<D>,
+    names: &mut Names,
+    line: &PortLine,
+    shelf: &mut S,
+) -> Result<Answer, Stop>
+    requires { AreNamed names.old (board D.state machine.old) }
+    ensures does { IfOk result (λ said. DoesLine (bench_of D.state S.told machine.old names.old shelf.old)
+        line.now said (bench_of D.state S.told machine.new names.new shelf.new)) }
+    ensures stops { IfErr result (λ cause. StopsAt (bench_of D.state S.told machine.old names.old shelf.old)
+        line.now cause (bench_of D.state S.told machine.new names.new shelf.new)) }
+    ensures named { AreNamed names.new (board D.state machine.new) }
+    ensures faults { Blames (IsErrOf result Stop.FileFault) (S.fault_count shelf.old)
+        (S.fault_count shelf.new) }
+{
+    match line {
+        PortLine::In { port } => Ok(read(machine, *port)),
+        PortLine::Out { port, value } => {
+            machine.outb(*port, *value);
+            Ok(Answer::Nothing)
+        }
+        PortLine::Wait { steps } => {
+            machine.wait(u32::from(*steps));
+            Ok(Answer::Nothing)
+        }
+        PortLine::Irq => {
+            let set = machine.take_irq();
+            Ok(Answer::Latch { set })
+        }
+        PortLine::Insert { bay, name } => insert(alloc, machine, names, *bay, name, shelf),
+        PortLine::Eject { bay } => eject(alloc, machine, names, *bay, shelf),
+    }
+}
+
+/// Reads a port.
+fn read<D: Drive>(machine: &mut MachineOf<D>, port: u16) -> Answer
+    ensures { ReadsPort port (board D.state machine.old) result (board D.state machine.new) }
+{
+    let value = machine.inb(port);
+    Answer::Byte { port, value }
+}

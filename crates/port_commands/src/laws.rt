@@ -1,0 +1,26 @@
+// What no port access does, whatever the machine is doing. The body is empty.
+ghost use Rattle.std.specs.Prelude.{◌≤◌, ℕ, Bool, List};
+ghost use Rattle.flop_base.specs.Counts.{RoseBy};
+ghost use Rattle.machine_pace.specs.Entries.{next_entry};
+ghost use Rattle.pc_bus.specs.Boards.{Board};
+ghost use Rattle.pc_bus.specs.Ports.{Inputs, Outputs};
+ghost use Rattle.pc_bus.specs.Steps.{Runs, Waits, stirred};
+ghost use Rattle.port_commands.specs.Benches.{Bench};
+ghost use Rattle.port_commands.specs.Courses.{Taken, PortRun, waits_of};
+ghost use Rattle.port_commands.specs.Guards.{ChangesWords, GuardsCourse};
+
+/// A port access changes one word of an unprotected medium at most for each device step of the gap behind it, and a wait one for
+/// each of its own; a protected medium stays as it is. Lines leave the protected media that they don't take out, and the count of
+/// device steps rises by at least what they wait.
+pub fn accesses_guard_media()
+    ensures read { (port value : ℕ) (old new : Board) → Inputs port value old new
+        → ChangesWords (next_entry old.bus.gaps) old new }
+    ensures write { (port value : ℕ) (old new : Board) → Outputs port value old new
+        → ChangesWords (next_entry old.bus.gaps) old new }
+    ensures wait { (n : ℕ) (old new : Board) → Runs n (stirred old) new → ChangesWords n old new }
+    ensures wait_irq { (most : ℕ) (old new : Board) (set : Bool) → Waits most old set new
+        → (n : ℕ) × (n ≤ most) × ChangesWords n old new }
+    ensures steps { (old new : Bench) (course : List Taken) → PortRun old course new
+        → RoseBy (waits_of course) old.board.bus.steps new.board.bus.steps }
+    ensures media { (old new : Bench) (course : List Taken) → PortRun old course new → GuardsCourse old course }
+{}

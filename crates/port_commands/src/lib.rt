@@ -1,0 +1,14 @@
+//! The command that runs a text of port accesses on a machine as it stands, with no driver.
+#![tactic(auto)]
+
+mod answer;
+mod doing;
+mod laws;
+mod media;
+mod names;
+mod running;
+mod telling;
+
+pub use answer::Answer;
+pub use laws::accesses_guard_media;
+pub use running::run_ports;

@@ -1,0 +1,174 @@
+// The lines that exchange media, and the end of a run.
+ghost use Rattle.std.specs.Prelude.{◌≡◌, ◌≤◌, false, true, IfOk, IfErr, OnOk, OnErr, IsErrOf};
+ghost use Rattle.sector_model.specs.Faults.{Blames};
+ghost use Rattle.sector_model.specs.Runs.{IsEndStop};
+ghost use Rattle.floppy_jobs.specs.declared.ports.PortLine.TheVariants as line;
+ghost use Rattle.drive_model.specs.Drive.{Becomes, loaded};
+ghost use Rattle.bay_model.specs.Bays.{with_bay};
+ghost use Rattle.pc_bus.specs.Boards.{board, drive_in};
+ghost use Rattle.pc_bus.specs.Handling.{Touches};
+ghost use Rattle.port_commands.specs.Benches.{AreNamed, bench_of, is_loaded as is_loaded_in};
+ghost use Rattle.port_commands.specs.Lines.{DoesLine, StopsAt, StoresMedium, DropsMedium};
+ghost use Rattle.port_commands.specs.Courses.{Ends, EndsBay, EndStopsAt};
+
+use crate::answer::Answer;
+use crate::names::Names;
+use drive_model::Drive;
+use flop_base::{Code, Name, Shelf};
+use floppy_session::{load_medium, store_medium};
+use pc_bus::MachineOf;
+use raw_image::Medium;
+use sector_model::{Reason, Stop};
+use std::alloc::Global;
+
+/// Loads the image of this name and puts its medium in.
+pub(crate) fn insert<S: Shelf, D: Drive>(
+    alloc: Global,
+    machine: &mut MachineOf<D>,
+    names: &mut Names,
+    bay: u8,
+    name: &Name,
+    shelf: &mut S,
+) -> Result<Answer, Stop>
+    requires { AreNamed names.old (board D.state machine.old) }
+    ensures does { IfOk result (λ said. DoesLine (bench_of D.state S.told machine.old names.old shelf.old)
+        (line.Insert bay name.now) said (bench_of D.state S.told machine.new names.new shelf.new)) }
+    ensures stops { IfErr result (λ cause. StopsAt (bench_of D.state S.told machine.old names.old shelf.old)
+        (line.Insert bay name.now) cause (bench_of D.state S.told machine.new names.new shelf.new)) }
+    ensures named { AreNamed names.new (board D.state machine.new) }
+    ensures faults { Blames (IsErrOf result Stop.FileFault) (S.fault_count shelf.old)
+        (S.fault_count shelf.new) }
+{
+    if bay > 1 {
+        return Ok(Answer::Refused(Reason::Driver(Code::BadRequest)));
+    }
+    if names.is_loaded(bay) {
+        return Ok(Answer::Refused(Reason::Busy));
+    }
+    let medium = load_medium(alloc, shelf, name)?;
+    let name = Name::copy(alloc, name.as_str())?;
+    put_in(machine, names, bay, name, medium);
+    Ok(Answer::Done)
+}
+
+/// Puts a medium into an empty bay, to be stored under this name.
+fn put_in<D: Drive>(
+    machine: &mut MachineOf<D>,
+    names: &mut Names,
+    bay: u8,
+    name: Name,
+    medium: Medium,
+)
+    requires named { AreNamed names.old (board D.state machine.old) }
+    requires bay { bay ≤ 1 }
+    requires empty { is_loaded_in names.old bay ≡ false }
+    ensures touches { Touches bay (board D.state machine.old) (board D.state machine.new) }
+    ensures drive { Becomes (drive_in (board D.state machine.old) bay)
+        (loaded medium (drive_in (board D.state machine.old) bay)) (drive_in (board D.state machine.new) bay) }
+    ensures names { names.new ≡ with_bay names.old bay (Some name) }
+    ensures named { AreNamed names.new (board D.state machine.new) }
+{
+    match machine.insert(bay, medium) {
+        Ok(()) => names.set(bay, name),
+        Err(_) => unreachable!(),
+    }
+}
+
+/// Takes the medium out and stores its image under its name.
+pub(crate) fn eject<S: Shelf, D: Drive>(
+    alloc: Global,
+    machine: &mut MachineOf<D>,
+    names: &mut Names,
+    bay: u8,
+    shelf: &mut S,
+) -> Result<Answer, Stop>
+    requires { AreNamed names.old (board D.state machine.old) }
+    ensures does { IfOk result (λ said. DoesLine (bench_of D.state S.told machine.old names.old shelf.old)
+        (line.Eject bay) said (bench_of D.state S.told machine.new names.new shelf.new)) }
+    ensures stops { IfErr result (λ cause. StopsAt (bench_of D.state S.told machine.old names.old shelf.old)
+        (line.Eject bay) cause (bench_of D.state S.told machine.new names.new shelf.new)) }
+    ensures named { AreNamed names.new (board D.state machine.new) }
+    ensures faults { Blames (IsErrOf result Stop.FileFault) (S.fault_count shelf.old)
+        (S.fault_count shelf.new) }
+{
+    if bay > 1 {
+        return Ok(Answer::Refused(Reason::Driver(Code::BadRequest)));
+    }
+    if !names.is_loaded(bay) {
+        return Ok(Answer::Refused(Reason::Empty));
+    }
+    take_out(alloc, machine, names, bay, shelf)?;
+    Ok(Answer::Done)
+}
+
+/// Takes the medium out of a loaded bay and stores its image under its name. After a stop the medium is dropped.
+fn take_out<S: Shelf, D: Drive>(
+    alloc: Global,
+    machine: &mut MachineOf<D>,
+    names: &mut Names,
+    bay: u8,
+    shelf: &mut S,
+) -> Result<(), Stop>
+    requires named { AreNamed names.old (board D.state machine.old) }
+    requires bay { bay ≤ 1 }
+    requires loaded { is_loaded_in names.old bay ≡ true }
+    ensures ok { OnOk result (StoresMedium (bench_of D.state S.told machine.old names.old shelf.old) bay
+        (bench_of D.state S.told machine.new names.new shelf.new)) }
+    ensures err { OnErr result (DropsMedium (bench_of D.state S.told machine.old names.old shelf.old) bay
+        (bench_of D.state S.told machine.new names.new shelf.new)) }
+    ensures cause { IfErr result IsEndStop }
+    ensures named { AreNamed names.new (board D.state machine.new) }
+    ensures faults { Blames (IsErrOf result Stop.FileFault) (S.fault_count shelf.old)
+        (S.fault_count shelf.new) }
+{
+    let name = names.take(bay).unwrap();
+    let medium = machine.eject(bay).unwrap();
+    store_medium(alloc, shelf, &name, &medium)
+}
+
+/// Takes the medium out of a bay, if one is in, and stores its image under its name.
+fn end_bay<S: Shelf, D: Drive>(
+    alloc: Global,
+    machine: &mut MachineOf<D>,
+    names: &mut Names,
+    bay: u8,
+    shelf: &mut S,
+) -> Result<(), Stop>
+    requires named { AreNamed names.old (board D.state machine.old) }
+    requires bay { bay ≤ 1 }
+    ensures ok { OnOk result (EndsBay (bench_of D.state S.told machine.old names.old shelf.old) bay
+        (bench_of D.state S.told machine.new names.new shelf.new)) }
+    ensures err { OnErr result (DropsMedium (bench_of D.state S.told machine.old names.old shelf.old) bay
+        (bench_of D.state S.told machine.new names.new shelf.new)) }
+    ensures cause { IfErr result IsEndStop }
+    ensures named { AreNamed names.new (board D.state machine.new) }
+    ensures faults { Blames (IsErrOf result Stop.FileFault) (S.fault_count shelf.old)
+        (S.fault_count shelf.new) }
+{
+    if names.is_loaded(bay) {
+        take_out(alloc, machine, names, bay, shelf)
+    } else {
+        Ok(())
+    }
+}
+
+/// Stores the media that are left in: bay 0, then bay 1.
+pub(crate) fn end<S: Shelf, D: Drive>(
+    alloc: Global,
+    machine: &mut MachineOf<D>,
+    names: &mut Names,
+    shelf: &mut S,
+) -> Result<(), Stop>
+    requires { AreNamed names.old (board D.state machine.old) }
+    ensures ok { OnOk result (Ends (bench_of D.state S.told machine.old names.old shelf.old)
+        (bench_of D.state S.told machine.new names.new shelf.new)) }
+    ensures err { OnErr result (EndStopsAt (bench_of D.state S.told machine.old names.old shelf.old)
+        (bench_of D.state S.told machine.new names.new shelf.new)) }
+    ensures cause { IfErr result IsEndStop }
+    ensures named { AreNamed names.new (board D.state machine.new) }
+    ensures faults { Blames (IsErrOf result Stop.FileFault) (S.fault_count shelf.old)
+        (S.fault_count shelf.new) }
+{
+    end_bay(alloc, machine, names, 0, shelf)?;
+    end_bay(alloc, machine, names, 1, shelf)
+}

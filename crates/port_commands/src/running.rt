@@ -1,0 +1,229 @@
+// A text of port accesses is read and run to its end, or up to what stops it.
+ghost use Rattle.std.specs.Prelude.{◌≡◌, ◌≢◌, ◌||◌, List, IfOk, IfErr, IsErrOf, Err};
+ghost use Rattle.sector_model.specs.Faults.{Blames};
+ghost use Rattle.sector_model.specs.Plays.{whole_status};
+ghost use Rattle.pc_bus.specs.Boards.{board};
+ghost use Rattle.port_commands.specs.Benches.{AreNamed, IsBare, Names as NamesOfMedia, bench_of, no_names};
+ghost use Rattle.port_commands.specs.Courses.{Taken};
+ghost use Rattle.port_commands.specs.Guards.{RunsPorts};
+ghost use Rattle.port_commands.specs.Lines.{is_refusal};
+ghost use Rattle.port_commands.specs.Plays.{world_of, IsTurn, Breaks, HasRun, HasPlayed, EndsAs, PlaysOrStarves, Misses};
+
+use crate::answer::Answer;
+use crate::doing::do_line;
+use crate::media::end;
+use crate::names::Names;
+use crate::telling::put_answer;
+use drive_model::Drive;
+use flop_base::{LoadError, Shelf, Sink, Status};
+use floppy_jobs::{JobError, PortLine, parse_ports};
+use floppy_report::{put_last, put_last_absent, put_last_bad_line, stop_status};
+use pc_bus::MachineOf;
+use std::alloc::Global;
+
+/// The longest text of port accesses, in bytes.
+const MOST_TEXT_BYTES: usize = 4_194_304;
+
+/// Does a line and tells its answer; true where it was refused. The error is the status of a run that ends here.
+fn run_one<S: Shelf, K: Sink, D: Drive>(
+    alloc: Global,
+    machine: &mut MachineOf<D>,
+    names: &mut Names,
+    line: &PortLine,
+    shelf: &mut S,
+    out: &mut K,
+) -> Result<bool, Status>
+    requires { AreNamed names.old (board D.state machine.old) }
+    ensures turn { IfOk result (λ refused. IsTurn
+        (world_of D.state S.told K.told machine.old names.old shelf.old out.old) line.now refused
+        (world_of D.state S.told K.told machine.new names.new shelf.new out.new)) }
+    ensures breaks { IfErr result (λ ended. Breaks
+        (world_of D.state S.told K.told machine.old names.old shelf.old out.old) line.now
+        (world_of D.state S.told K.told machine.new names.new shelf.new out.new) ended) }
+    ensures named { AreNamed names.new (board D.state machine.new) }
+    ensures is_form { result ≢ Err Status.BadWords }
+    ensures shelf_faults { Blames (IsErrOf result Status.FileFault) (S.fault_count shelf.old)
+        (S.fault_count shelf.new) }
+    ensures sink_faults { Blames (IsErrOf result Status.SinkFault) (K.fault_count out.old)
+        (K.fault_count out.new) }
+{
+    match do_line(alloc, machine, names, line, shelf) {
+        Ok(answer) => match put_answer(alloc, out, line, &answer) {
+            Ok(()) => Ok(is_refusal(&answer)),
+            Err(ended) => Err(ended),
+        },
+        Err(stop) => Err(put_last(alloc, out, &stop)),
+    }
+}
+
+fn is_refusal(answer: &Answer) -> bool
+    ensures { result ≡ is_refusal answer.now }
+{
+    match answer {
+        Answer::Refused(_) => true,
+        Answer::Nothing | Answer::Byte { .. } | Answer::Latch { .. } | Answer::Done => false,
+    }
+}
+
+fn either(first: bool, second: bool) -> bool
+    ensures { result ≡ (first || second) }
+{
+    first || second
+}
+
+/// Does and tells lines in order; true where one was refused. The error is the status of a run that ends here.
+fn run_lines<S: Shelf, K: Sink, D: Drive>(
+    alloc: Global,
+    machine: &mut MachineOf<D>,
+    names: &mut Names,
+    lines: &[PortLine],
+    shelf: &mut S,
+    out: &mut K,
+) -> Result<bool, Status>
+    requires { AreNamed names.old (board D.state machine.old) }
+    ensures run { IfOk result (λ refused. HasRun
+        (world_of D.state S.told K.told machine.old names.old shelf.old out.old) lines.now refused
+        (world_of D.state S.told K.told machine.new names.new shelf.new out.new)) }
+    ensures plays { IfErr result (λ ended. HasPlayed
+        (world_of D.state S.told K.told machine.old names.old shelf.old out.old) lines.now
+        (world_of D.state S.told K.told machine.new names.new shelf.new out.new) ended) }
+    ensures named { AreNamed names.new (board D.state machine.new) }
+    ensures is_form { result ≢ Err Status.BadWords }
+    ensures shelf_faults { Blames (IsErrOf result Status.FileFault) (S.fault_count shelf.old)
+        (S.fault_count shelf.new) }
+    ensures sink_faults { Blames (IsErrOf result Status.SinkFault) (K.fault_count out.old)
+        (K.fault_count out.new) }
+{
+    let mut refused = false;
+    for line in lines {
+        match run_one(alloc, machine, names, line, shelf, out) {
+            Ok(refusal) => refused = either(refused, refusal),
+            Err(ended) => return Err(ended),
+        }
+    }
+    Ok(refused)
+}
+
+/// Stores what is left in the bays, and gives the status of a run to the end.
+fn finish<S: Shelf, D: Drive>(
+    alloc: Global,
+    machine: &mut MachineOf<D>,
+    names: &mut Names,
+    shelf: &mut S,
+    refused: bool,
+) -> Status
+    requires { AreNamed names.old (board D.state machine.old) }
+    ensures ends { EndsAs (bench_of D.state S.told machine.old names.old shelf.old) refused
+        (bench_of D.state S.told machine.new names.new shelf.new) result }
+    ensures is_form { result ≢ Status.BadWords }
+    ensures shelf_faults { Blames (result ≡ Status.FileFault) (S.fault_count shelf.old)
+        (S.fault_count shelf.new) }
+    ensures no_sink_fault { result ≢ Status.SinkFault }
+{
+    match end(alloc, machine, names, shelf) {
+        Ok(()) => whole_status(refused),
+        Err(stop) => stop_status(&stop),
+    }
+}
+
+fn whole_status(refused: bool) -> Status
+    ensures { result ≡ whole_status refused }
+{
+    if refused {
+        Status::SomeRefused
+    } else {
+        Status::AllOk
+    }
+}
+
+/// Runs lines on a machine whose bays are empty, and stores what is left in.
+fn play_lines<S: Shelf, K: Sink, D: Drive>(
+    alloc: Global,
+    machine: &mut MachineOf<D>,
+    names: &mut Names,
+    lines: &[PortLine],
+    shelf: &mut S,
+    out: &mut K,
+) -> Status
+    requires { AreNamed names.old (board D.state machine.old) }
+    ensures plays { HasPlayed
+        (world_of D.state S.told K.told machine.old names.old shelf.old out.old) lines.now
+        (world_of D.state S.told K.told machine.new names.new shelf.new out.new) result }
+    ensures is_form { result ≢ Status.BadWords }
+    ensures shelf_faults { Blames (result ≡ Status.FileFault) (S.fault_count shelf.old)
+        (S.fault_count shelf.new) }
+    ensures sink_faults { Blames (result ≡ Status.SinkFault) (K.fault_count out.old)
+        (K.fault_count out.new) }
+{
+    match run_lines(alloc, machine, names, lines, shelf, out) {
+        Ok(refused) => finish(alloc, machine, names, shelf, refused),
+        Err(ended) => ended,
+    }
+}
+
+/// Runs the lines of this text.
+fn play_text<S: Shelf, K: Sink, D: Drive>(
+    alloc: Global,
+    machine: &mut MachineOf<D>,
+    names: &mut Names,
+    text: &[u8],
+    shelf: &mut S,
+    out: &mut K,
+) -> Status
+    requires { AreNamed names.old (board D.state machine.old) }
+    ensures plays { (course : List Taken) × PlaysOrStarves
+        (world_of D.state S.told K.told machine.old names.old shelf.old out.old) text.now course
+        (world_of D.state S.told K.told machine.new names.new shelf.new out.new) result }
+    ensures is_form { result ≢ Status.BadWords }
+    ensures shelf_faults { Blames (result ≡ Status.FileFault) (S.fault_count shelf.old)
+        (S.fault_count shelf.new) }
+    ensures sink_faults { Blames (result ≡ Status.SinkFault) (K.fault_count out.old)
+        (K.fault_count out.new) }
+{
+    match parse_ports(alloc, text) {
+        Ok(lines) => play_lines(alloc, machine, names, &lines, shelf, out),
+        Err(JobError::BadLine { line }) => put_last_bad_line(alloc, out, line),
+        Err(JobError::NoMemory) => Status::NoMemory,
+    }
+}
+
+/// Ends a run whose text wasn't loaded.
+fn not_loaded<K: Sink>(alloc: Global, text_name: &str, out: &mut K, error: LoadError) -> Status
+    ensures ends { Misses error text_name.now (K.told out.old) (K.told out.new) result }
+    ensures is_form { result ≢ Status.BadWords }
+    ensures shelf_fault { result ≡ Status.FileFault → error ≡ LoadError.Failed }
+    ensures sink_faults { Blames (result ≡ Status.SinkFault) (K.fault_count out.old)
+        (K.fault_count out.new) }
+{
+    match error {
+        LoadError::Absent => put_last_absent(alloc, out, text_name),
+        LoadError::TooLong => put_last_bad_line(alloc, out, 0),
+        LoadError::Failed => Status::FileFault,
+        LoadError::NoMemory => Status::NoMemory,
+    }
+}
+
+/// Reads the text of this name and runs its lines on the machine as it stands, with no driver. Media that are left in are stored.
+pub fn run_ports<S: Shelf, K: Sink, D: Drive>(
+    alloc: Global,
+    machine: &mut MachineOf<D>,
+    text_name: &str,
+    shelf: &mut S,
+    out: &mut K,
+) -> Status
+    requires { IsBare (board D.state machine.old) }
+    ensures runs { (names : NamesOfMedia) × RunsPorts
+        (world_of D.state S.told K.told machine.old no_names shelf.old out.old) text_name.now
+        (world_of D.state S.told K.told machine.new names shelf.new out.new) result }
+    ensures is_form { result ≢ Status.BadWords }
+    ensures shelf_faults { Blames (result ≡ Status.FileFault) (S.fault_count shelf.old)
+        (S.fault_count shelf.new) }
+    ensures sink_faults { Blames (result ≡ Status.SinkFault) (K.fault_count out.old)
+        (K.fault_count out.new) }
+{
+    let mut names = Names::new();
+    match shelf.load(alloc, text_name, MOST_TEXT_BYTES) {
+        Ok(text) => play_text(alloc, machine, &mut names, &text, shelf, out),
+        Err(error) => not_loaded(alloc, text_name, out, error),
+    }
+}
