@@ -19,8 +19,8 @@ returns-in-Ok-Some-clause-runs g c = λ none. absurd (wants_file (ports_file_of 
 pub returns-in-Ok-Some-clause-accesses : goal.returns-in-Ok-Some-clause-accesses
 returns-in-Ok-Some-clause-accesses g c = λ job requests plays is. absurd (plays_none (map string_bytes c.args.words.now) c.in-Ok-Some.field-0 c.in-Ok-Some.file job c.in-Ok-Some.field-0-is c.in-Ok-Some.ensures.file plays)
 
-pub returns-clause-runs : goal.returns-clause-runs
-returns-clause-runs g c = λ none. absurd (wants_file (ports_file_of (map string_bytes c.args.words.now)) c.in-Err.ensures.file none)
+pub returns-in-Err-clause-runs : goal.returns-in-Err-clause-runs
+returns-in-Err-clause-runs g c = λ none. absurd (wants_file (ports_file_of (map string_bytes c.args.words.now)) c.in-Err.ensures.file none)
 
-pub returns-clause-ports : goal.returns-clause-ports
-returns-clause-ports g c = λ file named. (no_names, starves (world_of g.D.Drive.state g.S.Shelf.told g.K.Sink.told c.args.machine no_names c.args.shelf.now c.args.out.now) file)
+pub returns-in-Err-clause-ports : goal.returns-in-Err-clause-ports
+returns-in-Err-clause-ports g c = λ file named. (no_names, starves (world_of g.D.Drive.state g.S.Shelf.told g.K.Sink.told c.args.machine no_names c.args.shelf.now c.args.out.now) file)
