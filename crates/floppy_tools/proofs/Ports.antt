@@ -1,5 +1,5 @@
 -- Port accesses on the machine that is handed in.
-use Rattle.std.proofs.Common.{◌≡◌, ◌∙◌, ℕ, List, Option, Some, None, ap, sym, ⊥}
+use Rattle.std.proofs.Common.{◌≡◌, ◌∙◌, ℕ, List, Option, Some, None, ap, sym, false}
 use Rattle.std.specs.Prelude.{IsSome}
 use Rattle.drive_model.specs.Drive.{DriveState, Becomes, with_motor}
 use Rattle.pc_bus.specs.Boards.{Board, IsEmpty}

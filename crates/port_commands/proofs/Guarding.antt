@@ -6,6 +6,7 @@ use Rattle.std.proofs.lemmas.Bool.Decides.{nat_tests}
 use Rattle.flop_base.specs.Counts.{RoseBy, last_count}
 use Rattle.flop_base.specs.Shelf.{Files}
 use Rattle.flop_base.specs.declared.answers.Status.{Status}
+use Rattle.flop_base.specs.declared.answers.Status.TheVariants as status
 use Rattle.drive_model.specs.Drive.{DriveState, is_protected}
 use Rattle.floppy_jobs.specs.Texts.{ports_of}
 use Rattle.floppy_jobs.specs.declared.ports.PortLine.{PortLine}
