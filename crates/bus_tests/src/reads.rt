@@ -1,4 +1,5 @@
 // READ ID and READ DATA through the ports, channel 2 and line 6.
+use crate::ports::steady;
 use drive_model::PlainDrive;
 use flop_base::{Chrn, Rate};
 use irq_events::Pace;
@@ -94,15 +95,26 @@ fn results(machine: &mut MachineOf<PlainDrive>) -> [u8; 7] {
     all
 }
 
-/// One read at this pace, which has to give this ST1.
+/// Waits until results are there, and takes the interrupt. One that came with no result was a stray.
+fn finish(machine: &mut MachineOf<PlainDrive>) -> bool {
+    for _ in 0..3000 {
+        let _ = machine.wait_irq(65536);
+        if machine.take_irq() && machine.inb(0x3F4) == 0xD0 {
+            return true;
+        }
+    }
+    false
+}
+
+/// One read at this pace, which has to give this ST1. It is one data command, takes an interrupt, and goes through the channel.
 fn reads(rt: &impl Abort, alloc: Global, pace: Pace, st1: u8) -> Result<(), Fail> {
     let mut machine = machine(alloc, pace)?;
     start(&mut machine);
+    let taken = machine.taken();
     assert_eq!(rt; machine.inb(0x3F4), 0x80);
     set_dma(&mut machine);
     read(&mut machine);
-    assert!(rt; machine.wait_irq(65536));
-    assert_eq!(rt; machine.inb(0x3F4), 0xD0);
+    assert!(rt; finish(&mut machine));
     let all = results(&mut machine);
     assert_eq!(rt; all[1], st1);
     if st1 == 0 {
@@ -114,27 +126,112 @@ fn reads(rt: &impl Abort, alloc: Global, pace: Pace, st1: u8) -> Result<(), Fail
         assert_eq!(rt; machine.ram(0x21233), 0x00);
     }
     assert_eq!(rt; machine.data_commands(), 1);
+    assert!(rt; machine.taken() > taken);
+    assert_eq!(rt; machine.direct(), 1, "the disk was put in");
     Ok(())
 }
 
 #[test]
-fn a_field_is_read(rt: HostRuntime) -> Result<(), Fail> {
-    let pace = Pace {
-        gaps: vec![in rt.alloc(); 3u8; 200]?,
-        holds: vec![in rt.alloc(); 8u8; 100]?,
-        strays: Vec::new(rt.alloc()),
-    };
-    reads(&rt, rt.alloc(), pace, 0)
+fn a_field_is_read_at_each_pace(rt: HostRuntime) -> Result<(), Fail> {
+    let alloc = rt.alloc();
+    for (gap, hold, stray, st1) in [
+        (0u8, 0u8, None, 0x00),
+        (1, 0, None, 0x00),
+        (3, 8, None, 0x00),
+        (200, 0, None, 0x00),
+        (0, 0, Some(100u16), 0x00),
+        (3, 8, Some(1), 0x00),
+        (0, 9, None, 0x10),
+        (3, 255, Some(100), 0x10),
+    ] {
+        let pace = Pace {
+            gaps: vec![in alloc; gap; 1000]?,
+            holds: vec![in alloc; hold; 100]?,
+            strays: match stray {
+                Some(steps) => vec![in alloc; steps; 10_000]?,
+                None => Vec::new(alloc),
+            },
+        };
+        reads(&rt, alloc, pace, st1)?;
+    }
+    Ok(())
 }
 
 #[test]
-fn a_long_hold_overruns(rt: HostRuntime) -> Result<(), Fail> {
-    let pace = Pace {
-        gaps: Vec::new(rt.alloc()),
-        holds: vec![in rt.alloc(); 9u8; 100]?,
-        strays: Vec::new(rt.alloc()),
-    };
-    reads(&rt, rt.alloc(), pace, 0x10)
+fn two_bytes_go_round_the_end_of_a_page(rt: HostRuntime) -> Result<(), Fail> {
+    let mut machine = machine(rt.alloc(), steady(rt.alloc()))?;
+    start(&mut machine);
+    for (port, value) in [
+        (0x0A, 0x06),
+        (0x0C, 0x00),
+        (0x04, 0xFF),
+        (0x04, 0xFF),
+        (0x05, 0x01),
+        (0x05, 0x00),
+        (0x81, 0x01),
+        (0x0B, 0x46),
+        (0x0A, 0x02),
+    ] {
+        machine.outb(port, value);
+    }
+    read(&mut machine);
+    assert!(rt; finish(&mut machine));
+    assert_eq!(rt;
+        results(&mut machine),
+        [0x00, 0x00, 0x00, 0x00, 0x00, 0x02, 0x02]
+    );
+    for (address, byte) in [
+        (0x1FFFE, 0x00),
+        (0x1FFFF, 0xA7),
+        (0x10000, 0xA7),
+        (0x10001, 0x00),
+        (0x20000, 0x00),
+    ] {
+        assert_eq!(rt; machine.ram(address), byte, "{address}");
+    }
+    // the terminal count, which is told once; the address is 0001, and the count passed 0
+    for (port, byte) in [
+        (0x08, 0x04),
+        (0x08, 0x00),
+        (0x04, 0x01),
+        (0x04, 0x00),
+        (0x05, 0xFF),
+        (0x05, 0xFF),
+    ] {
+        assert_eq!(rt; machine.inb(port), byte, "{port}");
+    }
+    // the channel is masked, so the next read overruns and moves nothing
+    read(&mut machine);
+    assert!(rt; finish(&mut machine));
+    assert_eq!(rt;
+        results(&mut machine),
+        [0x40, 0x10, 0x00, 0x00, 0x00, 0x01, 0x02]
+    );
+    assert_eq!(rt; machine.ram(0x10001), 0x00);
+    assert_eq!(rt; machine.stalls(), 0);
+    Ok(())
+}
+
+#[test]
+fn a_search_waits_while_no_drive_is_selected(rt: HostRuntime) -> Result<(), Fail> {
+    let mut machine = machine(rt.alloc(), steady(rt.alloc()))?;
+    start(&mut machine);
+    // Motor 0 stays on, and drive 2 isn't there.
+    machine.outb(0x3F2, 0x1E);
+    machine.outb(0x3F5, 0x4A);
+    machine.outb(0x3F5, 0x00);
+    assert!(rt; !machine.wait_irq(10_000));
+    assert_eq!(rt; machine.inb(0x3F4), 0x10);
+    assert_eq!(rt; machine.steps(), 6260 + 10_000);
+    machine.outb(0x3F2, 0x1C);
+    assert!(rt; machine.wait_irq(65_536));
+    assert_eq!(rt;
+        results(&mut machine),
+        [0x00, 0x00, 0x00, 0x00, 0x00, 0x02, 0x02]
+    );
+    // The disk turned on to word 410, and the second address field ends with word 757.
+    assert_eq!(rt; machine.steps(), 6260 + 10_000 + 348);
+    Ok(())
 }
 
 #[test]

@@ -34,6 +34,24 @@ pub(crate) fn diskette(alloc: Global) -> Result<Medium, Fail> {
     Ok(medium)
 }
 
+/// A diskette of one track of 800 words, of 250 kbit/s, with one sector.
+pub(crate) fn small_diskette(alloc: Global) -> Result<Medium, Fail> {
+    let mut medium = Medium::blank_at(alloc, 1, 1, 800, Rate::R250)?;
+    let key = Chrn {
+        c: 0,
+        h: 0,
+        r: 1,
+        n: 2,
+    };
+    let track = layout(alloc, &[key], 2, 16, 0x55, 800)?;
+    for (i, word) in track.iter().enumerate() {
+        if medium.cylinders() > 0 && medium.heads() > 0 && i < usize::from(medium.words()) {
+            medium.set_word(0, 0, i as u16, *word);
+        }
+    }
+    Ok(medium)
+}
+
 /// A machine with a medium in a bay, at speed.
 pub(crate) fn machine(
     alloc: Global,

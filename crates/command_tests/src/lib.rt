@@ -9,3 +9,5 @@ mod calm;
 mod orders;
 #[cfg(test)]
 mod paced;
+#[cfg(test)]
+mod past;

@@ -29,11 +29,16 @@ fn a_reset_is_followed_by_four_poll_results(rt: HostRuntime) -> Result<(), Fail>
 fn version_and_unknown_codes_are_answered_at_once(rt: HostRuntime) -> Result<(), Fail> {
     let mut host = Host::new(rt.alloc())?;
     host.write(DOR, 0x0C);
-    host.write(DATA, 0x10);
-    assert_eq!(rt; host.read(DATA), 0x90);
-    host.write(DATA, 0xFF);
-    assert_eq!(rt; host.read(DATA), 0x80);
-    assert_eq!(rt; host.read(DATA), 0xFF);
+    host.run(1)?;
+    // Each row is a code and its result. The poll results stay pending in between.
+    for (code, result) in [(0x08, 0xC0), (0x10, 0x90), (0xFF, 0x80), (0x08, 0xC1)] {
+        host.write(DATA, code);
+        assert_eq!(rt; host.read(DATA), result, "{code}");
+        if code == 0x08 {
+            assert_eq!(rt; host.read(DATA), 0x00);
+        }
+        assert_eq!(rt; host.read(DATA), 0xFF, "no result is left");
+    }
     Ok(())
 }
 
@@ -78,6 +83,29 @@ fn a_seek_gives_a_pulse_a_step_and_its_result(rt: HostRuntime) -> Result<(), Fai
     assert_eq!(rt; host.read(DATA), 0x00);
     host.send(&[0x04, 0x00]);
     assert_eq!(rt; host.read(DATA), 0x78);
+    Ok(())
+}
+
+#[test]
+fn a_recalibration_without_track_0_ends_after_79_pulses(rt: HostRuntime) -> Result<(), Fail> {
+    let mut host = Host::new(rt.alloc())?;
+    // Drive 2 isn't there.
+    host.write(DOR, 0x0E);
+    host.run(1)?;
+    for _ in 0..4 {
+        host.write(DATA, 0x08);
+        host.read(DATA);
+        host.read(DATA);
+    }
+    host.send(&[0x07, 0x02]);
+    assert_eq!(rt; host.read(STATUS), 0x84);
+    host.run(79)?;
+    assert!(rt; !host.interrupts());
+    host.run(1)?;
+    assert!(rt; host.interrupts());
+    host.write(DATA, 0x08);
+    assert_eq!(rt; host.read(DATA), 0x72);
+    assert_eq!(rt; host.read(DATA), 0x00);
     Ok(())
 }
 

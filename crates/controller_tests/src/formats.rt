@@ -112,3 +112,15 @@ fn a_missing_key_byte_is_or(rt: HostRuntime) -> Result<(), Fail> {
     assert_eq!(rt; results, [0x40, 0x10, 0x00, 0x00, 0x00, 0x00, 0x00]);
     Ok(())
 }
+
+#[test]
+fn a_protected_disk_is_not_laid(rt: HostRuntime) -> Result<(), Fail> {
+    let track = formatted(rt.alloc())?;
+    let mut host = Host::with_disk(rt.alloc(), disk(rt.alloc(), &track, true)?)?;
+    let bytes = bytes_of(rt.alloc(), &keys(rt.alloc(), 18)?)?;
+    let results = format(&mut host, 18, 0x6C, &bytes, 72)?;
+    assert_eq!(rt; results, [0x40, 0x02, 0x00, 0x00, 0x00, 0x00, 0x00]);
+    let medium = host.eject();
+    assert!(rt; has(medium.as_ref(), &track));
+    Ok(())
+}

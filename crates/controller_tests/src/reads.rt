@@ -16,6 +16,16 @@ fn read_id_gives_the_first_key_that_passes(rt: HostRuntime) -> Result<(), Fail> 
 }
 
 #[test]
+fn a_head_that_is_not_there_hears_no_mark(rt: HostRuntime) -> Result<(), Fail> {
+    let track = formatted(rt.alloc())?;
+    let mut host = Host::with_disk(rt.alloc(), disk(rt.alloc(), &track, false)?)?;
+    host.send(&[0x4A, 0x04]);
+    assert!(rt; host.finish()?);
+    assert_eq!(rt; host.results(), [0x44, 0x01, 0x00, 0x00, 0x00, 0x00, 0x00]);
+    Ok(())
+}
+
+#[test]
 fn a_sector_is_read_at_each_of_16_phases(rt: HostRuntime) -> Result<(), Fail> {
     let track = formatted(rt.alloc())?;
     for phase in 0u32..16 {
