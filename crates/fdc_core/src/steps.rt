@@ -191,6 +191,7 @@ impl Fdc {
     }
 
     /// A device step of a data command where no drive is selected, by its task.
+    #[inline(never)]
     fn execute_empty(&mut self, execution: Execution)
         requires { self.old.phase ≡ Phase.Execute execution }
         ensures { TaskStepsNowhere execution.task execution.head_drive execution.steps self.old self.new }

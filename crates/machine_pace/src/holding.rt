@@ -74,6 +74,7 @@ impl Holding {
     }
 
     /// The line is high: a new request takes the next hold, 0 where none is left.
+    #[inline(never)]
     fn wait(&mut self)
         ensures { self.new ≡ waited self.old.request self.old }
     {

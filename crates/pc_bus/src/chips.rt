@@ -70,6 +70,7 @@ impl Chips {
     }
 
     /// Grants a request that is due, where the channel does.
+    #[inline(never)]
     #[tactic(auto, unfolding(crate::specs::Transfers::granted))]
     fn grant(&mut self)
         ensures { self.new ≡ granted self.old }

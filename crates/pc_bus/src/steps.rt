@@ -87,6 +87,7 @@ fn work<D: Drive>(controller: &mut Fdc, drive: &mut D)
 }
 
 /// The controller's device step where no drive is selected.
+#[inline(never)]
 fn work_alone(controller: &mut Fdc)
     ensures { WorksAlone controller.old controller.new }
 {

@@ -1,7 +1,7 @@
 // The calls of a separator.
 ghost use Rattle.std.specs.Prelude.{◌≡◌, ◌≤◌, ◌↔◌, IsTrue, ℕ, Bool, true, false, List, []};
 
-use crate::register::{BLANK, ends_no_run, next_cells};
+use crate::register::BLANK;
 use crate::state::{Seen, Separator, Stage};
 
 impl Separator {
@@ -44,18 +44,18 @@ impl Separator {
         ensures any { (fed : List ℕ) → SFed self.old fed → SFed self.new (turn_after index fed word) }
         ensures told { (fed : List ℕ) → SFed self.old fed → IsTold (with_word fed word) result }
     {
-        if !index && self.is_usual(word) {
+        if !index && self.is_usual() {
             return self.take(word);
         }
         self.feed_any(word, index)
     }
 
-    /// Whether the word comes inside the turn while a run of marks is hunted for and ends no run, or is a byte of a
-    /// content. Nearly every word does, so `feed` has a short way for it.
+    /// Whether a run of marks is hunted for, or the next word is a byte of a content. So it is for nearly every word, and
+    /// `feed` has a short way for it.
     #[inline(always)]
-    fn is_usual(&self, word: u16) -> bool {
+    fn is_usual(&self) -> bool {
         match self.stage {
-            Stage::Hunting => ends_no_run(next_cells(self.cells, word)),
+            Stage::Hunting => true,
             Stage::Content { size, taken, .. } => taken < size,
             _ => false,
         }
