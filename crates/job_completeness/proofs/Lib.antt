@@ -1,0 +1,10 @@
+pub mod AcksAgree
+pub mod AfterDisks
+pub mod AlikeDisks
+pub mod Calm
+pub mod CutTracks
+pub mod FormatsAgree
+pub mod Sees
+pub mod Shown
+pub mod Takes
+pub mod WritesAgree
