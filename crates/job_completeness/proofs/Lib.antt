@@ -1,6 +1,8 @@
 pub mod AcksAgree
 pub mod AfterDisks
 pub mod AlikeDisks
+pub mod AlikeFiles
+pub mod CallsAgree
 pub mod Calm
 pub mod CutTracks
 pub mod FormatsAgree
