@@ -1,18 +1,18 @@
 -- Files that are alike: as images they are of alike disks, or wrong in one way.
-use Rattle.std.proofs.Common.{arith, ◌≡◌, ◌∙◌, ◌+◌, ◌*◌, ◌<◌, ◌≤◌, ℕ, Bool, true, false, List, length, cond, refl, sym, ap, subst, inl, inr, Option, Some, None, Result, Ok, Err, length-append}
+use Rattle.std.proofs.Common.{arith, ◌≡◌, ◌∙◌, ◌+◌, ◌*◌, ◌<◌, ◌≤◌, ℕ, Bool, true, false, List, length, cond, refl, sym, ap, subst, inl, inr, Option, Some, None, Result, Ok, Err, take, drop}
 use Rattle.std.specs.Prelude.{◌⊎◌, IsSomeAnd, nat_lt, if◌then◌else◌}
 use Rattle.std.proofs.lemmas.Bool.{lt-ltb, le-ltb}
+use Rattle.std.proofs.lemmas.List.{length-take, length-drop}
 use Rattle.std.specs.Ordering.{nat_cmp, eq_by_cmp}
 use Rattle.std.specs.Cmp.Lexicographic.{slice_cmp, nat_list_cmp_total}
 use Rattle.std.specs.FinMap as fin
 use Rattle.flop_base.specs.Shelf.{Files, file_at, stored}
-use Rattle.raw_image.specs.Disk.{Disk}
+use Rattle.raw_image.specs.Disk.{Disk, IsDisk}
 use Rattle.raw_image.specs.Words.{bytes_of}
-use Rattle.raw_image.specs.Image.{image_of, file_of, header_bytes}
+use Rattle.raw_image.specs.Image.{image_of, file_of}
 use Rattle.raw_image.specs.declared.error.ImageError.{ImageError}
-use Rattle.raw_image.specs.declared.header.Version.TheVariants.{Second}
 use Rattle.raw_image.proofs.Pairs.{IsBytes, length-bytes_of}
-use Rattle.raw_image.proofs.Images.{image_found, spelling_again}
+use Rattle.raw_image.proofs.Images.{image_found, image_again}
 use Rattle.floppy_jobs.specs.declared.request.Request.{Request}
 use Rattle.floppy_jobs.specs.declared.request.Request.TheVariants as request
 use Rattle.sector_model.specs.declared.reply.Stop.{Stop}
@@ -65,8 +65,12 @@ told_itself files bytes name = go (file_at files name) refl
 
 length-file : (d : Disk) → length (file_of d) ≡ 14 + 2 * length d.words
 length-file d =
-    let head : length (header_bytes Second d) ≡ 14 = refl in
-    omega (arith, head, length-append (header_bytes Second d) (bytes_of d.words), length-bytes_of d.words)
+    let front : length (take 14 (file_of d)) ≡ 14 = refl in
+    let back : length (drop 14 (file_of d)) ≡ length (bytes_of d.words) = refl in
+    omega (arith, front, back, length-take 14 (file_of d), length-drop 14 (file_of d), length-bytes_of d.words)
+
+read_again : (d : Disk) → IsDisk d → image_of (file_of d) ≡ Ok d
+read_again d valid = image_again (file_of d) d (valid, inl refl)
 
 same_count : (one two : Disk) → AlikeDisks one two → length two.words ≡ length one.words
 same_count one two same =
@@ -80,8 +84,8 @@ pub disk_files : (one two : Disk) → AlikeDisks one two → AlikeBytes (file_of
 disk_files one two same = record {
   long = omega (arith, length-file one, length-file two, same_count one two same);
   images =
-      subst (λ (r : Result Disk ImageError). AlikeImages r (image_of (file_of two))) (sym (spelling_again Second one same.valid tt))
-      (subst (λ (r : Result Disk ImageError). AlikeImages (Ok one) r) (sym (spelling_again Second two same.alike.valid tt)) same);
+      subst (λ (r : Result Disk ImageError). AlikeImages r (image_of (file_of two))) (sym (read_again one same.valid))
+      (subst (λ (r : Result Disk ImageError). AlikeImages (Ok one) r) (sym (read_again two same.alike.valid)) same);
 }
 
 stored_at : (files : Files) (name bytes other : List ℕ) → file_at (fin.insert files name bytes) other ≡ cond (eq_by_cmp (slice_cmp nat_cmp) other name) (Some bytes) (file_at files other)

@@ -71,7 +71,7 @@ good_sector false crosses acknowledged last e = absurd (cc e)
 sector_within : (bay : ℕ) (key : Chrn) (address : ℕ) → is_sector_request bay key address ≡ true → address + content_size key.n ≤ user_bytes
 sector_within bay key address good = leb-true (address + content_size key.n) user_bytes (and_parts _ _ good).1
 
-length-bytes_from : (memory : List ℕ) (place count : ℕ) → place + count ≤ length memory → length (bytes_from memory place count) ≡ count
+pub length-bytes_from : (memory : List ℕ) (place count : ℕ) → place + count ≤ length memory → length (bytes_from memory place count) ≡ count
 length-bytes_from memory place count inside = omega (arith, length-take count (drop place memory), length-drop place memory)
 
 module _ (bay : ℕ) (one two one_new two_new : StationState) (same : AlikeStations one two) (regular : IsRegularIn (bay_of one bay).medium) (calm : IsUndisturbed bay one.counters one_new.counters) (goes : GoesOn one.counters one_new.counters) (calm_too : IsUndisturbed bay two.counters two_new.counters) (goes_too : GoesOn two.counters two_new.counters) where
