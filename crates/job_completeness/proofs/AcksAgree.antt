@@ -1,16 +1,16 @@
 -- Two acknowledgements of alike bays: they answer alike, and find the same rate.
-use Rattle.std.proofs.Common.{arith, ◌≡◌, ◌∙◌, ℕ, Bool, refl, sym, ap, subst, inl, inr, Option, Some, None, Result, Ok, Err}
+use Rattle.std.proofs.Common.{arith, ◌≡◌, ◌∙◌, ℕ, refl, sym, ap, subst, inl, inr, Option, Some, None, Result, Ok, Err}
 use Rattle.flop_base.specs.declared.answers.Code.{Code}
 use Rattle.flop_base.specs.declared.answers.Rate.{Rate}
 use Rattle.flop_base.specs.declared.answers.Rate.TheVariants.{R500, R250}
 use Rattle.flop_base.specs.declared.key.Chrn.{Chrn}
-use Rattle.raw_image.specs.Disk.{Disk, IsDisk, HasTrack, track_of}
-use Rattle.bay_model.specs.Counters.{Counters, GoesOn, IsUndisturbed, faults_of}
+use Rattle.raw_image.specs.Disk.{Disk, HasTrack, track_of}
+use Rattle.bay_model.specs.Counters.{GoesOn, IsUndisturbed, faults_of}
 use Rattle.track_model.specs.Fields.{IsAddressAt}
 use Rattle.sector_map.specs.Disks.{IsRegularDisk}
 use Rattle.sector_map.proofs.RegularTracks.{clear_address}
 use Rattle.sector_model.specs.Stations.{StationState, Bay, Becomes, bay_of, set_bay, fresh_bay}
-use Rattle.sector_model.specs.Calls.{HasClearStart, HasNoStart, IsAcknowledged, IsUnready, AcksDrive}
+use Rattle.sector_model.specs.Calls.{HasClearStart, HasNoStart, IsAcknowledged, AcksDrive}
 use Rattle.sector_model.specs.Steps.{reply_of}
 use Rattle.job_completeness.specs.Determined.{IsRegularIn}
 use Rattle.job_completeness.proofs.AlikeDisks.{AlikeDisks, AlikeMedia, AlikeBays, regular_too}

@@ -1,6 +1,6 @@
 -- Two calls of alike stations that nothing disturbed: they answer alike, and leave alike stations.
-use Rattle.std.proofs.Common.{arith, ◌≡◌, ◌∙◌, ◌+◌, ◌≤◌, ℕ, nat_le, Bool, true, false, List, length, drop, refl, sym, ap, subst, Option, Some, None, Result, Ok, Err}
-use Rattle.std.specs.Prelude.{◌&&◌, not, is_some, MatchOption, MatchBool, if◌then◌else◌}
+use Rattle.std.proofs.Common.{arith, ◌≡◌, ◌∙◌, ◌+◌, ◌≤◌, ℕ, nat_le, Bool, true, false, List, length, drop, refl, sym, ap, subst, Option, Some, None, Result}
+use Rattle.std.specs.Prelude.{◌&&◌, not, MatchOption, MatchBool, if◌then◌else◌}
 use Rattle.std.proofs.lemmas.Bool.{leb-true, and_parts}
 use Rattle.std.proofs.lemmas.List.{length-take, length-drop}
 use Rattle.flop_base.specs.Standard.{gap_at, standard_fill}

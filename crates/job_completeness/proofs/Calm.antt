@@ -1,5 +1,5 @@
 -- Calls that nothing disturbed.
-use Rattle.std.proofs.Common.{arith, ◌≡◌, ◌+◌, ◌<◌, ℕ, Bool, true, false}
+use Rattle.std.proofs.Common.{arith, ◌+◌, ◌<◌, ℕ, Bool, true, false}
 use Rattle.std.specs.Prelude.{◌==◌, if◌then◌else◌}
 use Rattle.flop_base.specs.Counts.{last_count, RoseBy}
 use Rattle.bay_model.specs.Counters.{Counters, GoesOn, IsUndisturbed, IsFaultless, DisturbedLess, FaultsRoseBy, FaultsRoseLess}

@@ -1,5 +1,5 @@
 -- A regular track with a cut of a window that left it regular: each other field shows what it showed.
-use Rattle.std.proofs.Common.{◌≡◌, ◌≢◌, ◌↔◌, ◌+◌, ◌*◌, ◌≤◌, ℕ, ◌⊎◌, Bool, List, ◌∷◌, ◌++◌, length, take, sym, ap, subst, ◌∙◌, arith, refl, inl, inr}
+use Rattle.std.proofs.Common.{◌≡◌, ◌≢◌, ◌↔◌, ◌+◌, ◌≤◌, ℕ, ◌⊎◌, Bool, List, ◌∷◌, ◌++◌, length, take, sym, subst, arith, refl, inl, inr}
 use Rattle.std.proofs.lemmas.Bool.{cases_order, cases_eq}
 use Rattle.std.proofs.lemmas.List.{length-append, length-take}
 use Rattle.flop_base.specs.declared.key.Chrn.{Chrn}
@@ -7,7 +7,7 @@ use Rattle.track_model.specs.declared.Look.{Look}
 use Rattle.track_model.specs.declared.Look.TheVariants.{Found, NoMark, NoSector, NoData, BadCrc}
 use Rattle.track_model.specs.Crc.{crc}
 use Rattle.track_model.specs.Marks.{data_byte}
-use Rattle.track_model.specs.Fields.{after_marks, IsAddressAt, content_size}
+use Rattle.track_model.specs.Fields.{after_marks, IsAddressAt}
 use Rattle.track_model.specs.Looks.{LookAt}
 use Rattle.track_model.specs.Regular.{IsRegular, IsSpaced, span_cells}
 use Rattle.track_model.specs.Writing.{check_bytes, window}
@@ -18,7 +18,7 @@ use Rattle.track_model.proofs.OwnField.{data_overlay}
 use Rattle.track_model.proofs.Splices
 use Rattle.track_model.proofs.Unique.{one_key}
 use Rattle.sector_map.proofs.RegularTracks.{spaced_from}
-use Rattle.job_completeness.proofs.Shown.{Shows, ShowSame, SameAnswer, show_answer}
+use Rattle.job_completeness.proofs.Shown.{Shows, ShowSame, show_answer}
 
 module _ (track : List ℕ) (c h p : ℕ) (key : Chrn) (deleted : Bool) (content : List ℕ) (k : ℕ) (regular : IsRegular track c h) (field : IsFieldFor track p key content) (most : k ≤ length (window deleted content)) where
   abbrev after : List ℕ
@@ -131,9 +131,10 @@ module _ (one two : List ℕ) (c h p : ℕ) (key : Chrn) (deleted : Bool) (one_a
             let there : IsAddressAt one_after p other = subst (λ (r : ℕ). IsAddressAt one_after r other) e at in
             let same_key : other ≡ key = one_key one_after p other key there first.here in
             subst (λ (r : ℕ). Shows one_after r other.n look ↔ Shows two_after r other.n look) (sym e)
-            (subst (λ (k : Chrn). Shows one_after p k.n look ↔ Shows two_after p k.n look) (sym same_key)
-            (show_answer one_after two_after p key.n (Found deleted 0) (Found deleted 0) look first.found second.found refl,
-            show_answer two_after one_after p key.n (Found deleted 0) (Found deleted 0) look second.found first.found refl))
+            (subst (λ (k : Chrn). Shows one_after p k.n look ↔ Shows two_after p k.n look) (sym same_key) (
+              show_answer one_after two_after p key.n (Found deleted 0) (Found deleted 0) look first.found second.found refl,
+              show_answer two_after one_after p key.n (Found deleted 0) (Found deleted 0) look second.found first.found refl,
+            ))
       ]
 
   pub written_show : (regular : (b g : ℕ) → IsRegular one_after b g ↔ IsRegular two_after b g) → ShowSame one_after two_after

@@ -1,21 +1,20 @@
 -- Two formats of one track in alike bays: they answer alike, and leave alike bays.
-use Rattle.std.proofs.Common.{arith, ◌≡◌, ◌∙◌, ℕ, suc, Bool, All, List, [], ◌∷◌, refl, sym, ap, subst, inl, inr, Option, Some, None, Result, Ok, Err, IsOk, true≢false}
+use Rattle.std.proofs.Common.{arith, ◌≡◌, ◌∙◌, ℕ, suc, All, List, [], ◌∷◌, refl, sym, ap, subst, inl, inr, Option, Some, None, Result, Ok, Err, true≢false}
 use Rattle.flop_base.specs.declared.answers.Code.{Code}
 use Rattle.raw_image.specs.Disk.{Disk, IsDisk, HasTrack, track_of}
-use Rattle.bay_model.specs.Counters.{Counters, GoesOn, IsUndisturbed}
+use Rattle.bay_model.specs.Counters.{GoesOn, IsUndisturbed}
 use Rattle.sector_map.specs.Layings.{Format, Laying, formatted, CanFormat, IsFormattable}
-use Rattle.sector_map.specs.KeptDisks.{AreAlike, KeepsTracks}
+use Rattle.sector_map.specs.KeptDisks.{KeepsTracks}
 use Rattle.sector_map.proofs.KeptTracks.{keeps_itself, keeps_both}
 use Rattle.sector_map.proofs.Laid.{laying_keeps_tracks, can_format_alike}
 use Rattle.sector_map.proofs.MetTracks.{cases_rate}
 use Rattle.sector_model.specs.Stations.{StationState, bay_of}
 use Rattle.sector_model.specs.Formats.{LaysDisk, Lays, IsFormatted, IsUnformatted, FormatsDrive}
 use Rattle.sector_model.specs.Steps.{reply_of}
-use Rattle.job_completeness.proofs.Shown.{ShowSame, same_show}
+use Rattle.job_completeness.proofs.Shown.{same_show}
 use Rattle.job_completeness.proofs.AlikeDisks.{AlikeDisks, AlikeMedia}
 use Rattle.job_completeness.proofs.AfterDisks.{alike_after}
 use Rattle.job_completeness.proofs.Calm.{no_faults}
-use Rattle.job_completeness.proofs.WritesAgree.{ok_reply}
 
 -- several layings of one cylinder keep the other tracks
 lays_keep : (format : Format) (disk : Disk) (layings : List Laying) (after : Disk) → IsDisk disk → All (λ laying. laying.cylinder ≡ format.c) layings → LaysDisk format disk layings after → KeepsTracks disk format.c format.h after

@@ -1,6 +1,6 @@
 -- Two plays of one job that begin alike: they answer alike, and end alike.
-use Rattle.std.proofs.Common.{◌≡◌, ◌∙◌, ◌+◌, ◌<◌, ◌≤◌, ℕ, suc, Bool, List, [], ◌∷◌, ◌++◌, length, refl, sym, ap, subst, append-nil, append_assoc, Option, Some, None, Result, Ok, Err, inl, inr, arith}
-use Rattle.std.specs.Prelude.{◌⊎◌, ◌||◌, IfSome, IsSomeAnd}
+use Rattle.std.proofs.Common.{◌≡◌, ◌∙◌, ◌<◌, ◌≤◌, ℕ, suc, Bool, List, [], ◌∷◌, ◌++◌, length, refl, sym, ap, subst, append-nil, append_assoc, Option, Some, None, Result, Ok, Err, inl, inr, arith}
+use Rattle.std.specs.Prelude.{◌⊎◌, ◌||◌, IsSomeAnd}
 use Rattle.std.proofs.lemmas.List.{length-replicate}
 use Rattle.flop_base.specs.Shelf.{Files, file_at}
 use Rattle.flop_base.specs.Sink.{grown}
@@ -15,7 +15,7 @@ use Rattle.sector_model.specs.declared.reply.Reply.{Reply}
 use Rattle.sector_model.specs.declared.reply.Reply.TheVariants as reply
 use Rattle.sector_model.specs.declared.reply.Stop.{Stop}
 use Rattle.sector_model.specs.declared.reply.Stop.TheVariants as stop
-use Rattle.sector_model.specs.Stations.{StationState, Bay, fresh_bay}
+use Rattle.sector_model.specs.Stations.{Bay, fresh_bay}
 use Rattle.sector_model.specs.States.{State}
 use Rattle.sector_model.specs.Steps.{StopsAt, StopCause, IsAbsent, IsLonger}
 use Rattle.sector_model.specs.Texts.{is_refusal, stop_text, stop_status, bad_line_text, absent_text}
@@ -25,11 +25,11 @@ use Rattle.sector_model.specs.Plays.{World, IsPutFault, Prints, whole_status, Pl
 use Rattle.sector_model.proofs.Runs.{run_more, requests_more}
 use Rattle.sector_model.proofs.PlayTies.{play_ties}
 use Rattle.sector_model.specs.Ties.{AreUndisturbed}
-use Rattle.job_completeness.specs.Determined.{BeginAlike, AreRegularBefore, AnswerAlike, AnswersAgree, IsFreeEnd, EndAlike, EndAlikeUnlessFree}
-use Rattle.job_completeness.proofs.AlikeDisks.{AlikeBays, AlikeStations}
-use Rattle.job_completeness.proofs.AlikeFiles.{AlikeTold, told_itself, stop_by, stop_cases, same_stop, IsLoadStop}
+use Rattle.job_completeness.specs.Determined.{BeginAlike, AreRegularBefore, AnswerAlike, AnswersAgree, IsFreeEnd, EndAlikeUnlessFree}
+use Rattle.job_completeness.proofs.AlikeDisks.{AlikeBays}
+use Rattle.job_completeness.proofs.AlikeFiles.{AlikeTold, told_itself, stop_by, stop_cases, same_stop}
 use Rattle.job_completeness.proofs.StepsAgree.{AlikeStages}
-use Rattle.job_completeness.proofs.RunsAgree.{Parted, Together, FirstOn, SecondOn, RunsAgree, IsPassed, passed_free, runs_agree}
+use Rattle.job_completeness.proofs.RunsAgree.{Parted, Together, FirstOn, SecondOn, IsPassed, passed_free, runs_agree}
 
 -- ---- the beginning
 

@@ -1,19 +1,16 @@
 -- Two runs of the same requests from alike states: they answer alike as far as both go.
 use Rattle.std.proofs.Common.{◌≡◌, ◌∙◌, ℕ, suc, Bool, List, [], ◌∷◌, ◌++◌, length, refl, sym, ap, subst, Option, Some, None, inl, inr}
-use Rattle.std.specs.Prelude.{is_some, MatchOption, if◌then◌else◌}
+use Rattle.std.specs.Prelude.{MatchOption, if◌then◌else◌}
 use Rattle.flop_base.specs.Shelf.{Files, file_at}
-use Rattle.raw_image.specs.Disk.{Disk}
-use Rattle.bay_model.specs.Counters.{Counters, IsUndisturbed}
 use Rattle.floppy_jobs.specs.declared.request.Request.{Request}
 use Rattle.floppy_jobs.specs.declared.request.Request.TheVariants as request
 use Rattle.sector_model.specs.declared.reply.Reply.{Reply}
-use Rattle.sector_model.specs.declared.reply.Reason.{Reason}
 use Rattle.sector_model.specs.declared.reply.Reason.TheVariants as reason
 use Rattle.sector_model.specs.declared.reply.Stop.{Stop}
 use Rattle.sector_model.specs.Stations.{bay_of}
 use Rattle.sector_model.specs.Orders.{is_bay}
 use Rattle.sector_model.specs.States.{State}
-use Rattle.sector_model.specs.Steps.{Step, StopsAt, IsImageOf, refusal_of, is_loaded, unless_bad}
+use Rattle.sector_model.specs.Steps.{Step, StopsAt, refusal_of, is_loaded, unless_bad}
 use Rattle.sector_model.specs.Runs.{Taken, Run, requests_of, IsEndStop}
 use Rattle.sector_model.specs.Ties.{AreUndisturbed}
 use Rattle.job_completeness.specs.Determined.{AreRegularBefore, AnswersAgree}

@@ -1,11 +1,11 @@
 -- What a read of a regular track answers, where nothing disturbs it: it is settled by what the track shows.
-use Rattle.std.proofs.Common.{arith, ◌≡◌, ◌∙◌, ◌+◌, ◌*◌, ◌≤◌, ℕ, Bool, List, length, refl, sym, ap, subst, inl, inr, Option, Some, None, Result, Ok, Err}
+use Rattle.std.proofs.Common.{arith, ◌≡◌, ◌∙◌, ◌+◌, ◌*◌, ◌≤◌, ℕ, Bool, List, length, refl, sym, ap, subst, inl, inr, Result, Ok, Err}
 use Rattle.std.proofs.lemmas.List.FromFn.{length-map-range_with_len}
 use Rattle.flop_base.specs.declared.key.Chrn.{Chrn}
 use Rattle.flop_base.specs.declared.answers.Code.{Code}
 use Rattle.flop_base.specs.declared.answers.Code.TheVariants as code
 use Rattle.raw_image.specs.Disk.{HasTrack, track_of}
-use Rattle.bay_model.specs.Counters.{Counters, GoesOn, IsUndisturbed}
+use Rattle.bay_model.specs.Counters.{GoesOn, IsUndisturbed}
 use Rattle.bay_model.specs.Memory.{user_bytes, with_bytes}
 use Rattle.track_model.specs.declared.Look.{Look}
 use Rattle.track_model.specs.declared.Look.TheVariants as look

@@ -1,5 +1,5 @@
 -- Tracks that show the same: their contents may differ, and nothing else that an answer tells of.
-use Rattle.std.proofs.Common.{◌≡◌, ◌↔◌, ◌⊎◌, ℕ, Bool, List, refl, sym, subst, inl, inr}
+use Rattle.std.proofs.Common.{◌≡◌, ◌↔◌, ℕ, Bool, List, sym, subst}
 use Rattle.flop_base.specs.declared.key.Chrn.{Chrn}
 use Rattle.track_model.specs.declared.Look.{Look}
 use Rattle.track_model.specs.declared.Look.TheVariants.{Found, NoMark, NoSector, NoData, BadCrc}

@@ -1,12 +1,10 @@
 -- Two steps of one request from alike states that nothing disturbed: they answer alike, and lead to alike states.
-use Rattle.std.proofs.Common.{arith, ◌≡◌, ◌∙◌, ◌+◌, ◌-◌, ◌*◌, ◌<◌, ◌≤◌, ◌^◌, ℕ, nat_le, Bool, true, false, List, length, get_or, replicate, refl, sym, ap, subst, inl, inr, Option, Some, None, Result, Ok, Err, lit≤}
-use Rattle.std.specs.Prelude.{◌==◌, MatchOption, if◌then◌else◌}
+use Rattle.std.proofs.Common.{arith, ◌≡◌, ◌∙◌, ◌+◌, ◌-◌, ◌*◌, ◌<◌, ◌≤◌, ◌^◌, ℕ, nat_le, Bool, true, false, List, length, get_or, replicate, refl, sym, ap, subst, inl, inr, Option, Some, None, lit≤}
+use Rattle.std.specs.Prelude.{◌==◌, if◌then◌else◌}
 use Rattle.std.proofs.lemmas.Bool.{leb-true, and_parts, cases_lt}
 use Rattle.std.proofs.lemmas.List.{length-replicate, get_or-replicate, get_or_past}
 use Rattle.flop_base.specs.Shelf.{Files, stored}
 use Rattle.flop_base.specs.Standard.{words_at}
-use Rattle.flop_base.specs.declared.answers.Code.{Code}
-use Rattle.flop_base.specs.declared.answers.Code.TheVariants.{BadRequest}
 use Rattle.flop_base.specs.declared.answers.Rate.{Rate}
 use Rattle.flop_base.specs.declared.answers.Rate.TheVariants.{R500, R250}
 use Rattle.raw_image.specs.Disk.{Disk, IsDisk}
@@ -20,13 +18,12 @@ use Rattle.sector_model.specs.declared.reply.Reply.{Reply}
 use Rattle.sector_model.specs.declared.reply.Reply.TheVariants as reply
 use Rattle.sector_model.specs.declared.reply.Reason.{Reason}
 use Rattle.sector_model.specs.declared.reply.Reason.TheVariants as reason
-use Rattle.sector_model.specs.Stations.{StationState, Bay, bay_of, set_bay, fresh_bay}
+use Rattle.sector_model.specs.Stations.{bay_of, set_bay, fresh_bay}
 use Rattle.sector_model.specs.Orders.{is_bay}
-use Rattle.sector_model.specs.Calls.{Exchanges, IsExchanged}
 use Rattle.sector_model.specs.States.{State, IsSame, ChangesMedium}
-use Rattle.sector_model.specs.Steps.{Step, Does, Fills, StoresMedium, IsDriverCall, IsRefused, refusal_of, is_loaded, unless_bad, is_blank_request, spare_refusal, blank_of, reply_of, read_reply}
+use Rattle.sector_model.specs.Steps.{Step, Does, Fills, IsDriverCall, IsRefused, refusal_of, is_loaded, unless_bad, is_blank_request, spare_refusal, blank_of, reply_of, read_reply}
 use Rattle.sector_model.specs.Ties.{entered_by}
-use Rattle.job_completeness.specs.Determined.{HasRegularDisks, IsRegularIn, AnswerAlike}
+use Rattle.job_completeness.specs.Determined.{HasRegularDisks, AnswerAlike}
 use Rattle.job_completeness.proofs.AlikeDisks.{AlikeDisks, AlikeMedia, AlikeBays, AlikeStations, disk_itself, loaded_same, bays_in, set_same, memory_same, becomes_same, regular_bay}
 use Rattle.job_completeness.proofs.AfterDisks.{in_both}
 use Rattle.job_completeness.proofs.AlikeFiles.{AlikeTold, images_alike, disk_files, stored_same}
@@ -132,7 +129,7 @@ module _ (one two one_new two_new : State) (told other told_after other_after : 
       let bays : AlikeBays (fresh_bay d) (fresh_bay e) = record { media = media; acknowledged = refl; rate = refl } in (
         second.names ∙ ap (λ (n : Two (Option (List ℕ))). with_bay n bay name) same.names ∙ sym first.names,
         becomes_same (set_bay one.station bay (fresh_bay d)) (set_bay two.station bay (fresh_bay e)) one_new.station two_new.station
-        (set_same one.station two.station bay (fresh_bay d) (fresh_bay e) same.stations bays) first.exchanged.becomes second.exchanged.becomes,
+            (set_same one.station two.station bay (fresh_bay d) (fresh_bay e) same.stations bays) first.exchanged.becomes second.exchanged.becomes,
       )
 
   put_in : (bay : ℕ) (name : Option (List ℕ)) (d e : Disk) → AlikeDisks d e → answer ≡ reply.Done → answer_too ≡ reply.Done → told_after ≡ told → other_after ≡ other → ChangesMedium one bay name (Some d) one_new → ChangesMedium two bay name (Some e) two_new → Agrees

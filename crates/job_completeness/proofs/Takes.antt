@@ -1,11 +1,11 @@
 -- What a write to a regular disk does where nothing disturbs it: by what the track shows.
-use Rattle.std.proofs.Common.{arith, ◌≡◌, ◌∙◌, ◌+◌, ℕ, Bool, true, false, List, [], ◌∷◌, ◌++◌, length, refl, sym, ap, subst, inl, inr, Option, Some, None, Result, Ok, Err, IsOk, true≢false, length-append}
+use Rattle.std.proofs.Common.{arith, ◌≡◌, ◌∙◌, ℕ, List, [], ◌∷◌, ◌++◌, length, refl, sym, ap, subst, inl, inr, Option, Some, None, Result, Ok, Err, IsOk, length-append}
 use Rattle.flop_base.specs.declared.key.Chrn.{Chrn}
 use Rattle.flop_base.specs.declared.answers.Code.{Code}
 use Rattle.flop_base.specs.declared.answers.Code.TheVariants as code
 use Rattle.flop_base.specs.declared.answers.Rate.{Rate}
 use Rattle.raw_image.specs.Disk.{Disk, HasTrack, track_of}
-use Rattle.bay_model.specs.Counters.{Counters, GoesOn, IsUndisturbed}
+use Rattle.bay_model.specs.Counters.{GoesOn, IsUndisturbed}
 use Rattle.track_model.specs.Fields.{IsAddressAt}
 use Rattle.track_model.specs.Looks.{HasAddressMark}
 use Rattle.track_model.specs.Regular.{IsRegular}
@@ -13,10 +13,10 @@ use Rattle.track_model.proofs.Sectored.{plain_clear}
 use Rattle.sector_map.specs.Changes.{Change, Written, IsChange}
 use Rattle.sector_map.specs.Met.{met_in}
 use Rattle.sector_map.specs.MetTracks.{MeetsTrack}
-use Rattle.sector_map.proofs.MetTracks.{met_track, met_cases, nothing_there, cases_rate}
-use Rattle.sector_map.proofs.RegularTracks.{clear_address, key_cylinder}
+use Rattle.sector_map.proofs.MetTracks.{met_track, nothing_there, cases_rate}
+use Rattle.sector_map.proofs.RegularTracks.{key_cylinder}
 use Rattle.sector_model.specs.Stations.{StationState, Bay, bay_of, met}
-use Rattle.sector_model.specs.Writes.{ChangesDisk, Reaches, IsLastRead, IsWritten, IsWriteCause, ChangesAlone, WritesDrive}
+use Rattle.sector_model.specs.Writes.{Reaches, IsWritten, IsWriteCause, ChangesAlone, WritesDrive}
 use Rattle.job_completeness.specs.Determined.{IsRegularIn}
 use Rattle.job_completeness.proofs.AlikeDisks.{regular_met, in_with}
 use Rattle.job_completeness.proofs.Calm.{no_faults, no_overrun, no_loss, disturbed_less}

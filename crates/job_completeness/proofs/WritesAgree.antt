@@ -1,15 +1,14 @@
 -- Two writes of one key in alike bays, with one mark: they answer alike, and leave alike bays.
-use Rattle.std.proofs.Common.{arith, ◌≡◌, ◌∙◌, ℕ, Bool, List, length, refl, sym, ap, subst, inl, Option, Some, None, Result, Ok, Err, IsOk, true≢false}
+use Rattle.std.proofs.Common.{arith, ◌≡◌, ◌∙◌, ℕ, Bool, List, length, refl, sym, ap, subst, inl, Result, Ok, Err, IsOk, true≢false}
 use Rattle.flop_base.specs.declared.key.Chrn.{Chrn}
 use Rattle.flop_base.specs.declared.answers.Code.{Code}
-use Rattle.raw_image.specs.Disk.{Disk, track_of}
+use Rattle.raw_image.specs.Disk.{track_of}
 use Rattle.bay_model.specs.Counters.{GoesOn, IsUndisturbed}
 use Rattle.track_model.specs.Fields.{IsAddressAt, content_size}
 use Rattle.sector_map.specs.Changes.{Written}
 use Rattle.sector_map.specs.ChangedDisks.{written_under}
 use Rattle.sector_map.proofs.KeptTracks.{has_after, with_track_keeps}
 use Rattle.sector_map.proofs.MetTracks.{met_track}
-use Rattle.sector_model.specs.declared.reply.Reply.{Reply}
 use Rattle.sector_model.specs.declared.reply.Reply.TheVariants as reply
 use Rattle.sector_model.specs.Stations.{StationState, bay_of, met}
 use Rattle.sector_model.specs.Writes.{WritesDrive}
@@ -17,7 +16,7 @@ use Rattle.sector_model.specs.Steps.{reply_of}
 use Rattle.job_completeness.specs.Determined.{IsRegularIn}
 use Rattle.job_completeness.proofs.Shown.{ShowSame}
 use Rattle.job_completeness.proofs.CutTracks.{IsWrittenOver, KeepsShown, written_keeps}
-use Rattle.job_completeness.proofs.AlikeDisks.{AlikeDisks, AlikeMedia, AlikeBays, met_bays, regular_met, regular_in_too}
+use Rattle.job_completeness.proofs.AlikeDisks.{AlikeMedia, AlikeBays, met_bays, regular_met, regular_in_too}
 use Rattle.job_completeness.proofs.AfterDisks.{alike_after, over_both, in_both, both_in, both_stay}
 use Rattle.job_completeness.proofs.Calm.{few_faults}
 use Rattle.job_completeness.proofs.Takes.{IsOver, IsKept, Takes, Over, Kept, one_refusal, refuses_on, write_takes}
