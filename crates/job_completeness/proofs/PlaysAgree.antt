@@ -29,7 +29,7 @@ use Rattle.job_completeness.specs.Determined.{BeginAlike, AreRegularBefore, Answ
 use Rattle.job_completeness.proofs.AlikeDisks.{AlikeBays}
 use Rattle.job_completeness.proofs.AlikeFiles.{AlikeTold, told_itself, stop_by, stop_cases, same_stop}
 use Rattle.job_completeness.proofs.StepsAgree.{AlikeStages}
-use Rattle.job_completeness.proofs.RunsAgree.{Parted, Together, FirstOn, SecondOn, IsPassed, passed_free, runs_agree}
+use Rattle.job_completeness.proofs.RunsAgree.{AllAgree, while_agree, Parted, Together, FirstOn, SecondOn, IsPassed, passed_free, runs_agree}
 
 -- ---- the beginning
 
@@ -159,7 +159,7 @@ no_suc n e = omega (arith, e)
 same_suc : (m n : ℕ) → suc m ≡ suc n → m ≡ n
 same_suc m n e = omega (arith, e)
 
-refusals_same : (c d : List Taken) → AnswersAgree c d → length d ≡ length c → has_refusal d ≡ has_refusal c
+refusals_same : (c d : List Taken) → AllAgree c d → length d ≡ length c → has_refusal d ≡ has_refusal c
 refusals_same [] [] agree long = refl
 refusals_same [] (u ∷ more) agree long = absurd (no_suc (length more) long)
 refusals_same (t ∷ later) [] agree long = absurd (no_suc (length later) (sym long))
@@ -210,7 +210,7 @@ module _ (one two one_after two_after : World) (course course_too : List Taken) 
   abbrev EndsSo : Type 0
   EndsSo = EndAlikeUnlessFree one two course course_too one_after two_after ended ended_too
 
-  module _ (mid mid_too : State) (files files_too : Option Files) (rest rest_too : List Request) (agree : AnswersAgree course course_too) where
+  module _ (mid mid_too : State) (files files_too : Option Files) (rest rest_too : List Request) (agree : AllAgree course course_too) where
     both_stopped : length course_too ≡ length course → AlikeTold files files_too → (asked : Request) (a b : Stop) → StopCause files asked a → StopCause files_too asked b → one_after.report ≡ grown (grown one.report (course_text course)) (stop_text a) → two_after.report ≡ grown (grown two.report (course_text course_too)) (stop_text b) → ended ≡ stop_status a → ended_too ≡ stop_status b → EndsSo
     both_stopped long told asked a b first second report report_too is is_too = elim (stops_both files files_too asked a b told first second) [
       | inl free ↦ inl (stop_ended a ended is free)
@@ -257,17 +257,17 @@ module _ (one two one_after two_after : World) (course course_too : List Taken) 
   -- ---- what two plays have in common
 
   abbrev Alike : Type 0
-  Alike = AnswersAgree course course_too × EndsSo
+  Alike = AnswersAgree one.state course course_too × (AreRegularBefore one.state course → EndsSo)
 
-  none_first : course ≡ [] → AnswersAgree course course_too
-  none_first none = subst (λ (c : List Taken). AnswersAgree c course_too) (sym none) tt
+  none_first : course ≡ [] → AnswersAgree one.state course course_too
+  none_first none = subst (λ (c : List Taken). AnswersAgree one.state c course_too) (sym none) tt
 
-  any_none : (c : List Taken) → AnswersAgree c []
-  any_none [] = tt
-  any_none (t ∷ later) = tt
+  any_none : (state : State) (c : List Taken) → AnswersAgree state c []
+  any_none state [] = tt
+  any_none state (t ∷ later) = tt
 
-  none_second : course_too ≡ [] → AnswersAgree course course_too
-  none_second none = subst (λ (c : List Taken). AnswersAgree course c) (sym none) (any_none course)
+  none_second : course_too ≡ [] → AnswersAgree one.state course course_too
+  none_second none = subst (λ (c : List Taken). AnswersAgree one.state course c) (sym none) (any_none one.state course)
 
   -- two last lines alone
   no_text : (report : Option (List ℕ)) (c : List Taken) → c ≡ [] → grown report (course_text c) ≡ report
@@ -285,17 +285,21 @@ module _ (one two one_after two_after : World) (course course_too : List Taken) 
   }))
 
   alone_alike : (line : List ℕ) (wanted : Status) → TellsAlone one line wanted course one_after ended → TellsAlone two line wanted course_too two_after ended_too → Alike
-  alone_alike line wanted a b = (none_first a.nothing, lines_alike line wanted a.nothing b.nothing a.tells.prints b.tells.prints)
+  alone_alike line wanted a b = (none_first a.nothing, λ regular. lines_alike line wanted a.nothing b.nothing a.tells.prints b.tells.prints)
 
   -- ---- two plays
 
-  module _ (begin : BeginAlike one two) (calm : AreUndisturbed one.state.station.counters course) (calm_too : AreUndisturbed two.state.station.counters course_too) (regular : AreRegularBefore one.state course) where
+  module _ (begin : BeginAlike one two) (calm : AreUndisturbed one.state.station.counters course) (calm_too : AreUndisturbed two.state.station.counters course_too) where
     requests_alike : (requests : List Request) → PlaysRequests one requests course one_after ended → PlaysRequests two requests course_too two_after ended_too → Alike
     requests_alike requests first second =
         let a = runs_to one one_after requests course ended first in
         let b = runs_to two two_after requests course_too ended_too second in
-        let runs = runs_agree course course_too one.state two.state a.mid b.mid one.files two.files a.files b.files requests a.rest b.rest (begin_stages one two begin) calm calm_too regular a.run b.run a.all b.all in
-        (runs.agree, ends_alike a.mid b.mid a.files b.files a.rest b.rest runs.agree runs.parted a.ending b.ending)
+        let stages = begin_stages one two begin in (
+          while_agree course course_too one.state two.state a.mid b.mid one.files two.files a.files b.files requests a.rest b.rest stages calm calm_too a.run b.run a.all b.all,
+          λ regular.
+              let runs = runs_agree course course_too one.state two.state a.mid b.mid one.files two.files a.files b.files requests a.rest b.rest stages calm calm_too regular a.run b.run a.all b.all in
+              ends_alike a.mid b.mid a.files b.files a.rest b.rest runs.agree runs.parted a.ending b.ending,
+        )
 
     parsed_alike : (parsed : Result (List Request) ℕ) → PlaysParsed one parsed course one_after ended → PlaysParsed two parsed course_too two_after ended_too → Alike
     parsed_alike (Ok requests) first second = requests_alike requests first second
@@ -347,10 +351,10 @@ module _ (one two one_after two_after : World) (course course_too : List Taken) 
       long_too is = subst (λ (o : Option Files). IsLonger o job most_job_bytes) begin.told_too is
 
       fault_first : course ≡ [] → IsFreeEnd ended → Alike
-      fault_first none free = (none_first none, inl free)
+      fault_first none free = (none_first none, λ regular. inl free)
 
       fault_second : course_too ≡ [] → IsFreeEnd ended_too → Alike
-      fault_second none free = (none_second none, inr (inl free))
+      fault_second none free = (none_second none, λ regular. inr (inl free))
 
       there_alike : PlaysText one job course one_after ended → Plays two job course_too two_after ended_too → Alike
       there_alike a (plays.There b) =
@@ -383,8 +387,8 @@ module _ (one two one_after two_after : World) (course course_too : List Taken) 
       plays_alike (plays.Starved nothing idle) second = fault_first nothing (subst IsFreeEnd (sym idle.status) tt)
 
 -- two plays of one job with nothing left to go wrong
-pub answers_determined : (job : List ℕ) (one one_after two two_after : World) (course other : List Taken) (ended other_ended : Status) → BeginAlike one two → Plays one job course one_after ended → Plays two job other two_after other_ended → AreRegularBefore one.state course → AnswersAgree course other × EndAlikeUnlessFree one two course other one_after two_after ended other_ended
-answers_determined job one one_after two two_after course other ended other_ended begin first second regular =
+pub answers_determined : (job : List ℕ) (one one_after two two_after : World) (course other : List Taken) (ended other_ended : Status) → BeginAlike one two → Plays one job course one_after ended → Plays two job other two_after other_ended → AnswersAgree one.state course other × (AreRegularBefore one.state course → EndAlikeUnlessFree one two course other one_after two_after ended other_ended)
+answers_determined job one one_after two two_after course other ended other_ended begin first second =
     let calm = (play_ties one one_after job course ended first).undisturbed begin.first.nothing_left in
     let calm_too = (play_ties two two_after job other other_ended second).undisturbed begin.second.nothing_left in
-    plays_alike one two one_after two_after course other ended other_ended begin calm calm_too regular job first second
+    plays_alike one two one_after two_after course other ended other_ended begin calm calm_too job first second

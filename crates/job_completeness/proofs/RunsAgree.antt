@@ -13,7 +13,7 @@ use Rattle.sector_model.specs.States.{State}
 use Rattle.sector_model.specs.Steps.{Step, StopsAt, refusal_of, is_loaded, unless_bad}
 use Rattle.sector_model.specs.Runs.{Taken, Run, requests_of, IsEndStop}
 use Rattle.sector_model.specs.Ties.{AreUndisturbed}
-use Rattle.job_completeness.specs.Determined.{AreRegularBefore, AnswersAgree}
+use Rattle.job_completeness.specs.Determined.{AreRegularBefore, AnswerAlike, AnswersAgree}
 use Rattle.job_completeness.proofs.AlikeDisks.{bays_in, loaded_same}
 use Rattle.job_completeness.proofs.AlikeFiles.{AlikeTold, stop_by, same_stop, no_stop, stop_cases, IsLoadStop}
 use Rattle.job_completeness.proofs.StepsAgree.{AlikeStages, IsCalmStep, steps_agree}
@@ -107,8 +107,14 @@ pub data Parted (course course_too : List Taken) (mid : State) (files : Option F
   FirstOn : IsPassed mid_too files_too rest_too → Parted course course_too mid files rest mid_too files_too rest_too
   SecondOn : IsPassed mid files rest → Parted course course_too mid files rest mid_too files_too rest_too
 
+-- all answers of two courses, as far as both go
+abbrev pub AllAgree : List Taken → List Taken → Type 0
+AllAgree [] other = Unit {0}
+AllAgree (taken ∷ later) [] = Unit {0}
+AllAgree (taken ∷ later) (next ∷ rest) = (next.asked ≡ taken.asked) × AnswerAlike taken.answer next.answer × AllAgree later rest
+
 pub record RunsAgree (course course_too : List Taken) (mid : State) (files : Option Files) (rest : List Request) (mid_too : State) (files_too : Option Files) (rest_too : List Request) : Type 0 where
-  pub agree : AnswersAgree course course_too
+  pub agree : AllAgree course course_too
   pub parted : Parted course course_too mid files rest mid_too files_too rest_too
 
 one_more : (t u : Taken) (course course_too : List Taken) (mid : State) (files : Option Files) (rest : List Request) (mid_too : State) (files_too : Option Files) (rest_too : List Request) → Parted course course_too mid files rest mid_too files_too rest_too → Parted (t ∷ course) (u ∷ course_too) mid files rest mid_too files_too rest_too
@@ -152,3 +158,18 @@ runs_agree (t ∷ later) (u ∷ more) one two mid mid_too told other files files
       agree = (asked, here.answers, there.agree);
       parted = one_more t u later more mid files rest mid_too files_too rest_too there.parted;
     }
+
+-- and while the disks of the first are regular
+pub while_agree : (course course_too : List Taken) (one two mid mid_too : State) (told other files files_too : Option Files) (requests rest rest_too : List Request) → AlikeStages one told two other → AreUndisturbed one.station.counters course → AreUndisturbed two.station.counters course_too → Run one told course mid files → Run two other course_too mid_too files_too → requests ≡ requests_of course ++ rest → requests ≡ requests_of course_too ++ rest_too → AnswersAgree one course course_too
+while_agree [] course_too one two mid mid_too told other files files_too requests rest rest_too same calm calm_too run run_too all all_too = tt
+while_agree (t ∷ later) [] one two mid mid_too told other files files_too requests rest rest_too same calm calm_too run run_too all all_too = tt
+while_agree (t ∷ later) (u ∷ more) one two mid mid_too told other files files_too requests rest rest_too same calm calm_too run run_too all all_too = λ regular.
+    let lists : u.asked ∷ (requests_of more ++ rest_too) ≡ t.asked ∷ (requests_of later ++ rest) = sym all_too ∙ all in
+    let asked : u.asked ≡ t.asked = same_head u.asked t.asked (requests_of more ++ rest_too) (requests_of later ++ rest) lists in
+    let behind : requests_of more ++ rest_too ≡ requests_of later ++ rest = same_tail u.asked t.asked (requests_of more ++ rest_too) (requests_of later ++ rest) lists in
+    let step_too = subst (λ (q : Request). Step two other q u.answer u.after run_too.0) asked run_too.1 in
+    let quiet : IsCalmStep t.asked t.answer one.station.counters t.after.station.counters = record { first = calm.0; second = calm.1 } in
+    let quiet_here : IsCalmStep u.asked u.answer two.station.counters u.after.station.counters = record { first = calm_too.0; second = calm_too.1 } in
+    let quiet_too = subst (λ (q : Request). IsCalmStep q u.answer two.station.counters u.after.station.counters) asked quiet_here in
+    let here = steps_agree one two t.after u.after told other run.0 run_too.0 same t.answer u.answer regular t.asked quiet quiet_too run.1 step_too in
+    (asked, here.answers, while_agree later more t.after u.after mid mid_too run.0 run_too.0 files files_too (requests_of later ++ rest) rest rest_too here.after calm.2 calm_too.2 run.2 run_too.2 refl (sym behind))

@@ -47,7 +47,7 @@ pub record HasRegularDisks (state : State) : Type 0 where
   pub first : IsRegularIn state.station.bays.first.medium
   pub second : IsRegularIn state.station.bays.second.medium
 
--- so it is when each request of a course comes
+-- so it is whenever a request of a course comes
 abbrev pub AreRegularBefore : State → List Taken → Type 0
 AreRegularBefore state [] = Unit {0}
 AreRegularBefore state (taken ∷ later) = HasRegularDisks state × AreRegularBefore taken.after later
@@ -62,12 +62,13 @@ AnswerAlike reply.Done other = other ≡ reply.Done
 AnswerAlike reply.DoneDeleted other = other ≡ reply.DoneDeleted
 AnswerAlike (reply.Refused cause) other = other ≡ reply.Refused cause
 
--- two courses answer alike, request by request, as far as both go
-abbrev pub AnswersAgree : List Taken → List Taken → Type 0
-AnswersAgree [] other = Unit {0}
-AnswersAgree (taken ∷ later) [] = Unit {0}
-AnswersAgree (taken ∷ later) (next ∷ rest) =
-    (next.asked ≡ taken.asked) × AnswerAlike taken.answer next.answer × AnswersAgree later rest
+-- two courses answer alike, request by request, as far as both go and while the disks of the first are regular
+abbrev pub AnswersAgree : State → List Taken → List Taken → Type 0
+AnswersAgree state [] other = Unit {0}
+AnswersAgree state (taken ∷ later) [] = Unit {0}
+AnswersAgree state (taken ∷ later) (next ∷ rest) =
+    HasRegularDisks state
+    → (next.asked ≡ taken.asked) × AnswerAlike taken.answer next.answer × AnswersAgree taken.after later rest
 
 -- ---- the end
 
