@@ -1,0 +1,35 @@
+-- Calls that nothing disturbed.
+use Rattle.std.proofs.Common.{arith, ◌+◌, ◌<◌, ℕ, Bool, true, false}
+use Rattle.std.specs.Prelude.{◌==◌, if◌then◌else◌}
+use Rattle.flop_base.specs.Counts.{last_count, RoseBy}
+use Rattle.bay_model.specs.Counters.{Counters, GoesOn, IsUndisturbed, IsFaultless, DisturbedLess, FaultsRoseBy, FaultsRoseLess}
+use Rattle.bay_model.proofs.Counted.{faults_go_on}
+use Rattle.sector_model.specs.Reads.{spoilable}
+
+-- in any bay, where it is so in both
+pub calm_bay : (bay : ℕ) (old new : Counters) → IsUndisturbed 0 old new → IsUndisturbed 1 old new → IsUndisturbed bay old new
+calm_bay bay old new first second = record { faults = few (bay == 0); stalls = first.stalls; together = all (bay == 0) }
+  where
+    few : (b : Bool) → (if b then new.drives.first else new.drives.second).faults < last_count
+    few true = first.faults
+    few false = second.faults
+
+    all : (b : Bool) → (if b then new.drives.first else new.drives.second).faults + new.stalls < (if b then old.drives.first else old.drives.second).faults + old.stalls + 1
+    all true = first.together
+    all false = second.together
+
+module _ (bay : ℕ) (old new : Counters) (calm : IsUndisturbed bay old new) (goes : GoesOn old new) where
+  pub no_faults : IsFaultless bay old new
+  no_faults = let stalls = goes.stalls in (omega (arith, calm.together, stalls), calm.faults)
+
+  pub few_faults : (n : ℕ) → 0 < n → FaultsRoseLess n bay old new
+  few_faults n some = let stalls = goes.stalls in (omega (arith, calm.together, stalls, some), calm.faults)
+
+  pub no_overrun : RoseBy 1 old.stalls new.stalls → ⊥
+  no_overrun rose = omega (arith, rose, calm.stalls, calm.together, faults_go_on old new bay goes)
+
+  pub no_loss : (n : ℕ) → 0 < n → FaultsRoseBy n bay old new → ⊥
+  no_loss n some rose = let stalls = goes.stalls in omega (arith, rose, calm.faults, calm.together, stalls, some)
+
+  pub disturbed_less : (tries : ℕ) → DisturbedLess (spoilable tries) bay old new
+  disturbed_less tries = record { faults = calm.faults; stalls = calm.stalls; together = omega (arith, calm.together) }

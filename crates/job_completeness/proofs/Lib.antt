@@ -1,0 +1,15 @@
+pub mod AcksAgree
+pub mod AfterDisks
+pub mod AlikeDisks
+pub mod AlikeFiles
+pub mod CallsAgree
+pub mod Calm
+pub mod CutTracks
+pub mod FormatsAgree
+pub mod PlaysAgree
+pub mod RunsAgree
+pub mod Sees
+pub mod Shown
+pub mod StepsAgree
+pub mod Takes
+pub mod WritesAgree

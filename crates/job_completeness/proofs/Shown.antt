@@ -1,0 +1,145 @@
+-- Tracks that show the same: their contents may differ, and nothing else that an answer tells of.
+use Rattle.std.proofs.Common.{◌≡◌, ◌↔◌, ℕ, Bool, List, sym, subst}
+use Rattle.flop_base.specs.declared.key.Chrn.{Chrn}
+use Rattle.track_model.specs.declared.Look.{Look}
+use Rattle.track_model.specs.declared.Look.TheVariants.{Found, NoMark, NoSector, NoData, BadCrc}
+use Rattle.track_model.specs.Fields.{IsAddressAt}
+use Rattle.track_model.specs.Looks.{LookAt, HasAddressMark}
+use Rattle.track_model.specs.Regular.{IsRegular}
+use Rattle.track_model.proofs.Unique.{one_look_at}
+use Rattle.sector_map.specs.MetTracks.{HasNothing}
+
+-- the look at an address field has this answer, wherever its content stands
+abbrev pub Shows : List ℕ → ℕ → ℕ → Look → Type 0
+Shows track p n (Found deleted place) = (q : ℕ) × LookAt track p n (Found deleted q)
+Shows track p n NoData = LookAt track p n NoData
+Shows track p n BadCrc = LookAt track p n BadCrc
+Shows track p n NoSector = ⊥
+Shows track p n NoMark = ⊥
+
+-- two tracks show the same
+pub record ShowSame (one two : List ℕ) : Type 0 where
+  pub regular : (c h : ℕ) → IsRegular one c h ↔ IsRegular two c h
+  pub marks : HasAddressMark one ↔ HasAddressMark two
+  pub addresses : (p : ℕ) (key : Chrn) → IsAddressAt one p key ↔ IsAddressAt two p key
+  pub looks : (p : ℕ) (key : Chrn) (look : Look) → IsAddressAt one p key → Shows one p key.n look ↔ Shows two p key.n look
+
+pub show_itself : (track : List ℕ) → ShowSame track track
+show_itself track = record {
+  regular = λ c h. (λ x. x, λ x. x);
+  marks = (λ x. x, λ x. x);
+  addresses = λ p key. (λ x. x, λ x. x);
+  looks = λ p key look at. (λ x. x, λ x. x);
+}
+
+pub same_show : (one two : List ℕ) → two ≡ one → ShowSame one two
+same_show one two same = subst (λ (track : List ℕ). ShowSame one track) (sym same) (show_itself one)
+
+pub show_back : (one two : List ℕ) → ShowSame one two → ShowSame two one
+show_back one two same = record {
+  regular = λ c h. ((same.regular c h).1, (same.regular c h).0);
+  marks = (same.marks.1, same.marks.0);
+  addresses = λ p key. ((same.addresses p key).1, (same.addresses p key).0);
+  looks = λ p key look at. let here = (same.addresses p key).1 at in ((same.looks p key look here).1, (same.looks p key look here).0);
+}
+
+-- tracks with nothing recorded are regular, and show the same
+pub none_regular : (track : List ℕ) (c h : ℕ) → HasNothing track → IsRegular track c h
+none_regular track c h none = record {
+  plain = λ p mark. absurd (none.marks (p, mark));
+  keys = record {
+    distinct = λ p q key at other. absurd (none.addresses p key at);
+    cylinder = λ p key at. absurd (none.addresses p key at);
+    head = λ p key at. absurd (none.addresses p key at);
+    coded = λ p key at. absurd (none.addresses p key at);
+  };
+  spans = record {
+    inside = λ p key at. absurd (none.addresses p key at);
+    apart = λ p q key other at next before. absurd (none.addresses p key at);
+  };
+  gaps = λ p q key at from below mark. absurd (none.addresses p key at);
+  ends = λ p q key at from below mark. absurd (none.addresses p key at);
+}
+
+pub none_show : (one two : List ℕ) → HasNothing one → HasNothing two → ShowSame one two
+none_show one two first second = record {
+  regular = λ c h. (λ x. none_regular two c h second, λ x. none_regular one c h first);
+  marks = (λ mark. absurd (first.marks mark), λ mark. absurd (second.marks mark));
+  addresses = λ p key. (λ at. absurd (first.addresses p key at), λ at. absurd (second.addresses p key at));
+  looks = λ p key look at. absurd (first.addresses p key at);
+}
+
+-- ---- what a track shows of an address field is one
+
+-- two looks have the same answer, wherever the content stands
+abbrev pub SameAnswer : Look → Look → Type 0
+SameAnswer (Found a p) (Found b q) = a ≡ b
+SameAnswer NoData NoData = Unit {0}
+SameAnswer BadCrc BadCrc = Unit {0}
+SameAnswer _ _ = ⊥
+
+found_found : (a b : Bool) (p q : ℕ) → Found a p ≡ Found b q → a ≡ b
+found_found a b p q e = cc e
+
+pub one_answer : (track : List ℕ) (p n : ℕ) (a b : Look) → Shows track p n a → Shows track p n b → SameAnswer a b
+one_answer track p n (Found a u) (Found b v) x y = found_found a b x.0 y.0 (one_look_at track p n (Found a x.0) (Found b y.0) x.1 y.1)
+one_answer track p n (Found a u) NoData x y = let e = one_look_at track p n (Found a x.0) NoData x.1 y in absurd (cc e)
+one_answer track p n (Found a u) BadCrc x y = let e = one_look_at track p n (Found a x.0) BadCrc x.1 y in absurd (cc e)
+one_answer track p n NoData (Found b v) x y = let e = one_look_at track p n NoData (Found b y.0) x y.1 in absurd (cc e)
+one_answer track p n NoData NoData x y = tt
+one_answer track p n NoData BadCrc x y = let e = one_look_at track p n NoData BadCrc x y in absurd (cc e)
+one_answer track p n BadCrc (Found b v) x y = let e = one_look_at track p n BadCrc (Found b y.0) x y.1 in absurd (cc e)
+one_answer track p n BadCrc NoData x y = let e = one_look_at track p n BadCrc NoData x y in absurd (cc e)
+one_answer track p n BadCrc BadCrc x y = tt
+one_answer track p n NoSector b x y = absurd x
+one_answer track p n NoMark b x y = absurd x
+one_answer track p n (Found a u) NoSector x y = absurd y
+one_answer track p n (Found a u) NoMark x y = absurd y
+one_answer track p n NoData NoSector x y = absurd y
+one_answer track p n NoData NoMark x y = absurd y
+one_answer track p n BadCrc NoSector x y = absurd y
+one_answer track p n BadCrc NoMark x y = absurd y
+
+-- where a track has this answer, it shows whatever has the same
+pub shows_answer : (track : List ℕ) (p n : ℕ) (a b : Look) → SameAnswer a b → Shows track p n a → Shows track p n b
+shows_answer track p n (Found a u) (Found b v) same x = (x.0, subst (λ (d : Bool). LookAt track p n (Found d x.0)) same x.1)
+shows_answer track p n (Found a u) NoData same x = absurd same
+shows_answer track p n (Found a u) BadCrc same x = absurd same
+shows_answer track p n (Found a u) NoSector same x = absurd same
+shows_answer track p n (Found a u) NoMark same x = absurd same
+shows_answer track p n NoData (Found b v) same x = absurd same
+shows_answer track p n NoData NoData same x = x
+shows_answer track p n NoData BadCrc same x = absurd same
+shows_answer track p n NoData NoSector same x = absurd same
+shows_answer track p n NoData NoMark same x = absurd same
+shows_answer track p n BadCrc (Found b v) same x = absurd same
+shows_answer track p n BadCrc NoData same x = absurd same
+shows_answer track p n BadCrc BadCrc same x = x
+shows_answer track p n BadCrc NoSector same x = absurd same
+shows_answer track p n BadCrc NoMark same x = absurd same
+shows_answer track p n NoSector b same x = absurd x
+shows_answer track p n NoMark b same x = absurd x
+
+-- two tracks with one answer at an address field show the same there
+pub show_answer : (one two : List ℕ) (p n : ℕ) (a b look : Look) → Shows one p n a → Shows two p n b → SameAnswer a b → Shows one p n look → Shows two p n look
+show_answer one two p n a b look first second same x =
+    shows_answer two p n a look (one_answer one p n a look first x) (shows_answer two p n b a (back a b same) second)
+  where
+    back : (x y : Look) → SameAnswer x y → SameAnswer y x
+    back (Found a p) (Found b q) e = sym e
+    back (Found a p) NoData e = e
+    back (Found a p) BadCrc e = e
+    back (Found a p) NoSector e = e
+    back (Found a p) NoMark e = e
+    back NoData (Found b q) e = e
+    back NoData NoData e = e
+    back NoData BadCrc e = e
+    back NoData NoSector e = e
+    back NoData NoMark e = e
+    back BadCrc (Found b q) e = e
+    back BadCrc NoData e = e
+    back BadCrc BadCrc e = e
+    back BadCrc NoSector e = e
+    back BadCrc NoMark e = e
+    back NoSector y e = absurd e
+    back NoMark y e = absurd e

@@ -1,0 +1,93 @@
+-- Two plays of one job side by side: where they begin alike, and what it is to answer and to end alike.
+use Rattle.std.specs.Prelude.{◌≡◌, ◌<◌, ◌^◌, ◌⊎◌, ℕ, List, [], ◌∷◌, length, slice_index, Option, Some}
+use Rattle.flop_base.specs.Shelf.{Files, file_at}
+use Rattle.flop_base.specs.Sink.{grown}
+use Rattle.flop_base.specs.declared.answers.Status.{Status}
+use Rattle.flop_base.specs.declared.answers.Status.TheVariants as status
+use Rattle.raw_image.specs.Disk.{Disk}
+use Rattle.sector_map.specs.Disks.{IsRegularDisk}
+use Rattle.sector_model.specs.declared.reply.Reply.{Reply}
+use Rattle.sector_model.specs.declared.reply.Reply.TheVariants as reply
+use Rattle.sector_model.specs.Stations.{IsFresh, StationState}
+use Rattle.sector_model.specs.States.{State}
+use Rattle.sector_model.specs.Runs.{Taken, course_text}
+use Rattle.sector_model.specs.Plays.{World}
+use Rattle.sector_model.specs.Ties.{HasNothingLeft}
+
+-- ---- the beginning
+
+-- a station before its first request, on which nothing is left that could go wrong
+pub record IsSound (station : StationState) : Type 0 where
+  pub fresh : IsFresh station
+  pub nothing_left : HasNothingLeft station.counters
+
+-- each file is a list of bytes
+abbrev pub AreBytes : Files → Type 0
+AreBytes files = (name bytes : List ℕ) → file_at files name ≡ Some bytes → (k : ℕ) → slice_index bytes k < 2 ^ 8
+
+-- two plays begin on such stations, with as many spare drives, the same names and the same told files
+pub record BeginAlike (one two : World) : Type 0 where
+  pub first : IsSound one.state.station
+  pub second : IsSound two.state.station
+  pub spares : two.state.station.spares ≡ one.state.station.spares
+  pub names : two.state.names ≡ one.state.names
+  pub files : Files
+  pub told : one.files ≡ Some files
+  pub told_too : two.files ≡ Some files
+  pub bytes : AreBytes files
+
+-- ---- the disks
+
+-- the disk in a bay is regular, if one is in
+abbrev pub IsRegularIn : Option Disk → Type 0
+IsRegularIn medium = (disk : Disk) → medium ≡ Some disk → IsRegularDisk disk
+
+-- the disks in both bays are regular
+pub record HasRegularDisks (state : State) : Type 0 where
+  pub first : IsRegularIn state.station.bays.first.medium
+  pub second : IsRegularIn state.station.bays.second.medium
+
+-- so it is whenever a request of a course comes
+abbrev pub AreRegularBefore : State → List Taken → Type 0
+AreRegularBefore state [] = Unit {0}
+AreRegularBefore state (taken ∷ later) = HasRegularDisks state × AreRegularBefore taken.after later
+
+-- ---- the answers
+
+-- two answers are the same, or dumps of as many bytes from the same address on
+abbrev pub AnswerAlike : Reply → Reply → Type 0
+AnswerAlike (reply.Bytes address content) other =
+    (bytes : List ℕ) × (other ≡ reply.Bytes address bytes) × (length bytes ≡ length content)
+AnswerAlike reply.Done other = other ≡ reply.Done
+AnswerAlike reply.DoneDeleted other = other ≡ reply.DoneDeleted
+AnswerAlike (reply.Refused cause) other = other ≡ reply.Refused cause
+
+-- two courses answer alike, request by request, as far as both go and while the disks of the first are regular
+abbrev pub AnswersAgree : State → List Taken → List Taken → Type 0
+AnswersAgree state [] other = Unit {0}
+AnswersAgree state (taken ∷ later) [] = Unit {0}
+AnswersAgree state (taken ∷ later) (next ∷ rest) =
+    HasRegularDisks state
+    → (next.asked ≡ taken.asked) × AnswerAlike taken.answer next.answer × AnswersAgree taken.after later rest
+
+-- ---- the end
+
+-- a play ended as the outside had it: the shelf or the sink failed, or memory couldn't be had
+abbrev pub IsFreeEnd : Status → Type 0
+IsFreeEnd status.FileFault = Unit {0}
+IsFreeEnd status.SinkFault = Unit {0}
+IsFreeEnd status.NoMemory = Unit {0}
+IsFreeEnd _ = ⊥
+
+-- two plays answered as many requests, told the same behind the answers, and ended with the same status
+pub record EndAlike (one two : World) (course other : List Taken) (one_after two_after : World) (ended other_ended : Status) : Type 0 where
+  pub as_many : length other ≡ length course
+  pub line : List ℕ
+  pub first : one_after.report ≡ grown (grown one.report (course_text course)) line
+  pub second : two_after.report ≡ grown (grown two.report (course_text other)) line
+  pub status : other_ended ≡ ended
+
+-- so it is, unless the outside ended one of them
+abbrev pub EndAlikeUnlessFree : World → World → List Taken → List Taken → World → World → Status → Status → Type 0
+EndAlikeUnlessFree one two course other one_after two_after ended other_ended =
+    IsFreeEnd ended ⊎ IsFreeEnd other_ended ⊎ EndAlike one two course other one_after two_after ended other_ended
