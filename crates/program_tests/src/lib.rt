@@ -1,5 +1,4 @@
-//! Tests of the program over a machine: against the station in memory, with a drive of the tests' own, and with shelves and
-//! sinks that fail.
+//! Tests of the program over a machine: against the station in memory, and with shelves and sinks that fail.
 #![tactic(auto)]
 
 #[cfg(test)]
@@ -8,5 +7,3 @@ mod failures;
 mod machines;
 #[cfg(test)]
 mod same;
-#[cfg(test)]
-mod stuck;
