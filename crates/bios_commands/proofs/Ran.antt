@@ -21,7 +21,7 @@ use Rattle.int13.specs.declared.work.Work.{Work}
 use Rattle.int13.specs.declared.work.Work.TheVariants.{Answer, Changed, Move}
 use Rattle.floppy_session.specs.Services.{MovesRecords, All, UpToOne, MovesIn, AcksAlone, DoesWork}
 use Rattle.disk_commands.specs.Commands.{Runs}
-use Rattle.bios_commands.specs.Turns.{Turn, DoesLine, AreTurns, course_of, Breaks, AtStop, AtPut}
+use Rattle.bios_commands.specs.Rounds.{Round, DoesLine, AreRounds, course_of, Breaks, AtStop, AtPut}
 use Rattle.bios_commands.specs.Courses.{ServesLines, Through, Broken, EndStopped, ServesParsed, ServesCalls, There, Missing, TooLong, Faulty, Starved}
 
 -- one run behind another
@@ -56,15 +56,15 @@ work_run (Move kind bay c h r count address) old new told course code moved p =
     (told, (refl, refl, p.same), goes_run (is_acknowledged old.station bay) kind bay address _ p.looked new told p.later code moved p.goes)
 
 -- a line is one too
-line_run : (line : CallLine) (kept : ℕ) (old : State) (told : Option Files) (turn : Turn) (after : Option Files) → DoesLine line kept old told turn after → Run old told turn.course turn.after after
-line_run (call.Job asked) kept old told turn after p = at_course old turn.after told after turn.course _ p.course_is (after, p.step, (refl, refl))
-line_run (call.Call ax bx cx dx es) kept old told turn after p =
-    subst (λ (f : Option Files). Run old told turn.course turn.after f) (sym p.files) (work_run _ old turn.after told turn.course p.serves.code p.serves.moved p.serves.work)
+line_run : (line : CallLine) (kept : ℕ) (old : State) (told : Option Files) (round : Round) (after : Option Files) → DoesLine line kept old told round after → Run old told round.course round.after after
+line_run (call.Job asked) kept old told round after p = at_course old round.after told after round.course _ p.course_is (after, p.step, (refl, refl))
+line_run (call.Call ax bx cx dx es) kept old told round after p =
+    subst (λ (f : Option Files). Run old told round.course round.after f) (sym p.files) (work_run _ old round.after told round.course p.serves.code p.serves.moved p.serves.work)
 
-turns_run : (kept : ℕ) (old : State) (told : Option Files) (turns : List Turn) (kept_after : ℕ) (new : State) (after : Option Files) → AreTurns kept old told turns kept_after new after → Run old told (course_of turns) new after
-turns_run kept old told [] kept_after new after p = (p.1, p.2)
-turns_run kept old told (turn ∷ later) kept_after new after p =
-    run_join old turn.after new told p.0 after turn.course (course_of later) (line_run turn.line kept old told turn p.0 p.1) (turns_run turn.kept turn.after p.0 later kept_after new after p.2)
+rounds_run : (kept : ℕ) (old : State) (told : Option Files) (rounds : List Round) (kept_after : ℕ) (new : State) (after : Option Files) → AreRounds kept old told rounds kept_after new after → Run old told (course_of rounds) new after
+rounds_run kept old told [] kept_after new after p = (p.1, p.2)
+rounds_run kept old told (round ∷ later) kept_after new after p =
+    run_join old round.after new told p.0 after round.course (course_of later) (line_run round.line kept old told round p.0 p.1) (rounds_run round.kept round.after p.0 later kept_after new after p.2)
 
 -- ---- Counts.
 
@@ -77,28 +77,28 @@ silent state files = record { state = state; files = files; report = None }
 
 lines_ties : (old new : World) (lines : List CallLine) (course : List Taken) (ended : Status) → ServesLines old lines course new ended → Ties old course new
 lines_ties old new lines course ended (Through p) =
-    let run = turns_run 0 old.state old.files p.turns p.kept p.mid.state p.mid.files p.served.served in
+    let run = rounds_run 0 old.state old.files p.rounds p.kept p.mid.state p.mid.files p.served.served in
     subst (λ (c : List Taken). Ties old c new) (sym p.course_is)
-    (requests_tied (silent old.state old.files) (silent new.state new.files) (requests_of (course_of p.turns)) (course_of p.turns) (whole_status (has_refusal (course_of p.turns)))
+    (requests_tied (silent old.state old.files) (silent new.state new.files) (requests_of (course_of p.rounds)) (course_of p.rounds) (whole_status (has_refusal (course_of p.rounds)))
     (Played (record { mid = p.mid.state; files = p.mid.files; run = run; all = refl; stored = p.stored; report = refl; status = refl }))).ties
 lines_ties old new lines course ended (EndStopped p) =
-    let run = turns_run 0 old.state old.files p.turns p.kept p.mid.state p.mid.files p.served.served in
+    let run = rounds_run 0 old.state old.files p.rounds p.kept p.mid.state p.mid.files p.served.served in
     subst (λ (c : List Taken). Ties old c new) (sym p.course_is)
-    (requests_tied (silent old.state old.files) (silent new.state new.files) (requests_of (course_of p.turns)) (course_of p.turns) (stop_status p.cause)
+    (requests_tied (silent old.state old.files) (silent new.state new.files) (requests_of (course_of p.rounds)) (course_of p.rounds) (stop_status p.cause)
     (PlayEndStopped (record { mid = p.mid.state; files = p.mid.files; cause = p.cause; run = run; all = refl; only = p.only; stops = p.stops; report = refl; status = refl }))).ties
 lines_ties old new lines course ended (Broken p) =
-    let run = turns_run 0 old.state old.files p.turns p.kept p.mid.state p.mid.files p.served.served in
-    subst (λ (c : List Taken). Ties old c new) (sym p.course_is) (broken p.mid p.kept p.line (course_of p.turns) p.last run p.breaks)
+    let run = rounds_run 0 old.state old.files p.rounds p.kept p.mid.state p.mid.files p.served.served in
+    subst (λ (c : List Taken). Ties old c new) (sym p.course_is) (broken p.mid p.kept p.line (course_of p.rounds) p.last run p.breaks)
   where
     broken : (mid : World) (kept : ℕ) (line : CallLine) (before last : List Taken) → Run old.state old.files before mid.state mid.files → Breaks mid kept line last new ended → Ties old (before ++ last) new
     broken mid kept line before last run (AtStop asked cause is none stops prints) =
         subst (λ (l : List Taken). Ties old (before ++ l) new) (sym none)
         (subst (λ (l : List Taken). Ties old l new) (sym (append-nil before))
         (stopped_ties old.state mid.state new.state old.files mid.files new.files before asked cause run stops))
-    broken mid kept line before last run (AtPut turn does is after part fault) =
+    broken mid kept line before last run (AtPut round does is after part fault) =
         subst (λ (l : List Taken). Ties old (before ++ l) new) (sym is)
-        (subst (λ (s : State). TiesCounts old.state.station.counters (before ++ turn.course) s.station.counters) after
-        (ran_ties old.state turn.after old.files new.files (before ++ turn.course) (run_join old.state mid.state turn.after old.files mid.files new.files before turn.course run (line_run line kept mid.state mid.files turn new.files does))))
+        (subst (λ (s : State). TiesCounts old.state.station.counters (before ++ round.course) s.station.counters) after
+        (ran_ties old.state round.after old.files new.files (before ++ round.course) (run_join old.state mid.state round.after old.files mid.files new.files before round.course run (line_run line kept mid.state mid.files round new.files does))))
 
 idle_ties : (old new : World) (course : List Taken) → course ≡ [] → new ≡ old → Ties old course new
 idle_ties old new course nothing same =

@@ -27,13 +27,13 @@ use Rattle.floppy_report.proofs.DumpLines.{grown-twice, grown-nothing}
 use Rattle.int13.specs.declared.regs.Regs.{Regs}
 use Rattle.floppy_session.specs.Services.{Serves}
 use Rattle.bios_commands.specs.CallTexts.{call_text}
-use Rattle.bios_commands.specs.Turns.{Turn, DoesLine, AreTurns, lines_of, course_of, turns_text, has_refused, IsTurn, Breaks, AtStop, AtPut}
+use Rattle.bios_commands.specs.Rounds.{Round, DoesLine, AreRounds, lines_of, course_of, rounds_text, has_refused, IsRound, Breaks, AtStop, AtPut}
 use Rattle.bios_commands.specs.Courses.{Through, Broken, EndStopped, ServesLines, ServesParsed, ServesCalls, There, Missing, TooLong, Faulty, Starved}
 use Rattle.bios_commands.specs.Lines.{IsCallOf, HasServed, HasBroken, EndsAs, InWhole, AtStore, Serving, ServesOrStarves, AsParsed, Starving, Misses}
 
 -- ---- One line.
 
-abbrev asked_line : Request → Reply → ℕ → State → Turn
+abbrev asked_line : Request → Reply → ℕ → State → Round
 asked_line asked answer kept after = record {
   line = call.Job asked;
   course = record { asked = asked; answer = answer; after = after } ∷ [];
@@ -43,9 +43,9 @@ asked_line asked answer kept after = record {
   after = after;
 }
 
-pub asked_turn : (kept : ℕ) (asked : Request) (answer : Reply) (refused : Bool) (old new : World) → Step old.state old.files asked answer new.state new.files → new.report ≡ grown old.report (reply_text asked answer) → refused ≡ is_refusal answer → IsTurn old kept (call.Job asked) refused new kept
-asked_turn kept asked answer refused old new step report is = record {
-  turn = asked_line asked answer kept new.state;
+pub asked_round : (kept : ℕ) (asked : Request) (answer : Reply) (refused : Bool) (old new : World) → Step old.state old.files asked answer new.state new.files → new.report ≡ grown old.report (reply_text asked answer) → refused ≡ is_refusal answer → IsRound old kept (call.Job asked) refused new kept
+asked_round kept asked answer refused old new step report is = record {
+  round = asked_line asked answer kept new.state;
   line_is = refl;
   does = record { answer = answer; step = step; course_is = refl; text_is = refl; is_refused = refl; keeps = refl };
   after = refl;
@@ -61,7 +61,7 @@ asked_cut kept asked answer old new ended step part fault =
 pub asked_stop : (kept : ℕ) (asked : Request) (cause : Stop) (old new : World) (ended : Status) → StopsAt old.state old.files asked cause new.state new.files → Prints old.report (stop_text cause) (stop_status cause) new.report ended → (last : List Taken) × Breaks old kept (call.Job asked) last new ended
 asked_stop kept asked cause old new ended stops prints = ([], AtStop asked cause refl refl stops prints)
 
-abbrev served_line : CallLine → Regs → List Taken → ℕ → State → Turn
+abbrev served_line : CallLine → Regs → List Taken → ℕ → State → Round
 served_line line answered course kept after = record {
   line = line;
   course = course;
@@ -81,9 +81,9 @@ served_does (call.Call ax bx cx dx es) regs kept kept_after old new answered cou
   files = files;
 }
 
-pub served_turn : (line : CallLine) (regs : Regs) (kept kept_after : ℕ) (old new : World) (answered : Regs) → IsCallOf regs line → ((course : List Taken) × Serves kept regs old.state old.files answered kept_after course new.state) → new.files ≡ old.files → new.report ≡ grown old.report (call_text answered) → IsTurn old kept line answered.carry new kept_after
-served_turn line regs kept kept_after old new answered is serves files report = record {
-  turn = served_line line answered serves.0 kept_after new.state;
+pub served_round : (line : CallLine) (regs : Regs) (kept kept_after : ℕ) (old new : World) (answered : Regs) → IsCallOf regs line → ((course : List Taken) × Serves kept regs old.state old.files answered kept_after course new.state) → new.files ≡ old.files → new.report ≡ grown old.report (call_text answered) → IsRound old kept line answered.carry new kept_after
+served_round line regs kept kept_after old new answered is serves files report = record {
+  round = served_line line answered serves.0 kept_after new.state;
   line_is = refl;
   does = served_does line regs kept kept_after old new answered serves.0 is serves.1 files;
   after = refl;
@@ -98,23 +98,23 @@ served_cut line regs kept kept_after old new answered ended is serves files part
 
 -- ---- One line more.
 
-turns_more : (kept : ℕ) (old : State) (told : Option Files) (turns : List Turn) (kept_mid : ℕ) (mid : State) (mid_told : Option Files) (turn : Turn) (after : Option Files) → AreTurns kept old told turns kept_mid mid mid_told → DoesLine turn.line kept_mid mid mid_told turn after → AreTurns kept old told (turns ++ turn ∷ []) turn.kept turn.after after
-turns_more kept old told [] kept_mid mid mid_told turn after so_far does =
-    let a = subst (λ (k : ℕ). DoesLine turn.line k mid mid_told turn after) so_far.0 does in
-    let b = subst (λ (s : State). DoesLine turn.line kept s mid_told turn after) so_far.1 a in
-    let c = subst (λ (f : Option Files). DoesLine turn.line kept old f turn after) so_far.2 b in
+rounds_more : (kept : ℕ) (old : State) (told : Option Files) (rounds : List Round) (kept_mid : ℕ) (mid : State) (mid_told : Option Files) (round : Round) (after : Option Files) → AreRounds kept old told rounds kept_mid mid mid_told → DoesLine round.line kept_mid mid mid_told round after → AreRounds kept old told (rounds ++ round ∷ []) round.kept round.after after
+rounds_more kept old told [] kept_mid mid mid_told round after so_far does =
+    let a = subst (λ (k : ℕ). DoesLine round.line k mid mid_told round after) so_far.0 does in
+    let b = subst (λ (s : State). DoesLine round.line kept s mid_told round after) so_far.1 a in
+    let c = subst (λ (f : Option Files). DoesLine round.line kept old f round after) so_far.2 b in
     (after, c, (refl, refl, refl))
-turns_more kept old told (first ∷ later) kept_mid mid mid_told turn after so_far does =
-    (so_far.0, so_far.1, turns_more first.kept first.after so_far.0 later kept_mid mid mid_told turn after so_far.2 does)
+rounds_more kept old told (first ∷ later) kept_mid mid mid_told round after so_far does =
+    (so_far.0, so_far.1, rounds_more first.kept first.after so_far.0 later kept_mid mid mid_told round after so_far.2 does)
 
-lines_more : (turns : List Turn) (turn : Turn) → lines_of (turns ++ turn ∷ []) ≡ lines_of turns ++ turn.line ∷ []
-lines_more [] turn = refl
-lines_more (first ∷ later) turn = ap (λ (rest : List CallLine). first.line ∷ rest) (lines_more later turn)
+lines_more : (rounds : List Round) (round : Round) → lines_of (rounds ++ round ∷ []) ≡ lines_of rounds ++ round.line ∷ []
+lines_more [] round = refl
+lines_more (first ∷ later) round = ap (λ (rest : List CallLine). first.line ∷ rest) (lines_more later round)
 
-text_more : (turns : List Turn) (turn : Turn) → turns_text (turns ++ turn ∷ []) ≡ turns_text turns ++ turn.text
-text_more [] turn = append-nil turn.text
-text_more (first ∷ later) turn =
-    ap (λ (rest : List ℕ). first.text ++ rest) (text_more later turn) ∙ sym (append_assoc first.text (turns_text later) turn.text)
+text_more : (rounds : List Round) (round : Round) → rounds_text (rounds ++ round ∷ []) ≡ rounds_text rounds ++ round.text
+text_more [] round = append-nil round.text
+text_more (first ∷ later) round =
+    ap (λ (rest : List ℕ). first.text ++ rest) (text_more later round) ∙ sym (append_assoc first.text (rounds_text later) round.text)
 
 or-false : (b : Bool) → (b || false) ≡ b
 or-false true = refl
@@ -124,42 +124,42 @@ or-moves : (a b c : Bool) → (a || (b || c)) ≡ ((a || b) || c)
 or-moves true b c = refl
 or-moves false b c = refl
 
-refused_more : (turns : List Turn) (turn : Turn) → has_refused (turns ++ turn ∷ []) ≡ (has_refused turns || turn.refused)
-refused_more [] turn = or-false turn.refused
-refused_more (first ∷ later) turn =
-    ap (λ (rest : Bool). first.refused || rest) (refused_more later turn) ∙ or-moves first.refused (has_refused later) turn.refused
+refused_more : (rounds : List Round) (round : Round) → has_refused (rounds ++ round ∷ []) ≡ (has_refused rounds || round.refused)
+refused_more [] round = or-false round.refused
+refused_more (first ∷ later) round =
+    ap (λ (rest : Bool). first.refused || rest) (refused_more later round) ∙ or-moves first.refused (has_refused later) round.refused
 
 -- no line was served
 pub served_none : (old : World) (kept : ℕ) → kept ≡ 0 → HasServed old [] false kept old
-served_none old kept is = record { turns = []; served = record { served = (is, refl, refl); all = refl; report = sym (grown-nothing old.report) }; is_refused = refl }
+served_none old kept is = record { rounds = []; served = record { served = (is, refl, refl); all = refl; report = sym (grown-nothing old.report) }; is_refused = refl }
 
-served_more : (old mid new : World) (lines : List CallLine) (line : CallLine) (refused refusal : Bool) (kept kept_after : ℕ) → HasServed old lines refused kept mid → IsTurn mid kept line refusal new kept_after → HasServed old (lines ++ line ∷ []) (refused || refusal) kept_after new
+served_more : (old mid new : World) (lines : List CallLine) (line : CallLine) (refused refusal : Bool) (kept kept_after : ℕ) → HasServed old lines refused kept mid → IsRound mid kept line refusal new kept_after → HasServed old (lines ++ line ∷ []) (refused || refusal) kept_after new
 served_more old mid new lines line refused refusal kept kept_after so_far is =
-    let turn : Turn = is.turn in
-    let does : DoesLine turn.line kept mid.state mid.files turn new.files = subst (λ (l : CallLine). DoesLine l kept mid.state mid.files turn new.files) (sym is.line_is) is.does in
-    let more : AreTurns 0 old.state old.files (so_far.turns ++ turn ∷ []) turn.kept turn.after new.files = turns_more 0 old.state old.files so_far.turns kept mid.state mid.files turn new.files so_far.served.served does in
+    let round : Round = is.round in
+    let does : DoesLine round.line kept mid.state mid.files round new.files = subst (λ (l : CallLine). DoesLine l kept mid.state mid.files round new.files) (sym is.line_is) is.does in
+    let more : AreRounds 0 old.state old.files (so_far.rounds ++ round ∷ []) round.kept round.after new.files = rounds_more 0 old.state old.files so_far.rounds kept mid.state mid.files round new.files so_far.served.served does in
     record {
-      turns = so_far.turns ++ turn ∷ [];
+      rounds = so_far.rounds ++ round ∷ [];
       served = record {
-        served = subst (λ (k : ℕ). AreTurns 0 old.state old.files (so_far.turns ++ turn ∷ []) k new.state new.files) is.keeps (subst (λ (s : State). AreTurns 0 old.state old.files (so_far.turns ++ turn ∷ []) turn.kept s new.files) is.after more);
-        all = ap (λ (before : List CallLine). before ++ line ∷ []) so_far.served.all ∙ ap (λ (l : CallLine). lines_of so_far.turns ++ l ∷ []) (sym is.line_is) ∙ sym (lines_more so_far.turns turn);
-        report = is.report ∙ ap (λ (r : Option (List ℕ)). grown r turn.text) so_far.served.report ∙ grown-twice old.report (turns_text so_far.turns) turn.text ∙ ap (grown old.report) (sym (text_more so_far.turns turn));
+        served = subst (λ (k : ℕ). AreRounds 0 old.state old.files (so_far.rounds ++ round ∷ []) k new.state new.files) is.keeps (subst (λ (s : State). AreRounds 0 old.state old.files (so_far.rounds ++ round ∷ []) round.kept s new.files) is.after more);
+        all = ap (λ (before : List CallLine). before ++ line ∷ []) so_far.served.all ∙ ap (λ (l : CallLine). lines_of so_far.rounds ++ l ∷ []) (sym is.line_is) ∙ sym (lines_more so_far.rounds round);
+        report = is.report ∙ ap (λ (r : Option (List ℕ)). grown r round.text) so_far.served.report ∙ grown-twice old.report (rounds_text so_far.rounds) round.text ∙ ap (grown old.report) (sym (text_more so_far.rounds round));
       };
-      is_refused = ap (λ (b : Bool). b || refusal) so_far.is_refused ∙ ap (λ (b : Bool). has_refused so_far.turns || b) is.is_refused ∙ sym (refused_more so_far.turns turn);
+      is_refused = ap (λ (b : Bool). b || refusal) so_far.is_refused ∙ ap (λ (b : Bool). has_refused so_far.rounds || b) is.is_refused ∙ sym (refused_more so_far.rounds round);
     }
 
 -- the lines up to one more were served
-pub served_next : (old mid new : World) (lines : List CallLine) (i : ℕ) (line : CallLine) (refused refusal now : Bool) (kept kept_after : ℕ) → HasServed old (take i lines) refused kept mid → IsTurn mid kept line refusal new kept_after → i < length lines → line ≡ get_or lines i line → now ≡ (refused || refusal) → HasServed old (take (i + 1) lines) now kept_after new
-served_next old mid new lines i line refused refusal now kept kept_after so_far turn within item either =
+pub served_next : (old mid new : World) (lines : List CallLine) (i : ℕ) (line : CallLine) (refused refusal now : Bool) (kept kept_after : ℕ) → HasServed old (take i lines) refused kept mid → IsRound mid kept line refusal new kept_after → i < length lines → line ≡ get_or lines i line → now ≡ (refused || refusal) → HasServed old (take (i + 1) lines) now kept_after new
+served_next old mid new lines i line refused refusal now kept kept_after so_far round within item either =
     let one : take (i + 1) lines ≡ take i lines ++ line ∷ [] = take_more lines i line within ∙ ap (λ (r : CallLine). take i lines ++ r ∷ []) (sym item) in
-    subst (λ (b : Bool). HasServed old (take (i + 1) lines) b kept_after new) (sym either) (subst (λ (rs : List CallLine). HasServed old rs (refused || refusal) kept_after new) (sym one) (served_more old mid new (take i lines) line refused refusal kept kept_after so_far turn))
+    subst (λ (b : Bool). HasServed old (take (i + 1) lines) b kept_after new) (sym either) (subst (λ (rs : List CallLine). HasServed old rs (refused || refusal) kept_after new) (sym one) (served_more old mid new (take i lines) line refused refusal kept kept_after so_far round))
 
 -- a line broke off
 pub broken : (old mid new : World) (lines : List CallLine) (i : ℕ) (line : CallLine) (refused : Bool) (kept : ℕ) (ended : Status) → HasServed old (take i lines) refused kept mid → i < length lines → line ≡ get_or lines i line → ((last : List Taken) × Breaks mid kept line last new ended) → HasBroken old lines new ended
 broken old mid new lines i line refused kept ended so_far within item breaks = (
-  course_of so_far.turns ++ breaks.0,
+  course_of so_far.rounds ++ breaks.0,
   record {
-    turns = so_far.turns;
+    rounds = so_far.rounds;
     mid = mid;
     kept = kept;
     done = take i lines;
@@ -179,9 +179,9 @@ broken_serving old new lines ended p = (p.0, Broken p.1)
 -- all lines were served, and then the end came
 pub served_ends : (old mid new : World) (lines : List CallLine) (refused : Bool) (ended : Status) → ((kept : ℕ) × HasServed old lines refused kept mid) → new.report ≡ mid.report → EndsAs mid.state mid.files refused new.state new.files ended → Serving old lines new ended
 served_ends old mid new lines refused ended so_far report (InWhole ends whole) = (
-  course_of so_far.1.turns,
+  course_of so_far.1.rounds,
   Through (record {
-    turns = so_far.1.turns;
+    rounds = so_far.1.rounds;
     mid = mid;
     kept = so_far.0;
     served = so_far.1.served;
@@ -192,9 +192,9 @@ served_ends old mid new lines refused ended so_far report (InWhole ends whole) =
   }),
 )
 served_ends old mid new lines refused ended so_far report (AtStore cause only stops at) = (
-  course_of so_far.1.turns,
+  course_of so_far.1.rounds,
   EndStopped (record {
-    turns = so_far.1.turns;
+    rounds = so_far.1.rounds;
     mid = mid;
     kept = so_far.0;
     cause = cause;

@@ -9,35 +9,35 @@ use Rattle.sector_model.specs.Steps.{IsAbsent, IsLonger}
 use Rattle.sector_model.specs.Texts.{stop_status, bad_line_text, absent_text}
 use Rattle.sector_model.specs.Runs.{Taken, Ends, EndStopsAt, IsEndStop}
 use Rattle.sector_model.specs.Plays.{World, TellsAlone, IsIdle, IsText, most_job_bytes, whole_status}
-use Rattle.bios_commands.specs.Turns.{Turn, AreServed, Breaks, course_of, has_refused}
+use Rattle.bios_commands.specs.Rounds.{Round, AreServed, Breaks, course_of, has_refused}
 
 -- all lines were done and told, and the media that were left in were stored
 pub record IsThrough (old : World) (lines : List CallLine) (course : List Taken) (new : World) (ended : Status) : Type 0 where
-  pub turns : List Turn
+  pub rounds : List Round
   pub mid : World
   pub kept : ℕ
-  pub served : AreServed old lines turns mid kept
+  pub served : AreServed old lines rounds mid kept
   pub stored : Ends mid.state mid.files new.state new.files
   pub report : new.report ≡ mid.report
-  pub status : ended ≡ whole_status (has_refused turns)
-  pub course_is : course ≡ course_of turns
+  pub status : ended ≡ whole_status (has_refused rounds)
+  pub course_is : course ≡ course_of rounds
 
 -- all lines were done and told, and the end couldn't store what was left in
 pub record IsEndStopped (old : World) (lines : List CallLine) (course : List Taken) (new : World) (ended : Status) : Type 0 where
-  pub turns : List Turn
+  pub rounds : List Round
   pub mid : World
   pub kept : ℕ
   pub cause : Stop
-  pub served : AreServed old lines turns mid kept
+  pub served : AreServed old lines rounds mid kept
   pub only : IsEndStop cause
   pub stops : EndStopsAt mid.state mid.files new.state new.files
   pub report : new.report ≡ mid.report
   pub status : ended ≡ stop_status cause
-  pub course_is : course ≡ course_of turns
+  pub course_is : course ≡ course_of rounds
 
 -- a line broke off, after all before it were done and told
 pub record IsBroken (old : World) (lines : List CallLine) (course : List Taken) (new : World) (ended : Status) : Type 0 where
-  pub turns : List Turn
+  pub rounds : List Round
   pub mid : World
   pub kept : ℕ
   pub done : List CallLine
@@ -45,9 +45,9 @@ pub record IsBroken (old : World) (lines : List CallLine) (course : List Taken) 
   pub later : List CallLine
   pub last : List Taken
   pub parts : lines ≡ done ++ line ∷ later
-  pub served : AreServed old done turns mid kept
+  pub served : AreServed old done rounds mid kept
   pub breaks : Breaks mid kept line last new ended
-  pub course_is : course ≡ course_of turns ++ last
+  pub course_is : course ≡ course_of rounds ++ last
 
 -- the lines are served
 pub data ServesLines (old : World) (lines : List CallLine) (course : List Taken) (new : World) (ended : Status) : Type 0 where

@@ -1,4 +1,4 @@
 pub mod CallTexts
 pub mod Courses
 pub mod Lines
-pub mod Turns
+pub mod Rounds

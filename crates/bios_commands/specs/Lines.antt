@@ -16,7 +16,7 @@ use Rattle.sector_model.specs.Plays.{World, Prints, IsIdle, whole_status}
 use Rattle.int13.specs.declared.regs.Regs.{Regs}
 use Rattle.floppy_session.specs.Tries.{HasTries}
 use Rattle.bios_commands.specs.CallTexts.{registers}
-use Rattle.bios_commands.specs.Turns.{Turn, AreServed, has_refused}
+use Rattle.bios_commands.specs.Rounds.{Round, AreServed, has_refused}
 use Rattle.bios_commands.specs.Courses.{IsBroken, ServesLines, ServesParsed}
 
 -- the number of attempts is from 1 to 10, where a request sets it
@@ -31,9 +31,9 @@ IsCallOf regs (call.Call ax bx cx dx es) = regs ≡ registers ax bx cx dx es
 
 -- some lines were served and told whole; `refused` says that one counts as a refusal
 pub record HasServed (old : World) (lines : List CallLine) (refused : Bool) (kept : ℕ) (new : World) : Type 0 where
-  pub turns : List Turn
-  pub served : AreServed old lines turns new kept
-  pub is_refused : refused ≡ has_refused turns
+  pub rounds : List Round
+  pub served : AreServed old lines rounds new kept
+  pub is_refused : refused ≡ has_refused rounds
 
 -- a line broke off
 abbrev pub HasBroken : World → List CallLine → World → Status → Type 0

@@ -9,7 +9,7 @@ ghost use Rattle.sector_model.specs.Plays.{IsPutFault};
 ghost use Rattle.floppy_session.specs.Session.{IsRunning};
 ghost use Rattle.floppy_session.specs.Tries.{HasTries};
 ghost use Rattle.disk_commands.specs.Worlds.{world_of};
-ghost use Rattle.bios_commands.specs.Turns.{IsTurn, Breaks};
+ghost use Rattle.bios_commands.specs.Rounds.{IsRound, Breaks};
 ghost use Rattle.bios_commands.specs.Lines.{LineHasTries, IsCallOf};
 
 use crate::text::call_line;
@@ -40,7 +40,7 @@ fn ask<S: Shelf, K: Sink, D: Station>(
 ) -> Result<bool, Status>
     requires running { IsRunning D.shown D.is_ready session.old }
     requires tries { HasTries request.now }
-    ensures turn { (kept : ℕ) → IfOk result (λ refused. IsTurn (world_of D.shown S.told K.told session.old shelf.old out.old) kept (calls.Job request.now) refused
+    ensures round { (kept : ℕ) → IfOk result (λ refused. IsRound (world_of D.shown S.told K.told session.old shelf.old out.old) kept (calls.Job request.now) refused
         (world_of D.shown S.told K.told session.new shelf.new out.new) kept) }
     ensures breaks { (kept : ℕ) → IfErr result (λ ended. (last : List Taken) × Breaks
         (world_of D.shown S.told K.told session.old shelf.old out.old) kept (calls.Job request.now) last
@@ -71,7 +71,7 @@ fn call<S: Shelf, K: Sink, D: Station>(
     out: &mut K,
 ) -> Result<bool, Status>
     requires running { IsRunning D.shown D.is_ready session.old }
-    ensures turn { (line : CallLine) → IsCallOf regs line → IfOk result (λ refused. IsTurn
+    ensures round { (line : CallLine) → IsCallOf regs line → IfOk result (λ refused. IsRound
         (world_of D.shown S.told K.told session.old shelf.now out.old) front.old line refused
         (world_of D.shown S.told K.told session.new shelf.now out.new) front.new) }
     ensures breaks { (line : CallLine) → IsCallOf regs line → IfErr result (λ ended. (last : List Taken) × Breaks
@@ -101,7 +101,7 @@ pub(crate) fn serve_line<S: Shelf, K: Sink, D: Station>(
 ) -> Result<bool, Status>
     requires running { IsRunning D.shown D.is_ready session.old }
     requires tries { LineHasTries line.now }
-    ensures turn { IfOk result (λ refused. IsTurn (world_of D.shown S.told K.told session.old shelf.old out.old) front.old line.now refused
+    ensures round { IfOk result (λ refused. IsRound (world_of D.shown S.told K.told session.old shelf.old out.old) front.old line.now refused
         (world_of D.shown S.told K.told session.new shelf.new out.new) front.new) }
     ensures breaks { IfErr result (λ ended. (last : List Taken) × Breaks
         (world_of D.shown S.told K.told session.old shelf.old out.old) front.old line.now last

@@ -49,7 +49,7 @@ has_bit byte k = not (bit_and byte (2 ^ k) == 0)
 abbrev pub is_channel_2 : ℕ → Bool
 is_channel_2 byte = bit_and byte 3 == 2
 
--- the byte that the flip-flop names goes to base and current address, and the flip-flop turns
+-- the byte that the flip-flop names goes to base and current address, and the flip-flop toggles
 abbrev pub address_written : ℕ → Channel → Channel
 address_written byte c = record c {
   base_address = with_byte c.base_address c.high_byte_next byte;
@@ -57,7 +57,7 @@ address_written byte c = record c {
   high_byte_next = not c.high_byte_next;
 }
 
--- the byte that the flip-flop names goes to base and current count, and the flip-flop turns
+-- the byte that the flip-flop names goes to base and current count, and the flip-flop toggles
 abbrev pub count_written : ℕ → Channel → Channel
 count_written byte c = record c {
   base_count = with_byte c.base_count c.high_byte_next byte;
@@ -99,7 +99,7 @@ value_read port c =
     if port == 0x81 then c.page else
     0xFF)))
 
--- what a read of a port leaves: address and count turn the flip-flop, and status forgets its bit
+-- what a read of a port leaves: address and count toggle the flip-flop, and status forgets its bit
 unfoldable pub after_read : ℕ → Channel → Channel
 after_read port c =
     if port == 0x04 || port == 0x05 then record c { high_byte_next = not c.high_byte_next } else (

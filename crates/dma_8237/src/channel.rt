@@ -2,7 +2,7 @@
 ghost use Rattle.std.specs.Prelude.{◌≡◌, ◌==◌, ◌<◌, IsTrue, length, slice_set, slice_index, if◌then◌else◌};
 ghost use Rattle.dma_8237.specs.Channel.{power_up, after_write, value_read, after_read, is_channel_2, grants, after_transfer, place_of, writes_memory, reads_memory};
 
-use crate::word::{byte_of, turn, with_byte};
+use crate::word::{byte_of, toggle, with_byte};
 use std::marker::Model;
 
 /// The bytes that four bits of a page and an address reach.
@@ -106,11 +106,11 @@ impl Dma {
     {
         match port {
             ADDRESS => {
-                let high = turn(&mut self.high_byte_next);
+                let high = toggle(&mut self.high_byte_next);
                 byte_of(self.address, high)
             }
             COUNT => {
-                let high = turn(&mut self.high_byte_next);
+                let high = toggle(&mut self.high_byte_next);
                 byte_of(self.count, high)
             }
             COMMAND_AND_STATUS => {
@@ -130,12 +130,12 @@ impl Dma {
     {
         match port {
             ADDRESS => {
-                let high = turn(&mut self.high_byte_next);
+                let high = toggle(&mut self.high_byte_next);
                 self.base_address = with_byte(self.base_address, high, value);
                 self.address = with_byte(self.address, high, value);
             }
             COUNT => {
-                let high = turn(&mut self.high_byte_next);
+                let high = toggle(&mut self.high_byte_next);
                 self.base_count = with_byte(self.base_count, high, value);
                 self.count = with_byte(self.count, high, value);
             }

@@ -2,8 +2,7 @@
 #![tactic(auto)]
 
 mod channel;
-mod laws;
+pub mod laws;
 mod word;
 
 pub use channel::{Dma, MEMORY_SIZE};
-pub use laws::{channel_is_set, count_is_transfers_less_one};

@@ -23,10 +23,10 @@ pub fn with_byte(word: u16, high: bool, byte: u8) -> u16
     u16::from_le_bytes(bytes)
 }
 
-/// Turns the flip-flop, and tells whether it named the high byte.
-pub fn turn(high_byte_next: &mut bool) -> bool
+/// Toggles the flip-flop, and tells whether it named the high byte.
+pub fn toggle(high_byte_next: &mut bool) -> bool
     ensures was { result ≡ high_byte_next.old }
-    ensures turned { high_byte_next.new ≡ not high_byte_next.old }
+    ensures toggled { high_byte_next.new ≡ not high_byte_next.old }
 {
     let high = *high_byte_next;
     *high_byte_next = !high;

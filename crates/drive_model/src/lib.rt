@@ -7,13 +7,12 @@
 mod boxed;
 mod drive;
 mod fault;
-mod laws;
+pub mod laws;
 mod mechanics;
 mod plain;
 mod script;
 
 pub use drive::{Drive, Turn};
 pub use fault::Fault;
-pub use laws::protected_medium_stays;
 pub use plain::PlainDrive;
 pub use script::ScriptDrive;

@@ -208,11 +208,11 @@ impl Drive for ScriptDrive {
             (read_of (script_state self.old) head) self.old self.new }
     {
         let drops = self.drops(head);
-        let turn = self.mechanics.read(head);
+        let passing = self.mechanics.read(head);
         if drops {
-            Turn { word: 0, ..turn }
+            Turn { word: 0, ..passing }
         } else {
-            turn
+            passing
         }
     }
 

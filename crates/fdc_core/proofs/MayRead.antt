@@ -4,7 +4,7 @@ use Rattle.std.proofs.lemmas.Bool.{false≢true}
 use Rattle.std.proofs.lemmas.Bool.Decides.{nat_tests}
 use Rattle.flop_base.specs.declared.key.Chrn.{Chrn}
 use Rattle.track_model.specs.Fields.{content_size}
-use Rattle.track_separator.proofs.Laws.{reads_mark, reads_within}
+use Rattle.track_separator.proofs.Lawful.{reads_mark, reads_within}
 use Rattle.fdc_stages.specs.History.{Past, heard, words_heard}
 use Rattle.fdc_stages.specs.Readings.{IsStart, IsReading, HasRead, HasHeard, FailsWell, IsFailure, IsOver, IsToldOf}
 use Rattle.fdc_stages.specs.declared.ending.Ending.{Ending}
@@ -13,7 +13,7 @@ use Rattle.fdc_stages.specs.Readings.{ReadOutcome}
 use Rattle.fdc_stages.specs.Readings as given
 use Rattle.fdc_stages.specs.declared.reading.ReadStage.{ReadStage}
 use Rattle.fdc_stages.specs.declared.reading.ReadStage.TheVariants.{Search, Wait, Content, Over}
-use Rattle.fdc_stages.proofs.Laws.{over_told, told_stays, heard_count}
+use Rattle.fdc_stages.proofs.Lawful.{over_told, told_stays, heard_count}
 use Rattle.drive_model.specs.Drive.{DriveState}
 use Rattle.fdc_core.specs.Heard.{Sent, sent_of, IsUnderway, HasEndedAs, IsSpent, MayRead, MayReadIn, MayReadTask, MayReadIdIn, told_in, stepped, gave}
 use Rattle.fdc_core.specs.Listening.{SeesWord, is_executing, after_step, Hears, StageHears}

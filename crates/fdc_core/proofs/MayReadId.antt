@@ -16,7 +16,7 @@ use Rattle.fdc_core.specs.Listening.{Hears, is_executing, after_step}
 use Rattle.fdc_core.specs.Reading.{after_searched}
 use Rattle.fdc_core.specs.Phases.{key_as_sent}
 use Rattle.fdc_core.specs.State.{finished}
-use Rattle.fdc_stages.proofs.Laws.{heard_count}
+use Rattle.fdc_stages.proofs.Lawful.{heard_count}
 use Rattle.fdc_core.specs.declared.controller.Fdc.{Fdc}
 use Rattle.fdc_core.specs.declared.phases.Execution.{Execution}
 use Rattle.fdc_core.specs.declared.phases.Phase.{Phase}

@@ -12,7 +12,7 @@ use Rattle.fdc_stages.specs.declared.ending.Ending.TheVariants.{Done, NoMark, No
 use Rattle.fdc_stages.specs.declared.reading.ReadStage.{ReadStage}
 use Rattle.fdc_stages.specs.declared.reading.ReadStage.TheVariants as stages
 use Rattle.fdc_stages.proofs.Causes.{found_of, bad_check_of, no_field_of, no_mark_of, no_sector_of}
-use Rattle.fdc_stages.proofs.Laws.{over_told, over_full, reading_told, searching_few}
+use Rattle.fdc_stages.proofs.Lawful.{over_told, over_full, reading_told, searching_few}
 use Rattle.fdc_core.specs.Heard.{Sent, MayRead, MayReadIn, MayReadTask, MayReadId, MayReadIdIn, MayReadIdTask, HasEndedAs}
 use Rattle.fdc_core.specs.Meaning.{ReadMeans, ReadMeansIn, FindsUncounted, ReadGives, AreOfField, bytes_held, IdMeans, IdMeansIn, PacedIn, IsPaced, is_hearing}
 use Rattle.fdc_core.specs.Phases.{is_over}

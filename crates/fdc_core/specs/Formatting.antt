@@ -30,8 +30,8 @@ is_ended (On _) = false
 
 -- ---- what a stage makes of a word, whatever has passed before
 
-abbrev pub StageHearsTurn : Formatting → Bool → FormatNext → Type 0
-StageHearsTurn formatting index next =
+abbrev pub StageHearsIndex : Formatting → Bool → FormatNext → Type 0
+StageHearsIndex formatting index next =
     ((past : Past) (numbers : Numbers) (handed : List ℕ) (word : ℕ) → is_open formatting.stage ≡ false → IsFormatting past numbers handed formatting.stage
     → HasNext (heard_where (opens formatting.stage) index word past) numbers handed next)
     × FailsWell next × ((lead : ℕ) → HasLead formatting.stage lead → LeadsOn lead next)
@@ -50,7 +50,7 @@ pub record StageLaysWord (formatting : Formatting) (takes : Bool) (byte : ℕ) (
 pub record HearsFormat (head_drive steps : ℕ) (formatting : Formatting) (index : Bool) (old new : Fdc) : Type 0 where
   pub few : steps < 65535
   pub next : FormatNext
-  pub hears : StageHearsTurn formatting index next
+  pub hears : StageHearsIndex formatting index next
   pub after_is : new ≡ after_laid head_drive (steps + 1) formatting next old
 
 -- a word is written; where it is a byte of a key, that byte is taken
@@ -101,7 +101,7 @@ pub record IsFormatStep (head_drive steps : ℕ) (formatting : Formatting) (old 
 -- ---- its parts
 
 -- a word is heard
-pub record HearsATurn (head_drive steps : ℕ) (formatting : Formatting) (old : Fdc) (before after : DriveState) (new : Fdc) : Type 0 where
+pub record HearsAWord (head_drive steps : ℕ) (formatting : Formatting) (old : Fdc) (before after : DriveState) (new : Fdc) : Type 0 where
   pub index : Bool
   pub word : ℕ
   pub is : IsHeardTime index word old.rate (head_of head_drive) before after

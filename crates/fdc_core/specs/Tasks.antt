@@ -4,7 +4,7 @@ use Rattle.drive_model.specs.Drive.{DriveState, at_index}
 use Rattle.fdc_writing.specs.declared.formatting.FormatNext.{FormatNext}
 use Rattle.fdc_writing.specs.declared.writing.WriteNext.{WriteNext}
 use Rattle.fdc_core.specs.Answers.{no_key}
-use Rattle.fdc_core.specs.Formatting.{IsFormatStep, StageHearsTurn, after_laid}
+use Rattle.fdc_core.specs.Formatting.{IsFormatStep, StageHearsIndex, after_laid}
 use Rattle.fdc_core.specs.Listening.{SeesUnder, StepsOn}
 use Rattle.fdc_core.specs.Phases.{head_of}
 use Rattle.fdc_core.specs.State.{finished}
@@ -63,7 +63,7 @@ WritesNowhere head_drive steps writing old new =
 abbrev pub FormatsNowhere : ℕ → ℕ → Formatting → Fdc → Fdc → Type 0
 FormatsNowhere head_drive steps formatting old new =
     ((steps ≡ 65535) × (new ≡ finished Late head_drive no_key old))
-    ⊎ ((steps < 65535) × ((next : FormatNext) × StageHearsTurn formatting false next × (new ≡ after_laid head_drive (steps + 1) formatting next old)))
+    ⊎ ((steps < 65535) × ((next : FormatNext) × StageHearsIndex formatting false next × (new ≡ after_laid head_drive (steps + 1) formatting next old)))
 
 abbrev pub TaskStepsNowhere : Task → ℕ → ℕ → Fdc → Fdc → Type 0
 TaskStepsNowhere (ReadId search) head_drive steps old new = StepsOn head_drive steps (ReadId search) false 0 old new

@@ -4,7 +4,7 @@ ghost use Rattle.drive_model.specs.Drive.{rate_of};
 ghost use Rattle.fdc_writing.specs.Formats.{opens, is_due};
 ghost use Rattle.fdc_core.specs.Rates.{rate_fits};
 ghost use Rattle.fdc_writing.specs.declared.formatting.FormatNext.{FormatNext};
-ghost use Rattle.fdc_core.specs.Formatting.{IsFormatStep, IsFormatTime, HearsATurn, LaysByte, StageHearsTurn, after_laid, is_ended};
+ghost use Rattle.fdc_core.specs.Formatting.{IsFormatStep, IsFormatTime, HearsAWord, LaysByte, StageHearsIndex, after_laid, is_ended};
 
 use crate::controller::Fdc;
 use crate::phases::{LAST_STEP, NO_KEY, Task, head_of};
@@ -63,16 +63,16 @@ impl Fdc {
         drive: &mut D,
     )
         requires { steps < 65535 }
-        ensures { HearsATurn head_drive steps formatting self.old (D.state drive.old) (D.state drive.new) self.new }
+        ensures { HearsAWord head_drive steps formatting self.old (D.state drive.old) (D.state drive.new) self.new }
     {
-        let turn = self.listen(head_of(head_drive), drive);
-        let next = formatting.stage.hear(turn.index);
+        let passing = self.listen(head_of(head_drive), drive);
+        let next = formatting.stage.hear(passing.index);
         self.follow_formatting(head_drive, steps + 1, formatting, next);
     }
 
     /// Where no drive is selected, no index comes.
     pub(crate) fn await_nothing(&mut self, head_drive: u8, steps: u16, formatting: Formatting)
-        ensures { (next : FormatNext) × StageHearsTurn formatting false next × (self.new ≡ after_laid head_drive steps formatting next self.old) }
+        ensures { (next : FormatNext) × StageHearsIndex formatting false next × (self.new ≡ after_laid head_drive steps formatting next self.old) }
     {
         let next = formatting.stage.hear(false);
         self.follow_formatting(head_drive, steps, formatting, next);

@@ -7,7 +7,7 @@ mod commands;
 mod controller;
 mod dma;
 mod formatting;
-mod laws;
+pub mod laws;
 mod phases;
 mod ports;
 mod rates;
@@ -18,8 +18,3 @@ mod transfers;
 mod writing;
 
 pub use controller::{Fdc, Lines};
-pub use laws::{
-    format_lays_the_track, format_tells, listening_is_paced, quiet_request_waits,
-    read_data_gives_the_field, read_data_tells, read_id_tells, results_are_given_in_order,
-    write_tells, write_writes_the_window,
-};

@@ -15,7 +15,7 @@ use drive_model::{Drive, Turn};
 use fdc_stages::Ending;
 
 /// What passes where no drive is selected.
-const NO_TURN: Turn = Turn {
+const NOTHING: Turn = Turn {
     word: 0,
     index: false,
 };
@@ -206,8 +206,8 @@ impl Fdc {
             return;
         }
         match task {
-            Task::ReadId { .. } | Task::Read { .. } => self.hear(NO_TURN),
-            Task::Write { .. } => self.hear_to_write(NO_TURN),
+            Task::ReadId { .. } | Task::Read { .. } => self.hear(NOTHING),
+            Task::Write { .. } => self.hear_to_write(NOTHING),
             Task::Format { formatting } => self.await_nothing(head_drive, steps + 1, formatting),
         }
     }
@@ -222,15 +222,15 @@ impl Fdc {
             self.stop(Ending::Late, head_drive, task.key_as_sent(), drive);
             return;
         }
-        let turn = self.listen(head_of(head_drive), drive);
-        self.hear(turn);
+        let passing = self.listen(head_of(head_drive), drive);
+        self.hear(passing);
     }
 
     /// READ ID and READ DATA hear a word. It is heard in place, since a stage is large.
     #[inline(always)]
-    fn hear(&mut self, turn: Turn)
+    fn hear(&mut self, passing: Turn)
         requires { HasStepsLeft self.old.phase }
-        ensures { HearsIn self.old.phase turn.index turn.word self.old self.new }
+        ensures { HearsIn self.old.phase passing.index passing.word self.old self.new }
     {
         match &mut self.phase {
             Phase::Execute { execution } => {
@@ -238,13 +238,13 @@ impl Fdc {
                 execution.steps += 1;
                 match &mut execution.task {
                     Task::ReadId { search } => {
-                        let searched = search.hear(None, turn.word, turn.index);
+                        let searched = search.hear(None, passing.word, passing.index);
                         self.follow_id(head_drive, searched);
                     }
                     Task::Read { reading } => {
                         let key = reading.wanted.key;
                         let counted = reading.counted;
-                        let heard = reading.stage.hear(key, turn.word, turn.index);
+                        let heard = reading.stage.hear(key, passing.word, passing.index);
                         let over = reading.is_over();
                         self.follow(head_drive, key, counted, heard, over);
                     }
@@ -264,13 +264,13 @@ impl Fdc {
     {
         drive.gate(false);
         let fits = self.rate.fits(drive.rate());
-        let turn = drive.read_word(head);
+        let passing = drive.read_word(head);
         if fits {
-            return turn;
+            return passing;
         }
         Turn {
             word: 0,
-            index: turn.index,
+            index: passing.index,
         }
     }
 }

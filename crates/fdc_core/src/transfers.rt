@@ -50,12 +50,15 @@ impl Writing {
 
     /// Hears a word, and tells how the command is over, where it is.
     #[inline(always)]
-    pub(crate) fn hear(&mut self, head_drive: u8, turn: Turn) -> Option<End>
+    pub(crate) fn hear(&mut self, head_drive: u8, passing: Turn) -> Option<End>
         ensures same { self.new ≡ write_at self.old self.new.stage }
-        ensures hears { StageHearsWord self.old turn.index turn.word (write_over self.new.stage result) }
+        ensures hears { StageHearsWord self.old passing.index passing.word (write_over self.new.stage result) }
         ensures over { IfSome result (λ over. over ≡ write_end over.ending head_drive self.old) }
     {
-        match self.stage.hear(self.wanted.key, turn.word, turn.index) {
+        match self
+            .stage
+            .hear(self.wanted.key, passing.word, passing.index)
+        {
             None => None,
             Some(ending) => Some(End {
                 ending,

@@ -63,14 +63,14 @@ impl Fdc {
         ensures { (steps : ℕ) (writing : Writing) → IsWritingAt head_drive steps writing self.old.phase
             → HearsAWord head_drive steps writing self.old (D.state drive.old) (D.state drive.new) self.new }
     {
-        let turn = self.listen(head_of(head_drive), drive);
-        self.hear_to_write(turn);
+        let passing = self.listen(head_of(head_drive), drive);
+        self.hear_to_write(passing);
     }
 
     /// A write hears a word, in place.
-    pub(crate) fn hear_to_write(&mut self, turn: Turn)
+    pub(crate) fn hear_to_write(&mut self, passing: Turn)
         requires { HasStepsLeft self.old.phase }
-        ensures { HearsToWrite self.old.phase turn.index turn.word self.old self.new }
+        ensures { HearsToWrite self.old.phase passing.index passing.word self.old self.new }
     {
         match &mut self.phase {
             Phase::Execute { execution } => {
@@ -79,7 +79,7 @@ impl Fdc {
                 match &mut execution.task {
                     Task::Write { writing } => {
                         let counted = writing.counted;
-                        let over = writing.hear(head_drive, turn);
+                        let over = writing.hear(head_drive, passing);
                         self.follow_over(counted, over);
                     }
                     _ => {}

@@ -2,10 +2,9 @@
 //! of each drive, step pulses, seek bits and the results that SENSE INTERRUPT takes.
 #![tactic(auto)]
 
-mod laws;
+pub mod laws;
 mod motion;
 mod seeks;
 
-pub use laws::{poll_gives_four_results, recalibrate_gives_its_pulses, seek_gives_its_pulses};
 pub use motion::{Motion, Seek};
 pub use seeks::Seeks;

@@ -3,14 +3,14 @@ use Rattle.std.proofs.Common.{◌≡◌, ℕ, Bool, true, false, Option, None, L
 use Rattle.flop_base.specs.declared.key.Chrn.{Chrn}
 use Rattle.track_model.specs.Fields.{IsSizeCode, content_size}
 use Rattle.track_separator.specs.declared.state.Separator.{Separator}
-use Rattle.track_separator.proofs.Laws.{whole_part, field_stays, address_stays, no_data_stays}
+use Rattle.track_separator.proofs.Lawful.{whole_part, field_stays, address_stays, no_data_stays}
 use Rattle.fdc_stages.specs.declared.ending.Ending.{Ending}
 use Rattle.fdc_stages.specs.declared.ending.Ending.TheVariants.{Done, NoMark, NoSector, NoField, BadCheck, Overrun, NoCount, Protected, Late}
 use Rattle.fdc_stages.specs.History.{Past, IsTurn, IsTurnIn, IsAmong}
 use Rattle.fdc_stages.specs.Searches.{IsMet, IsBetween, IsMissed}
 use Rattle.fdc_stages.specs.Readings.{IsStart, HasNoField, IsFieldOver, HasRead}
 use Rattle.fdc_stages.specs.Findings.{FindsSector, HasAddress, HasIdentified, FindsBadCheck, FindsNoField, FindsNoMark, FindsNoSector}
-use Rattle.fdc_stages.proofs.Laws.{start_full, over_full}
+use Rattle.fdc_stages.proofs.Lawful.{start_full, over_full}
 
 -- a reading that is done has found the sector
 pub found_of : (past : Past) (key : Chrn) (told given : List ℕ) (deleted : Bool) → IsSizeCode key.n → HasRead past key told (Done deleted) → IsStart past.counted given told → FindsSector past key given deleted

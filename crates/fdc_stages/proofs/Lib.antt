@@ -1,4 +1,4 @@
-pub mod Laws
+pub mod Lawful
 pub mod Causes
 mod SearchWord
 mod ReadWord

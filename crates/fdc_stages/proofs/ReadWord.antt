@@ -11,14 +11,14 @@ use Rattle.track_separator.specs.declared.state.Separator.{Separator}
 use Rattle.track_separator.specs.Parts.{with_word}
 use Rattle.track_separator.specs.Waits.{SWaits, SReads}
 use Rattle.track_separator.specs.Turns.{SWaitFed, SReadFed}
-use Rattle.track_separator.proofs.Laws.{part_with_word, address_stays, bytes_stay, cut_is_no_data, late_is_no_data, reads_within}
+use Rattle.track_separator.proofs.Lawful.{part_with_word, address_stays, bytes_stay, unfinished_is_no_data, late_is_no_data, reads_within}
 use Rattle.fdc_stages.specs.declared.ending.Ending.TheVariants.{NoField}
 use Rattle.fdc_stages.specs.declared.searching.Search as searched
 use Rattle.fdc_stages.specs.declared.reading.ReadStage.TheVariants.{Search, Wait, Content, Over}
 use Rattle.fdc_stages.specs.History.{Past, heard, IsJustOver}
 use Rattle.fdc_stages.specs.Searches.{IsMet, IsMetAt}
 use Rattle.fdc_stages.specs.Readings.{IsWaitingAt, IsContentAt, IsFieldOver, IsReading, HasRead}
-use Rattle.fdc_stages.proofs.Laws.{last_heard, told_stays, content_told}
+use Rattle.fdc_stages.proofs.Lawful.{last_heard, told_stays, content_told}
 
 -- the turn that the index ends behind a word
 ended_turn : (past : Past) (word : ℕ) → IsJustOver (heard true word past) (with_word past.seen word)
@@ -67,7 +67,7 @@ module _ (past : Past) (key : Chrn) (word p : ℕ) (before now : Separator) (was
       record {
         over = ended_turn past word;
         address = address_stays past.seen (with_word past.seen word) (part_with_word past.seen word) p key was.address;
-        none = cut_is_no_data (with_word past.seen word) p key.n (content_size key.n) refl cut;
+        none = unfinished_is_no_data (with_word past.seen word) p key.n (content_size key.n) refl cut;
       },
     );
   }
@@ -163,7 +163,7 @@ module _ (past : Past) (key : Chrn) (told : List ℕ) (word p q taken : ℕ) (de
       record {
         over = ended_turn past word;
         address = address_stays past.seen (with_word past.seen word) (part_with_word past.seen word) p key was.address;
-        none = cut_is_no_data (with_word past.seen word) p key.n (content_size key.n) refl cut;
+        none = unfinished_is_no_data (with_word past.seen word) p key.n (content_size key.n) refl cut;
       },
     );
   }

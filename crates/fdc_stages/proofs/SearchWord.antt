@@ -10,9 +10,9 @@ use Rattle.track_separator.specs.declared.state.Separator.{Separator}
 use Rattle.track_separator.specs.Parts.{with_word, turn_after, EndsInLast}
 use Rattle.track_separator.specs.Hunts.{SHunts, SFollows, SHuntSeen, GivesAll, Stands}
 use Rattle.track_separator.specs.Turns.{SBegins}
-use Rattle.track_separator.proofs.Laws.{part_with_word, mark_stays, no_run_stood, mark_old_or_new, address_old_or_new, follows_hunts}
+use Rattle.track_separator.proofs.Lawful.{part_with_word, mark_stays, no_run_stood, mark_old_or_new, address_old_or_new, follows_hunts}
 use Rattle.fdc_stages.specs.History.{Past, heard}
-use Rattle.fdc_stages.proofs.Laws.{turned_few}
+use Rattle.fdc_stages.proofs.Lawful.{turned_few}
 use Rattle.fdc_stages.specs.Searches.{Wants, HasNoClear, HasNoneIn, HasMarkIn, HasTurned, IsSearchingIn, IsPassed, IsMet, HasMissed}
 
 -- ---- behind a turn that is over nothing was heard

@@ -5,14 +5,10 @@
 #![tactic(auto)]
 
 mod ending;
-mod findings;
+pub mod laws;
 mod reading;
 mod searching;
 
 pub use ending::Ending;
-pub use findings::{
-    bad_check_is_heard, done_is_found, met_is_heard, missed_is_identified, no_field_is_heard,
-    no_mark_is_heard, no_sector_is_heard, told_is_content,
-};
 pub use reading::{ReadHeard, ReadStage, over_ending};
 pub use searching::{Search, Searched};

@@ -6,7 +6,7 @@ use Rattle.track_model.specs.Fields.{content_size}
 use Rattle.track_model.specs.Writing.{window}
 use Rattle.track_model.specs.Layouts.{laid_words, lay}
 use Rattle.track_model.specs.Windows.{window_word, with_words}
-use Rattle.track_separator.proofs.Laws.{address_stays}
+use Rattle.track_separator.proofs.Lawful.{address_stays}
 use Rattle.track_format.proofs.Asked.{length-key_bytes}
 use Rattle.fdc_stages.specs.declared.ending.Ending.{Ending}
 use Rattle.fdc_stages.specs.declared.ending.Ending.TheVariants.{Done, NoMark, NoSector, NoField, BadCheck, Overrun, NoCount, Protected, Late}

@@ -5,7 +5,7 @@ use Rattle.flop_base.specs.declared.key.Chrn.{Chrn}
 use Rattle.track_model.specs.Windows.{window_word}
 use Rattle.track_separator.specs.declared.state.Separator.{Separator}
 use Rattle.track_separator.specs.Parts.{EndsInLast, with_word}
-use Rattle.track_separator.proofs.Laws.{part_with_word, address_stays}
+use Rattle.track_separator.proofs.Lawful.{part_with_word, address_stays}
 use Rattle.fdc_stages.specs.declared.ending.Ending.{Ending}
 use Rattle.fdc_stages.specs.declared.ending.Ending.TheVariants.{Done, NoMark, NoSector, NoField, BadCheck, Overrun, NoCount, Protected, Late}
 use Rattle.fdc_stages.specs.declared.searching.Search.{Search}

@@ -4,13 +4,9 @@
 //! Nothing here moves a drive or a FIFO: a stage is a value, and a word that was heard or written gives the stage after it.
 #![tactic(auto)]
 
-mod endings;
 mod formatting;
+pub mod laws;
 mod writing;
 
-pub use endings::{
-    done_is_laid, done_is_written, formatted_is_first, stopped_is_formatted, stopped_is_written,
-    written_is_first,
-};
 pub use formatting::{FormatNext, FormatPart, FormatStage, FormatWord};
 pub use writing::{WriteNext, WriteStage, WriteWord};

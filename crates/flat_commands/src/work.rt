@@ -169,7 +169,7 @@ pub(crate) fn run_work<S: Shelf, D: Station>(
 {
     let mut draws = Draws { number: seed };
     let mut tally = Tally::none();
-    for _turn in 0..count {
+    for _request in 0..count {
         let work = draws.work();
         tally = tally.and(run_drawn(session, shelf, work));
     }

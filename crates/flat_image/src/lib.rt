@@ -3,8 +3,9 @@
 //! A flat file has 80 cylinders of 2 heads. Its tracks have 9 sectors (720 KB) or 18 (1.44 MB).
 #![tactic(auto)]
 
+pub mod laws;
 mod sectors;
 mod whole;
 
-pub use sectors::{place, same_or_apart};
+pub use sectors::place;
 pub use whole::{blank_flat, check};

@@ -1,6 +1,6 @@
 // Where the sectors stand.
-ghost use Rattle.std.specs.Prelude.{◌≡◌, ◌+◌, ◌≤◌, ◌<◌, ◌⊎◌};
-ghost use Rattle.flat_image.specs.Flat.{IsDensity, IsSector, flat_length, sector_place, AreApart};
+ghost use Rattle.std.specs.Prelude.{◌≡◌, ◌+◌, ◌≤◌};
+ghost use Rattle.flat_image.specs.Flat.{IsDensity, IsSector, flat_length, sector_place};
 
 /// The tracks of a file: 80 cylinders of 2 heads.
 pub const TRACKS: usize = 160;
@@ -18,12 +18,3 @@ pub fn place(sectors: u8, c: u8, h: u8, r: u8) -> usize
     let track = usize::from(c) * 2 + usize::from(h);
     (track * usize::from(sectors) + usize::from(r) - 1) * SECTOR_BYTES
 }
-
-/// Two sectors of a file are the same one, or have no byte in common.
-pub fn same_or_apart(sectors: u8, c: u8, h: u8, r: u8, other_c: u8, other_h: u8, other_r: u8)
-    requires density { IsDensity sectors }
-    requires one { IsSector sectors c h r }
-    requires other { IsSector sectors other_c other_h other_r }
-    ensures { ((c ≡ other_c) × (h ≡ other_h) × (r ≡ other_r))
-        ⊎ AreApart (sector_place sectors c h r) (sector_place sectors other_c other_h other_r) }
-{}

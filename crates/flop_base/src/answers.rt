@@ -4,6 +4,8 @@ ghost use Rattle.flop_base.specs.Numbers.{code_number, status_number};
 ghost use Rattle.flop_base.specs.declared.answers.LoadError.TheVariants as load;
 
 use std::alloc::{AllocError, AllocFailed};
+use std::fmt;
+use thiserror::Error;
 
 /// The data rate of a medium: 500 kbit/s (1.44 MB) or 250 kbit/s (720 KB).
 #[derive(Clone, Copy, Debug, PartialEq, Eq)]
@@ -13,7 +15,8 @@ pub enum Rate {
 }
 
 /// Memory couldn't be had.
-#[derive(Clone, Copy, Debug, PartialEq, Eq)]
+#[derive(Clone, Copy, Debug, PartialEq, Eq, Error)]
+#[error("out of memory")]
 pub struct NoMemory;
 
 impl From<AllocError> for NoMemory {
@@ -29,17 +32,27 @@ impl<T: Drop> From<AllocFailed<T>> for NoMemory {
 }
 
 /// A refusal of the driver. The numbers are the status codes of INT 13h (PC/AT).
-#[derive(Clone, Copy, Debug, PartialEq, Eq)]
+#[derive(Clone, Copy, Debug, PartialEq, Eq, Error)]
 pub enum Code {
+    #[error("bad request")]
     BadRequest,
+    #[error("no address mark found")]
     NoMark,
+    #[error("medium is write-protected")]
     Protected,
+    #[error("sector not found")]
     NotFound,
+    #[error("medium was changed")]
     Changed,
+    #[error("DMA overrun")]
     Overrun,
+    #[error("transfer crosses a 64 KB page")]
     Page,
+    #[error("CRC error")]
     BadCrc,
+    #[error("seek failed")]
     Seek,
+    #[error("drive not ready")]
     NotReady,
 }
 
@@ -96,12 +109,33 @@ impl Status {
     }
 }
 
+impl fmt::Display for Status {
+    fn fmt<W: fmt::Write>(&self, f: &mut fmt::Formatter<W>) -> fmt::Result {
+        let text = match self {
+            Status::AllOk => "all requests were done",
+            Status::SomeRefused => "some requests were refused",
+            Status::BadWords => "command words not understood",
+            Status::BadJob => "text file not understood",
+            Status::BadImage => "file refused",
+            Status::Absent => "no such file",
+            Status::FileFault => "file could not be read or written",
+            Status::NoMemory => "out of memory",
+            Status::SinkFault => "output could not be written",
+        };
+        write!(f, "{text}")
+    }
+}
+
 /// Why a file wasn't loaded.
-#[derive(Clone, Copy, Debug, PartialEq, Eq)]
+#[derive(Clone, Copy, Debug, PartialEq, Eq, Error)]
 pub enum LoadError {
+    #[error("no such file")]
     Absent,
+    #[error("file too long")]
     TooLong,
+    #[error("file could not be read")]
     Failed,
+    #[error("out of memory")]
     NoMemory,
 }
 
@@ -114,15 +148,19 @@ impl From<AllocError> for LoadError {
 }
 
 /// Why a file wasn't stored.
-#[derive(Clone, Copy, Debug, PartialEq, Eq)]
+#[derive(Clone, Copy, Debug, PartialEq, Eq, Error)]
 pub enum StoreError {
+    #[error("file could not be written")]
     Failed,
+    #[error("out of memory")]
     NoMemory,
 }
 
 /// Why bytes weren't printed.
-#[derive(Clone, Copy, Debug, PartialEq, Eq)]
+#[derive(Clone, Copy, Debug, PartialEq, Eq, Error)]
 pub enum PutError {
+    #[error("output could not be written")]
     Failed,
+    #[error("out of memory")]
     NoMemory,
 }

@@ -22,7 +22,7 @@ fn find_rate<C: Commands>(machine: &mut C, bay: u8) -> Rate
     ensures finds { FindsRate (C.rig machine.old) bay result (C.rig machine.new) }
     ensures idle { C.is_idle machine.new }
 {
-    for _round in 0..ROUNDS {
+    for _attempt in 0..ROUNDS {
         if machine.read_id(bay, 0, Rate::R500).is_ok() {
             return Rate::R500;
         }
@@ -55,7 +55,7 @@ impl Driver {
             return Err(Code::BadRequest);
         }
         machine.start_motor(bay);
-        for _round in 0..ROUNDS {
+        for _attempt in 0..ROUNDS {
             let reached = clear_change(machine, bay);
             if !machine.is_changed(bay) {
                 self.hold(machine, bay, reached);

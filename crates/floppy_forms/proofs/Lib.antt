@@ -1,2 +1,2 @@
 pub mod OnFiles
-pub mod Turned
+pub mod InRounds

@@ -5,7 +5,7 @@ use Rattle.sector_model.specs.States.{State}
 use Rattle.sector_model.proofs.PlayTies.{ran_ties}
 use Rattle.disk_commands.specs.Commands.{Runs}
 use Rattle.archive_commands.specs.Files.{Desk}
-use Rattle.floppy_forms.specs.Turns.{world}
+use Rattle.floppy_forms.specs.Rounds.{world}
 use Rattle.floppy_forms.specs.Programs.{OnFiles}
 
 pub on_files : (Does : Desk → Desk → Status → Type 0) (state : State) (old new : Desk) (ended : Status) → Does old new ended → Runs (OnFiles Does) (world state old.files old.report) (world state new.files new.report) ended

@@ -7,7 +7,7 @@ ghost use Rattle.sector_model.specs.Plays.{Plays, whole_status};
 ghost use Rattle.floppy_session.specs.Session.{state_of, IsRunning};
 ghost use Rattle.floppy_session.specs.Tries.{HasTries};
 ghost use Rattle.disk_commands.specs.Worlds.{world_of};
-ghost use Rattle.floppy_forms.specs.Turns.{IsTurn, Breaks, HasRun, HasPlayed, EndsAs, PlaysOrStarves, Misses};
+ghost use Rattle.floppy_forms.specs.Rounds.{IsRound, Breaks, HasRun, HasPlayed, EndsAs, PlaysOrStarves, Misses};
 
 use flop_base::{LoadError, Shelf, Sink, Status};
 use floppy_jobs::{JobError, Request, parse_job};
@@ -29,7 +29,7 @@ fn run_one<S: Shelf, K: Sink, D: Station>(
 ) -> Result<bool, Status>
     requires running { IsRunning D.shown D.is_ready session.old }
     requires tries { HasTries request.now }
-    ensures turn { IfOk result (λ refused. IsTurn
+    ensures round { IfOk result (λ refused. IsRound
         (world_of D.shown S.told K.told session.old shelf.old out.old) request.now refused
         (world_of D.shown S.told K.told session.new shelf.new out.new)) }
     ensures breaks { IfErr result (λ ended. Breaks

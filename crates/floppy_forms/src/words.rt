@@ -12,7 +12,7 @@ ghost use Rattle.floppy_words.specs.declared.form.Form.{Form};
 ghost use Rattle.floppy_words.specs.Forms.{form_of, Reads};
 ghost use Rattle.disk_commands.specs.Commands.{Runs};
 ghost use Rattle.disk_commands.specs.Worlds.{world_of};
-ghost use Rattle.floppy_forms.specs.Turns.{world};
+ghost use Rattle.floppy_forms.specs.Rounds.{world};
 ghost use Rattle.floppy_forms.specs.Programs.{Does, DoesForm};
 
 use crate::play::play;

@@ -4,6 +4,7 @@
 
 mod calls;
 mod job;
+pub mod laws;
 pub mod lines;
 mod name;
 pub mod numbers;
@@ -18,5 +19,5 @@ pub use lines::JobError;
 pub use name::{is_name, name_text};
 pub use ports::{PortLine, parse_ports};
 pub use request::Request;
-pub use spelling::{Address, MemoryByte, spelling_reads_back};
+pub use spelling::{Address, MemoryByte};
 pub use verb::is_verb;

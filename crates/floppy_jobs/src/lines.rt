@@ -34,9 +34,11 @@ impl From<NoMemory> for JobError {
 }
 
 /// Why a line wasn't read.
-#[derive(Clone, Copy, Debug, PartialEq, Eq)]
+#[derive(Clone, Copy, Debug, PartialEq, Eq, Error)]
 pub enum LineError {
+    #[error("line not understood")]
     NotUnderstood,
+    #[error("out of memory")]
     NoMemory,
 }
 

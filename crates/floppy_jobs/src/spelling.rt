@@ -1,8 +1,6 @@
 // The plain spelling of a request.
-ghost use Rattle.std.specs.Prelude.{◌≡◌, Some, Ok, [], ◌∷◌};
+ghost use Rattle.std.specs.Prelude.{◌≡◌, Some};
 ghost use Rattle.floppy_jobs.specs.Spelling.{hex2, hex5, rate_text, spelling};
-ghost use Rattle.floppy_jobs.specs.Texts.{job_of};
-ghost use Rattle.floppy_jobs.specs.Valid.{IsRequest};
 ghost use Rattle.floppy_jobs.specs.declared.request.Request.{Request};
 
 use crate::Request;
@@ -106,8 +104,3 @@ impl fmt::Display for Request {
         }
     }
 }
-
-/// The plain spelling of a request that a job may have is a job of that request alone.
-pub fn spelling_reads_back()
-    ensures { (request : Request) → IsRequest request → job_of (spelling request) ≡ Ok (request ∷ []) }
-{}

@@ -12,8 +12,8 @@ use Rattle.machine_station.specs.Started.{Starts}
 use Rattle.floppy_words.specs.declared.form.Form.{Form}
 use Rattle.floppy_words.specs.declared.form.Form.TheVariants as form
 use Rattle.archive_commands.specs.Files.{Desk}
-use Rattle.floppy_forms.specs.Turns.{world}
-use Rattle.floppy_forms.proofs.Turned.{named_accesses}
+use Rattle.floppy_forms.specs.Rounds.{world}
+use Rattle.floppy_forms.proofs.InRounds.{named_accesses}
 use Rattle.floppy_tools.specs.Machines.{IsSetUp, RunsOver}
 
 pub set_up_shown : (board : Board) (spares : List DriveCounts) (state : State) (station : StationState) → state ≡ start_of station → IsFresh station → Starts board spares station → IsSetUp board spares state

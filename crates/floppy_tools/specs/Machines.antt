@@ -11,7 +11,7 @@ use Rattle.machine_station.specs.Started.{Starts}
 use Rattle.floppy_words.specs.declared.form.Form.{Form}
 use Rattle.disk_commands.specs.Commands.{Runs}
 use Rattle.archive_commands.specs.Files.{Desk}
-use Rattle.floppy_forms.specs.Turns.{world}
+use Rattle.floppy_forms.specs.Rounds.{world}
 use Rattle.floppy_forms.specs.Programs.{Does}
 
 -- a session before its first request, whose driver was set up on this board, with spare drives of these counts

@@ -6,7 +6,7 @@
 
 mod error;
 mod fields;
-mod laws;
+pub mod laws;
 mod making;
 mod taking;
 mod tracks;
@@ -16,6 +16,5 @@ pub use error::ImdError;
 pub use imd_files::{
     ImdImage, ImdKind, ImdSector, ImdSectors, ImdTrack, ImdTracks, read_imd, write_imd,
 };
-pub use laws::{image_has_medium, image_is_map, made_is_found, medium_has_image};
 pub use making::to_medium;
 pub use taking::from_medium;

@@ -125,7 +125,7 @@ runs_to old new requests course ended (plays.Stopped p) = record {
   all = p.all;
   ending = stop_ending old.report course p.mid p.files p.asked p.later p.cause new ended p.stops p.prints;
 }
-runs_to old new requests course ended (plays.CutOff p) =
+runs_to old new requests course ended (plays.BrokenOff p) =
     let run = run_more old.state p.mid old.files p.files new.files p.before p.last p.run p.step in
     let all : requests ≡ requests_of (p.before ++ p.last ∷ []) ++ p.later = p.all ∙ sym (ap (λ (rs : List Request). rs ++ p.later) (requests_more p.before p.last) ∙ append_assoc (requests_of p.before) (p.last.asked ∷ []) p.later) in
     record {

@@ -218,10 +218,10 @@ step_past : (old new : Board) → IsLetOut (controller_of old) → (step : Step 
 step_past old new out step =
     let selects = out.selects in
     elim (first_second_or_none (selected_of old)) [
-      | inl at ↦ let (works, passes) = step.turns.at_first at in
+      | inl at ↦ let (works, passes) = step.word_time.at_first at in
           let is = same_works old.first new.first (controller_of old) step.between out.no_seek out.polled works in
           record { first = is.drive; second = on_passed old.second new.second passes; stays = works.stays; seeks = is.seeks; poll = is.poll; busy = is.busy; idle = is.idle }
-      | inr (inl at) ↦ let (works, passes) = step.turns.at_second at in
+      | inr (inl at) ↦ let (works, passes) = step.word_time.at_second at in
           let is = same_works old.second new.second (controller_of old) step.between out.no_seek out.polled works in
           record { first = on_passed old.first new.first passes; second = is.drive; stays = works.stays; seeks = is.seeks; poll = is.poll; busy = is.busy; idle = is.idle }
       | inr (inr at) ↦ absurd (omega arith)

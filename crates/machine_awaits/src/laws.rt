@@ -15,6 +15,10 @@ ghost use Rattle.pc_bus.specs.Handling.{irq_taken};
 ghost use Rattle.pc_bus.specs.Ports.{Inputs, Outputs};
 ghost use Rattle.pc_bus.specs.Steps.{Runs, Step, Waits};
 
+mod going;
+
+pub use going::{a_format_goes_on, a_write_goes_on};
+
 /// A data command that begins while INT is low counts as one, and sets the latch when it ends, whatever strays come and are
 /// taken before; what was set stays until then.
 pub fn a_data_command_is_awaited()

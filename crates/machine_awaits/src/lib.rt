@@ -3,8 +3,4 @@
 //! laws, no code.
 #![tactic(auto)]
 
-mod going;
-mod laws;
-
-pub use going::{a_format_goes_on, a_write_goes_on};
-pub use laws::a_data_command_is_awaited;
+pub mod laws;

@@ -144,9 +144,9 @@ positive_in (Execute execution) new busy ends = omega arith
 
 step_positive : (old new : Board) → Step old new → is_executing (controller_of old).phase ≡ true → 1 ≤ steps_left (controller_of old).phase
 step_positive old new step busy = elim (first_second_or_none (selected_of old)) [
-  | inl at ↦ positive_in (controller_of old).phase step.between.phase busy (step.turns.at_first at).0.ends
-  | inr (inl at) ↦ positive_in (controller_of old).phase step.between.phase busy (step.turns.at_second at).0.ends
-  | inr (inr at) ↦ positive_in (controller_of old).phase step.between.phase busy (step.turns.at_none at).0.ends
+  | inl at ↦ positive_in (controller_of old).phase step.between.phase busy (step.word_time.at_first at).0.ends
+  | inr (inl at) ↦ positive_in (controller_of old).phase step.between.phase busy (step.word_time.at_second at).0.ends
+  | inr (inr at) ↦ positive_in (controller_of old).phase step.between.phase busy (step.word_time.at_none at).0.ends
 ]
 
 most_left : (phase : Phase) → steps_left phase ≤ 65536

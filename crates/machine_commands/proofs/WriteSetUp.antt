@@ -45,9 +45,9 @@ between_same : (old new : Board) → IsResting (controller_of old) → (step : S
 between_same old new rests step =
     let fdc = controller_of old in
     elim (first_second_or_none (selected_of old)) [
-      | inl at ↦ stays_same fdc (old.first.cylinder == 0) step.between rests (step.turns.at_first at).0.rests
-      | inr (inl at) ↦ stays_same fdc (old.second.cylinder == 0) step.between rests (step.turns.at_second at).0.rests
-      | inr (inr at) ↦ stays_same fdc false step.between rests (step.turns.at_none at).0.rests
+      | inl at ↦ stays_same fdc (old.first.cylinder == 0) step.between rests (step.word_time.at_first at).0.rests
+      | inr (inl at) ↦ stays_same fdc (old.second.cylinder == 0) step.between rests (step.word_time.at_second at).0.rests
+      | inr (inr at) ↦ stays_same fdc false step.between rests (step.word_time.at_none at).0.rests
     ]
 
 step_low : (old new : Board) → IsResting (controller_of old) → Step old new → (holds_of new).request ≡ Low

@@ -110,11 +110,11 @@ first_second_or_none (suc (suc n)) = inr (inr (omega arith))
 
 pub drives_step : (old new : Board) → Step old new → DrivesGoOn old new
 drives_step old new step = elim (first_second_or_none (selected_of old)) [
-  | inl at ↦ let (works, passes) = step.turns.at_first at in
+  | inl at ↦ let (works, passes) = step.word_time.at_first at in
       record { first = goes_worked (controller_of old) old.first step.between new.first works; second = goes_as old.second (passed old.second) new.second passes }
-  | inr (inl at) ↦ let (works, passes) = step.turns.at_second at in
+  | inr (inl at) ↦ let (works, passes) = step.word_time.at_second at in
       record { first = goes_as old.first (passed old.first) new.first passes; second = goes_worked (controller_of old) old.second step.between new.second works }
-  | inr (inr at) ↦ let (works, first, second) = step.turns.at_none at in
+  | inr (inr at) ↦ let (works, first, second) = step.word_time.at_none at in
       record { first = goes_as old.first (passed old.first) new.first first; second = goes_as old.second (passed old.second) new.second second }
 ]
 

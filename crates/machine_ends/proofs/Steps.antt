@@ -170,12 +170,12 @@ step_prompt old new step scene (((past, was), punctual), soon) =
           let result : IsSoonOver (dma_stepped (record chips { controller = step.between })) ⊎ Rose chips.holding.stalls (dma_stepped (record chips { controller = step.between })).holding.stalls =
           elim (first_or_second scene.bay whole.bay) [
             | inl first ↦
-                let worked = (step.turns.at_first (at ∙ first)).0 in
+                let worked = (step.word_time.at_first (at ∙ first)).0 in
                 let hears = subst (λ bay. IsHearing scene past (is_executing chips.controller.phase) (drive_in old bay)) first was.hears in
                 soon_step scene past chips old.first step.between new.first whole was.chips hears worked
                 (word_time scene past chips old.first step.between new.first whole was.chips hears worked) punctual soon then_is granting
             | inr second ↦
-                let worked = (step.turns.at_second (at ∙ second)).0 in
+                let worked = (step.word_time.at_second (at ∙ second)).0 in
                 let hears = subst (λ bay. IsHearing scene past (is_executing chips.controller.phase) (drive_in old bay)) second was.hears in
                 soon_step scene past chips old.second step.between new.second whole was.chips hears worked
                 (word_time scene past chips old.second step.between new.second whole was.chips hears worked) punctual soon then_is granting

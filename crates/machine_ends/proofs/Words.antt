@@ -10,7 +10,7 @@ use Rattle.fdc_stages.specs.declared.ending.Ending.{Ending}
 use Rattle.fdc_stages.specs.declared.ending.Ending.TheVariants.{Late, Overrun}
 use Rattle.fdc_stages.specs.declared.reading.ReadStage.{ReadStage}
 use Rattle.fdc_stages.specs.declared.reading.ReadStage.TheVariants as stages
-use Rattle.fdc_stages.proofs.Laws.{over_full, reading_told, told_most}
+use Rattle.fdc_stages.proofs.Lawful.{over_full, reading_told, told_most}
 use Rattle.fdc_core.specs.Answers.{key_after}
 use Rattle.fdc_core.specs.Dma.{gone_on}
 use Rattle.fdc_core.specs.Heard.{Sent, MayReadIn, MayReadTask, stepped}

@@ -2,6 +2,4 @@
 //! and laws, no code.
 #![tactic(auto)]
 
-mod laws;
-
-pub use laws::a_read_ends_in_time;
+pub mod laws;

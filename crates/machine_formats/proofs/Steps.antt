@@ -256,12 +256,12 @@ at_bay scene numbers past old new was step =
     let at : selected_of old ≡ scene.bay = ap (λ byte. byte % 4) was.chips.dor ∙ whole.selects in
     elim (first_or_second scene.bay whole.bay) [
       | inl is ↦
-          let worked = (step.turns.at_first (at ∙ is)).0 in
+          let worked = (step.word_time.at_first (at ∙ is)).0 in
           let drive = subst (λ bay. IsAtDrive scene past (is_executing chips.controller.phase) (drive_in old bay)) is was.drive in
           subst (λ bay. IsAfter scene numbers (dma_stepped (record chips { controller = step.between })) (drive_in new bay)) (sym is)
           (behind scene numbers chips step.between new.first whole (word_time scene numbers past chips old.first step.between new.first whole was.chips drive worked))
       | inr is ↦
-          let worked = (step.turns.at_second (at ∙ is)).0 in
+          let worked = (step.word_time.at_second (at ∙ is)).0 in
           let drive = subst (λ bay. IsAtDrive scene past (is_executing chips.controller.phase) (drive_in old bay)) is was.drive in
           subst (λ bay. IsAfter scene numbers (dma_stepped (record chips { controller = step.between })) (drive_in new bay)) (sym is)
           (behind scene numbers chips step.between new.second whole (word_time scene numbers past chips old.second step.between new.second whole was.chips drive worked))

@@ -16,6 +16,10 @@ ghost use Rattle.pc_bus.specs.Boards.{Board, controller_of};
 ghost use Rattle.pc_bus.specs.Ports.{Inputs, Outputs};
 ghost use Rattle.pc_bus.specs.Steps.{Runs, RunsUnset, Step};
 
+mod holding;
+
+pub use holding::a_format_begins_on_time;
+
 /// Each device step keeps what is known of a FORMAT TRACK, whatever holds, strays, gaps and faults of the drive there are.
 pub fn device_steps_keep_a_format()
     ensures step { (old new : Board) → Step old new → KeepsFormat old new }

@@ -2,10 +2,4 @@
 //! medium. Definitions and laws, no code.
 #![tactic(auto)]
 
-mod holding;
-mod laws;
-
-pub use holding::a_format_begins_on_time;
-pub use laws::{
-    a_format_tells_of_the_medium, device_steps_keep_a_format, port_accesses_keep_a_format,
-};
+pub mod laws;

@@ -55,9 +55,9 @@ first_second_or_none (suc (suc n)) = inr (inr (omega arith))
 pub step_ends : (old new : Board) → Step old new → steps_left (controller_of new).phase ≤ steps_left (controller_of old).phase - 1
 step_ends old new step =
     let fewer : steps_left step.between.phase ≤ steps_left (controller_of old).phase - 1 = elim (first_second_or_none (selected_of old)) [
-      | inl at ↦ let works = (step.turns.at_first at).0 in word_ends (controller_of old) step.between (old.first.cylinder == 0) works.ends works.rests
-      | inr (inl at) ↦ let works = (step.turns.at_second at).0 in word_ends (controller_of old) step.between (old.second.cylinder == 0) works.ends works.rests
-      | inr (inr at) ↦ let works = (step.turns.at_none at).0 in word_ends (controller_of old) step.between false works.ends works.rests
+      | inl at ↦ let works = (step.word_time.at_first at).0 in word_ends (controller_of old) step.between (old.first.cylinder == 0) works.ends works.rests
+      | inr (inl at) ↦ let works = (step.word_time.at_second at).0 in word_ends (controller_of old) step.between (old.second.cylinder == 0) works.ends works.rests
+      | inr (inr at) ↦ let works = (step.word_time.at_none at).0 in word_ends (controller_of old) step.between false works.ends works.rests
     ] in
     let same : steps_left (controller_of new).phase ≡ steps_left step.between.phase =
     ap (λ bus. steps_left bus.chips.controller.phase) step.bus ∙ dma_left (steps_left step.between.phase) (record old.bus.chips { controller = step.between }) refl in

@@ -44,11 +44,11 @@ step_in_time old new step scene ((past, was), punctual) =
     let result : IsPunctual (dma_stepped (record chips { controller = step.between })) ⊎ Rose chips.holding.stalls (dma_stepped (record chips { controller = step.between })).holding.stalls =
     elim (first_or_second scene.bay whole.bay) [
       | inl is ↦
-          let worked = (step.turns.at_first (at ∙ is)).0 in
+          let worked = (step.word_time.at_first (at ∙ is)).0 in
           let hears = subst (λ bay. IsHearing scene past (is_executing chips.controller.phase) (drive_in old bay)) is was.hears in
           in_step scene past chips old.first step.between new.first was.chips worked (word_time scene past chips old.first step.between new.first whole was.chips hears worked) punctual
       | inr is ↦
-          let worked = (step.turns.at_second (at ∙ is)).0 in
+          let worked = (step.word_time.at_second (at ∙ is)).0 in
           let hears = subst (λ bay. IsHearing scene past (is_executing chips.controller.phase) (drive_in old bay)) is was.hears in
           in_step scene past chips old.second step.between new.second was.chips worked (word_time scene past chips old.second step.between new.second whole was.chips hears worked) punctual
     ] in

@@ -2,6 +2,4 @@
 //! overrun. And each data command ends. Definitions and laws, no code.
 #![tactic(auto)]
 
-mod laws;
-
-pub use laws::{a_data_command_ends, a_read_overruns_only_by_a_stall, a_served_request_falls};
+pub mod laws;

@@ -12,7 +12,7 @@ ghost use Rattle.pc_bus.specs.Ports.{Inputs, Outputs};
 ghost use Rattle.pc_bus.specs.Steps.{Runs, RunsUnset, Step, Waits};
 ghost use Rattle.raw_image.specs.Disk.{Disk};
 
-use fdc_core::read_id_tells;
+use fdc_core::laws::read_id_tells;
 
 /// A READ ID can begin where all bytes but its last were sent to a machine at rest with a medium at speed. The last byte
 /// begins it, and counts one data command.

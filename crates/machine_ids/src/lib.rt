@@ -2,6 +2,4 @@
 //! Definitions and laws, no code.
 #![tactic(auto)]
 
-mod laws;
-
-pub use laws::{a_read_id_begins, a_read_id_goes_on, a_read_id_tells_of_the_track};
+pub mod laws;

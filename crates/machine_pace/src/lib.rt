@@ -3,10 +3,9 @@
 
 mod gaps;
 mod holding;
-mod laws;
+pub mod laws;
 mod strays;
 
 pub use gaps::Gaps;
 pub use holding::{Holding, Request};
-pub use laws::holds_without_a_stall_are_in_time;
 pub use strays::Strays;

@@ -76,9 +76,9 @@ low_rested old new track0 idle none unpolled low rests =
 
 step_low : (old new : Board) → is_executing (controller_of old).phase ≡ false → (controller_of old).seeks.seek ≡ None → IsHushed old → (step : Step old new) → StaysLow step.between
 step_low old new idle none hushed step = elim (first_second_or_none (selected_of old)) [
-  | inl at ↦ low_rested (controller_of old) step.between (old.first.cylinder == 0) idle none hushed.polled hushed.low (step.turns.at_first at).0.rests
-  | inr (inl at) ↦ low_rested (controller_of old) step.between (old.second.cylinder == 0) idle none hushed.polled hushed.low (step.turns.at_second at).0.rests
-  | inr (inr at) ↦ low_rested (controller_of old) step.between false idle none hushed.polled hushed.low (step.turns.at_none at).0.rests
+  | inl at ↦ low_rested (controller_of old) step.between (old.first.cylinder == 0) idle none hushed.polled hushed.low (step.word_time.at_first at).0.rests
+  | inr (inl at) ↦ low_rested (controller_of old) step.between (old.second.cylinder == 0) idle none hushed.polled hushed.low (step.word_time.at_second at).0.rests
+  | inr (inr at) ↦ low_rested (controller_of old) step.between false idle none hushed.polled hushed.low (step.word_time.at_none at).0.rests
 ]
 
 gate_low : (gated interrupt : Bool) → interrupt ≡ false → (gated && interrupt) ≡ false
@@ -98,9 +98,9 @@ step_hushed old new step quiet low =
 
 step_stayed : (old new : Board) → is_executing (controller_of old).phase ≡ false → (step : Step old new) → Stayed (controller_of old) step.between × Stays (controller_of old) step.between
 step_stayed old new idle step = elim (first_second_or_none (selected_of old)) [
-  | inl at ↦ let works = (step.turns.at_first at).0 in (rested (controller_of old) step.between (old.first.cylinder == 0) idle works.rests, works.stays)
-  | inr (inl at) ↦ let works = (step.turns.at_second at).0 in (rested (controller_of old) step.between (old.second.cylinder == 0) idle works.rests, works.stays)
-  | inr (inr at) ↦ let works = (step.turns.at_none at).0 in (rested (controller_of old) step.between false idle works.rests, works.stays)
+  | inl at ↦ let works = (step.word_time.at_first at).0 in (rested (controller_of old) step.between (old.first.cylinder == 0) idle works.rests, works.stays)
+  | inr (inl at) ↦ let works = (step.word_time.at_second at).0 in (rested (controller_of old) step.between (old.second.cylinder == 0) idle works.rests, works.stays)
+  | inr (inr at) ↦ let works = (step.word_time.at_none at).0 in (rested (controller_of old) step.between false idle works.rests, works.stays)
 ]
 
 -- the request plays no part

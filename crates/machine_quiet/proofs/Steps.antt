@@ -156,15 +156,15 @@ pub step_works : (begun : ℕ) (start : Fdc) (old new : Board) → HoldsOn begun
 step_works begun start old new was step =
     let counted = ap (λ bus. bus.direct) step.bus in
     elim (first_second_or_none (selected_of old)) [
-      | inl at ↦ let (works, passes) = step.turns.at_first at in record {
+      | inl at ↦ let (works, passes) = step.word_time.at_first at in record {
         controller = holds_works begun start (controller_of old) old.first step.between new.first was works;
         drives = record { first = turned_works (controller_of old) old.first step.between new.first was.quiet works; second = turned_passed old.second new.second passes; direct = counted };
       }
-      | inr (inl at) ↦ let (works, passes) = step.turns.at_second at in record {
+      | inr (inl at) ↦ let (works, passes) = step.word_time.at_second at in record {
         controller = holds_works begun start (controller_of old) old.second step.between new.second was works;
         drives = record { first = turned_passed old.first new.first passes; second = turned_works (controller_of old) old.second step.between new.second was.quiet works; direct = counted };
       }
-      | inr (inr at) ↦ let (works, first, second) = step.turns.at_none at in record {
+      | inr (inr at) ↦ let (works, first, second) = step.word_time.at_none at in record {
         controller = holds_alone begun start (controller_of old) step.between was works;
         drives = record { first = turned_passed old.first new.first first; second = turned_passed old.second new.second second; direct = counted };
       }

@@ -67,9 +67,9 @@ first_second_or_none (suc (suc n)) = inr (inr (omega arith))
 pub step_command : (old new : Board) → Step old new → (controller_of old).phase ≡ Command → (controller_of new).phase ≡ Command
 step_command old new step is =
     let rested : step.between.phase ≡ Command = elim (first_second_or_none (selected_of old)) [
-      | inl at ↦ rests_command (controller_of old) step.between (old.first.cylinder == 0) is (step.turns.at_first at).0.rests
-      | inr (inl at) ↦ rests_command (controller_of old) step.between (old.second.cylinder == 0) is (step.turns.at_second at).0.rests
-      | inr (inr at) ↦ rests_command (controller_of old) step.between false is (step.turns.at_none at).0.rests
+      | inl at ↦ rests_command (controller_of old) step.between (old.first.cylinder == 0) is (step.word_time.at_first at).0.rests
+      | inr (inl at) ↦ rests_command (controller_of old) step.between (old.second.cylinder == 0) is (step.word_time.at_second at).0.rests
+      | inr (inr at) ↦ rests_command (controller_of old) step.between false is (step.word_time.at_none at).0.rests
     ] in
     ap (λ bus. bus.chips.controller.phase) step.bus ∙ dma_command (record old.bus.chips { controller = step.between }) rested
 

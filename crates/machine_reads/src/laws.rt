@@ -21,7 +21,7 @@ ghost use Rattle.machine_reads.specs.Scenes.{IsRecorded, Scene, data_rate, head_
 ghost use Rattle.sector_map.specs.Met.{met_in};
 ghost use Rattle.machine_reads.specs.Underway.{IsSet, KeepsRead, ReadUnderway};
 
-use fdc_core::read_data_tells;
+use fdc_core::laws::read_data_tells;
 
 /// Each device step keeps what is known of a READ DATA, whatever holds, strays and gaps there are; and so does each call that
 /// leaves the chips and the drives, as one that takes the latch.

@@ -2,9 +2,4 @@
 //! under the head. Definitions and laws, no code.
 #![tactic(auto)]
 
-mod laws;
-
-pub use laws::{
-    a_read_begins, a_read_tells_of_the_track, device_steps_keep_a_read, port_accesses_keep_a_read,
-    the_track_is_met,
-};
+pub mod laws;

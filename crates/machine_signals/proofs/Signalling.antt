@@ -111,11 +111,11 @@ word_behind old between index track0 word quiet gated executes rests stays = rec
 
 step_behind : (old new : Board) → IsSignalling old → (step : Step old new) → IsBehind (controller_of old) step.between
 step_behind old new was step = elim (first_second_or_none (selected_of old)) [
-  | inl at ↦ let works = (step.turns.at_first at).0 in
+  | inl at ↦ let works = (step.word_time.at_first at).0 in
       word_behind (controller_of old) step.between _ (old.first.cylinder == 0) works.reads.word was.quiet was.gated works.reads.follows.executes works.rests works.stays
-  | inr (inl at) ↦ let works = (step.turns.at_second at).0 in
+  | inr (inl at) ↦ let works = (step.word_time.at_second at).0 in
       word_behind (controller_of old) step.between _ (old.second.cylinder == 0) works.reads.word was.quiet was.gated works.reads.follows.executes works.rests works.stays
-  | inr (inr at) ↦ let works = (step.turns.at_none at).0 in
+  | inr (inr at) ↦ let works = (step.word_time.at_none at).0 in
       word_behind (controller_of old) step.between false false 0 was.quiet was.gated works.reads.executes works.rests works.stays
 ]
 

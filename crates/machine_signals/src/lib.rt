@@ -2,6 +2,4 @@
 //! Definitions and laws, no code.
 #![tactic(auto)]
 
-mod laws;
-
-pub use laws::a_command_signals_its_end;
+pub mod laws;

@@ -132,9 +132,9 @@ step_covered scene deleted past old new step at small known was before is =
     let then_is : refuses step.between.phase ≡ true = sym (ap (λ bus. refuses bus.chips.controller.phase) step.bus ∙ dma_refuses (record chips { controller = step.between })) ∙ is in
     elim (first_or_second scene.bay small) [
       | inl first ↦ works_covered scene deleted past chips old.first step.between new.first known
-          (subst (λ bay. IsAtDrive scene past (is_executing chips.controller.phase) (drive_in old bay)) first was) (step.turns.at_first (at ∙ first)).0 before then_is
+          (subst (λ bay. IsAtDrive scene past (is_executing chips.controller.phase) (drive_in old bay)) first was) (step.word_time.at_first (at ∙ first)).0 before then_is
       | inr second ↦ works_covered scene deleted past chips old.second step.between new.second known
-          (subst (λ bay. IsAtDrive scene past (is_executing chips.controller.phase) (drive_in old bay)) second was) (step.turns.at_second (at ∙ second)).0 before then_is
+          (subst (λ bay. IsAtDrive scene past (is_executing chips.controller.phase) (drive_in old bay)) second was) (step.word_time.at_second (at ∙ second)).0 before then_is
     ]
 
 -- ---- a read of the data port

@@ -99,11 +99,11 @@ first_second_or_none (suc (suc n)) = inr (inr (omega arith))
 
 pub step_guards : (old new : Board) → Step old new → GuardsMedia old new
 step_guards old new step = elim (first_second_or_none (selected_of old)) [
-  | inl at ↦ let (works, passes) = step.turns.at_first at in
+  | inl at ↦ let (works, passes) = step.word_time.at_first at in
       record { first = works_guard (controller_of old) old.first step.between new.first works; second = inl (ap (λ s. s.medium) passes.becomes) }
-  | inr (inl at) ↦ let (works, passes) = step.turns.at_second at in
+  | inr (inl at) ↦ let (works, passes) = step.word_time.at_second at in
       record { first = inl (ap (λ s. s.medium) passes.becomes); second = works_guard (controller_of old) old.second step.between new.second works }
-  | inr (inr at) ↦ let (works, first, second) = step.turns.at_none at in
+  | inr (inr at) ↦ let (works, first, second) = step.word_time.at_none at in
       record { first = inl (ap (λ s. s.medium) first.becomes); second = inl (ap (λ s. s.medium) second.becomes) }
 ]
 
@@ -150,17 +150,17 @@ dor_on old new step same = ap (λ bus. dor_of bus.chips.controller) step.bus ∙
 
 pub step_leaves : (old new : Board) → Step old new → LeavesOthers old new
 step_leaves old new step = elim (first_second_or_none (selected_of old)) [
-  | inl at ↦ let (works, passes) = step.turns.at_first at in record {
+  | inl at ↦ let (works, passes) = step.word_time.at_first at in record {
     dor = dor_on old new step (ap (λ dor. dor.0) works.stays.dor);
     first = λ other. absurd (not_zero (selected_of old) at other);
     second = λ _. ap (λ s. s.medium) passes.becomes;
   }
-  | inr (inl at) ↦ let (works, passes) = step.turns.at_second at in record {
+  | inr (inl at) ↦ let (works, passes) = step.word_time.at_second at in record {
     dor = dor_on old new step (ap (λ dor. dor.0) works.stays.dor);
     first = λ _. ap (λ s. s.medium) passes.becomes;
     second = λ other. absurd (not_one (selected_of old) at other);
   }
-  | inr (inr at) ↦ let (works, first, second) = step.turns.at_none at in record {
+  | inr (inr at) ↦ let (works, first, second) = step.word_time.at_none at in record {
     dor = dor_on old new step (ap (λ dor. dor.0) works.stays.dor);
     first = λ _. ap (λ s. s.medium) first.becomes;
     second = λ _. ap (λ s. s.medium) second.becomes;

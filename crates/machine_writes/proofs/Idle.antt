@@ -84,13 +84,13 @@ idle_step old new step still first second =
 
 pub step_idle : (old new : Board) → Step old new → IsIdle old → StaysIdle old new
 step_idle old new step was = elim (first_second_or_none (selected_of old)) [
-  | inl at ↦ let (works, passes) = step.turns.at_first at in
+  | inl at ↦ let (works, passes) = step.word_time.at_first at in
       idle_step old new step (idle_on (controller_of old) step.between (old.first.cylinder == 0) was.over was.quiet works.rests)
       (idle_medium (controller_of old) step.between old.first new.first was.over works) (ap (λ s. s.medium) passes.becomes)
-  | inr (inl at) ↦ let (works, passes) = step.turns.at_second at in
+  | inr (inl at) ↦ let (works, passes) = step.word_time.at_second at in
       idle_step old new step (idle_on (controller_of old) step.between (old.second.cylinder == 0) was.over was.quiet works.rests)
       (ap (λ s. s.medium) passes.becomes) (idle_medium (controller_of old) step.between old.second new.second was.over works)
-  | inr (inr at) ↦ let (works, first, second) = step.turns.at_none at in
+  | inr (inr at) ↦ let (works, first, second) = step.word_time.at_none at in
       idle_step old new step (idle_on (controller_of old) step.between false was.over was.quiet works.rests) (ap (λ s. s.medium) first.becomes) (ap (λ s. s.medium) second.becomes)
 ]
 

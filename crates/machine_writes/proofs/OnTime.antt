@@ -354,8 +354,8 @@ step_on_time falls old new step was =
     let chips_are : new.bus.chips ≡ dma_stepped (record chips { controller = step.between }) = ap (λ bus. bus.chips) step.bus in
     let result : IsPunctual (dma_stepped (record chips { controller = step.between })) ⊎ Rose chips.holding.stalls (dma_stepped (record chips { controller = step.between })).holding.stalls =
     elim (first_second_or_none (selected_of old)) [
-      | inl at ↦ in_step falls chips old.first step.between new.first (step.turns.at_first at).0 was.punctual (is_executing chips.controller.phase) refl
-      | inr (inl at) ↦ in_step falls chips old.second step.between new.second (step.turns.at_second at).0 was.punctual (is_executing chips.controller.phase) refl
+      | inl at ↦ in_step falls chips old.first step.between new.first (step.word_time.at_first at).0 was.punctual (is_executing chips.controller.phase) refl
+      | inr (inl at) ↦ in_step falls chips old.second step.between new.second (step.word_time.at_second at).0 was.punctual (is_executing chips.controller.phase) refl
       | inr (inr at) ↦ absurd (omega arith)
     ] in
     elim result [

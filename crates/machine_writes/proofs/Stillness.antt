@@ -308,10 +308,10 @@ pub step_still : (old new : Board) → Step old new → HasNoSeek old → StaysS
 step_still old new step was =
     let selects = was.selects in
     elim (first_second_or_none (selected_of old)) [
-      | inl at ↦ let (works, passes) = step.turns.at_first at in
+      | inl at ↦ let (works, passes) = step.word_time.at_first at in
           let is = still_works (controller_of old) old.first step.between new.first was.none works in
           still_step old new step was is.seek is.numbers is.still (still_passed old.second new.second passes)
-      | inr (inl at) ↦ let (works, passes) = step.turns.at_second at in
+      | inr (inl at) ↦ let (works, passes) = step.word_time.at_second at in
           let is = still_works (controller_of old) old.second step.between new.second was.none works in
           still_step old new step was is.seek is.numbers (still_passed old.first new.first passes) is.still
       | inr (inr at) ↦ absurd (omega arith)

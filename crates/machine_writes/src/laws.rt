@@ -19,6 +19,16 @@ ghost use Rattle.pc_bus.specs.Boards.{Board, controller_of, drive_in};
 ghost use Rattle.pc_bus.specs.Ports.{Inputs, Outputs};
 ghost use Rattle.pc_bus.specs.Steps.{Runs, RunsUnset, Step};
 
+mod guarding;
+mod heads;
+mod holding;
+
+pub use guarding::{device_steps_guard_media, device_steps_leave_other_media};
+pub use heads::{
+    an_idle_machine_stays, device_steps_move_no_heads, port_accesses_leave_an_idle_machine,
+};
+pub use holding::{a_write_begins_on_time, device_steps_are_on_time};
+
 /// Each device step keeps what is known of a WRITE DATA or WRITE DELETED, whatever holds, strays, gaps and faults of the drive
 /// there are.
 pub fn device_steps_keep_a_write()

@@ -5,10 +5,11 @@
 //! bit 15 (IBM System 34, "Modified Frequency Modulation").
 #![tactic(auto)]
 
-ghost use Rattle.std.specs.Prelude.{◌≡◌, ◌≢◌, ◌+◌, ◌*◌, ◌≤◌, [], ◌∷◌, length};
+ghost use Rattle.std.specs.Prelude.{◌≡◌, ◌+◌, [], ◌∷◌};
 ghost use Rattle.track_model.specs.Cells.{cells_at, IsInside};
 ghost use Rattle.track_model.specs.Bytes.{byte_at, legal};
 
+pub mod laws;
 mod tables;
 
 use tables::{CELLS, DATA_CELLS};
@@ -44,10 +45,3 @@ pub fn cells16(words: &[u16], p: usize) -> u16
     let pair = u32::from(first) << 16 | u32::from(words[p / 16 + 1]);
     (pair >> (16 - phase) & 0xFFFF) as u16
 }
-
-/// No mark A1 stands in the cells of bytes, at any phase: its lost clock doesn't occur there.
-#[tactic(auto, using(track_model::proofs::Legals::no_mark))]
-pub fn legal_has_no_mark(_last: bool, _bytes: &[u8], _p: usize)
-    requires { _p + 16 ≤ 16 * length _bytes.now }
-    ensures { cells_at (legal _last _bytes.now) _p ≢ 0x4489 }
-{}

@@ -40,7 +40,7 @@ abbrev pub Passes : DriveState → DriveState → Type 0
 Passes before after = Becomes before (passed before) after
 
 -- the controller makes its device step with the selected drive, and the word time passes at the others
-pub record Turns (selected : ℕ) (old : Fdc) (first second : DriveState) (new : Fdc) (first_after second_after : DriveState) : Type 0 where
+pub record PassesWordTime (selected : ℕ) (old : Fdc) (first second : DriveState) (new : Fdc) (first_after second_after : DriveState) : Type 0 where
   pub at_first : selected ≡ 0 → Works old first new first_after × Passes second second_after
   pub at_second : selected ≡ 1 → Works old second new second_after × Passes first first_after
   pub at_none : 2 ≤ selected → WorksAlone old new × Passes first first_after × Passes second second_after
@@ -78,7 +78,7 @@ step_ended old = let chips = dma_stepped old.chips in
 pub record Step (old new : Board) : Type 0 where
   -- the controller behind its word time
   pub between : Fdc
-  pub turns : Turns (selected_of old) (controller_of old) old.first old.second between new.first new.second
+  pub word_time : PassesWordTime (selected_of old) (controller_of old) old.first old.second between new.first new.second
   pub bus : new.bus ≡ step_ended (with_controller between (step_begun old.bus))
 
 -- so many device steps

@@ -2,7 +2,7 @@
 ghost use Rattle.std.specs.Prelude.{◌≡◌, ◌≤◌, ◌+◌, min};
 ghost use Rattle.flop_base.specs.Counts.{last_count};
 ghost use Rattle.pc_bus.specs.Boards.{board, controller_of, selected_of};
-ghost use Rattle.pc_bus.specs.Steps.{Works, WorksAlone, Turns, Step, Runs, Waits, stirred};
+ghost use Rattle.pc_bus.specs.Steps.{Works, WorksAlone, PassesWordTime, Step, Runs, Waits, stirred};
 
 use crate::machine::MachineOf;
 use drive_model::Drive;
@@ -14,13 +14,13 @@ impl<D: Drive> MachineOf<D> {
         ensures { Step (board D.state self.old) (board D.state self.new) }
     {
         self.bus.begin_step();
-        self.turn();
+        self.pass_word_time();
         self.bus.end_step();
     }
 
     /// Part 2 of a device step: the controller's, with the selected drive, and the word time of the others.
-    fn turn(&mut self)
-        ensures turns { Turns (selected_of (board D.state self.old)) (controller_of (board D.state self.old))
+    fn pass_word_time(&mut self)
+        ensures passes { PassesWordTime (selected_of (board D.state self.old)) (controller_of (board D.state self.old))
             (D.state self.old.first) (D.state self.old.second)
             (controller_of (board D.state self.new)) (D.state self.new.first) (D.state self.new.second) }
         ensures bus { self.new.bus ≡ record self.old.bus {

@@ -26,9 +26,9 @@ use Rattle.port_commands.specs.Benches.{Bench, Names, no_names}
 use Rattle.port_commands.specs.Courses.{Taken, PortRun, waits_of, EndsBay, Stored, Left, EndStopsAt, AtFirst, AtSecond}
 use Rattle.port_commands.specs.Guards.{SameMedia, ChangesWords, GuardsBay, GuardsLine, GuardsCourse, RunsPorts}
 use Rattle.port_commands.specs.Lines.{DoesLine, StopsAt, LoadsMedium, StoresMedium, IsRefused, insert_refusal, eject_refusal, waits_in}
-use Rattle.port_commands.specs.Plays.{World, PlaysLines, Played, Stopped, CutOff, EndStopped, IsIdle, PlaysParsed, Plays, There, Missing, TooLong, Faulty, Starved}
+use Rattle.port_commands.specs.Plays.{World, PlaysLines, Played, Stopped, BrokenOff, EndStopped, IsIdle, PlaysParsed, Plays, There, Missing, TooLong, Faulty, Starved}
 use Rattle.port_commands.proofs.Named.{gapped, read_board, write_same}
-use Rattle.port_commands.proofs.Turned.{run_more, world_with}
+use Rattle.port_commands.proofs.InRounds.{run_more, world_with}
 
 -- ---- words that change
 
@@ -220,7 +220,7 @@ lines_reach old new asked_for course ended (Stopped stopped) = record {
   run = stopped.run;
   steps = stops_steps stopped.mid new.bench stopped.asked stopped.cause stopped.stops;
 }
-lines_reach old new asked_for course ended (CutOff cut) = record {
+lines_reach old new asked_for course ended (BrokenOff cut) = record {
   mid = cut.last.after;
   run = subst (λ (c : List Taken). PortRun old.bench c cut.last.after) (sym cut.course_is) (run_more old.bench cut.mid cut.before cut.last cut.run cut.does);
   steps = same_steps cut.last.after new.bench cut.after;

@@ -1,4 +1,4 @@
-mod Turned
+mod InRounds
 mod Named
 pub mod Guarding
 mod Exchanged

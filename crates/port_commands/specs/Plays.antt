@@ -33,7 +33,7 @@ world_of state files report machine names shelf out =
 -- ---- one line
 
 -- a line was done and told whole; `refused` says that its answer is a refusal
-pub record IsTurn (old : World) (asked : PortLine) (refused : Bool) (new : World) : Type 0 where
+pub record IsRound (old : World) (asked : PortLine) (refused : Bool) (new : World) : Type 0 where
   pub answer : Answer
   pub does : DoesLine old.bench asked answer new.bench
   pub report : new.report ≡ grown old.report (answer_text asked answer)
@@ -77,7 +77,7 @@ pub record IsStopped (old : World) (lines : List PortLine) (course : List Taken)
   pub prints : Prints (grown old.report (course_text course)) (stop_text cause) (stop_status cause) new.report ended
 
 -- the answer to a line couldn't be told whole, after all before it were done and told
-pub record IsCutOff (old : World) (lines : List PortLine) (course : List Taken) (new : World) (ended : Status) : Type 0 where
+pub record IsUnfinished (old : World) (lines : List PortLine) (course : List Taken) (new : World) (ended : Status) : Type 0 where
   pub before : List Taken
   pub last : Taken
   pub later : List PortLine
@@ -105,7 +105,7 @@ pub record IsEndStopped (old : World) (lines : List PortLine) (course : List Tak
 pub data PlaysLines (old : World) (lines : List PortLine) (course : List Taken) (new : World) (ended : Status) : Type 0 where
   Played : IsPlayed old lines course new ended → PlaysLines old lines course new ended
   Stopped : IsStopped old lines course new ended → PlaysLines old lines course new ended
-  CutOff : IsCutOff old lines course new ended → PlaysLines old lines course new ended
+  BrokenOff : IsUnfinished old lines course new ended → PlaysLines old lines course new ended
   EndStopped : IsEndStopped old lines course new ended → PlaysLines old lines course new ended
 
 -- the lines of a text are played, by some course

@@ -3,12 +3,11 @@
 
 mod answer;
 mod doing;
-mod laws;
+pub mod laws;
 mod media;
 mod names;
 mod running;
 mod telling;
 
 pub use answer::Answer;
-pub use laws::accesses_guard_media;
 pub use running::run_ports;

@@ -7,7 +7,7 @@ ghost use Rattle.port_commands.specs.Benches.{AreNamed, IsBare, Names as NamesOf
 ghost use Rattle.port_commands.specs.Courses.{Taken};
 ghost use Rattle.port_commands.specs.Guards.{RunsPorts};
 ghost use Rattle.port_commands.specs.Lines.{is_refusal};
-ghost use Rattle.port_commands.specs.Plays.{world_of, IsTurn, Breaks, HasRun, HasPlayed, EndsAs, PlaysOrStarves, Misses};
+ghost use Rattle.port_commands.specs.Plays.{world_of, IsRound, Breaks, HasRun, HasPlayed, EndsAs, PlaysOrStarves, Misses};
 
 use crate::answer::Answer;
 use crate::doing::do_line;
@@ -34,7 +34,7 @@ fn run_one<S: Shelf, K: Sink, D: Drive>(
     out: &mut K,
 ) -> Result<bool, Status>
     requires { AreNamed names.old (board D.state machine.old) }
-    ensures turn { IfOk result (λ refused. IsTurn
+    ensures round { IfOk result (λ refused. IsRound
         (world_of D.state S.told K.told machine.old names.old shelf.old out.old) line.now refused
         (world_of D.state S.told K.told machine.new names.new shelf.new out.new)) }
     ensures breaks { IfErr result (λ ended. Breaks

@@ -6,6 +6,7 @@
 
 mod error;
 mod header;
+pub mod laws;
 mod medium;
 mod reader;
 mod shape;
@@ -15,5 +16,5 @@ mod writing;
 
 pub use error::ImageError;
 pub use medium::Medium;
-pub use reader::{ImageReader, any_pieces, read_image};
+pub use reader::{ImageReader, read_image};
 pub use writing::write_image;

@@ -1,7 +1,6 @@
 // Reading an image file, at once or in pieces.
 ghost use Rattle.std.specs.Prelude.{◌≡◌, ℕ, List, [], Ok, IfOk};
-ghost use Rattle.std.specs.List.{flat_map};
-ghost use Rattle.raw_image.specs.Progress.{Progress, IsFed, FeedsAll};
+ghost use Rattle.raw_image.specs.Progress.{Progress, IsFed};
 ghost use Rattle.raw_image.specs.Disk.{Disk};
 ghost use Rattle.raw_image.specs.Image.{image_of, Reads, Spells};
 
@@ -95,10 +94,3 @@ pub fn read_image(alloc: Global, bytes: &[u8]) -> Result<Medium, ImageError>
     reader.feed(bytes)?;
     reader.finish()
 }
-
-/// However a file is cut into pieces, a reader that took them all has come as far as the whole file says: where it
-/// ends then, `ImageReader::finish` answers what `read_image` answers on the whole.
-pub fn any_pieces()
-    ensures { (pieces : List (List ℕ)) (new last : Progress) → IsFed [] new
-        → FeedsAll new pieces last → IsFed (flat_map (λ piece. piece) pieces) last }
-{}

@@ -1,6 +1,4 @@
 //! The bytes of READ DATA and READ ID as a driver sends them, one by one. Definitions and laws, no code.
 #![tactic(auto)]
 
-mod laws;
-
-pub use laws::reads_are_spelled;
+pub mod laws;

@@ -4,7 +4,7 @@
 mod disk;
 mod error;
 mod fit;
-mod laws;
+pub mod laws;
 mod lines;
 mod looked;
 mod relaid;
@@ -12,7 +12,6 @@ mod sectors;
 
 pub use disk::remaster;
 pub use error::RemasterError;
-pub use laws::sectors_are_one;
 pub use lines::{SurveyEnd, SurveyLine, survey};
 pub use looked::{LookedField, list_looked};
 pub use sectors::{Sector, list_sectors};

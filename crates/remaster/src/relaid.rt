@@ -14,10 +14,12 @@ ghost use Rattle.remaster.specs.Relaid.{key_of, laid_with, HoldsSector};
 use crate::sectors::Sector;
 use flop_base::standard::FILL;
 use flop_base::{Chrn, NoMemory, Rate, sector_size};
-use sector_map::{cut_keeps, place_window};
+use sector_map::laws::cut_keeps;
+use sector_map::place_window;
 use std::alloc::Global;
 use track_fields::field_words;
-use track_format::{LayoutError, lay_reads, layout};
+use track_format::laws::lay_reads;
+use track_format::{LayoutError, layout};
 
 /// The words of a sector without its content and gap 3.
 const SECTOR_WORDS: usize = 62;

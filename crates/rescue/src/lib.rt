@@ -4,7 +4,7 @@
 
 mod course;
 mod keys;
-mod laws;
+pub mod laws;
 mod line;
 mod outcome;
 mod read;
@@ -12,7 +12,6 @@ mod write;
 
 pub use course::{AfterRead, after_read, read_request};
 pub use keys::{logged_keys, standard_keys};
-pub use laws::{log_grows, log_reads_back};
 pub use line::LogLine;
 pub use outcome::Outcome;
 pub use read::{LogError, read_log};

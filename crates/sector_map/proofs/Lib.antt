@@ -3,7 +3,7 @@ pub mod Joined
 mod KeptKeys
 pub mod KeptTracks
 pub mod Laid
-mod Laws
+mod Lawful
 mod Listed
 pub mod MetTracks
 mod Placed

@@ -11,7 +11,7 @@ use Rattle.sector_model.specs.States.{State}
 use Rattle.sector_model.specs.declared.reply.Stop.{Stop}
 use Rattle.sector_model.specs.Steps.{StopsAt}
 use Rattle.sector_model.specs.Runs.{Taken, Run, requests_of}
-use Rattle.sector_model.specs.Plays.{World, TellsAlone, PlaysRequests, Played, Stopped, CutOff, EndStopped, PlaysParsed, Plays, There, Missing, TooLong, Faulty, Starved, IsText, most_job_bytes}
+use Rattle.sector_model.specs.Plays.{World, TellsAlone, PlaysRequests, Played, Stopped, BrokenOff, EndStopped, PlaysParsed, Plays, There, Missing, TooLong, Faulty, Starved, IsText, most_job_bytes}
 use Rattle.sector_model.specs.Ties.{TiesCounts, accesses_of, accesses_of_job, IsJob}
 use Rattle.bay_model.proofs.Counted.{goes_on_itself}
 use Rattle.sector_model.proofs.Runs.{run_more, requests_more}
@@ -70,7 +70,7 @@ requests_tied old new requests course ended (Played p) =
     play_tied old.state p.mid old.files p.files course requests (counters_of new) 2 p.run (ends_goes p.mid new.state p.files new.files p.stored) (ends_tied p.mid new.state p.files new.files p.stored) (to_the_end course requests p.all)
 requests_tied old new requests course ended (Stopped p) =
     play_tied old.state p.mid old.files p.files course requests (counters_of new) (accesses_of p.asked) p.run (stop_goes p.mid new.state p.files new.files p.asked p.cause p.stops) (stop_tied p.mid new.state p.files new.files p.asked p.cause p.stops) (up_to_one course requests p.later p.asked p.all)
-requests_tied old new requests course ended (CutOff p) =
+requests_tied old new requests course ended (BrokenOff p) =
     let run = run_more old.state p.mid old.files p.files new.files p.before p.last p.run p.step in
     let tied = play_tied old.state p.last.after old.files new.files (p.before ++ p.last ∷ []) requests p.last.after.station.counters 0 run (goes_on_itself _) (tied_none _) (up_to_last p.before p.last requests p.later p.all) in
     subst (λ (steps : List Taken). PlayTied (counters_of old) requests steps (counters_of new)) (sym p.course_is)

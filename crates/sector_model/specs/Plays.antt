@@ -67,7 +67,7 @@ pub record IsStopped (old : World) (requests : List Request) (course : List Take
   pub prints : Prints (grown old.report (course_text course)) (stop_text cause) (stop_status cause) new.report ended
 
 -- the answer to a request couldn't be told whole, after all before it were run and told
-pub record IsCutOff (old : World) (requests : List Request) (course : List Taken) (new : World) (ended : Status) : Type 0 where
+pub record IsUnfinished (old : World) (requests : List Request) (course : List Taken) (new : World) (ended : Status) : Type 0 where
   pub before : List Taken
   pub last : Taken
   pub later : List Request
@@ -97,7 +97,7 @@ pub record IsEndStopped (old : World) (requests : List Request) (course : List T
 pub data PlaysRequests (old : World) (requests : List Request) (course : List Taken) (new : World) (ended : Status) : Type 0 where
   Played : IsPlayed old requests course new ended → PlaysRequests old requests course new ended
   Stopped : IsStopped old requests course new ended → PlaysRequests old requests course new ended
-  CutOff : IsCutOff old requests course new ended → PlaysRequests old requests course new ended
+  BrokenOff : IsUnfinished old requests course new ended → PlaysRequests old requests course new ended
   EndStopped : IsEndStopped old requests course new ended → PlaysRequests old requests course new ended
 
 -- nothing was run, and a line told why

@@ -4,6 +4,7 @@ ghost use Rattle.sector_model.specs.declared.reply.Stop.TheVariants as stop;
 
 use flop_base::{Bytes, Code, Name, NoMemory};
 use raw_image::ImageError;
+use thiserror::Error;
 
 /// The answer to a request that was run.
 #[derive(Drop)]
@@ -17,15 +18,19 @@ pub enum Reply {
 }
 
 /// Why a request was refused. A refused request changes nothing but what it says.
-#[derive(Clone, Copy, Debug, PartialEq, Eq)]
+#[derive(Clone, Copy, Debug, PartialEq, Eq, Error)]
 pub enum Reason {
     /// The driver refused it.
+    #[error("{0}")]
     Driver(Code),
     /// The bay is loaded.
+    #[error("bay is loaded")]
     Busy,
     /// The bay isn't loaded.
+    #[error("bay is empty")]
     Empty,
     /// No spare drive is left.
+    #[error("no spare drive is left")]
     NoSpare,
 }
 

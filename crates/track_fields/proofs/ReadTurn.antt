@@ -12,10 +12,10 @@ use Rattle.track_separator.specs.declared.state.Seen.{Seen}
 use Rattle.track_separator.specs.declared.state.Seen.TheVariants.{Nothing, Mark, Address, Mode, Byte, End, NoData}
 use Rattle.track_separator.specs.declared.state.Separator.{Separator}
 use Rattle.track_separator.specs.Parts.{with_word, IsPart}
-use Rattle.track_separator.specs.Waits.{SWaits, SReads, HasEnded, TellsWhole, IsCutOff}
+use Rattle.track_separator.specs.Waits.{SWaits, SReads, HasEnded, TellsWhole, IsUnfinished}
 use Rattle.track_separator.specs.Turns.{SWaitFed, SReadFed}
 use Rattle.track_separator.specs.Lifts.{look_of}
-use Rattle.track_separator.proofs.Laws.{first_words, byte_stays, field_stays, no_data_stays, cut_is_no_data, reads_within}
+use Rattle.track_separator.proofs.Lawful.{first_words, byte_stays, field_stays, no_data_stays, unfinished_is_no_data, reads_within}
 
 -- some bytes of the data field at q have passed, and stand in the content
 pub record IsCopied (words : List ℕ) (p q size passed : ℕ) (separator : Separator) (i : ℕ) (deleted : Bool) (taken : ℕ) (content : List ℕ) : Type 0 where
@@ -216,8 +216,8 @@ reading_end words p n size new i deleted taken content index good seen is coded 
 none_given : (words : List ℕ) (p n size : ℕ) (new : Separator) (i : ℕ) (deleted : Bool) (taken : ℕ) (content : List ℕ) (index : Bool) → size ≡ content_size n → IsGiven words p size new i deleted taken content index NoData → LookAt words p n look.NoData
 none_given words p n size new i deleted taken content true sized now =
     let all : take (i + 1) words ≡ words = take_all (i + 1) words (let e = now.ends refl in omega arith) in
-    let cut : IsCutOff (take (i + 1) words) p size = elim now.what [ inl h ↦ h.0 | inr h ↦ h.2 ] in
-    cut_is_no_data words p n size sized (subst (λ fed. IsCutOff fed p size) all cut)
+    let cut : IsUnfinished (take (i + 1) words) p size = elim now.what [ inl h ↦ h.0 | inr h ↦ h.2 ] in
+    unfinished_is_no_data words p n size sized (subst (λ fed. IsUnfinished fed p size) all cut)
 none_given words p n size new i deleted taken content false sized now =
     let inside = now.inside in
     elim now.what [

@@ -13,7 +13,7 @@ use Rattle.track_separator.specs.declared.state.Seen.TheVariants.{Mark, Address}
 use Rattle.track_separator.specs.Parts.{with_word, turn_after, EndsInLast, IsPart}
 use Rattle.track_separator.specs.Hunts.{SHunts, SFollows, SAddressed, Stands, SHuntSeen, GivesAll}
 use Rattle.track_separator.specs.Turns.{SBegins}
-use Rattle.track_separator.proofs.Laws.{mark_stays, mark_stood, address_stays, address_stood, no_run_stood, first_words, runs_apart}
+use Rattle.track_separator.proofs.Lawful.{mark_stays, mark_stood, address_stays, address_stood, no_run_stood, first_words, runs_apart}
 use Rattle.track_fields.specs.Turned.{IsPassed}
 
 -- so many words were fed, and no address field of the key came

@@ -2,12 +2,11 @@
 #![tactic(auto)]
 
 mod gap;
-mod laws;
+pub mod laws;
 mod stream;
 mod symbols;
 mod whole;
 
 pub use gap::choose_gap;
-pub use laws::{laid_is_regular, laid_is_tidy, laid_keys_are_found, lay_reads};
 pub use stream::FormatStream;
 pub use whole::{LayoutError, layout};

@@ -2,14 +2,10 @@
 //! the two types in which answers about a track are given.
 #![tactic(auto)]
 
-mod laws;
+pub mod laws;
 mod symbol;
 
 use flop_base::Chrn;
-pub use laws::{
-    found_is_sector, key_is_one, lay_is_laid, look_at_is_one, look_is_one, plain_is_clear,
-    sector_is_under, written_is_laid,
-};
 pub use symbol::Symbol;
 
 /// What a search for a sector's data finds on a track.

@@ -9,7 +9,7 @@ use Rattle.track_model.specs.Sectors.{HasNoRunWithin}
 use Rattle.track_model.proofs.Unique.{one_key}
 use Rattle.track_separator.specs.declared.state.Seen.TheVariants.{Nothing, Mark, Address}
 use Rattle.track_separator.specs.declared.state.Stage.{Stage}
-use Rattle.track_separator.specs.declared.state.Stage.TheVariants.{Hunting, Reading, Addressed, Cut, Waiting, Content}
+use Rattle.track_separator.specs.declared.state.Stage.TheVariants.{Hunting, Reading, Addressed, TurnEnded, Waiting, Content}
 use Rattle.track_separator.specs.Register.{HasNoZeroFrom, KeepsFrom, HasTail, IsFull, IsNext, HasRunBits, register_byte, register_check, IsKeyIn}
 use Rattle.track_separator.specs.Parts.{EndsInLast}
 use Rattle.track_separator.specs.Hunts.{HuntsIn, IsFollowed, FollowsIn, GivesAll, IsAtByte, IsByteTaken}
@@ -21,7 +21,7 @@ pub tail_of : (fed : List ℕ) (cells back : ℕ) (stage : Stage) → HuntsIn fe
 tail_of fed cells back Hunting h = h
 tail_of fed cells back Addressed h = h.2.tail
 tail_of fed cells back (Reading bytes) h = h.0
-tail_of fed cells back Cut h = absurd h
+tail_of fed cells back TurnEnded h = absurd h
 tail_of fed cells back (Waiting size since marked) h = absurd h
 tail_of fed cells back (Content size taken check touched) h = absurd h
 

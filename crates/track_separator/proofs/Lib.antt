@@ -3,7 +3,7 @@ mod Shared
 mod Runs
 mod Next
 mod Staged
-pub mod Laws
+pub mod Lawful
 mod Hunted
 mod HuntedWord
 mod Started

@@ -3,7 +3,7 @@ use Rattle.std.proofs.Common.{ℕ, ◌+◌, ◌*◌, ◌<◌, ◌≤◌, Bool, L
 use Rattle.track_model.specs.Fields.{IsDataMark}
 use Rattle.track_model.specs.Looks.{IsFirstDataMark}
 use Rattle.track_separator.specs.declared.state.Stage.{Stage}
-use Rattle.track_separator.specs.declared.state.Stage.TheVariants.{Hunting, Reading, Addressed, Cut, Waiting, Content}
+use Rattle.track_separator.specs.declared.state.Stage.TheVariants.{Hunting, Reading, Addressed, TurnEnded, Waiting, Content}
 use Rattle.track_separator.specs.Parts.{EndsInLast}
 use Rattle.track_separator.specs.Hunts.{AddressedIn}
 use Rattle.track_separator.specs.Waits.{WaitsIn, ReadsIn}
@@ -12,7 +12,7 @@ pub addressed_at : (fed : List ℕ) (cells back p : ℕ) (stage : Stage) → bac
 addressed_at fed cells back p Addressed small h = let place = h.place in record { inside = omega arith; last = omega arith }
 addressed_at fed cells back p Hunting small h = absurd h
 addressed_at fed cells back p (Reading bytes) small h = absurd h
-addressed_at fed cells back p Cut small h = absurd h
+addressed_at fed cells back p TurnEnded small h = absurd h
 addressed_at fed cells back p (Waiting asked since marked) small h = absurd h
 addressed_at fed cells back p (Content asked passed check touched) small h = absurd h
 
@@ -24,7 +24,7 @@ waits_at fed cells back p size (Waiting asked since marked) h =
 waits_at fed cells back p size Hunting h = absurd h
 waits_at fed cells back p size (Reading bytes) h = absurd h
 waits_at fed cells back p size Addressed h = absurd h
-waits_at fed cells back p size Cut h = absurd h
+waits_at fed cells back p size TurnEnded h = absurd h
 waits_at fed cells back p size (Content asked passed check touched) h = absurd h
 
 pub reads_first : (fed : List ℕ) (cells back p q : ℕ) (deleted : Bool) (size taken : ℕ) (stage : Stage) → ReadsIn fed cells back p q deleted size taken stage → IsFirstDataMark fed p q deleted
@@ -32,7 +32,7 @@ reads_first fed cells back p q deleted size taken (Content asked passed check to
 reads_first fed cells back p q deleted size taken Hunting h = absurd h
 reads_first fed cells back p q deleted size taken (Reading bytes) h = absurd h
 reads_first fed cells back p q deleted size taken Addressed h = absurd h
-reads_first fed cells back p q deleted size taken Cut h = absurd h
+reads_first fed cells back p q deleted size taken TurnEnded h = absurd h
 reads_first fed cells back p q deleted size taken (Waiting asked since marked) h = absurd h
 
 pub reads_at : (fed : List ℕ) (cells back p q : ℕ) (deleted : Bool) (size taken : ℕ) (stage : Stage) → back < 16 → ReadsIn fed cells back p q deleted size taken stage → EndsInLast fed (q + 64 + 16 * taken) × (taken ≤ size + 1)
@@ -42,5 +42,5 @@ reads_at fed cells back p q deleted size taken (Content asked passed check touch
 reads_at fed cells back p q deleted size taken Hunting small h = absurd h
 reads_at fed cells back p q deleted size taken (Reading bytes) small h = absurd h
 reads_at fed cells back p q deleted size taken Addressed small h = absurd h
-reads_at fed cells back p q deleted size taken Cut small h = absurd h
+reads_at fed cells back p q deleted size taken TurnEnded small h = absurd h
 reads_at fed cells back p q deleted size taken (Waiting asked since marked) small h = absurd h

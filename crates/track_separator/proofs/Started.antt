@@ -3,7 +3,7 @@ use Rattle.std.proofs.Common.{ℕ, ◌*◌, List, [], length, arith}
 use Rattle.track_separator.specs.declared.state.Seen.{Seen}
 use Rattle.track_separator.specs.declared.state.Seen.TheVariants.{Nothing, Mark, Address, Mode, Byte, End, NoData}
 use Rattle.track_separator.specs.declared.state.Stage.{Stage}
-use Rattle.track_separator.specs.declared.state.Stage.TheVariants.{Hunting, Reading, Addressed, Cut, Waiting, Content}
+use Rattle.track_separator.specs.declared.state.Stage.TheVariants.{Hunting, Reading, Addressed, TurnEnded, Waiting, Content}
 use Rattle.track_separator.specs.Register.{HasTail}
 use Rattle.track_separator.specs.Hunts.{HuntsIn, FollowsIn, HuntSeenIn, Stands}
 use Rattle.track_separator.specs.Turns.{WantsIn}
@@ -42,6 +42,6 @@ pub hunts_not_wants : (fed : List ℕ) (cells back : ℕ) (stage : Stage) → Hu
 hunts_not_wants fed cells back Hunting h w = w
 hunts_not_wants fed cells back (Reading bytes) h w = w
 hunts_not_wants fed cells back Addressed h w = w
-hunts_not_wants fed cells back Cut h w = h
+hunts_not_wants fed cells back TurnEnded h w = h
 hunts_not_wants fed cells back (Waiting size since marked) h w = h
 hunts_not_wants fed cells back (Content size taken check touched) h w = h

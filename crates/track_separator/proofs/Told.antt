@@ -4,14 +4,14 @@ use Rattle.track_model.specs.Fields.{IsAddress}
 use Rattle.track_separator.specs.declared.state.Seen.{Seen}
 use Rattle.track_separator.specs.declared.state.Seen.TheVariants.{Nothing, Mark, Address, Mode, Byte, End, NoData}
 use Rattle.track_separator.specs.declared.state.Stage.{Stage}
-use Rattle.track_separator.specs.declared.state.Stage.TheVariants.{Addressed, Cut, Waiting}
+use Rattle.track_separator.specs.declared.state.Stage.TheVariants.{Addressed, TurnEnded, Waiting}
 use Rattle.track_separator.specs.declared.state.Separator.{Separator}
 use Rattle.track_separator.specs.Parts.{with_word}
 use Rattle.track_separator.specs.Hunts.{SHunts, HuntSeenIn}
 use Rattle.track_separator.specs.Waits.{SWaits, SReads, WaitSeenIn, SWaitSeen, ReadSeenIn, SReadSeen}
-use Rattle.track_separator.specs.Turns.{IsHunted, SCut, FedIn, SFed, IsTold}
+use Rattle.track_separator.specs.Turns.{IsHunted, STurnEnded, FedIn, SFed, IsTold}
 use Rattle.track_separator.proofs.Staged.{reads_first}
-use Rattle.track_separator.proofs.Laws.{part_with_word, some_address_stays}
+use Rattle.track_separator.proofs.Lawful.{part_with_word, some_address_stays}
 use Rattle.track_separator.proofs.Ended.{right_behind}
 
 told_of_hunt : (fed : List ℕ) (cells back : ℕ) (stage : Stage) (seen : Seen) → HuntSeenIn fed cells back stage seen → IsTold fed seen
@@ -48,15 +48,15 @@ of_read fed p q deleted size taken cells back stage (Mode other) address h = abs
 of_read fed p q deleted size taken cells back stage NoData address h = absurd h
 
 -- a word, inside the turn
-pub fed_more : (old new : Separator) (word : ℕ) (seen : Seen) → IsHunted old word new seen → ((fed : List ℕ) (p size : ℕ) → SWaits old fed p size → SWaitSeen (with_word fed word) p size new seen) → ((fed : List ℕ) (p q : ℕ) (deleted : Bool) (size taken : ℕ) → SReads old fed p q deleted size taken → SReadSeen (with_word fed word) p q deleted size taken new seen) → (SCut old → (seen ≡ NoData) × ((fed : List ℕ) → SHunts new fed)) → (fed : List ℕ) → SFed old fed → SFed new (with_word fed word) × IsTold (with_word fed word) seen
-fed_more old new word seen hunted waits reads cut fed (inl hunts) =
+pub fed_more : (old new : Separator) (word : ℕ) (seen : Seen) → IsHunted old word new seen → ((fed : List ℕ) (p size : ℕ) → SWaits old fed p size → SWaitSeen (with_word fed word) p size new seen) → ((fed : List ℕ) (p q : ℕ) (deleted : Bool) (size taken : ℕ) → SReads old fed p q deleted size taken → SReadSeen (with_word fed word) p q deleted size taken new seen) → (STurnEnded old → (seen ≡ NoData) × ((fed : List ℕ) → SHunts new fed)) → (fed : List ℕ) → SFed old fed → SFed new (with_word fed word) × IsTold (with_word fed word) seen
+fed_more old new word seen hunted waits reads late fed (inl hunts) =
     (inl (hunted.keeps fed hunts), told_of_hunt (with_word fed word) new.cells new.back new.stage seen (hunted.tells fed hunts))
-fed_more old new word seen hunted waits reads cut fed (inr (inl (p, size, address, waiting))) =
+fed_more old new word seen hunted waits reads late fed (inr (inl (p, size, address, waiting))) =
     of_wait (with_word fed word) p size new.cells new.back new.stage seen (some_address_stays fed (with_word fed word) (part_with_word fed word) p address) (waits fed p size waiting)
-fed_more old new word seen hunted waits reads cut fed (inr (inr (inl (p, q, deleted, size, taken, address, reading)))) =
+fed_more old new word seen hunted waits reads late fed (inr (inr (inl (p, q, deleted, size, taken, address, reading)))) =
     of_read (with_word fed word) p q deleted size taken new.cells new.back new.stage seen (some_address_stays fed (with_word fed word) (part_with_word fed word) p address) (reads fed p q deleted size taken reading)
-fed_more old new word seen hunted waits reads cut fed (inr (inr (inr is_cut))) =
-    let after = cut is_cut in
+fed_more old new word seen hunted waits reads late fed (inr (inr (inr is_ended))) =
+    let after = late is_ended in
     (inl (after.1 (with_word fed word)), subst (IsTold (with_word fed word)) (sym after.0) tt)
 
 -- a data field is asked for
@@ -71,5 +71,5 @@ asked_behind fed cells back size old new small was is h =
     let At : Stage → Type 0 = λ stage. FedIn fed cells back stage in
     subst At (sym is) (at_address fed cells back size small (subst At was h))
 
-pub asked_late : (fed : List ℕ) (cells back : ℕ) (new : Stage) → new ≡ Cut → FedIn fed cells back new
+pub asked_late : (fed : List ℕ) (cells back : ℕ) (new : Stage) → new ≡ TurnEnded → FedIn fed cells back new
 asked_late fed cells back new is = let At : Stage → Type 0 = λ stage. FedIn fed cells back stage in subst At (sym is) (inr (inr (inr tt)))

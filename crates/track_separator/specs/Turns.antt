@@ -6,11 +6,11 @@ use Rattle.track_model.specs.Looks.{IsFirstDataMark}
 use Rattle.track_separator.specs.declared.state.Seen.{Seen}
 use Rattle.track_separator.specs.declared.state.Seen.TheVariants.{Nothing, Mark, Address, Mode, Byte, End, NoData}
 use Rattle.track_separator.specs.declared.state.Stage.{Stage}
-use Rattle.track_separator.specs.declared.state.Stage.TheVariants.{Hunting, Cut, Waiting, Content}
+use Rattle.track_separator.specs.declared.state.Stage.TheVariants.{Hunting, TurnEnded, Waiting, Content}
 use Rattle.track_separator.specs.declared.state.Separator.{Separator}
 use Rattle.track_separator.specs.Parts.{with_word}
 use Rattle.track_separator.specs.Hunts.{HuntsIn, FollowsIn, HuntSeenIn, GivesAll, Stands}
-use Rattle.track_separator.specs.Waits.{WaitsIn, ReadsIn, SWaitSeen, SReadSeen, HasEnded, TellsWhole, IsCutOff}
+use Rattle.track_separator.specs.Waits.{WaitsIn, ReadsIn, SWaitSeen, SReadSeen, HasEnded, TellsWhole, IsUnfinished}
 
 -- a word to a separator that hunts, inside the turn
 pub record IsHuntedIn (cells back : ℕ) (stage : Stage) (word after behind : ℕ) (next : Stage) (seen : Seen) : Type 0 where
@@ -24,7 +24,7 @@ IsHunted old word new seen = IsHuntedIn old.cells old.back old.stage word new.ce
 
 -- what the last word of the turn gives a separator that waits
 abbrev pub SWaitCut : List ℕ → ℕ → ℕ → Seen → Type 0
-SWaitCut fed p size NoData = IsCutOff fed p size
+SWaitCut fed p size NoData = IsUnfinished fed p size
 SWaitCut fed p size _ = ⊥
 
 -- a word to a separator that waits
@@ -36,7 +36,7 @@ SWaitFed true fed p size separator seen = SWaitCut fed p size seen
 abbrev pub SReadCut : List ℕ → ℕ → ℕ → Bool → ℕ → ℕ → Seen → Type 0
 SReadCut fed p q deleted size taken (End good) =
     (taken ≡ size + 1) × HasEnded fed p q deleted size × TellsWhole fed q size good
-SReadCut fed p q deleted size taken NoData = IsCutOff fed p size
+SReadCut fed p q deleted size taken NoData = IsUnfinished fed p size
 SReadCut fed p q deleted size taken _ = ⊥
 
 -- a word to one that reads
@@ -45,12 +45,12 @@ SReadFed false fed p q deleted size taken separator seen = SReadSeen fed p q del
 SReadFed true fed p q deleted size taken separator seen = SReadCut fed p q deleted size taken seen
 
 -- a data field is asked for behind the end of its turn
-abbrev pub CutIn : Stage → Type 0
-CutIn Cut = Unit {0}
-CutIn _ = ⊥
+abbrev pub TurnEndedIn : Stage → Type 0
+TurnEndedIn TurnEnded = Unit {0}
+TurnEndedIn _ = ⊥
 
-abbrev pub SCut : Separator → Type 0
-SCut separator = CutIn separator.stage
+abbrev pub STurnEnded : Separator → Type 0
+STurnEnded separator = TurnEndedIn separator.stage
 
 -- the separator begins a turn
 abbrev pub BeginsIn : Stage → Type 0
@@ -62,21 +62,21 @@ SBegins separator = BeginsIn separator.stage
 
 -- a data field is asked for
 abbrev pub WantsIn : Stage → Type 0
-WantsIn Cut = Unit {0}
+WantsIn TurnEnded = Unit {0}
 WantsIn (Waiting size since marked) = Unit {0}
 WantsIn (Content size taken check touched) = Unit {0}
 WantsIn _ = ⊥
 
 -- ---- any calls
 
--- the separator hunts, waits for a data field of some address field, reads one, or says that one is cut off: what it keeps
+-- the separator hunts, waits for a data field of some address field, reads one, or says that the turn ended in one: what it keeps
 -- is of these words
 abbrev pub FedIn : List ℕ → ℕ → ℕ → Stage → Type 0
 FedIn fed cells back stage =
     HuntsIn fed cells back stage
     ⊎ (((p : ℕ) × (size : ℕ) × IsAddress fed p × WaitsIn fed cells back p size stage)
     ⊎ (((p : ℕ) × (q : ℕ) × (deleted : Bool) × (size : ℕ) × (taken : ℕ) × IsAddress fed p × ReadsIn fed cells back p q deleted size taken stage)
-    ⊎ CutIn stage))
+    ⊎ TurnEndedIn stage))
 
 abbrev pub SFed : Separator → List ℕ → Type 0
 SFed separator fed = FedIn fed separator.cells separator.back separator.stage

@@ -90,8 +90,8 @@ abbrev pub TellsWhole : List ℕ → ℕ → ℕ → Bool → Type 0
 TellsWhole fed q size good = (n : ℕ) → size ≡ content_size n → IsTrue good ↔ IsIntact fed q n
 
 -- the turn is over, and no data field of `size` bytes of the address field at p is inside it
-abbrev pub IsCutOff : List ℕ → ℕ → ℕ → Type 0
-IsCutOff fed p size = (q : ℕ) (deleted : Bool) → HasEnded fed p q deleted size → ⊥
+abbrev pub IsUnfinished : List ℕ → ℕ → ℕ → Type 0
+IsUnfinished fed p size = (q : ℕ) (deleted : Bool) → HasEnded fed p q deleted size → ⊥
 
 -- what a word gives a separator that waits, inside the turn
 abbrev pub WaitSeenIn : List ℕ → ℕ → ℕ → ℕ → ℕ → Stage → Seen → Type 0

@@ -5,15 +5,11 @@
 #![tactic(auto)]
 
 mod hunting;
-mod lifts;
+pub mod laws;
 mod reading;
 mod register;
 mod separator;
 mod state;
 mod waiting;
 
-pub use lifts::{
-    address_field_stays, address_mark_stays, clear_field_stood, cut_field_is_none,
-    data_field_stays, no_data_mark_stays,
-};
 pub use state::{Seen, Separator};

@@ -7,7 +7,7 @@ use crate::state::{Seen, Separator, Stage};
 impl Separator {
     ghost use Rattle.track_separator.specs.Hunts.{SHunts, SFollows, SAddressed, Stands, SHuntSeen, GivesAll};
     ghost use Rattle.track_separator.specs.Waits.{SWaits, SReads, SWaitSeen, SReadSeen};
-    ghost use Rattle.track_separator.specs.Turns.{IsHunted, SWaitFed, SReadFed, SCut, SBegins, WantsIn, SFed, IsTold};
+    ghost use Rattle.track_separator.specs.Turns.{IsHunted, SWaitFed, SReadFed, STurnEnded, SBegins, WantsIn, SFed, IsTold};
     ghost use Rattle.track_separator.specs.Parts.{with_word, turn_after};
 
     /// A separator that hunts for address marks, at the beginning of a turn.
@@ -40,7 +40,7 @@ impl Separator {
         ensures reads { (fed : List ℕ) (p q : ℕ) (deleted : Bool) (size taken : ℕ)
             → SReads self.old fed p q deleted size taken
             → SReadFed index (with_word fed word) p q deleted size taken self.new result }
-        ensures cut { SCut self.old → (result ≡ Seen.NoData) × ((fed : List ℕ) → SHunts self.new fed) }
+        ensures turn_ended { STurnEnded self.old → (result ≡ Seen.NoData) × ((fed : List ℕ) → SHunts self.new fed) }
         ensures any { (fed : List ℕ) → SFed self.old fed → SFed self.new (turn_after index fed word) }
         ensures told { (fed : List ℕ) → SFed self.old fed → IsTold (with_word fed word) result }
     {
@@ -77,7 +77,7 @@ impl Separator {
         ensures reads { (fed : List ℕ) (p q : ℕ) (deleted : Bool) (size taken : ℕ)
             → SReads self.old fed p q deleted size taken
             → SReadFed index (with_word fed word) p q deleted size taken self.new result }
-        ensures cut { SCut self.old → (result ≡ Seen.NoData) × ((fed : List ℕ) → SHunts self.new fed) }
+        ensures turn_ended { STurnEnded self.old → (result ≡ Seen.NoData) × ((fed : List ℕ) → SHunts self.new fed) }
         ensures any { (fed : List ℕ) → SFed self.old fed → SFed self.new (turn_after index fed word) }
         ensures told { (fed : List ℕ) → SFed self.old fed → IsTold (with_word fed word) result }
     {
@@ -94,7 +94,7 @@ impl Separator {
     pub fn want(&mut self, size: usize)
         requires { size ≤ 8192 }
         ensures waits { (fed : List ℕ) (p : ℕ) → SAddressed self.old fed p → SWaits self.new fed p size }
-        ensures cut { SBegins self.old → SCut self.new }
+        ensures turn_ended { SBegins self.old → STurnEnded self.new }
         ensures any { (fed : List ℕ) → SFed self.old fed → SFed self.new fed }
     {
         self.stage = match self.stage {
@@ -103,7 +103,7 @@ impl Separator {
                 since: self.back,
                 marked: false,
             },
-            _ => Stage::Cut,
+            _ => Stage::TurnEnded,
         };
     }
 
@@ -126,12 +126,12 @@ impl Separator {
         ensures reads { (fed : List ℕ) (p q : ℕ) (deleted : Bool) (size taken : ℕ)
             → SReads self.old fed p q deleted size taken
             → SReadSeen (with_word fed word) p q deleted size taken self.new result }
-        ensures cut { SCut self.old → (result ≡ Seen.NoData) × ((fed : List ℕ) → SHunts self.new fed) }
+        ensures turn_ended { STurnEnded self.old → (result ≡ Seen.NoData) × ((fed : List ℕ) → SHunts self.new fed) }
     {
         match self.stage {
             Stage::Hunting => self.hunt_on(word),
             Stage::Addressed | Stage::Reading { .. } => self.hunt_word(word),
-            Stage::Cut => {
+            Stage::TurnEnded => {
                 self.hunt();
                 Seen::NoData
             }
@@ -155,7 +155,7 @@ impl Separator {
     {
         matches!(
             self.stage,
-            Stage::Cut | Stage::Waiting { .. } | Stage::Content { .. }
+            Stage::TurnEnded | Stage::Waiting { .. } | Stage::Content { .. }
         )
     }
 }

@@ -35,7 +35,7 @@ pub(crate) enum Stage {
     /// What is done about the address field that ended in the last word.
     Addressed,
     /// The word after the index, where a data field was asked for and the turn is over.
-    Cut,
+    TurnEnded,
     /// A data mark: `since` cells passed since the address field, and the run before the mark ended in the last word or not.
     Waiting {
         size: u16,

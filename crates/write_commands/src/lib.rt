@@ -1,6 +1,4 @@
 //! The bytes of WRITE DATA, WRITE DELETED DATA and FORMAT TRACK as a driver sends them, one by one. Definitions and laws, no code.
 #![tactic(auto)]
 
-mod laws;
-
-pub use laws::writes_are_spelled;
+pub mod laws;

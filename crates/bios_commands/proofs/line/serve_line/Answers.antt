@@ -3,7 +3,7 @@ use Rattle.std.specs.Prelude.{IfErr}
 use Rattle.floppy_jobs.specs.declared.calls.CallLine.{CallLine}
 use Rattle.sector_model.specs.Runs.{Taken}
 use Rattle.disk_commands.specs.Worlds.{world_of}
-use Rattle.bios_commands.specs.Turns.{Breaks}
+use Rattle.bios_commands.specs.Rounds.{Breaks}
 use Rattle.bios_commands.proofs.line.serve_line.Goals as goal
 
 pub returns-in-Job-clause-breaks : goal.returns-in-Job-clause-breaks

@@ -20,7 +20,7 @@ pub loop-line-preserved : goal.loop-line-preserved
 loop-line-preserved g c =
     let within : c.loop-line.line-index < length c.args.lines.now = omega arith in
     record {
-      served = served_next (world_of g.D.Station.shown g.S.Shelf.told g.K.Sink.told c.args.session.now c.args.shelf.now c.args.out.now) (world_of g.D.Station.shown g.S.Shelf.told g.K.Sink.told c.loop-line.session c.loop-line.shelf c.loop-line.out) (world_of g.D.Station.shown g.S.Shelf.told g.K.Sink.told c.serve_line.new.session c.serve_line.new.shelf c.serve_line.new.out) c.args.lines.now c.loop-line.line-index c.line-item.result c.loop-line.refused c.in-Ok.refusal c.either-refused.result c.loop-line.front c.serve_line.new.front c.loop-line.invariant.served c.in-Ok.ensures.turn within c.line-item.is c.either-refused.ensures;
+      served = served_next (world_of g.D.Station.shown g.S.Shelf.told g.K.Sink.told c.args.session.now c.args.shelf.now c.args.out.now) (world_of g.D.Station.shown g.S.Shelf.told g.K.Sink.told c.loop-line.session c.loop-line.shelf c.loop-line.out) (world_of g.D.Station.shown g.S.Shelf.told g.K.Sink.told c.serve_line.new.session c.serve_line.new.shelf c.serve_line.new.out) c.args.lines.now c.loop-line.line-index c.line-item.result c.loop-line.refused c.in-Ok.refusal c.either-refused.result c.loop-line.front c.serve_line.new.front c.loop-line.invariant.served c.in-Ok.ensures.round within c.line-item.is c.either-refused.ensures;
       running = c.serve_line.ensures.running;
       shelf_counts = omega (arith, c.loop-line.invariant.shelf_counts, c.serve_line.ensures.shelf_faults.never_falls);
       sink_counts = omega (arith, c.loop-line.invariant.sink_counts, c.serve_line.ensures.sink_faults.never_falls);

@@ -3,17 +3,17 @@ use Rattle.floppy_driver.specs.Acknowledged.{HasFoundNone}
 use Rattle.floppy_driver.proofs.RateFound.{found_neither, found_no_rate}
 use Rattle.floppy_driver.proofs.acknowledging.find_rate.Goals as goal
 
-pub loop-round-preserved : goal.loop-round-preserved
-loop-round-preserved g c = record {
-  idle = c.read_id-in-loop-round.ensures.idle;
+pub loop-attempt-preserved : goal.loop-attempt-preserved
+loop-attempt-preserved g c = record {
+  idle = c.read_id-in-loop-attempt.ensures.idle;
   none =
-      found_neither (g.C.Commands.rig c.args.machine.now) c.args.bay c.loop-round._round (g.C.Commands.rig c.loop-round.machine) c.loop-round.invariant.none c.read_id.result
-      (g.C.Commands.rig c.read_id.new.self) c.read_id.ensures.step c.read_id-in-loop-round.result (g.C.Commands.rig c.read_id-in-loop-round.new.self) c.read_id-in-loop-round.ensures.step
-      (sym c.is_ok-in-loop-round.ensures.value ∙ c.if-is_ok-2.false);
+      found_neither (g.C.Commands.rig c.args.machine.now) c.args.bay c.loop-attempt._attempt (g.C.Commands.rig c.loop-attempt.machine) c.loop-attempt.invariant.none c.read_id.result
+      (g.C.Commands.rig c.read_id.new.self) c.read_id.ensures.step c.read_id-in-loop-attempt.result (g.C.Commands.rig c.read_id-in-loop-attempt.new.self) c.read_id-in-loop-attempt.ensures.step
+      (sym c.is_ok-in-loop-attempt.ensures.value ∙ c.if-is_ok-2.false);
 }
 
 pub returns-clause-finds : goal.returns-clause-finds
 returns-clause-finds g c =
-    let all : c.loop-round._round ≡ 3 = omega arith in
-    found_no_rate (g.C.Commands.rig c.args.machine.now) c.args.bay (g.C.Commands.rig c.loop-round.machine)
-    (subst (λ (n : ℕ). HasFoundNone (g.C.Commands.rig c.args.machine.now) c.args.bay n (g.C.Commands.rig c.loop-round.machine)) all c.loop-round.invariant.none)
+    let all : c.loop-attempt._attempt ≡ 3 = omega arith in
+    found_no_rate (g.C.Commands.rig c.args.machine.now) c.args.bay (g.C.Commands.rig c.loop-attempt.machine)
+    (subst (λ (n : ℕ). HasFoundNone (g.C.Commands.rig c.args.machine.now) c.args.bay n (g.C.Commands.rig c.loop-attempt.machine)) all c.loop-attempt.invariant.none)

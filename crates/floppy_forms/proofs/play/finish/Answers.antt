@@ -1,4 +1,4 @@
-use Rattle.floppy_forms.specs.Turns.{AtStore}
+use Rattle.floppy_forms.specs.Rounds.{AtStore}
 use Rattle.floppy_forms.proofs.play.finish.Goals as goal
 
 pub returns-in-Err-clause-ends : goal.returns-in-Err-clause-ends

@@ -1,6 +1,6 @@
 use Rattle.floppy_session.specs.Session.{state_of}
-use Rattle.floppy_forms.specs.Turns.{world}
-use Rattle.floppy_forms.proofs.Turned.{text_plays, missed_plays}
+use Rattle.floppy_forms.specs.Rounds.{world}
+use Rattle.floppy_forms.proofs.InRounds.{text_plays, missed_plays}
 use Rattle.floppy_forms.proofs.play.play.Goals as goal
 
 pub returns-in-Ok-clause-plays : goal.returns-in-Ok-clause-plays

@@ -1,7 +1,7 @@
 use Rattle.std.proofs.Common.{refl}
 use Rattle.floppy_session.specs.Session.{state_of}
-use Rattle.floppy_forms.specs.Turns.{world}
-use Rattle.floppy_forms.proofs.Turned.{run-ends}
+use Rattle.floppy_forms.specs.Rounds.{world}
+use Rattle.floppy_forms.proofs.InRounds.{run-ends}
 use Rattle.floppy_forms.proofs.play.play_requests.Goals as goal
 
 pub returns-in-Ok-clause-plays : goal.returns-in-Ok-clause-plays

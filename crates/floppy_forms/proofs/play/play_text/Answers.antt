@@ -4,8 +4,8 @@ use Rattle.std.specs.declared.alloc.Global.{Global}
 use Rattle.floppy_jobs.specs.declared.request.Request.{Request}
 use Rattle.floppy_jobs.specs.Texts.{job_of}
 use Rattle.floppy_session.specs.Session.{state_of}
-use Rattle.floppy_forms.specs.Turns.{world}
-use Rattle.floppy_forms.proofs.Turned.{parsed_plays, read_bad, unparsed_tells}
+use Rattle.floppy_forms.specs.Rounds.{world}
+use Rattle.floppy_forms.proofs.InRounds.{parsed_plays, read_bad, unparsed_tells}
 use Rattle.floppy_forms.proofs.play.play_text.Goals as goal
 
 pub returns-in-Ok-clause-plays : goal.returns-in-Ok-clause-plays

@@ -1,4 +1,4 @@
-use Rattle.floppy_forms.specs.Turns.{AtStop, AtPut}
+use Rattle.floppy_forms.specs.Rounds.{AtStop, AtPut}
 use Rattle.floppy_forms.proofs.play.run_one.Goals as goal
 
 pub returns-in-Ok-clause-breaks : goal.returns-in-Ok-clause-breaks

@@ -1,7 +1,7 @@
 use Rattle.std.proofs.Common.{arith, ◌<◌, length}
 use Rattle.floppy_session.specs.Session.{state_of}
-use Rattle.floppy_forms.specs.Turns.{world}
-use Rattle.floppy_forms.proofs.Turned.{has-run-next, broken}
+use Rattle.floppy_forms.specs.Rounds.{world}
+use Rattle.floppy_forms.proofs.InRounds.{has-run-next, broken}
 use Rattle.floppy_forms.proofs.play.run_requests.Goals as goal
 
 pub returns-in-Err-clause-plays : goal.returns-in-Err-clause-plays
@@ -13,7 +13,7 @@ pub loop-request-preserved : goal.loop-request-preserved
 loop-request-preserved g c =
     let within : c.loop-request.request-index < length c.args.requests.now = omega arith in
     record {
-      run = has-run-next (world (state_of g.D.Station.shown c.args.session.now) (g.S.Shelf.told c.args.shelf.now) (g.K.Sink.told c.args.out.now)) (world (state_of g.D.Station.shown c.loop-request.session) (g.S.Shelf.told c.loop-request.shelf) (g.K.Sink.told c.loop-request.out)) (world (state_of g.D.Station.shown c.run_one.new.session) (g.S.Shelf.told c.run_one.new.shelf) (g.K.Sink.told c.run_one.new.out)) c.args.requests.now c.loop-request.request-index c.request-item.result c.loop-request.refused c.in-Ok.refusal c.either-refused.result c.loop-request.invariant.run c.in-Ok.ensures.turn within c.request-item.is c.either-refused.ensures;
+      run = has-run-next (world (state_of g.D.Station.shown c.args.session.now) (g.S.Shelf.told c.args.shelf.now) (g.K.Sink.told c.args.out.now)) (world (state_of g.D.Station.shown c.loop-request.session) (g.S.Shelf.told c.loop-request.shelf) (g.K.Sink.told c.loop-request.out)) (world (state_of g.D.Station.shown c.run_one.new.session) (g.S.Shelf.told c.run_one.new.shelf) (g.K.Sink.told c.run_one.new.out)) c.args.requests.now c.loop-request.request-index c.request-item.result c.loop-request.refused c.in-Ok.refusal c.either-refused.result c.loop-request.invariant.run c.in-Ok.ensures.round within c.request-item.is c.either-refused.ensures;
       running = c.run_one.ensures.running;
       shelf_counts = omega (arith, c.loop-request.invariant.shelf_counts, c.run_one.ensures.shelf_faults.never_falls);
       sink_counts = omega (arith, c.loop-request.invariant.sink_counts, c.run_one.ensures.sink_faults.never_falls);

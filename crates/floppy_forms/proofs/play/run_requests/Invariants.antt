@@ -1,6 +1,6 @@
 use Rattle.std.proofs.Common.{◌≤◌, take}
 use Rattle.floppy_session.specs.Session.{state_of, IsRunning}
-use Rattle.floppy_forms.specs.Turns.{world, HasRun}
+use Rattle.floppy_forms.specs.Rounds.{world, HasRun}
 use Rattle.floppy_forms.proofs.play.run_requests.Given as goal
 
 abbrev pub invariant-loop-request : goal.invariant-loop-request

@@ -1,6 +1,6 @@
 use Rattle.std.proofs.Common.{refl}
 use Rattle.disk_commands.specs.Worlds.{world_of}
-use Rattle.floppy_forms.proofs.Turned.{runs_asked, runs_none}
+use Rattle.floppy_forms.proofs.InRounds.{runs_asked, runs_none}
 use Rattle.floppy_forms.proofs.words.perform_any.Goals as goal
 
 pub returns-in-Some-clause-runs : goal.returns-in-Some-clause-runs

@@ -9,7 +9,7 @@ use Rattle.archive_commands.specs.Making.{FromImd, ToImd, Remaster}
 use Rattle.archive_commands.specs.Surveys.{Surveys}
 use Rattle.floppy_session.specs.Session.{state_of}
 use Rattle.floppy_forms.proofs.OnFiles.{on_files}
-use Rattle.floppy_forms.proofs.Turned.{form_runs, play_runs}
+use Rattle.floppy_forms.proofs.InRounds.{form_runs, play_runs}
 use Rattle.floppy_forms.proofs.words.perform_form.Goals as goal
 
 pub returns-in-Play-clause-runs : goal.returns-in-Play-clause-runs

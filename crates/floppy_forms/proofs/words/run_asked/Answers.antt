@@ -1,5 +1,5 @@
 use Rattle.disk_commands.specs.Worlds.{world_of}
-use Rattle.floppy_forms.proofs.Turned.{asked_runs, starved_runs, none_asked}
+use Rattle.floppy_forms.proofs.InRounds.{asked_runs, starved_runs, none_asked}
 use Rattle.floppy_forms.proofs.words.run_asked.Goals as goal
 
 pub returns-in-Ok-clause-runs : goal.returns-in-Ok-clause-runs

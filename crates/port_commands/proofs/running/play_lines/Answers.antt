@@ -1,6 +1,6 @@
 use Rattle.std.proofs.Common.{refl}
 use Rattle.port_commands.specs.Plays.{world_of}
-use Rattle.port_commands.proofs.Turned.{run-ends}
+use Rattle.port_commands.proofs.InRounds.{run-ends}
 use Rattle.port_commands.proofs.running.play_lines.Goals as goal
 
 pub returns-in-Ok-clause-plays : goal.returns-in-Ok-clause-plays

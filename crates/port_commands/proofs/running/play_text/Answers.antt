@@ -4,7 +4,7 @@ use Rattle.std.specs.declared.alloc.Global.{Global}
 use Rattle.floppy_jobs.specs.declared.ports.PortLine.{PortLine}
 use Rattle.floppy_jobs.specs.Texts.{ports_of}
 use Rattle.port_commands.specs.Plays.{world_of}
-use Rattle.port_commands.proofs.Turned.{parsed_plays, read_bad, unparsed_tells}
+use Rattle.port_commands.proofs.InRounds.{parsed_plays, read_bad, unparsed_tells}
 use Rattle.port_commands.proofs.running.play_text.Goals as goal
 
 pub returns-in-Ok-clause-plays : goal.returns-in-Ok-clause-plays

@@ -1,7 +1,7 @@
 use Rattle.pc_bus.specs.Boards.{board}
 use Rattle.port_commands.specs.Plays.{world_of}
 use Rattle.port_commands.proofs.Guarding.{ran_bare}
-use Rattle.port_commands.proofs.Turned.{text_plays, missed_plays, world_with}
+use Rattle.port_commands.proofs.InRounds.{text_plays, missed_plays, world_with}
 use Rattle.port_commands.proofs.running.run_ports.Goals as goal
 
 pub returns-in-Ok-clause-runs : goal.returns-in-Ok-clause-runs

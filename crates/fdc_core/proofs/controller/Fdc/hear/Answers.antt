@@ -10,6 +10,6 @@ returns-in-Read c =
     let now = c.in-Execute.execution in
     let heard = c.hear-heard.result in
     let after = c.hear-heard.new.self in
-    subst (λ phase. HearsIn phase c.args.turn.index c.args.turn.word old c.follow.new.self) (sym c.in-Execute.is)
-    (subst (λ task. Hears now.head_drive (now.steps + 1) task c.args.turn.index c.args.turn.word old c.follow.new.self) (sym c.in-Read.is)
+    subst (λ phase. HearsIn phase c.args.passing.index c.args.passing.word old c.follow.new.self) (sym c.in-Execute.is)
+    (subst (λ task. Hears now.head_drive (now.steps + 1) task c.args.passing.index c.args.passing.word old c.follow.new.self) (sym c.in-Read.is)
     (read_outcome after heard, (c.hear-heard.ensures.hears, c.hear-heard.ensures.well), c.follow.ensures ∙ followed_is now.head_drive (now.steps + 1) c.in-Read.reading after heard old))

@@ -4,12 +4,12 @@ use Rattle.fdc_core.proofs.controller.Fdc.hear_formatting.Goals as goal
 
 pub returns : goal.returns
 returns g c = record {
-  index = c.listen-turn.result.index;
-  word = c.listen-turn.result.word;
+  index = c.listen-passing.result.index;
+  word = c.listen-passing.result.word;
   is = record {
-    index_is = c.listen-turn.ensures.index;
-    sees = subst (λ head. SeesUnder c.args.self.now.rate head (g.D.Drive.state c.args.drive.now) c.listen-turn.result.word (g.D.Drive.state c.listen-turn.new.drive)) c.head_of.ensures c.listen-turn.ensures.word;
-    passes = c.listen-turn.ensures.drive;
+    index_is = c.listen-passing.ensures.index;
+    sees = subst (λ head. SeesUnder c.args.self.now.rate head (g.D.Drive.state c.args.drive.now) c.listen-passing.result.word (g.D.Drive.state c.listen-passing.new.drive)) c.head_of.ensures c.listen-passing.ensures.word;
+    passes = c.listen-passing.ensures.drive;
   };
   does = record { few = c.requires; next = c.hear-next.result; hears = (c.hear-next.ensures.hears, c.hear-next.ensures.well, c.hear-next.ensures.lead); after_is = c.follow_formatting.ensures };
 }

@@ -8,4 +8,4 @@ pub returns-clause-word : goal.returns-clause-word
 returns-clause-word g c =
     let mid = g.D.Drive.state c.gate.new.self in
     let unfit : rate_fits c.args.self.now.rate (rate_of mid.medium) ≡ false = ap (rate_fits c.args.self.now.rate) (sym c.rate.ensures) ∙ sym c.fits-fits.ensures ∙ c.if-fits.false in
-    kept_from c.args.self.now.rate c.args.head c.read_word-turn.result.word (g.D.Drive.state c.args.drive.now) mid (g.D.Drive.state c.read_word-turn.new.self) c.gate.ensures.becomes unfit c.read_word-turn.ensures.word
+    kept_from c.args.self.now.rate c.args.head c.read_word-passing.result.word (g.D.Drive.state c.args.drive.now) mid (g.D.Drive.state c.read_word-passing.new.self) c.gate.ensures.becomes unfit c.read_word-passing.ensures.word

@@ -1,7 +1,7 @@
 use Rattle.std.proofs.Common.{refl, subst, sym}
 use Rattle.fdc_stages.specs.History.{heard}
 use Rattle.fdc_stages.specs.Readings.{IsReading}
-use Rattle.fdc_stages.proofs.Laws.{over_stays}
+use Rattle.fdc_stages.proofs.Lawful.{over_stays}
 use Rattle.fdc_stages.proofs.ReadWord.{byte_heard, end_heard, cut_heard, content_heard}
 use Rattle.fdc_stages.proofs.reading.ReadStage.hear.Goals as goal
 

@@ -7,32 +7,32 @@ use Rattle.floppy_driver.proofs.driver.Driver.ack.Goals as goal
 
 pub returns-then-not-is_changed-clause-step : goal.returns-then-not-is_changed-clause-step
 returns-then-not-is_changed-clause-step g c =
-    acks_done c.args.self.now c.hold.new.self (g.C.Commands.rig c.args.machine.now) c.args.bay c.loop-round._round (notes_of c.hold.new.self c.args.bay) c.if-bay-gt1.false
-    (c.hold.ensures.notes ∙ ap (λ (d : Driver). with_notes d c.args.bay (notes_of c.hold.new.self c.args.bay)) c.loop-round.invariant.same)
-    c.requires.attached (g.C.Commands.rig c.loop-round.machine) c.loop-round.invariant.stayed c.clear_change-reached.result (g.C.Commands.rig c.clear_change-reached.new.machine) c.clear_change-reached.ensures.clears
+    acks_done c.args.self.now c.hold.new.self (g.C.Commands.rig c.args.machine.now) c.args.bay c.loop-attempt._attempt (notes_of c.hold.new.self c.args.bay) c.if-bay-gt1.false
+    (c.hold.ensures.notes ∙ ap (λ (d : Driver). with_notes d c.args.bay (notes_of c.hold.new.self c.args.bay)) c.loop-attempt.invariant.same)
+    c.requires.attached (g.C.Commands.rig c.loop-attempt.machine) c.loop-attempt.invariant.stayed c.clear_change-reached.result (g.C.Commands.rig c.clear_change-reached.new.machine) c.clear_change-reached.ensures.clears
     (g.C.Commands.rig c.is_changed.new.self) c.is_changed.ensures.asks (sym c.is_changed.ensures.line ∙ c.if-not-is_changed.true) c.is_changed.ensures.sound
     (g.C.Commands.rig c.hold.new.machine) c.hold.ensures.held
 
 pub returns-then-not-is_changed-clause-attached : goal.returns-then-not-is_changed-clause-attached
 returns-then-not-is_changed-clause-attached g c =
-    attached_acked c.args.self.now c.hold.new.self (g.C.Commands.rig c.args.machine.now) c.args.bay c.loop-round._round (notes_of c.hold.new.self c.args.bay) c.if-bay-gt1.false
-    (c.hold.ensures.notes ∙ ap (λ (d : Driver). with_notes d c.args.bay (notes_of c.hold.new.self c.args.bay)) c.loop-round.invariant.same)
-    c.requires.attached (g.C.Commands.rig c.loop-round.machine) c.loop-round.invariant.stayed c.clear_change-reached.result (g.C.Commands.rig c.clear_change-reached.new.machine) c.clear_change-reached.ensures.clears
+    attached_acked c.args.self.now c.hold.new.self (g.C.Commands.rig c.args.machine.now) c.args.bay c.loop-attempt._attempt (notes_of c.hold.new.self c.args.bay) c.if-bay-gt1.false
+    (c.hold.ensures.notes ∙ ap (λ (d : Driver). with_notes d c.args.bay (notes_of c.hold.new.self c.args.bay)) c.loop-attempt.invariant.same)
+    c.requires.attached (g.C.Commands.rig c.loop-attempt.machine) c.loop-attempt.invariant.stayed c.clear_change-reached.result (g.C.Commands.rig c.clear_change-reached.new.machine) c.clear_change-reached.ensures.clears
     (g.C.Commands.rig c.is_changed.new.self) c.is_changed.ensures.asks (sym c.is_changed.ensures.line ∙ c.if-not-is_changed.true) c.is_changed.ensures.sound
     (g.C.Commands.rig c.hold.new.machine) c.hold.ensures.held
 
 pub returns-clause-step : goal.returns-clause-step
 returns-clause-step g c =
-    let all : c.loop-round._round ≡ 3 = omega arith in
-    acks_unready c.args.self.now c.set_notes.new.self (g.C.Commands.rig c.args.machine.now) c.args.bay (g.C.Commands.rig c.loop-round.machine) c.new.result c.if-bay-gt1.false
-    (c.set_notes.ensures ∙ ap (λ (d : Driver). with_notes d c.args.bay c.new.result) c.loop-round.invariant.same)
+    let all : c.loop-attempt._attempt ≡ 3 = omega arith in
+    acks_unready c.args.self.now c.set_notes.new.self (g.C.Commands.rig c.args.machine.now) c.args.bay (g.C.Commands.rig c.loop-attempt.machine) c.new.result c.if-bay-gt1.false
+    (c.set_notes.ensures ∙ ap (λ (d : Driver). with_notes d c.args.bay c.new.result) c.loop-attempt.invariant.same)
     c.new.ensures.gate c.new.ensures.known c.requires.attached
-    (subst (λ (n : ℕ). HasStayedSet (g.C.Commands.rig c.args.machine.now) c.args.bay n (g.C.Commands.rig c.loop-round.machine)) all c.loop-round.invariant.stayed)
+    (subst (λ (n : ℕ). HasStayedSet (g.C.Commands.rig c.args.machine.now) c.args.bay n (g.C.Commands.rig c.loop-attempt.machine)) all c.loop-attempt.invariant.stayed)
 
 pub returns-clause-attached : goal.returns-clause-attached
 returns-clause-attached g c =
-    let all : c.loop-round._round ≡ 3 = omega arith in
-    attached_unready c.args.self.now c.set_notes.new.self (g.C.Commands.rig c.args.machine.now) c.args.bay (g.C.Commands.rig c.loop-round.machine) c.new.result c.if-bay-gt1.false
-    (c.set_notes.ensures ∙ ap (λ (d : Driver). with_notes d c.args.bay c.new.result) c.loop-round.invariant.same)
+    let all : c.loop-attempt._attempt ≡ 3 = omega arith in
+    attached_unready c.args.self.now c.set_notes.new.self (g.C.Commands.rig c.args.machine.now) c.args.bay (g.C.Commands.rig c.loop-attempt.machine) c.new.result c.if-bay-gt1.false
+    (c.set_notes.ensures ∙ ap (λ (d : Driver). with_notes d c.args.bay c.new.result) c.loop-attempt.invariant.same)
     c.new.ensures.gate c.new.ensures.known c.requires.attached
-    (subst (λ (n : ℕ). HasStayedSet (g.C.Commands.rig c.args.machine.now) c.args.bay n (g.C.Commands.rig c.loop-round.machine)) all c.loop-round.invariant.stayed)
+    (subst (λ (n : ℕ). HasStayedSet (g.C.Commands.rig c.args.machine.now) c.args.bay n (g.C.Commands.rig c.loop-attempt.machine)) all c.loop-attempt.invariant.stayed)

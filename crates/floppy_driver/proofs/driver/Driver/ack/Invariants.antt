@@ -3,10 +3,10 @@ use Rattle.single_commands.specs.Rigs.{IsSound}
 use Rattle.floppy_driver.specs.Acknowledged.{HasStayedSet}
 use Rattle.floppy_driver.proofs.driver.Driver.ack.Given as goal
 
-abbrev pub invariant-loop-round : goal.invariant-loop-round
-invariant-loop-round g l = record {
+abbrev pub invariant-loop-attempt : goal.invariant-loop-attempt
+invariant-loop-attempt g l = record {
   same : l.self ≡ l.fn.self;
   idle : g.C.Commands.is_idle l.machine;
   sound : IsSound (g.C.Commands.rig l.machine);
-  stayed : HasStayedSet (g.C.Commands.rig l.fn.machine) l.bay l._round (g.C.Commands.rig l.machine);
+  stayed : HasStayedSet (g.C.Commands.rig l.fn.machine) l.bay l._attempt (g.C.Commands.rig l.machine);
 }

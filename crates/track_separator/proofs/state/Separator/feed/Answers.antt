@@ -26,8 +26,8 @@ returns-then-is_usual-clause-reads c = λ fed p q deleted size taken reads.
 pub returns-then-is_usual-clause-any : goal.returns-then-is_usual-clause-any
 returns-then-is_usual-clause-any c = λ fed h.
     rw c.if-not-index.true
-    (fed_more c.args.self.now c.take.new.self c.args.word c.take.result c.take.ensures.hunts c.take.ensures.waits c.take.ensures.reads c.take.ensures.cut fed h).0
+    (fed_more c.args.self.now c.take.new.self c.args.word c.take.result c.take.ensures.hunts c.take.ensures.waits c.take.ensures.reads c.take.ensures.turn_ended fed h).0
 
 pub returns-then-is_usual-clause-told : goal.returns-then-is_usual-clause-told
 returns-then-is_usual-clause-told c = λ fed h.
-    (fed_more c.args.self.now c.take.new.self c.args.word c.take.result c.take.ensures.hunts c.take.ensures.waits c.take.ensures.reads c.take.ensures.cut fed h).1
+    (fed_more c.args.self.now c.take.new.self c.args.word c.take.result c.take.ensures.hunts c.take.ensures.waits c.take.ensures.reads c.take.ensures.turn_ended fed h).1

@@ -1,5 +1,0 @@
-use Rattle.fdc_writing.proofs.Ended.{first_laid}
-use Rattle.fdc_writing.proofs.endings.formatted_is_first.Goals as goal
-
-pub returns : goal.returns
-returns c = λ past numbers handed formatted. first_laid past numbers handed formatted.begun

@@ -1,0 +1,5 @@
+use Rattle.fdc_writing.proofs.Ended.{first_laid}
+use Rattle.fdc_writing.proofs.laws.formatted_is_first.Goals as goal
+
+pub returns : goal.returns
+returns c = λ past numbers handed formatted. first_laid past numbers handed formatted.begun

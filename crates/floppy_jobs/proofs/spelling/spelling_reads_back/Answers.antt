@@ -1,5 +1,0 @@
-use Rattle.floppy_jobs.proofs.SpellingLemmas.{spelling-job}
-use Rattle.floppy_jobs.proofs.spelling.spelling_reads_back.Goals as goal
-
-pub returns : goal.returns
-returns c = spelling-job

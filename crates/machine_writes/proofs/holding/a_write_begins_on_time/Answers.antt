@@ -1,5 +1,0 @@
-use Rattle.machine_writes.proofs.Beginning.{write_on_time}
-use Rattle.machine_writes.proofs.holding.a_write_begins_on_time.Goals as goal
-
-pub returns : goal.returns
-returns c = write_on_time c.a_served_request_falls.ensures.falls

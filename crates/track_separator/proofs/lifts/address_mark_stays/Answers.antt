@@ -1,5 +1,0 @@
-use Rattle.track_separator.proofs.Laws.{mark_stays}
-use Rattle.track_separator.proofs.lifts.address_mark_stays.Goals as goal
-
-pub returns : goal.returns
-returns c = mark_stays c.args._fed.now c.args._turn.now c.requires.part c.args._place c.requires.mark

@@ -1,0 +1,70 @@
+// What stood in a part of a turn stands in the whole of it.
+ghost use Rattle.std.specs.Prelude.{◌≡◌, ◌≤◌, ◌+◌, ◌*◌, length};
+ghost use Rattle.flop_base.specs.declared.key.Chrn.{Chrn};
+ghost use Rattle.track_model.specs.Marks.{IsAddressMark};
+ghost use Rattle.track_model.specs.Fields.{IsAddressAt, IsSizeCode, content_size};
+ghost use Rattle.track_model.specs.Looks.{LookAt};
+ghost use Rattle.track_model.specs.Sectors.{HasNoRunWithin};
+ghost use Rattle.track_separator.specs.Parts.{IsPart};
+ghost use Rattle.track_separator.specs.Waits.{HasNoDataMark, HasEnded, TellsWhole, IsUnfinished};
+ghost use Rattle.track_separator.specs.Lifts.{look_of};
+
+use flop_base::Chrn;
+use track_model::Look;
+
+/// An address mark of a part of the turn is one of the turn.
+pub fn address_mark_stays(_fed: &[u16], _turn: &[u16], _place: usize)
+    requires part { IsPart _fed.now _turn.now }
+    requires mark { IsAddressMark _fed.now _place }
+    ensures { IsAddressMark _turn.now _place }
+{}
+
+/// An address field of a part of the turn is one of the turn.
+pub fn address_field_stays(_fed: &[u16], _turn: &[u16], _place: usize, _key: Chrn)
+    requires part { IsPart _fed.now _turn.now }
+    requires address { IsAddressAt _fed.now _place _key }
+    ensures { IsAddressAt _turn.now _place _key }
+{}
+
+/// A clear address field of the turn was one of each part that has all its cells.
+pub fn clear_field_stood(_fed: &[u16], _turn: &[u16], _place: usize, _key: Chrn)
+    requires part { IsPart _fed.now _turn.now }
+    requires inside { _place + 160 ≤ 16 * length _fed.now }
+    requires address { IsAddressAt _turn.now _place _key }
+    requires clear { HasNoRunWithin _turn.now _place }
+    ensures address { IsAddressAt _fed.now _place _key }
+    ensures clear { HasNoRunWithin _fed.now _place }
+{}
+
+/// A data field that was over says what a look at its address field finds on the turn.
+pub fn data_field_stays(
+    _fed: &[u16],
+    _turn: &[u16],
+    _place: usize,
+    _mark: usize,
+    _n: u8,
+    _size: usize,
+    _deleted: bool,
+    _good: bool,
+)
+    requires part { IsPart _fed.now _turn.now }
+    requires coded { IsSizeCode _n }
+    requires sized { _size ≡ content_size _n }
+    requires ended { HasEnded _fed.now _place _mark _deleted _size }
+    requires tells { TellsWhole _fed.now _mark _size _good }
+    ensures { LookAt _turn.now _place _n (look_of _good _deleted (_mark + 64)) }
+{}
+
+/// Where no data mark could come any more, the turn has none.
+pub fn no_data_mark_stays(_fed: &[u16], _turn: &[u16], _place: usize, _n: u8)
+    requires part { IsPart _fed.now _turn.now }
+    requires over { HasNoDataMark _fed.now _place }
+    ensures { LookAt _turn.now _place _n Look.NoData }
+{}
+
+/// A data field that the index ends in is none of the turn.
+pub fn unfinished_field_is_none(_turn: &[u16], _place: usize, _n: u8, _size: usize)
+    requires sized { _size ≡ content_size _n }
+    requires over { IsUnfinished _turn.now _place _size }
+    ensures { LookAt _turn.now _place _n Look.NoData }
+{}
