@@ -1,3 +1,4 @@
+mod CallCounting
 pub mod Parsed
 pub mod Ran
 pub mod Served

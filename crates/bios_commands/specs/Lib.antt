@@ -1,3 +1,4 @@
+pub mod CallCounts
 pub mod CallTexts
 pub mod Courses
 pub mod Lines

@@ -9,7 +9,7 @@ use Rattle.flop_base.specs.declared.answers.Rate.{Rate}
 use Rattle.flop_base.specs.declared.answers.Code.{Code}
 use Rattle.pc_bus.specs.Boards.{Board}
 use Rattle.pc_bus.specs.Ports.{Outputs}
-use Rattle.machine_commands.specs.Awaited.{outcome_of, sector_bytes, SetsChannel, Round, Rounds, AwaitsResults}
+use Rattle.machine_commands.specs.Awaited.{outcome_of, sector_bytes, SetsChannel, Watch, Watches, AwaitsResults}
 use Rattle.machine_commands.specs.Codes.{has_set, refusal_of}
 use Rattle.machine_commands.specs.Sending.{Sends}
 use Rattle.machine_commands.specs.declared.results.Done.{Done}
@@ -38,16 +38,16 @@ fails st0 st1 st2 key code set is = by_set (bit_and st0 0xC0 == 0) (unlike (bit_
 pub succeeds : (st0 st1 st2 : ℕ) (key : Chrn) → bit_and st0 0xC0 ≡ 0 → (let r : Result Done Code = Ok (record { deleted = has_set st2 0x40; key = key }) in r) ≡ outcome_of st0 st1 st2 key
 succeeds st0 st1 st2 key clear = rw clear refl
 
--- ---- rounds
+-- ---- watches
 
-pub rounds_next : (n : ℕ) (ready : Bool) (old between new : Board) → Rounds n old between → ready ≡ false → Round ready between new → Rounds (n + 1) old new
-rounds_next n ready old between new rounds not_yet round = subst (λ k. Rounds k old new) (more n) (between, rounds, subst (λ b. Round b between new) not_yet round)
+pub watches_next : (n : ℕ) (ready : Bool) (old between new : Board) → Watches n old between → ready ≡ false → Watch ready between new → Watches (n + 1) old new
+watches_next n ready old between new watches not_yet watch = subst (λ k. Watches k old new) (more n) (between, watches, subst (λ b. Watch b between new) not_yet watch)
   where
     more : (n : ℕ) → suc n ≡ n + 1
     more n = omega arith
 
-pub awaited_now : (n : ℕ) (ready : Bool) (old between new : Board) → Rounds n old between → ready ≡ true → Round ready between new → AwaitsResults old new
-awaited_now n ready old between new rounds is round = inl (n, between, rounds, subst (λ b. Round b between new) is round)
+pub awaited_now : (n : ℕ) (ready : Bool) (old between new : Board) → Watches n old between → ready ≡ true → Watch ready between new → AwaitsResults old new
+awaited_now n ready old between new watches is watch = inl (n, between, watches, subst (λ b. Watch b between new) is watch)
 
-pub awaited_never : (n : ℕ) (old new : Board) → n ≡ 65537 → Rounds n old new → AwaitsResults old new
-awaited_never n old new all rounds = inr (subst (λ k. Rounds k old new) all rounds)
+pub awaited_never : (n : ℕ) (old new : Board) → n ≡ 65537 → Watches n old new → AwaitsResults old new
+awaited_never n old new all watches = inr (subst (λ k. Watches k old new) all watches)

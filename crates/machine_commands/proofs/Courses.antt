@@ -23,7 +23,7 @@ use Rattle.machine_awaits.proofs.Awaiting.{runs_await, waits_await}
 use Rattle.pc_bus.specs.Boards.{Board, controller_of, holds_of}
 use Rattle.pc_bus.specs.Ports.{Inputs}
 use Rattle.pc_bus.specs.Steps.{Step, Runs, RunsUnset, Waits, stirred}
-use Rattle.machine_commands.specs.Awaited.{Round, Rounds, AwaitsResults}
+use Rattle.machine_commands.specs.Awaited.{Watch, Watches, AwaitsResults}
 use Rattle.machine_commands.specs.Idling.{IsResting}
 use Rattle.machine_commands.specs.Sending.{latch_taken}
 use Rattle.machine_pace.specs.Entries.{next_entry}
@@ -218,26 +218,26 @@ module _ (laws : CourseLaws) (Task : Board → Type 0) (kept : IsKept Task) (sta
   held_now : (now : Board) → Goes Task start now → is_held (controller_of now) ≡ false
   held_now now was = ap (λ (dor : Dor). is_held (record (controller_of now) { dor = dor })) was.awaited.holds.dor ∙ free
 
-  -- a round
-  module _ (ready : Bool) (old new : Board) (was : Goes Task start old) (round : Round ready old new) where
-    pub at_wait : Goes Task start round.waited
-    at_wait = waits_go 65536 round.set round.stepped round.waited round.waits (wait_goes 1 old round.stepped round.steps was)
+  -- a watch
+  module _ (ready : Bool) (old new : Board) (was : Goes Task start old) (watch : Watch ready old new) where
+    pub at_wait : Goes Task start watch.waited
+    at_wait = waits_go 65536 watch.set watch.stepped watch.waited watch.waits (wait_goes 1 old watch.stepped watch.steps was)
 
     abbrev fdc : Fdc
-    fdc = controller_of round.waited
+    fdc = controller_of watch.waited
 
     told : ready ≡ (main_status fdc == 0xD0)
-    told = round.answer ∙ ap (λ v. v == 0xD0) round.reads.value_is
+    told = watch.answer ∙ ap (λ v. v == 0xD0) watch.reads.value_is
 
     ended_ready : is_executing fdc.phase ≡ false → ready ≡ true
     ended_ready idle =
-        told ∙ ready_by (is_held fdc) (is_begun fdc.command) fdc.phase fdc.seeks (held_now round.waited at_wait) at_wait.awaited.calm.no_seek (at_wait.awaited.ended idle).unread
+        told ∙ ready_by (is_held fdc) (is_begun fdc.command) fdc.phase fdc.seeks (held_now watch.waited at_wait) at_wait.awaited.calm.no_seek (at_wait.awaited.ended idle).unread
 
     busy_unready : is_executing fdc.phase ≡ true → ready ≡ false
     busy_unready busy = told ∙ busy_by (is_held fdc) (is_begun fdc.command) fdc.phase fdc.seeks at_wait.awaited.calm.no_seek busy
 
     pub ready_ends : ready ≡ true → EndsAt Task start new
-    ready_ends is = record { at = round.waited; goes = at_wait; idle = by_busy (is_executing fdc.phase) refl; value = round.value; reads = round.reads }
+    ready_ends is = record { at = watch.waited; goes = at_wait; idle = by_busy (is_executing fdc.phase) refl; value = watch.value; reads = watch.reads }
       where
         by_busy : (b : Bool) → is_executing fdc.phase ≡ b → b ≡ false
         by_busy true busy = absurd (false≢true (sym (busy_unready busy) ∙ is))
@@ -254,9 +254,9 @@ module _ (laws : CourseLaws) (Task : Board → Type 0) (kept : IsKept Task) (sta
     ended_stays : is_executing (controller_of old).phase ≡ false → is_executing fdc.phase ≡ false
     ended_stays idle =
         let rest = resting begun start old was.awaited idle in
-        let one = runs_idle 1 (stirred old) round.stepped round.steps rest in
+        let one = runs_idle 1 (stirred old) watch.stepped watch.steps rest in
         let rest_on = subst IsResting (sym one.controller_is) rest in
-        let two = runs_idle round.waits.steps (stirred round.stepped) round.waited (unset_runs round.waits.steps (stirred round.stepped) round.waited round.waits.runs) rest_on in
+        let two = runs_idle watch.waits.steps (stirred watch.stepped) watch.waited (unset_runs watch.waits.steps (stirred watch.stepped) watch.waited watch.waits.runs) rest_on in
         ap (λ f. is_executing f.phase) (two.controller_is ∙ one.controller_is) ∙ idle
 
     pub busy_before : ready ≡ false → is_executing (controller_of old).phase ≡ true
@@ -267,39 +267,39 @@ module _ (laws : CourseLaws) (Task : Board → Type 0) (kept : IsKept Task) (sta
         by_busy false idle = absurd (false≢true (sym (ended_stays idle) ∙ still_busy no_results))
 
     pub fails_goes : ready ≡ false → Goes Task start new
-    fails_goes no_results = status_goes round.value (latch_taken round.waited) new round.reads (stray_goes round.waited (still_busy no_results) at_wait)
+    fails_goes no_results = status_goes watch.value (latch_taken watch.waited) new watch.reads (stray_goes watch.waited (still_busy no_results) at_wait)
 
     pub fails_left : ready ≡ false → steps_left (controller_of new).phase + 1 ≤ steps_left (controller_of old).phase
     fails_left no_results =
-        let positive = step_positive (stirred old) round.stepped (runs_one (stirred old) round.stepped round.steps) (busy_before no_results) in
-        let one = laws.end_runs 1 (stirred old) round.stepped round.steps in
-        let two = laws.end_unset round.waits.steps (stirred round.stepped) round.waited round.waits.runs in
-        let three = laws.end_runs (next_entry round.waited.bus.gaps) (gapped (status_read (latch_taken round.waited))) new round.reads.gap.runs in
-        left_on (steps_left (controller_of old).phase) (steps_left (controller_of round.stepped).phase) (steps_left (controller_of round.waited).phase) (steps_left (controller_of new).phase) round.waits.steps (next_entry round.waited.bus.gaps) positive one two three
+        let positive = step_positive (stirred old) watch.stepped (runs_one (stirred old) watch.stepped watch.steps) (busy_before no_results) in
+        let one = laws.end_runs 1 (stirred old) watch.stepped watch.steps in
+        let two = laws.end_unset watch.waits.steps (stirred watch.stepped) watch.waited watch.waits.runs in
+        let three = laws.end_runs (next_entry watch.waited.bus.gaps) (gapped (status_read (latch_taken watch.waited))) new watch.reads.gap.runs in
+        left_on (steps_left (controller_of old).phase) (steps_left (controller_of watch.stepped).phase) (steps_left (controller_of watch.waited).phase) (steps_left (controller_of new).phase) watch.waits.steps (next_entry watch.waited.bus.gaps) positive one two three
       where
         left_on : (a b c d k m : ℕ) → 1 ≤ a → b ≤ a - 1 → c ≤ b - k → d ≤ c - m → d + 1 ≤ a
         left_on a b c d k m positive one two three = omega arith
 
-  -- rounds in which no results were ready
+  -- watches in which no results were ready
   pub record HasGone (n : ℕ) (old new : Board) : Type 0 where
     pub goes : Goes Task start new
     pub left : steps_left (controller_of new).phase + n ≤ steps_left (controller_of old).phase
 
-  pub rounds_go : (n : ℕ) (old new : Board) → Rounds n old new → Goes Task start old → HasGone n old new
-  rounds_go zero old new same was = record {
+  pub watches_go : (n : ℕ) (old new : Board) → Watches n old new → Goes Task start old → HasGone n old new
+  watches_go zero old new same was = record {
     goes = subst (Goes Task start) (sym same) was;
     left = subst (λ b. steps_left (controller_of b).phase + 0 ≤ steps_left (controller_of old).phase) (sym same) (omega arith);
   }
-  rounds_go (suc n) old new (between, rounds, round) was =
-      let before = rounds_go n old between rounds was in record {
-        goes = fails_goes false between new before.goes round refl;
-        left = let one = fails_left false between new before.goes round refl in let so_far = before.left in omega arith;
+  watches_go (suc n) old new (between, watches, watch) was =
+      let before = watches_go n old between watches was in record {
+        goes = fails_goes false between new before.goes watch refl;
+        left = let one = fails_left false between new before.goes watch refl in let so_far = before.left in omega arith;
       }
 
   pub awaits_end : (old new : Board) → AwaitsResults old new → Goes Task start old → EndsAt Task start new
   awaits_end old new awaits was = elim awaits [
-    | inl (n, between, rounds, round) ↦ ready_ends true between new (rounds_go n old between rounds was).goes round refl
-    | inr rounds ↦ never (rounds_go 65537 old new rounds was).left
+    | inl (n, between, watches, watch) ↦ ready_ends true between new (watches_go n old between watches was).goes watch refl
+    | inr watches ↦ never (watches_go 65537 old new watches was).left
   ]
     where
       never : steps_left (controller_of new).phase + 65537 ≤ steps_left (controller_of old).phase → EndsAt Task start new

@@ -43,7 +43,7 @@ use Rattle.pc_bus.specs.Steps.{Runs, RunsUnset, Waits, stirred}
 use Rattle.raw_image.specs.Disk.{Disk}
 use Rattle.sector_map.specs.Layings.{Format, IsLaying, Laying, format_keys}
 use Rattle.single_commands.specs.Writing.{FormatsTrack}
-use Rattle.write_commands.specs.Spelled.{SpellsFormat}
+use Rattle.spelled_commands.specs.Writes.{SpellsFormat}
 use Rattle.machine_commands.specs.Ready.{AreSeeksOver, IsIdle, IsReady}
 use Rattle.machine_commands.specs.Sending.{latch_taken}
 use Rattle.machine_commands.specs.Shown.{rig_of}

@@ -26,7 +26,7 @@ use Rattle.pc_bus.specs.Boards.{Board, controller_of, holds_of, memory_of}
 use Rattle.pc_bus.specs.Ports.{Inputs, Outputs, is_controllers}
 use Rattle.pc_bus.specs.Steps.{Runs, Waits, stirred}
 use Rattle.pc_bus.specs.declared.bus.Bus.{Bus}
-use Rattle.read_commands.specs.Spelled.{SpellsRead}
+use Rattle.spelled_commands.specs.Reads.{SpellsRead}
 use Rattle.machine_commands.specs.Awaited.{SetsChannel}
 use Rattle.machine_commands.specs.Idling.{IsResting, StaysIdle}
 use Rattle.machine_commands.specs.Sending.{Sends, latch_taken}

@@ -30,7 +30,7 @@ use Rattle.machine_reads.specs.Results as heard
 use Rattle.machine_reads.specs.Scenes.{Scene, IsRecorded, data_rate, head_sent, track_met}
 use Rattle.machine_reads.specs.Underway.{IsCalm, HasBytes, ReadUnderway}
 use Rattle.pc_bus.specs.Boards.{Board, controller_of, drive_in, holds_of, memory_of}
-use Rattle.read_commands.specs.Spelled.{SpellsRead}
+use Rattle.spelled_commands.specs.Reads.{SpellsRead}
 use Rattle.single_commands.specs.Reading.{FindsField, IsReadReason, IsReadCode, IsReadMiss, ReadsData, ReadsBack}
 use Rattle.single_commands.specs.Rigs.{track_under}
 use Rattle.machine_commands.specs.Awaited.{SendsRead, mark_told}

@@ -45,7 +45,7 @@ use Rattle.raw_image.specs.Disk.{Disk}
 use Rattle.sector_map.specs.Changes.{Change}
 use Rattle.single_commands.specs.Writing.{WritesData}
 use Rattle.track_model.specs.Fields.{IsSizeCode, content_size}
-use Rattle.write_commands.specs.Spelled.{SpellsWrite, write_code, write_command}
+use Rattle.spelled_commands.specs.Writes.{SpellsWrite, write_code, write_command}
 use Rattle.machine_commands.specs.Awaited.{outcome_of, sector_bytes}
 use Rattle.machine_commands.specs.Codes.{has_set, refusal_of}
 use Rattle.machine_commands.specs.Ready.{AreSeeksOver, IsIdle, IsReady}

@@ -29,7 +29,7 @@ use Rattle.machine_reads.proofs.Accesses.{read_board}
 use Rattle.pc_bus.specs.Boards.{Board, controller_of}
 use Rattle.pc_bus.specs.Ports.{Inputs}
 use Rattle.pc_bus.specs.Steps.{Runs, RunsUnset, Waits, stirred}
-use Rattle.machine_commands.specs.Awaited.{AwaitsResults, Finishes, Round, Rounds, outcome_of}
+use Rattle.machine_commands.specs.Awaited.{AwaitsResults, Finishes, Watch, Watches, outcome_of}
 use Rattle.machine_commands.specs.Idling.{IsResting, Idles, KeepsAll, KeepsSpeed, is_up}
 use Rattle.machine_commands.specs.Sending.{latch_taken}
 use Rattle.machine_commands.specs.declared.results.Done.{Done}
@@ -107,65 +107,65 @@ module _ (Underway : Board → Type 0) (start : Board) (laws : GoesFurther Under
   no_bits_now : (now : Board) → GoesOn Underway start now → seek_bits (controller_of now).seeks ≡ 0
   no_bits_now now goes = ap (λ seek. option_map_or (λ s. 2 ^ s.drive) seek 0) goes.awaited.calm.no_seek
 
-  -- one round
-  round_ends : (ready : Bool) (old new : Board) → Round ready old new → GoesOn Underway start old → ((ready ≡ false) × IsOn Underway start old new) ⊎ ((ready ≡ true) × IsReached Underway start new)
-  round_ends ready old new round was =
-      let stepped = laws.runs 1 old round.stepped round.steps was in
-      let waited = laws.waits 65536 round.set round.stepped round.waited round.waits stepped in
-      by_busy waited (is_executing (controller_of round.waited).phase) refl
+  -- one watch
+  watch_ends : (ready : Bool) (old new : Board) → Watch ready old new → GoesOn Underway start old → ((ready ≡ false) × IsOn Underway start old new) ⊎ ((ready ≡ true) × IsReached Underway start new)
+  watch_ends ready old new watch was =
+      let stepped = laws.runs 1 old watch.stepped watch.steps was in
+      let waited = laws.waits 65536 watch.set watch.stepped watch.waited watch.waits stepped in
+      by_busy waited (is_executing (controller_of watch.waited).phase) refl
     where
-      left_stepped : steps_left (controller_of round.stepped).phase ≤ steps_left (controller_of old).phase - 1
-      left_stepped = laws.runs_left 1 (stirred old) round.stepped round.steps
+      left_stepped : steps_left (controller_of watch.stepped).phase ≤ steps_left (controller_of old).phase - 1
+      left_stepped = laws.runs_left 1 (stirred old) watch.stepped watch.steps
 
-      left_waited : steps_left (controller_of round.waited).phase ≤ steps_left (controller_of old).phase - 1
-      left_waited = let one = left_stepped in let two = laws.unset_left round.waits.steps (stirred round.stepped) round.waited round.waits.runs in omega arith
+      left_waited : steps_left (controller_of watch.waited).phase ≤ steps_left (controller_of old).phase - 1
+      left_waited = let one = left_stepped in let two = laws.unset_left watch.waits.steps (stirred watch.stepped) watch.waited watch.waits.runs in omega arith
 
       left_new : steps_left (controller_of new).phase ≤ steps_left (controller_of old).phase - 1
-      left_new = let one = left_waited in let two = laws.runs_left (next_entry round.waited.bus.gaps) (read_board 0x3F4 (latch_taken round.waited)) new round.reads.gap.runs in omega arith
+      left_new = let one = left_waited in let two = laws.runs_left (next_entry watch.waited.bus.gaps) (read_board 0x3F4 (latch_taken watch.waited)) new watch.reads.gap.runs in omega arith
 
-      by_busy : GoesOn Underway start round.waited → (b : Bool) → is_executing (controller_of round.waited).phase ≡ b → ((ready ≡ false) × IsOn Underway start old new) ⊎ ((ready ≡ true) × IsReached Underway start new)
+      by_busy : GoesOn Underway start watch.waited → (b : Bool) → is_executing (controller_of watch.waited).phase ≡ b → ((ready ≡ false) × IsOn Underway start old new) ⊎ ((ready ≡ true) × IsReached Underway start new)
       by_busy waited true busy =
-          let taken = laws.strays round.waited busy waited in
-          let status = round.reads.value_is ∙ busy_status (controller_of round.waited) (free_now round.waited waited) (no_bits_now round.waited waited) busy in
+          let taken = laws.strays watch.waited busy waited in
+          let status = watch.reads.value_is ∙ busy_status (controller_of watch.waited) (free_now watch.waited waited) (no_bits_now watch.waited waited) busy in
           inl (
-            round.answer ∙ ap (λ v. v == 0xD0) status,
+            watch.answer ∙ ap (λ v. v == 0xD0) status,
             record {
-              goes = laws.status round.value (latch_taken round.waited) new round.reads taken;
-              before = let some = laws.some_left round.waited waited.underway busy in let left = left_waited in omega arith;
+              goes = laws.status watch.value (latch_taken watch.waited) new watch.reads taken;
+              before = let some = laws.some_left watch.waited waited.underway busy in let left = left_waited in omega arith;
               less = left_new;
             },
           )
       by_busy waited false over =
-          let (ending, results, is) = unread_is (controller_of round.waited).phase (waited.awaited.ended over).unread in
-          let status = round.reads.value_is ∙ ready_status (controller_of round.waited) ending results (free_now round.waited waited) (no_bits_now round.waited waited) is in
-          inr (round.answer ∙ ap (λ v. v == 0xD0) status, record { now = round.waited; goes = waited; over = over; value = round.value; reads = round.reads })
+          let (ending, results, is) = unread_is (controller_of watch.waited).phase (waited.awaited.ended over).unread in
+          let status = watch.reads.value_is ∙ ready_status (controller_of watch.waited) ending results (free_now watch.waited waited) (no_bits_now watch.waited waited) is in
+          inr (watch.answer ∙ ap (λ v. v == 0xD0) status, record { now = watch.waited; goes = waited; over = over; value = watch.value; reads = watch.reads })
 
-  round_on : (old new : Board) → Round false old new → GoesOn Underway start old → IsOn Underway start old new
-  round_on old new round was = elim (round_ends false old new round was) [
+  watch_on : (old new : Board) → Watch false old new → GoesOn Underway start old → IsOn Underway start old new
+  watch_on old new watch was = elim (watch_ends false old new watch was) [
     | inl is ↦ is.1
     | inr wrong ↦ absurd (false≢true wrong.0)
   ]
 
-  round_reached : (old new : Board) → Round true old new → GoesOn Underway start old → IsReached Underway start new
-  round_reached old new round was = elim (round_ends true old new round was) [
+  watch_reached : (old new : Board) → Watch true old new → GoesOn Underway start old → IsReached Underway start new
+  watch_reached old new watch was = elim (watch_ends true old new watch was) [
     | inl wrong ↦ absurd (false≢true (sym wrong.0))
     | inr is ↦ is.1
   ]
 
-  -- so many rounds
-  rounds_on : (n : ℕ) (old new : Board) → Rounds n old new → GoesOn Underway start old → GoesOn Underway start new × (steps_left (controller_of new).phase ≤ 65536 - n)
-  rounds_on zero old new same was = (subst (GoesOn Underway start) (sym same) was, most_left (controller_of new).phase)
-  rounds_on (suc n) old new (between, rounds, round) was =
-      let (goes, left) = rounds_on n old between rounds was in
-      let on = round_on between new round goes in
+  -- so many watches
+  watches_on : (n : ℕ) (old new : Board) → Watches n old new → GoesOn Underway start old → GoesOn Underway start new × (steps_left (controller_of new).phase ≤ 65536 - n)
+  watches_on zero old new same was = (subst (GoesOn Underway start) (sym same) was, most_left (controller_of new).phase)
+  watches_on (suc n) old new (between, watches, watch) was =
+      let (goes, left) = watches_on n old between watches was in
+      let on = watch_on between new watch goes in
       let less = on.less in
       (on.goes, omega arith)
 
   pub reached : (old new : Board) → AwaitsResults old new → GoesOn Underway start old → IsReached Underway start new
-  reached old new (inl (n, between, rounds, round)) was = round_reached between new round (rounds_on n old between rounds was).0
-  reached old new (inr (between, rounds, round)) was =
-      let (goes, left) = rounds_on 65536 old between rounds was in
-      let on = round_on between new round goes in
+  reached old new (inl (n, between, watches, watch)) was = watch_reached between new watch (watches_on n old between watches was).0
+  reached old new (inr (between, watches, watch)) was =
+      let (goes, left) = watches_on 65536 old between watches was in
+      let on = watch_on between new watch goes in
       let some = on.before in
       absurd (omega arith)
 

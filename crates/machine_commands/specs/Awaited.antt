@@ -77,7 +77,7 @@ sector_bytes command bay key rate =
 -- ---- the end
 
 -- a device step, and as many as line 6 takes; then the latch is taken, and MSR tells whether results are ready
-pub record Round (ready : Bool) (old new : Board) : Type 0 where
+pub record Watch (ready : Bool) (old new : Board) : Type 0 where
   pub stepped : Board
   pub steps : Runs 1 (stirred old) stepped
   pub waited : Board
@@ -88,13 +88,13 @@ pub record Round (ready : Bool) (old new : Board) : Type 0 where
   pub answer : ready ≡ (value == 0xD0)
 
 -- so often they weren't
-abbrev pub Rounds : ℕ → Board → Board → Type 0
-Rounds zero old new = new ≡ old
-Rounds (suc n) old new = (between : Board) × Rounds n old between × Round false between new
+abbrev pub Watches : ℕ → Board → Board → Type 0
+Watches zero old new = new ≡ old
+Watches (suc n) old new = (between : Board) × Watches n old between × Watch false between new
 
--- they were once, or never in 65,537 rounds
+-- they were once, or never in 65,537 watches
 abbrev pub AwaitsResults : Board → Board → Type 0
-AwaitsResults old new = ((n : ℕ) × (between : Board) × Rounds n old between × Round true between new) ⊎ Rounds 65537 old new
+AwaitsResults old new = ((n : ℕ) × (between : Board) × Watches n old between × Watch true between new) ⊎ Watches 65537 old new
 
 -- the key among the result bytes
 pub record TakesKey (key : Chrn) (old new : Board) : Type 0 where

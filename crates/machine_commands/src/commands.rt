@@ -14,7 +14,7 @@ use machine_formats::laws::a_format_tells_of_the_medium;
 use machine_holds::laws::a_data_command_ends;
 use machine_writes::laws::a_write_tells_of_the_medium;
 use single_commands::Commands;
-use write_commands::laws::writes_are_spelled;
+use spelled_commands::laws::writes_are_spelled;
 
 impl<D: Drive> Commands for CommandedMachine<D> {
     ghost rig = { rig_shown D.state };

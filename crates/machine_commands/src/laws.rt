@@ -25,7 +25,7 @@ use machine_reads::laws::{
     a_read_begins, a_read_tells_of_the_track, device_steps_keep_a_read, port_accesses_keep_a_read,
     the_track_is_met,
 };
-use read_commands::laws::reads_are_spelled;
+use spelled_commands::laws::reads_are_spelled;
 
 /// READ ID at the ports of an idle machine tells of the track under the head, and the machine is idle again.
 pub(crate) fn a_read_id_is_done()

@@ -1,6 +1,6 @@
 // The end of a data command.
 ghost use Rattle.std.specs.Prelude.{◌≡◌, ◌≤◌, ◌<◌};
-ghost use Rattle.machine_commands.specs.Awaited.{AreCounts, AwaitsResults, Finishes, Prepares, Round, TakesKey, TakesResults, key_told, mark_told};
+ghost use Rattle.machine_commands.specs.Awaited.{AreCounts, AwaitsResults, Finishes, Prepares, Watch, TakesKey, TakesResults, key_told, mark_told};
 ghost use Rattle.machine_commands.specs.Shown.{board_of};
 
 use crate::codes::{rate_bits, refusal};
@@ -13,7 +13,7 @@ use flop_base::{Chrn, Code, Rate};
 const LONGEST_COMMAND: u32 = 65_536;
 
 /// Its end is awaited so often: each time takes a device step at least.
-const MOST_ROUNDS: u32 = LONGEST_COMMAND + 1;
+const MOST_WATCHES: u32 = LONGEST_COMMAND + 1;
 
 /// Status register 0: the interrupt code, 00 where all was done.
 const INTERRUPT_CODE: u8 = 0xC0;
@@ -79,7 +79,7 @@ impl<D: Drive> CommandedMachine<D> {
         ensures awaits { AwaitsResults (board_of D.state self.old) (board_of D.state self.new) }
         ensures motors { self.new.motors ≡ self.old.motors }
     {
-        for _round in 0..MOST_ROUNDS {
+        for _watch in 0..MOST_WATCHES {
             if self.await_line() {
                 return;
             }
@@ -88,7 +88,7 @@ impl<D: Drive> CommandedMachine<D> {
 
     /// Waits for line 6 once, and tells whether results are ready.
     fn await_line(&mut self) -> bool
-        ensures round { Round result (board_of D.state self.old) (board_of D.state self.new) }
+        ensures watch { Watch result (board_of D.state self.old) (board_of D.state self.new) }
         ensures motors { self.new.motors ≡ self.old.motors }
     {
         self.machine.wait(1);

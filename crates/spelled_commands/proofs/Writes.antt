@@ -3,7 +3,7 @@ use Rattle.std.proofs.Common.{◌≡◌, ℕ, ◌≤◌, ◌&&◌, Bool, nat_le,
 use Rattle.std.proofs.lemmas.Bool.Decides.{nat_tests}
 use Rattle.flop_base.specs.declared.key.Chrn.{Chrn}
 use Rattle.fdc_commands.specs.Table.{answer}
-use Rattle.write_commands.specs.Spelled.{SpellsWrite, SpellsFormat}
+use Rattle.spelled_commands.specs.Writes.{SpellsWrite, SpellsFormat}
 
 within : (n : ℕ) → 1 ≤ n → n ≤ 6 → (nat_le 1 n && nat_le n 6) ≡ true
 within n low high = grind (arith, nat_tests)

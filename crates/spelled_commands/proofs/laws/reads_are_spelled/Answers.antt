@@ -1,5 +1,5 @@
-use Rattle.read_commands.proofs.Spellings.{spells_read, spells_id}
-use Rattle.read_commands.proofs.laws.reads_are_spelled.Goals as goal
+use Rattle.spelled_commands.proofs.Reads.{spells_read, spells_id}
+use Rattle.spelled_commands.proofs.laws.reads_are_spelled.Goals as goal
 
 pub returns-clause-data : goal.returns-clause-data
 returns-clause-data c = spells_read

@@ -3,7 +3,7 @@ use Rattle.std.proofs.Common.{◌≡◌, ℕ, ◌≤◌, ◌&&◌, nat_le, true,
 use Rattle.std.proofs.lemmas.Bool.Decides.{nat_tests}
 use Rattle.flop_base.specs.declared.key.Chrn.{Chrn}
 use Rattle.fdc_commands.specs.Table.{answer}
-use Rattle.read_commands.specs.Spelled.{SpellsRead, SpellsReadId}
+use Rattle.spelled_commands.specs.Reads.{SpellsRead, SpellsReadId}
 
 within : (n : ℕ) → 1 ≤ n → n ≤ 6 → (nat_le 1 n && nat_le n 6) ≡ true
 within n low high = grind (arith, nat_tests)

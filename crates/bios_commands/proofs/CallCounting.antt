@@ -22,7 +22,7 @@ use Rattle.int13.specs.declared.work.Kind.TheVariants.{Read, Write, Verify}
 use Rattle.int13.specs.declared.work.Work.{Work}
 use Rattle.int13.specs.declared.work.Work.TheVariants.{Answer, Changed, Move}
 use Rattle.floppy_session.specs.Services.{MovesRecords, All, UpToOne, MovesIn, AcksAlone, DoesWork, record_request, record_requests, put_requests, put_request}
-use Rattle.bios_laws.specs.Counts.{commands_of, bytes_put, CountsCourse}
+use Rattle.bios_commands.specs.CallCounts.{commands_of, bytes_put, CountsCourse}
 
 either : {A : Type 0} {P R : Type 0} {Q : A → Type 0} (value : Option A) → MatchOption value P Q → (P → R) → ((x : A) → Q x → R) → R
 either None holds none some = none holds

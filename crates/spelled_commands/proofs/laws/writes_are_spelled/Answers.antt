@@ -1,5 +1,5 @@
-use Rattle.write_commands.proofs.Spellings.{spells_write, spells_format}
-use Rattle.write_commands.proofs.laws.writes_are_spelled.Goals as goal
+use Rattle.spelled_commands.proofs.Writes.{spells_write, spells_format}
+use Rattle.spelled_commands.proofs.laws.writes_are_spelled.Goals as goal
 
 pub returns-clause-data : goal.returns-clause-data
 returns-clause-data c = spells_write
