@@ -4,6 +4,7 @@ ghost use Rattle.sector_model.specs.declared.reply.Stop.TheVariants as stop;
 
 use flop_base::{Bytes, Code, Name, NoMemory};
 use raw_image::ImageError;
+use std::fmt;
 use thiserror::Error;
 
 /// The answer to a request that was run.
@@ -47,6 +48,18 @@ pub enum Stop {
     FileFault,
     /// Memory couldn't be had.
     NoMemory,
+}
+
+impl fmt::Display for Stop {
+    fn fmt<W: fmt::Write>(&self, f: &mut fmt::Formatter<W>) -> fmt::Result {
+        match self {
+            Stop::BadImage { name, error } => write!(f, "{}: {error}", name.as_str()),
+            Stop::TooLong { name, most } => write!(f, "{}: more than {most} bytes", name.as_str()),
+            Stop::Absent { name } => write!(f, "{}: no such file", name.as_str()),
+            Stop::FileFault => write!(f, "file could not be read or written"),
+            Stop::NoMemory => write!(f, "out of memory"),
+        }
+    }
 }
 
 impl From<NoMemory> for Stop {
