@@ -62,7 +62,7 @@ pub trait Drive: Drop {
     fn rate(&self) -> Rate
         ensures { result ≡ rate_of (state self.now).medium };
 
-    /// Opens or closes the write gate. An open one is no longer cut.
+    /// Opens or closes the write gate. A gate that opens isn't cut any more.
     fn gate(&mut self, on: bool)
         ensures becomes { Becomes (state self.old) (with_gate on (state self.old)) (state self.new) };
 

@@ -5,11 +5,8 @@ use flop_base::Chrn;
 /// The results of a data command or READ ID (82077AA, result phase).
 #[derive(Clone, Copy, PartialEq, Eq, Debug)]
 pub struct Results {
-    /// How the command ended, and on which drive and head.
     pub st0: St0,
-    /// What went wrong.
     pub st1: St1,
-    /// What is about the data field or the cylinder.
     pub st2: St2,
     /// The last four bytes: cylinder, head, record and size code.
     pub key: Chrn,

@@ -26,7 +26,7 @@ const SOFT_RESET: u8 = 0x80;
 
 impl Fdc {
     /// Reads a port (82077AA in PC/AT mode): 3F2 DOR, 3F4 the main status, 3F5 the next result byte, 3F7 the change
-    /// line. Others, and 3F5 with no result, give FF.
+    /// line in bit 7. Others, and 3F5 with no result, give FF.
     pub fn read(&mut self, port: u16, lines: Lines) -> u8
         ensures value { result ≡ value_read port lines self.old }
         ensures after { self.new ≡ after_read port self.old }

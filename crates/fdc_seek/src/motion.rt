@@ -7,7 +7,6 @@ ghost use Rattle.fdc_seek.specs.Seeking.{has_ended};
 pub struct Seek {
     /// The drive, 0 to 3.
     pub drive: u8,
-    /// What it still does.
     pub motion: Motion,
 }
 

@@ -14,7 +14,6 @@ pub struct Shape {
     pub heads: u8,
     /// Words of sixteen cells a track, 64 to 16,384.
     pub words: u16,
-    /// That of all tracks.
     pub rate: Rate,
 }
 

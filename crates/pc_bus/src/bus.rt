@@ -20,13 +20,10 @@ const USER_BYTES: u32 = 0xF_0000;
 /// The chips, what is left of the pace, and the counts, each of which stays at its last value.
 #[derive(Drop)]
 pub struct Bus {
-    /// The controller, the channel and memory.
     pub chips: Chips,
     /// The latch of interrupt line 6.
     pub latch: IrqLatch,
-    /// The gaps that are left.
     pub gaps: Gaps,
-    /// The strays that are to come.
     pub strays: Strays,
     /// The device steps.
     pub steps: u64,

@@ -20,13 +20,9 @@ use std::alloc::Global;
 /// The chips on the way of a byte.
 #[derive(Drop)]
 pub struct Chips {
-    /// The diskette controller, which asks for transfers.
     pub controller: Fdc,
-    /// DMA channel 2, which grants them.
     pub channel: Dma,
-    /// Where the bytes go or come from.
     pub memory: Memory,
-    /// How long the request is held back.
     pub holding: Holding,
 }
 
