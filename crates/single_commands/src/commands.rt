@@ -110,7 +110,8 @@ pub trait Commands: Drop {
         ensures sound { IsSound (rig self.new) }
         ensures idle { is_idle self.new };
 
-    /// Writes user memory to the record of a key on the track under its head.
+    /// Writes user memory to the record of a key on the track under its head. Refusals: `NoMark`, `NotFound` and
+    /// `Overrun`.
     fn write(
         &mut self,
         bay: u8,
@@ -133,8 +134,8 @@ pub trait Commands: Drop {
         ensures sound { IsSound (rig self.new) }
         ensures idle { is_idle self.new };
 
-    /// Formats the track under a head with the records of the rate, for this cylinder and head. Part of the driver's page
-    /// is written over.
+    /// Formats the track under a head with the records of the rate, for this cylinder and head. Part of the driver's
+    /// page is written over. Refusals: `NoMark`, also where the layout doesn't fit, and `Overrun`.
     fn format(&mut self, bay: u8, c: u8, h: u8, rate: Rate, gap3: u8, fill: u8) -> Result<(), Code>
         requires idle { is_idle self.old }
         requires bay { bay ≤ 1 }
