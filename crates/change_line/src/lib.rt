@@ -32,7 +32,7 @@ impl Gate {
         }
     }
 
-    /// Shows the drive's change line.
+    /// Shows the drive's change line (PC/AT). A line that is set closes the gate.
     pub fn see(&mut self, changed: bool)
         ensures { self.new ≡ (if changed then false else self.old) }
     {
@@ -41,12 +41,14 @@ impl Gate {
         }
     }
 
+    /// Opens the gate: another diskette may be in, and that is known.
     pub fn acknowledge(&mut self)
         ensures { self.new ≡ true }
     {
         self.acknowledged = true;
     }
 
+    /// Whether it was acknowledged, and no change was seen since.
     pub fn is_acknowledged(&self) -> bool
         ensures { result ≡ self.now }
     {

@@ -5,7 +5,7 @@ ghost use Rattle.dma_8237.specs.Channel.{power_up, after_write, value_read, afte
 use crate::word::{byte_of, toggle, with_byte};
 use std::marker::Model;
 
-/// The bytes that four bits of a page and an address reach.
+/// The bytes that four bits of a page and an address of sixteen bits reach (PC/AT).
 pub const MEMORY_SIZE: usize = 1_048_576;
 
 // The ports of channel 2 (PC/AT).
@@ -98,7 +98,8 @@ impl Dma {
         }
     }
 
-    /// Reads a port. A port with no register of this channel to read gives FF.
+    /// Reads a port: 04 the address and 05 the count, byte by byte, 08 the status, 81 the page. A port with no register
+    /// of this channel to read gives FF.
     #[tactic(auto, unfolding(crate::specs::Channel::value_read, crate::specs::Channel::after_read))]
     pub fn port_read(&mut self, port: u16) -> u8
         ensures value { result ≡ value_read port self.old }
@@ -123,7 +124,8 @@ impl Dma {
         }
     }
 
-    /// Writes a port. Other ports, and the mask and the mode of other channels, are ignored.
+    /// Writes a port: 04 the address and 05 the count, byte by byte, 08 the command, 0A to 0F mask, mode, flip-flop and
+    /// clears, 81 the page. Other ports, and the mask and the mode of other channels, are ignored.
     #[tactic(auto, unfolding(crate::specs::Channel::after_write))]
     pub fn port_write(&mut self, port: u16, value: u8)
         ensures { self.new ≡ after_write port value self.old }
@@ -156,7 +158,8 @@ impl Dma {
         }
     }
 
-    /// Whether the channel answers a request of its device.
+    /// Whether the channel answers a request of its device: it is neither masked nor disabled, and its mode is that of
+    /// single transfers that count up with no reload.
     #[tactic(auto, unfolding(crate::specs::Channel::grants))]
     pub fn grants(&self) -> bool
         ensures { result ≡ grants self.now }

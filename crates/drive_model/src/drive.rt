@@ -10,7 +10,7 @@ use raw_image::Medium;
 /// What passes under a head in one word time.
 #[derive(Clone, Copy, Debug, PartialEq, Eq)]
 pub struct Turn {
-    /// The sixteen cells, the first in the highest bit.
+    /// The sixteen cells, the first in the highest bit; 0000 where no word passes.
     pub word: u16,
     /// It was the last word of the track.
     pub index: bool,
@@ -32,16 +32,16 @@ pub trait Drive: Drop {
         ensures err { IfErr result (λ back. (back ≡ medium)
             × Becomes (state self.old) (state self.old) (state self.new)) };
 
-    /// Takes the medium out.
+    /// Takes the medium out; nothing where none is in.
     fn eject(&mut self) -> Option<Medium>
         ensures medium { result ≡ (state self.old).medium }
         ensures becomes { Becomes (state self.old) (unloaded (state self.old)) (state self.new) };
 
-    /// Turns the motor on or off.
+    /// Turns the motor on or off. With it on, a medium is at speed after 6,250 word times.
     fn motor(&mut self, on: bool)
         ensures becomes { Becomes (state self.old) (with_motor on (state self.old)) (state self.new) };
 
-    /// A step pulse, to a higher cylinder where `inward`.
+    /// A step pulse, to a higher cylinder where `inward`. The heads stay within cylinders 0 to 82.
     fn pulse(&mut self, inward: bool)
         ensures moves { Pulses (state self.old) inward (state self.new) };
 
@@ -49,7 +49,8 @@ pub trait Drive: Drop {
     fn track0(&self) -> bool
         ensures { IsTrue result ↔ ((state self.now).cylinder ≡ 0) };
 
-    /// The change line.
+    /// The change line (PC/AT): set when a medium is put in or taken out, cleared by a pulse that isn't lost while one
+    /// is in.
     fn changed(&self) -> bool
         ensures { result ≡ (state self.now).change };
 
@@ -61,7 +62,7 @@ pub trait Drive: Drop {
     fn rate(&self) -> Rate
         ensures { result ≡ rate_of (state self.now).medium };
 
-    /// Opens or closes the write gate.
+    /// Opens or closes the write gate. A gate that opens isn't cut any more.
     fn gate(&mut self, on: bool)
         ensures becomes { Becomes (state self.old) (with_gate on (state self.old)) (state self.new) };
 
@@ -72,7 +73,8 @@ pub trait Drive: Drop {
         ensures range_before { InRange (state self.old) }
         ensures range { InRange (state self.new) };
 
-    /// Lets one word time pass, and reads the word under a head.
+    /// Lets one word time pass, and reads the word under a head, 0 or 1. Without a medium at speed, or without such a
+    /// track, it is 0000.
     fn read_word(&mut self, head: u8) -> Turn
         ensures becomes { Becomes (state self.old) (passed (state self.old)) (state self.new) }
         ensures word { Reads (state self.old) head result.word (state self.new) }
@@ -80,8 +82,8 @@ pub trait Drive: Drop {
         ensures range_before { InRange (state self.old) }
         ensures range { InRange (state self.new) };
 
-    /// Lets one word time pass, writes the word under a head where the gate is open and not cut, and tells whether
-    /// the index came at its end.
+    /// Lets one word time pass, writes the word under a head where the gate is open and not cut, and tells whether the
+    /// index came at its end. A protected medium stays as it is.
     fn write_word(&mut self, head: u8, word: u16) -> bool
         ensures writes { Writes (state self.old) head word (state self.new) }
         ensures index { result ≡ at_index (state self.old) }

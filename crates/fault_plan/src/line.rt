@@ -12,9 +12,13 @@ use std::alloc::Global;
 /// A drive as plans name it: in a bay, or spare.
 #[derive(Clone, Copy)]
 pub enum PlannedDrive {
+    /// 0: the drive in bay 0.
     Bay0,
+    /// 1: the drive in bay 1.
     Bay1,
+    /// 2: the spare that is taken first.
     Spare0,
+    /// 3: the other spare.
     Spare1,
 }
 

@@ -23,7 +23,7 @@ pub struct FaultPlan {
     pub pace: Pace,
 }
 
-/// Reads a plan's text.
+/// Reads a plan's text, of at most 1,000 lines. A text with a bad line is refused as a whole.
 #[tactic(auto, unfolding(crate::specs::Plan::plan_spelled))]
 pub fn plan_of(alloc: Global, bytes: &[u8]) -> Result<FaultPlan, PlanError>
     ensures { ReadsPlan result (plan_spelled bytes.now) }

@@ -2,12 +2,13 @@
 use fdc_registers::{Flags, St0, St1, St2};
 use flop_base::Chrn;
 
-/// The results of a data command or READ ID.
+/// The results of a data command or READ ID (82077AA, result phase).
 #[derive(Clone, Copy, PartialEq, Eq, Debug)]
 pub struct Results {
     pub st0: St0,
     pub st1: St1,
     pub st2: St2,
+    /// The last four bytes: cylinder, head, record and size code.
     pub key: Chrn,
 }
 
@@ -15,7 +16,7 @@ impl Results {
     ghost use Rattle.std.specs.Prelude.{◌≡◌};
     ghost use Rattle.fdc_commands.specs.Results.{result_bytes};
 
-    /// The seven result bytes in the order in which the host reads them.
+    /// The seven result bytes in the order in which the host reads them: the three status registers, then C, H, R, N.
     pub fn bytes(self) -> [u8; 7]
         ensures { result ≡ result_bytes self }
     {

@@ -114,14 +114,14 @@ impl Fdc {
         self.dor.contains(Dor::GATE)
     }
 
-    /// The interrupt line.
+    /// The interrupt line, as DOR lets it out.
     pub fn int(&self) -> bool
         ensures { result ≡ interrupts self.now }
     {
         self.is_gated() && self.interrupt
     }
 
-    /// The DMA request line.
+    /// The DMA request line, as DOR lets it out.
     pub fn drq(&self) -> bool
         ensures { result ≡ asks self.now }
     {

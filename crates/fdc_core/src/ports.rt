@@ -25,7 +25,8 @@ const NOTHING: u8 = 0xFF;
 const SOFT_RESET: u8 = 0x80;
 
 impl Fdc {
-    /// Reads a port.
+    /// Reads a port (82077AA in PC/AT mode): 3F2 DOR, 3F4 the main status, 3F5 the next result byte, 3F7 the change
+    /// line in bit 7. Others, and 3F5 with no result, give FF.
     pub fn read(&mut self, port: u16, lines: Lines) -> u8
         ensures value { result ≡ value_read port lines self.old }
         ensures after { self.new ≡ after_read port self.old }
@@ -40,7 +41,8 @@ impl Fdc {
         }
     }
 
-    /// Writes a port.
+    /// Writes a port: 3F2 DOR, 3F4 DSR, 3F5 a byte of a command, 3F7 CCR. Others, and 3F5 where no command is taken,
+    /// are ignored.
     pub fn write(&mut self, port: u16, value: u8, lines: Lines)
         ensures writes { Writes port value lines self.old self.new }
         ensures keeps { KeepsKnown self.old self.new }

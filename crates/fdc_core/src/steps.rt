@@ -21,7 +21,7 @@ const NOTHING: Turn = Turn {
 };
 
 impl Fdc {
-    /// One device step with the selected drive.
+    /// One device step with the selected drive: the pulse of a seek, where one is due, and then one word time.
     pub fn step<D: Drive>(&mut self, drive: &mut D)
         ensures rests { Rests (polled self.old) ((D.state drive.old).cylinder == 0) self.new }
         ensures reads { Listens self.old (polled self.old) (at_index (D.state drive.old)) (D.state drive.old) (D.state drive.new) self.new }

@@ -10,7 +10,7 @@ use std::marker::Model;
 /// The bytes that a FIFO holds where it is on.
 pub const DEPTH: usize = 16;
 
-/// A first-in first-out list of bytes. While it is off it has room for one byte.
+/// A first-in first-out list of bytes (82077AA, FIFO). While it is off it has room for one byte.
 #[derive(Drop)]
 pub struct Fifo {
     bytes: HeapCircularBuffer<u8>,
@@ -32,7 +32,7 @@ impl Model for Fifo {
 }
 
 impl Fifo {
-    /// An empty FIFO that is off, with the threshold that the controller has after a reset.
+    /// An empty FIFO that is off, with the threshold of one byte that the controller has after a reset.
     pub fn new(alloc: Global) -> Result<Fifo, NoMemory>
         ensures { IfOk result (λ fifo. fifo ≡ emptied false 1) }
     {
@@ -43,7 +43,7 @@ impl Fifo {
         })
     }
 
-    /// Empties the FIFO and sets its mode.
+    /// Empties the FIFO and sets its mode. The threshold counts bytes: CONFIGURE sends it less one.
     pub fn set(&mut self, on: bool, threshold: u8)
         requires at_least { 1 ≤ threshold }
         requires at_most { threshold ≤ DEPTH }
@@ -84,6 +84,7 @@ impl Fifo {
         self.bytes.pop_front()
     }
 
+    /// How many bytes it holds: at most 16 while it is on, 1 while it is off.
     pub fn len(&self) -> usize
         ensures len { result ≡ length self.now.bytes }
         ensures within { result ≤ room_of self.now.on }
@@ -91,6 +92,7 @@ impl Fifo {
         self.bytes.len()
     }
 
+    /// Whether it holds no byte.
     pub fn is_empty(&self) -> bool
         ensures { result ≡ (length self.now.bytes == 0) }
     {

@@ -5,6 +5,7 @@ ghost use Rattle.fdc_seek.specs.Seeking.{has_ended};
 /// A drive's seek, whose bit is set in the main status register.
 #[derive(Clone, Copy, PartialEq, Eq, Debug)]
 pub struct Seek {
+    /// The drive, 0 to 3.
     pub drive: u8,
     pub motion: Motion,
 }

@@ -86,7 +86,7 @@ impl Seeks {
         );
     }
 
-    /// Begins a SEEK of the drive to a cylinder.
+    /// Begins a SEEK of the drive to a cylinder, which is any byte, from 0.
     pub fn seek(&mut self, drive: u8, target: u8)
         requires drive { drive < 4 }
         requires no_seek { seek_bits self.old ≡ 0 }

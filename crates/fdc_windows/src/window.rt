@@ -48,13 +48,14 @@ pub struct Window {
 /// A word of a window.
 #[derive(Clone, Copy)]
 pub struct Given {
+    /// Its sixteen cells, the first in bit 15.
     pub word: u16,
     /// The words behind it; none behind the last.
     pub rest: Option<Window>,
 }
 
 impl Window {
-    /// The window of a content of so many bytes.
+    /// The window of a content of so many bytes: 18 words and one a byte (IBM System 34).
     pub fn new(deleted: bool, size: u16) -> Window
         requires { 1 ≤ size }
         ensures words { (content : List ℕ) → words_left result content ≡ window deleted content }

@@ -53,6 +53,7 @@ pub enum FormatNext {
 /// A word to be written.
 #[derive(Clone, Copy)]
 pub struct FormatWord {
+    /// Its sixteen cells, the first in bit 15.
     pub word: u16,
     /// The words behind it.
     pub stream: FormatStream,

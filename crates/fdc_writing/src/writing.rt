@@ -39,6 +39,7 @@ pub enum WriteNext {
 /// A word to be written.
 #[derive(Clone, Copy)]
 pub struct WriteWord {
+    /// Its sixteen cells, the first in bit 15.
     pub word: u16,
     /// The words of the window behind it; none behind the last.
     pub rest: Option<Window>,

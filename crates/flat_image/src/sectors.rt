@@ -8,7 +8,7 @@ pub const TRACKS: usize = 160;
 /// The bytes of a sector.
 pub const SECTOR_BYTES: usize = 512;
 
-/// The offset of a sector's first byte. `r` counts from 1.
+/// The offset of a sector's first byte, by cylinder, then head, then record. `c` and `h` count from 0, `r` from 1.
 pub fn place(sectors: u8, c: u8, h: u8, r: u8) -> usize
     requires density { IsDensity sectors }
     requires there { IsSector sectors c h r }

@@ -13,7 +13,7 @@ const LENGTH_OF_9: usize = TRACKS * 9 * SECTOR_BYTES;
 /// The bytes of a file with 18 sectors on each track.
 const LENGTH_OF_18: usize = TRACKS * 18 * SECTOR_BYTES;
 
-/// The sectors on each track of a flat file, 9 or 18, which its length tells.
+/// The sectors on each track of a flat file, 9 or 18, which its length tells. Any other length is an error.
 pub fn check(bytes: &[u8]) -> Result<u8, ImageError>
     ensures told { result ≡ sectors_told (length bytes.now) }
     ensures ok { IfOk result (λ sectors. IsDensity sectors

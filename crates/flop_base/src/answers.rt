@@ -10,7 +10,9 @@ use thiserror::Error;
 /// The data rate of a medium: 500 kbit/s (1.44 MB) or 250 kbit/s (720 KB).
 #[derive(Clone, Copy, Debug, PartialEq, Eq)]
 pub enum Rate {
+    /// 500 kbit/s, as a 1.44 MB disk is recorded.
     R500,
+    /// 250 kbit/s, as a 720 KB disk is recorded.
     R250,
 }
 
@@ -34,24 +36,34 @@ impl<T: Drop> From<AllocFailed<T>> for NoMemory {
 /// A refusal of the driver. The numbers are the status codes of INT 13h (PC/AT).
 #[derive(Clone, Copy, Debug, PartialEq, Eq, Error)]
 pub enum Code {
+    /// 01: no such bay, place, size, gap 3 or function, or a range that ends past user memory.
     #[error("bad request")]
     BadRequest,
+    /// 02: no address mark, no data behind the address field, or a track that the layout doesn't fit on.
     #[error("no address mark found")]
     NoMark,
+    /// 03: a write or a format of a medium that is write-protected.
     #[error("medium is write-protected")]
     Protected,
+    /// 04: the track has address marks, and no sector of the key was found.
     #[error("sector not found")]
     NotFound,
+    /// 06: the bay isn't acknowledged.
     #[error("medium was changed")]
     Changed,
+    /// 08: a DMA request waited too long.
     #[error("DMA overrun")]
     Overrun,
+    /// 09: the first and the last byte of the range lie in different pages of 65,536 bytes.
     #[error("transfer crosses a 64 KB page")]
     Page,
+    /// 10: the data field is damaged.
     #[error("CRC error")]
     BadCrc,
+    /// 40: no track 0 after two recalibrations.
     #[error("seek failed")]
     Seek,
+    /// 80: no medium is in, or its drive lost pulse after pulse.
     #[error("drive not ready")]
     NotReady,
 }
@@ -79,14 +91,23 @@ impl Code {
 /// How a run of the program ended.
 #[derive(Clone, Copy, Debug, PartialEq, Eq)]
 pub enum Status {
+    /// 0: all was run, and nothing refused.
     AllOk,
+    /// 1: some request was refused, or a track can't be had in another form.
     SomeRefused,
+    /// 2: the words after the program's name are none that it knows.
     BadWords,
+    /// 3: a line of a text isn't understood, or the text is too long. Nothing of that text is run.
     BadJob,
+    /// 4: a file isn't what it is loaded as, or is too long.
     BadImage,
+    /// 5: a file that is loaded isn't there.
     Absent,
+    /// 6: the files of the folder failed.
     FileFault,
+    /// 7: memory couldn't be had.
     NoMemory,
+    /// 8: standard output failed.
     SinkFault,
 }
 
@@ -129,12 +150,16 @@ impl fmt::Display for Status {
 /// Why a file wasn't loaded.
 #[derive(Clone, Copy, Debug, PartialEq, Eq, Error)]
 pub enum LoadError {
+    /// No file has the name.
     #[error("no such file")]
     Absent,
+    /// The file has more bytes than the call allows.
     #[error("file too long")]
     TooLong,
+    /// The outside failed, which is counted as a fault.
     #[error("file could not be read")]
     Failed,
+    /// Memory for the bytes couldn't be had.
     #[error("out of memory")]
     NoMemory,
 }
@@ -150,8 +175,10 @@ impl From<AllocError> for LoadError {
 /// Why a file wasn't stored.
 #[derive(Clone, Copy, Debug, PartialEq, Eq, Error)]
 pub enum StoreError {
+    /// The outside failed, which is counted as a fault.
     #[error("file could not be written")]
     Failed,
+    /// Memory couldn't be had.
     #[error("out of memory")]
     NoMemory,
 }
@@ -159,8 +186,10 @@ pub enum StoreError {
 /// Why bytes weren't printed.
 #[derive(Clone, Copy, Debug, PartialEq, Eq, Error)]
 pub enum PutError {
+    /// The outside failed, which is counted as a fault.
     #[error("output could not be written")]
     Failed,
+    /// Memory couldn't be had.
     #[error("out of memory")]
     NoMemory,
 }

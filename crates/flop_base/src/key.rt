@@ -1,12 +1,16 @@
 // The key of a sector, as its address field has it.
 ghost use Rattle.std.specs.Prelude.{◌≡◌, ◌≤◌, ◌*◌, ◌^◌};
 
-/// The four bytes of an address field (System 34): cylinder, head, record and size code.
+/// The four bytes of an address field (IBM System 34): what the field says, whatever track it stands on.
 #[derive(Clone, Copy, Debug, PartialEq, Eq)]
 pub struct Chrn {
+    /// The cylinder, from 0.
     pub c: u8,
+    /// The head, from 0.
     pub h: u8,
+    /// The record, from 1 in the standard formats.
     pub r: u8,
+    /// The size code: 1 to 6 for 256 to 8,192 bytes. Other bytes name no size here.
     pub n: u8,
 }
 

@@ -51,7 +51,7 @@ impl MemShelf {
         Ok(())
     }
 
-    /// A file's bytes.
+    /// A file's bytes; nothing where no file has the name. This is no call of `load`.
     pub fn file(&self, name: &str) -> Option<&[u8]>
         ensures { option_copied result ≡ file_at (files_of self.now) name.now }
     {

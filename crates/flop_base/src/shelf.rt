@@ -16,7 +16,7 @@ pub trait Shelf {
     /// How many faults there were. It stays at its last value.
     ghost fault_count: { Self → ℕ };
 
-    /// The bytes of a file of at most `most` bytes.
+    /// The bytes of a file of at most `most` bytes. A longer one is `TooLong`, and none of its bytes are given.
     fn load(&mut self, alloc: Global, name: &str, most: usize) -> Result<Vec<u8>, LoadError>
         ensures gives { IfSome (told self.old) (λ files. Loads files name.now most result) }
         ensures fits { IfOk result (λ bytes. length bytes.items ≤ most) }
@@ -25,7 +25,7 @@ pub trait Shelf {
             → Rose (fault_count self.old) (fault_count self.new) }
         ensures never_falls { fault_count self.old ≤ fault_count self.new };
 
-    /// Puts these bytes under the name, in place of a file that is there.
+    /// Puts these bytes under the name, in place of a file that is there. After an error the old file is as it was.
     fn store(&mut self, name: &str, bytes: &[u8]) -> Result<(), StoreError>
         ensures ok { OnOk result (told self.new ≡ stored (told self.old) name.now bytes.now) }
         ensures err { OnErr result (told self.new ≡ told self.old) }
@@ -33,7 +33,7 @@ pub trait Shelf {
             → Rose (fault_count self.old) (fault_count self.new) }
         ensures never_falls { fault_count self.old ≤ fault_count self.new };
 
-    /// The count of faults.
+    /// The count of faults, which stays at its last value. Each call that ends with `Failed` raises it.
     fn faults(&self) -> u64
         ensures { result ≡ fault_count self.now };
 }

@@ -23,7 +23,7 @@ pub trait Sink {
             → Rose (fault_count self.old) (fault_count self.new) }
         ensures never_falls { fault_count self.old ≤ fault_count self.new };
 
-    /// The count of faults.
+    /// The count of faults, which stays at its last value. Each call that ends with `Failed` raises it.
     fn faults(&self) -> u64
         ensures { result ≡ fault_count self.now };
 }

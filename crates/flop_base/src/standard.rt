@@ -11,7 +11,7 @@ pub const FILL: u8 = 0xF6;
 pub const SIZE_CODE: u8 = 2;
 
 impl Rate {
-    /// The sectors of a track.
+    /// The sectors of a track: 18 at 500 kbit/s, 9 at 250 kbit/s, with records from 1 on.
     pub fn sectors(self) -> u8
         ensures value { result ≡ sectors_at self }
         ensures most { result ≤ 18 }
@@ -22,7 +22,7 @@ impl Rate {
         }
     }
 
-    /// The words of sixteen cells that pass in a turn.
+    /// The words of sixteen cells that pass in a turn: 12,500 at 500 kbit/s, 6,250 at 250 kbit/s.
     pub fn words(self) -> u16
         ensures { result ≡ words_at self }
     {
@@ -32,7 +32,7 @@ impl Rate {
         }
     }
 
-    /// Gap 3 as a track is formatted.
+    /// Gap 3 as a track is formatted (PC/AT), in bytes: 6C at 500 kbit/s, 50 at 250 kbit/s.
     pub fn format_gap(self) -> u8
         ensures { result ≡ gap_at self }
     {
@@ -42,7 +42,7 @@ impl Rate {
         }
     }
 
-    /// Gap 3 as a read or a write of a sector names it.
+    /// Gap 3 as a read or a write of a sector names it (PC/AT), in bytes: 1B at 500 kbit/s, 2A at 250 kbit/s.
     pub fn read_gap(self) -> u8
         ensures { result ≡ read_gap_at self }
     {

@@ -106,7 +106,8 @@ fn replace_file(rt: &impl Files, name: &str, bytes: &[u8]) -> io::Result<()> {
     replaced
 }
 
-/// The files of the current folder.
+/// The files of the current folder. A store writes a new file whole and then renames it, so that a failed one leaves
+/// the old file as it was.
 #[derive(Drop)]
 pub struct FileShelf<'a, R: Files> {
     rt: &'a R,
@@ -114,6 +115,7 @@ pub struct FileShelf<'a, R: Files> {
 }
 
 impl<'a, R: Files> FileShelf<'a, R> {
+    /// The files of the folder that the program runs in. None is opened yet.
     pub fn new(rt: &'a R) -> FileShelf<'a, R> {
         FileShelf { rt, faults: 0 }
     }
@@ -164,7 +166,7 @@ impl<R: Files> Shelf for FileShelf<'_, R> {
     }
 }
 
-/// Standard output.
+/// Standard output. A write that was only interrupted is tried again.
 #[derive(Drop)]
 pub struct StreamSink<'a, R: Print> {
     rt: &'a R,
@@ -172,6 +174,7 @@ pub struct StreamSink<'a, R: Print> {
 }
 
 impl<'a, R: Print> StreamSink<'a, R> {
+    /// Standard output, to which nothing is written yet.
     pub fn new(rt: &'a R) -> StreamSink<'a, R> {
         StreamSink { rt, faults: 0 }
     }

@@ -39,8 +39,8 @@ impl Driver {
     ghost use Rattle.floppy_driver.specs.Acknowledged.{IsHeldSince};
     ghost use Rattle.sector_model.specs.Calls.{Acks};
 
-    /// Acknowledges that another medium may be in, and finds its rate: `NotReady` where no medium is in, or its drive lost
-    /// pulse after pulse.
+    /// Acknowledges that another medium may be in, and finds its rate. Refusals: `BadRequest` where the bay is above 1;
+    /// `NotReady` where no medium is in, or its drive lost pulse after pulse.
     pub fn ack<C: Commands>(&mut self, machine: &mut C, bay: u8) -> Result<(), Code>
         requires idle { C.is_idle machine.old }
         requires attached { IsAttached self.old (C.rig machine.old) }

@@ -129,7 +129,8 @@ impl Driver {
         self.notes(bay).rate
     }
 
-    /// Sets the rate of an acknowledged bay.
+    /// Sets the rate of an acknowledged bay. Refusals: `BadRequest` where the bay is above 1, `Changed` where it isn't
+    /// acknowledged.
     pub fn set_rate<C: Commands>(
         &mut self,
         machine: &mut C,

@@ -36,7 +36,8 @@ impl Driver {
     ghost use Rattle.floppy_driver.specs.Attached.{IsAttached};
     ghost use Rattle.sector_model.specs.Formats.{FormatsTo};
 
-    /// Formats a track with the records of the bay's rate, and reads each back.
+    /// Formats a track with the records of the bay's rate, and reads each back. Refusals are those of
+    /// `Station::format`.
     pub fn format<C: Commands>(
         &mut self,
         machine: &mut C,

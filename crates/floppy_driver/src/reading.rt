@@ -18,7 +18,8 @@ impl Driver {
     ghost use Rattle.sector_model.specs.Asked.{IsAsked};
     ghost use Rattle.sector_model.specs.Reads.{Reads, ReadsDrive};
 
-    /// Reads the sector of a key to user memory; true where it is marked deleted.
+    /// Reads the sector of a key to user memory; true where it is marked deleted. Refusals are those of
+    /// `Station::read`.
     pub fn read<C: Commands>(
         &mut self,
         machine: &mut C,

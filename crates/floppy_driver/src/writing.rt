@@ -23,7 +23,8 @@ impl Driver {
     ghost use Rattle.floppy_driver.specs.Attempts.{IsSure};
     ghost use Rattle.floppy_driver.specs.Writings.{CanWrite, TriesWrite};
 
-    /// Writes user memory to the sector of a key, marked deleted or not, and reads it back.
+    /// Writes user memory to the sector of a key, marked deleted or not, and reads it back. Refusals are those of
+    /// `Station::write`.
     pub fn write<C: Commands>(
         &mut self,
         machine: &mut C,

@@ -26,7 +26,7 @@ pub enum CallLine {
     },
 }
 
-/// Reads a text of calls.
+/// Reads a text of calls. A text with a bad line is refused as a whole.
 #[tactic(auto, unfolding(crate::specs::Texts::calls_of))]
 pub fn parse_calls(alloc: Global, bytes: &[u8]) -> Result<Vec<CallLine>, JobError>
     ensures { ReadsText (λ lines. lines.items) result (calls_of bytes.now) }

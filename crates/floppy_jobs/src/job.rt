@@ -13,7 +13,8 @@ use crate::verb::is_verb;
 use flop_base::{Chrn, Rate};
 use std::alloc::Global;
 
-/// Reads a job.
+/// Reads a job. A text with a bad line is refused as a whole. Whether a bay or a place exists is no question of the
+/// text.
 #[tactic(auto, unfolding(crate::specs::Texts::job_of))]
 pub fn parse_job(alloc: Global, bytes: &[u8]) -> Result<Vec<Request>, JobError>
     ensures read { ReadsText (λ requests. requests.items) result (job_of bytes.now) }

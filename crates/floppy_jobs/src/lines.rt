@@ -23,6 +23,7 @@ pub enum JobError {
     /// The first line that isn't understood, counted from 1; 0 where the text is too long.
     #[error("line {line} not understood")]
     BadLine { line: usize },
+    /// Memory couldn't be had. This says nothing of the text.
     #[error("out of memory")]
     NoMemory,
 }
@@ -36,8 +37,10 @@ impl From<NoMemory> for JobError {
 /// Why a line wasn't read.
 #[derive(Clone, Copy, Debug, PartialEq, Eq, Error)]
 pub enum LineError {
+    /// The words spell nothing that the text may have.
     #[error("line not understood")]
     NotUnderstood,
+    /// Memory couldn't be had. This says nothing of the text.
     #[error("out of memory")]
     NoMemory,
 }
@@ -132,7 +135,8 @@ fn read_line<L: Line>(alloc: Global, line: &[u8]) -> Result<Option<L>, LineError
     Ok(Some(L::read(alloc, words.as_slice())?))
 }
 
-/// Reads a text line by line, up to its first bad line.
+/// Reads a text line by line, up to its first bad line: one that isn't understood, or the first past 200 bytes or
+/// `most_lines` lines. A text of more than `MOST_BYTES` is refused as line 0.
 #[tactic(auto, unfolding(crate::specs::Lines::text_of))]
 pub fn read_lines<L: Line>(
     alloc: Global,

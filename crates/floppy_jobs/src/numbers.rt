@@ -40,7 +40,7 @@ pub fn byte(word: &[u8]) -> Option<u8>
     Some(number(word, 10, 1, 3, 0, 255)? as u8)
 }
 
-/// An address in memory: one to five hexadecimal digits.
+/// An address in memory: one to five hexadecimal digits, so at most FFFFF.
 #[tactic(auto, unfolding(crate::specs::Numbers::address_of))]
 pub fn address(word: &[u8]) -> Option<u32>
     ensures { result ≡ address_of word.now }

@@ -18,7 +18,7 @@ pub enum PortLine {
     In { port: u16 },
     /// Writes a byte to a port.
     Out { port: u16, value: u8 },
-    /// Lets device steps pass.
+    /// Lets so many device steps pass.
     Wait { steps: u16 },
     /// Takes the interrupt latch and prints it.
     Irq,
@@ -28,7 +28,7 @@ pub enum PortLine {
     Eject { bay: u8 },
 }
 
-/// Reads a text of port accesses.
+/// Reads a text of port accesses. A text with a bad line is refused as a whole.
 #[tactic(auto, unfolding(crate::specs::Texts::ports_of))]
 pub fn parse_ports(alloc: Global, bytes: &[u8]) -> Result<Vec<PortLine>, JobError>
     ensures { ReadsText (λ lines. lines.items) result (ports_of bytes.now) }

@@ -3,7 +3,8 @@ ghost use Rattle.std.specs.Prelude.{◌≡◌};
 
 use flop_base::{Chrn, Name, Rate};
 
-/// One request to the session. Addresses are offsets in the machine's memory, lengths count bytes.
+/// One request to the session. Addresses are offsets in the machine's memory, lengths count bytes. Where no range is
+/// told, the fields may have any value, and the session refuses what can't be.
 #[derive(Drop)]
 pub enum Request {
     /// Loads the image of this name and puts its medium in.

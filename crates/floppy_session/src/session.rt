@@ -49,6 +49,7 @@ impl<D: Station> Session<D> {
         }
     }
 
+    /// The station under the session: its bays, its memory and its counts.
     pub fn station(&self) -> &D
         ensures { D.shown result.now ≡ (state_of D.shown self.now).station }
     {
@@ -73,7 +74,7 @@ impl<D: Station> Session<D> {
         station
     }
 
-    /// Runs one request.
+    /// Runs one request. A refusal is a reply, and the next request may follow; an error is what stops the whole run.
     pub fn run<S: Shelf>(&mut self, shelf: &mut S, request: &Request) -> Result<Reply, Stop>
         requires running { IsRunning D.shown D.is_ready self.old }
         requires tries { HasTries request.now }
@@ -117,7 +118,8 @@ impl<D: Station> Session<D> {
         }
     }
 
-    /// Ends a run: the medium of bay 0, and then that of bay 1, is taken out and stored under its name.
+    /// Ends a run: the medium of bay 0, and then that of bay 1, is taken out and stored under its name. An error drops
+    /// the medium that wasn't stored; where it was bay 0's, bay 1 stays as it is.
     pub fn end<S: Shelf>(&mut self, shelf: &mut S) -> Result<(), Stop>
         requires { IsRunning D.shown D.is_ready self.old }
         ensures ends { OnOk result (Ends (state_of D.shown self.old) (S.told shelf.old) (state_of D.shown self.new)

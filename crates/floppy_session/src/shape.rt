@@ -8,9 +8,11 @@ use raw_image::Medium;
 /// What a medium is besides its words and its protection.
 #[derive(Clone, Copy)]
 pub struct Shape {
+    /// 1 to 80.
     pub cylinders: u8,
+    /// 1 or 2.
     pub heads: u8,
-    /// Words a track.
+    /// Words of sixteen cells a track, 64 to 16,384.
     pub words: u16,
     pub rate: Rate,
 }

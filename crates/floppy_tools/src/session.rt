@@ -44,7 +44,7 @@ impl<D: Drive> Session<D> {
         }
     }
 
-    /// Runs one request.
+    /// Runs one request. A refusal is a reply, and the next request may follow; an error is what stops the whole run.
     pub fn run<S: Shelf>(&mut self, shelf: &mut S, request: &Request) -> Result<Reply, Stop>
         requires running { is_running D.state self.old }
         requires tries { HasTries request.now }
@@ -58,7 +58,8 @@ impl<D: Drive> Session<D> {
         self.over.run(shelf, request)
     }
 
-    /// Ends a run: the medium of bay 0, and then that of bay 1, is taken out and stored under its name.
+    /// Ends a run: the medium of bay 0, and then that of bay 1, is taken out and stored under its name. An error drops
+    /// the medium that wasn't stored; where it was bay 0's, bay 1 stays as it is.
     pub fn end<S: Shelf>(&mut self, shelf: &mut S) -> Result<(), Stop>
         requires { is_running D.state self.old }
         ensures ends { OnOk result (Ends (session_state D.state self.old) (S.told shelf.old)

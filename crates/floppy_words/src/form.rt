@@ -22,6 +22,7 @@ impl Model for Cylinders {
 impl Cylinders {
     ghost use Rattle.std.specs.Prelude.{◌≡◌, ◌≤◌};
 
+    /// So many cylinders, numbered from 0.
     pub fn new(count: u8) -> Cylinders
         requires some { 1 ≤ count }
         requires most { count ≤ 80 }
@@ -30,6 +31,7 @@ impl Cylinders {
         Cylinders { count }
     }
 
+    /// How many there are. The last is numbered one less.
     pub fn count(&self) -> u8
         ensures value { result ≡ self.now }
         ensures some { 1 ≤ result }
@@ -64,7 +66,7 @@ pub enum Form {
     Import { flat: Name, name: Name },
     /// Stores the bytes of all records of a disk in a flat file.
     Export { name: Name, flat: Name },
-    /// Runs a generated workload: so many requests, drawn from a seed.
+    /// Runs a generated workload: so many requests, 0 to 2,000, drawn from a seed, 0 to 2,147,483,647.
     Exercise { seed: u32, count: u16 },
     /// Serves the calls of INT 13h in the text of this name.
     Int13 { calls: Name },

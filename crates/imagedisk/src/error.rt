@@ -6,6 +6,7 @@ use flop_base::NoMemory;
 use std::alloc::{AllocError, AllocFailed};
 use thiserror::Error;
 
+/// Why a diskette has no ImageDisk file, or such a file no diskette.
 #[derive(Clone, Copy, Debug, PartialEq, Eq, Error)]
 pub enum ImdError {
     /// The first track that the other form can't have.

@@ -22,6 +22,7 @@ impl Model for ImdTracks {
 }
 
 impl ImdTracks {
+    /// No track yet.
     pub fn new(alloc: Global) -> ImdTracks
         ensures { result ≡ [] }
     {
@@ -30,6 +31,7 @@ impl ImdTracks {
         }
     }
 
+    /// Adds a track behind the others. The error is want of memory.
     pub fn push(&mut self, item: ImdTrack) -> Result<(), NoMemory>
         ensures pushed { OnOk result (self.new ≡ self.old ++ item ∷ []) }
         ensures kept { OnErr result (self.new ≡ self.old) }
@@ -38,6 +40,7 @@ impl ImdTracks {
         Ok(())
     }
 
+    /// The tracks in their order in the file.
     pub fn as_slice(&self) -> &[ImdTrack]
         ensures { result.now ≡ self.now }
     {
@@ -48,6 +51,7 @@ impl ImdTracks {
 /// The tracks of a diskette with the rate of all of them.
 #[derive(Drop)]
 pub struct ImdImage {
+    /// 500 kbit/s where there is no track.
     pub rate: Rate,
     pub tracks: ImdTracks,
 }

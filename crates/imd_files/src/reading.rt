@@ -200,7 +200,8 @@ fn read_track<'a>(
     Ok((header.rate, track, after))
 }
 
-/// The image that an ImageDisk file holds.
+/// The image that an ImageDisk file holds. An error is the first thing that is wrong, part by part; offsets count bytes
+/// from the beginning of the file.
 pub fn read_imd(alloc: Global, bytes: &[u8]) -> Result<ImdImage, ImageError>
     ensures exact { Gives (λ image. image) result (image_of bytes.now) }
     ensures valid { IfOk result IsImdImage }

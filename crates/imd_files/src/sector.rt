@@ -5,11 +5,12 @@ use flop_base::{Bytes, Chrn, NoMemory};
 use std::alloc::Global;
 use std::marker::Model;
 
-/// What was found of a sector's data when the diskette was read.
+/// What was found of a sector's data when the diskette was read (the ImageDisk format, sector types 0 to 8).
 #[derive(Clone, Copy, Debug, PartialEq, Eq)]
 pub enum ImdKind {
     /// No data.
     Absent,
+    /// Whole, with the mark FB.
     Good,
     /// Marked as deleted.
     Deleted,
@@ -43,6 +44,7 @@ impl Model for ImdSectors {
 }
 
 impl ImdSectors {
+    /// No sector yet.
     pub fn new(alloc: Global) -> ImdSectors
         ensures { result ≡ [] }
     {
@@ -51,6 +53,7 @@ impl ImdSectors {
         }
     }
 
+    /// Adds a sector behind the others. The error is want of memory.
     pub fn push(&mut self, item: ImdSector) -> Result<(), NoMemory>
         ensures pushed { OnOk result (self.new ≡ self.old ++ item ∷ []) }
         ensures kept { OnErr result (self.new ≡ self.old) }
@@ -59,6 +62,7 @@ impl ImdSectors {
         Ok(())
     }
 
+    /// The sectors in their order on the track.
     pub fn as_slice(&self) -> &[ImdSector]
         ensures { result.now ≡ self.now }
     {

@@ -150,6 +150,7 @@ fn put_track(out: &mut Vec<u8>, rate: Rate, track: &ImdTrack) -> Result<(), NoMe
 }
 
 /// The ImageDisk file of an image: sectors of one byte are written by that byte alone, maps only where they are needed.
+/// The error is want of memory.
 pub fn write_imd(alloc: Global, image: &ImdImage) -> Result<Vec<u8>, NoMemory>
     requires { IsImdImage image.now }
     ensures spelled { IfOk result (λ bytes. bytes.items ≡ file_of image.now) }

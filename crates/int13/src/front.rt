@@ -74,7 +74,7 @@ impl Int13 {
         Int13 { status: 0x00 }
     }
 
-    /// What the call asks for, and its answer where nothing has to be done for it.
+    /// What the call asks for, and its answer where nothing has to be done for it (INT 13h of the PC/AT BIOS).
     #[tactic(auto, unfolding(crate::specs::Table::work_of))]
     pub fn plan(&self, regs: Regs) -> Work
         ensures work { result ≡ work_of self.now regs }

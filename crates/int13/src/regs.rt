@@ -1,14 +1,20 @@
 // The registers of a call.
 ghost use Rattle.std.specs.Prelude.{◌≡◌, ◌+◌, ◌*◌, ◌/◌, ◌%◌};
 
-/// The registers of a call, and the carry flag after it.
+/// The registers of a call, and the carry flag after it (INT 13h of the PC/AT BIOS).
 #[derive(Clone, Copy, Debug, PartialEq, Eq)]
 pub struct Regs {
+    /// AH: the function, and then its answer. AL: the number of records.
     pub ax: u16,
+    /// The offset of the first record from the segment in ES.
     pub bx: u16,
+    /// CH and bits 7 and 6 of CL: the cylinder, from 0. Bits 5 to 0 of CL: the first record, from 1.
     pub cx: u16,
+    /// DH: the head, from 0. DL: the drive, 0 or 1.
     pub dx: u16,
+    /// The segment of the records, in units of 16 bytes.
     pub es: u16,
+    /// Whether the call was refused.
     pub carry: bool,
 }
 

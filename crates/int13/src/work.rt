@@ -10,8 +10,11 @@ use flop_base::Code;
 /// The functions that go over records.
 #[derive(Clone, Copy, Debug, PartialEq, Eq)]
 pub enum Kind {
+    /// Function 02.
     Read,
+    /// Function 03.
     Write,
+    /// Function 04.
     Verify,
 }
 

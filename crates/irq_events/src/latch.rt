@@ -53,13 +53,14 @@ impl IrqLatch {
         self.set = true;
     }
 
+    /// Whether an edge or a stray came that wasn't taken yet.
     pub fn is_set(&self) -> bool
         ensures { result ≡ self.now.is_set }
     {
         self.set
     }
 
-    /// Clears the latch, and tells whether it was set.
+    /// Clears the latch, and tells whether it was set. However many edges came before, one take clears them.
     pub fn take(&mut self) -> bool
         ensures was { result ≡ self.old.is_set }
         ensures latch { self.new ≡ record self.old { is_set = false } }

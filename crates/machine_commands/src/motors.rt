@@ -21,6 +21,7 @@ impl Motors {
     ghost use Rattle.machine_commands.specs.Ready.{dor_with};
     ghost use Rattle.machine_commands.specs.Motored.{with_motor_of};
 
+    /// No motor is on.
     pub const OFF: Motors = Motors {
         first: false,
         second: false,
@@ -37,7 +38,7 @@ impl Motors {
         }
     }
 
-    /// DOR with these motors on and a bay selected.
+    /// DOR (82077AA) with these motors on and a bay selected, out of reset and with INT and DRQ let out.
     pub fn dor(self, bay: u8) -> u8
         requires { bay ≤ 1 }
         ensures { result ≡ dor_with self bay }

@@ -21,6 +21,7 @@ impl Model for Gaps {
 }
 
 impl Gaps {
+    /// Gaps of so many device steps, the first for the first port access.
     pub fn new(entries: Vec<u8>) -> Gaps
         ensures { result ≡ entries.items }
     {
@@ -29,7 +30,7 @@ impl Gaps {
         }
     }
 
-    /// Takes the next gap, 0 where none is left.
+    /// Takes the next gap, in device steps, 0 where none is left.
     pub fn take(&mut self) -> u8
         ensures gap { result ≡ next_entry self.old }
         ensures rest { self.new ≡ rest_of self.old }

@@ -13,6 +13,7 @@ const LONGEST: u8 = 8;
 /// A device's request for DMA.
 #[derive(Clone, Copy)]
 pub enum Request {
+    /// The line is low: nothing is asked for.
     Low,
     /// It is granted after so many device steps more.
     High { left: u8 },
@@ -40,7 +41,7 @@ impl Model for Holding {
 }
 
 impl Holding {
-    /// The line is low.
+    /// The line is low. Each further request is held back for the next of these numbers of device steps.
     pub fn new(holds: Vec<u8>) -> Holding
         ensures { result ≡ record { entries = holds.items; request = Low; stalls = 0 } }
     {

@@ -25,6 +25,7 @@ impl Model for Strays {
 }
 
 impl Strays {
+    /// Strays that come so many device steps after the start, or each after the one before. 0 counts as 1.
     pub fn new(strays: Vec<u16>) -> Strays
         ensures { result ≡ strays.items }
     {

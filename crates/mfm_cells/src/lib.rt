@@ -14,7 +14,7 @@ mod tables;
 
 use tables::{CELLS, DATA_CELLS};
 
-/// The cells of `byte` after a bit `last`.
+/// The sixteen cells of `byte` after a bit `last`, the first in bit 15.
 pub fn encode_byte(last: bool, byte: u8) -> u16
     ensures { result ∷ [] ≡ legal last (byte ∷ []) }
 {
@@ -32,7 +32,7 @@ pub fn decode_word(word: u16) -> u8
     high << 4 | low
 }
 
-/// The sixteen cells from cell `p` on, at any phase.
+/// The sixteen cells from cell `p` on, at any phase, the first in bit 15.
 pub fn cells16(words: &[u16], p: usize) -> u16
     requires { IsInside words.now p 16 }
     ensures { result ≡ cells_at words.now p }

@@ -21,6 +21,7 @@ const USER_BYTES: u32 = 0xF_0000;
 #[derive(Drop)]
 pub struct Bus {
     pub chips: Chips,
+    /// The latch of interrupt line 6.
     pub latch: IrqLatch,
     pub gaps: Gaps,
     pub strays: Strays,
@@ -35,6 +36,8 @@ pub struct Bus {
 }
 
 impl Bus {
+    /// The bus as a machine is made: the controller in reset, memory all 00, nothing counted, and the whole pace to
+    /// come.
     pub fn new(alloc: Global, pace: Pace) -> Result<Bus, NoMemory>
         ensures { IfOk result (λ bus. bus ≡ new_bus pace) }
     {
@@ -87,7 +90,7 @@ impl Bus {
         self.chips.write_port(port, value, lines);
     }
 
-    /// Takes the next gap.
+    /// Takes the next gap, in device steps.
     pub fn next_gap(&mut self) -> u8
         ensures gap { result ≡ next_entry self.old.gaps }
         ensures after { self.new ≡ record self.old { gaps = rest_of self.old.gaps } }
@@ -103,7 +106,8 @@ impl Bus {
         self.direct = self.direct.saturating_add(1);
     }
 
-    /// Sets a byte of memory. In user memory it counts as an access past the controller.
+    /// Sets a byte of memory, at an address from 00000 to FFFFF. Below F0000 it is user memory, and counts as an access
+    /// past the controller.
     pub fn set_byte(&mut self, address: u32, value: u8)
         requires { address < 1048576 }
         ensures { self.new ≡ byte_set address value self.old }
@@ -115,7 +119,7 @@ impl Bus {
         self.chips.memory.set(address, value);
     }
 
-    /// Takes the latch.
+    /// Takes the latch, and tells whether it was set, which counts as an interrupt that was taken.
     pub fn take_irq(&mut self) -> bool
         ensures was { result ≡ self.old.latch.is_set }
         ensures after { self.new ≡ irq_taken self.old }

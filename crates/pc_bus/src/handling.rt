@@ -20,7 +20,7 @@ impl<D: Drive> MachineOf<D> {
         self.bus.take_irq()
     }
 
-    /// A byte of memory.
+    /// A byte of memory, at an address from 00000 to FFFFF. It isn't counted as an access.
     pub fn ram(&self, address: u32) -> u8
         requires { address < 1048576 }
         ensures byte { result ≡ slice_index (memory_of (board D.state self.now)) address }
@@ -30,7 +30,7 @@ impl<D: Drive> MachineOf<D> {
         self.bus.chips.memory.byte(address)
     }
 
-    /// Sets a byte of memory.
+    /// Sets a byte of memory, at an address from 00000 to FFFFF. Below F0000 that is an access past the controller.
     pub fn ram_set(&mut self, address: u32, value: u8)
         requires { address < 1048576 }
         ensures { board D.state self.new ≡ record (board D.state self.old) { bus = byte_set address value (board D.state self.old).bus } }

@@ -9,7 +9,7 @@ use flop_base::NoMemory;
 use std::alloc::Global;
 use std::marker::Model;
 
-/// 1,048,576 bytes.
+/// 1,048,576 bytes, at addresses 00000 to FFFFF.
 #[derive(Drop)]
 pub struct Memory {
     bytes: Vec<u8>,
@@ -35,6 +35,7 @@ impl Memory {
         })
     }
 
+    /// The byte at an address.
     pub fn byte(&self, address: u32) -> u8
         requires { address < MEMORY_SIZE }
         ensures byte { result ≡ slice_index self.now address }
@@ -45,6 +46,7 @@ impl Memory {
         self.bytes[address as usize]
     }
 
+    /// Replaces the byte at an address. Here it isn't counted.
     pub fn set(&mut self, address: u32, value: u8)
         requires { address < MEMORY_SIZE }
         ensures { self.new ≡ slice_set self.old address value }

@@ -18,7 +18,7 @@ const ABSENT: Lines = Lines {
 };
 
 impl<D: Drive> MachineOf<D> {
-    /// Reads a port. FF where nothing answers.
+    /// Reads a port, and lets the device steps of the next gap pass. FF where nothing answers.
     pub fn inb(&mut self, port: u16) -> u8
         ensures { Inputs port result (board D.state self.old) (board D.state self.new) }
     {
@@ -28,7 +28,8 @@ impl<D: Drive> MachineOf<D> {
         value
     }
 
-    /// Writes a port. It is ignored where nothing answers.
+    /// Writes a port, and lets the device steps of the next gap pass. It is ignored where nothing answers. A write of
+    /// DOR turns motors at once.
     pub fn outb(&mut self, port: u16, value: u8)
         ensures { Outputs port value (board D.state self.old) (board D.state self.new) }
     {

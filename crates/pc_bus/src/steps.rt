@@ -55,7 +55,7 @@ impl<D: Drive> MachineOf<D> {
         }
     }
 
-    /// Runs exactly so many device steps.
+    /// Runs exactly so many device steps. One is a word time, 32 microseconds at 500 kbit/s.
     pub fn wait(&mut self, steps: u32)
         ensures runs { Runs steps (stirred (board D.state self.old)) (board D.state self.new) }
         ensures steps { (board D.state self.new).bus.steps ≡ min ((board D.state self.old).bus.steps + steps) last_count }

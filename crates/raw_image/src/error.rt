@@ -6,7 +6,8 @@ use flop_base::NoMemory;
 use std::alloc::{AllocError, AllocFailed};
 use thiserror::Error;
 
-/// What is wrong with an image file: the first of these that holds, in this order.
+/// What is wrong with an image file: the first of these that holds, in this order. Lengths and offsets count bytes, and
+/// the first byte has offset 0.
 #[derive(Clone, Copy, Debug, PartialEq, Eq, Error)]
 pub enum ImageError {
     /// The file ends before the header does, or before the words that the header tells of.

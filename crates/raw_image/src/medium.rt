@@ -31,7 +31,7 @@ impl Medium {
     ghost use Rattle.raw_image.specs.Image.{disk_of};
     ghost use Rattle.raw_image.specs.Shape.{header_view};
 
-    /// An unprotected medium at 500 kbit/s, all words 0000.
+    /// An unprotected medium at 500 kbit/s with so many words a track, all 0000.
     pub fn blank(alloc: Global, cylinders: u8, heads: u8, words: u16) -> Result<Medium, NoMemory>
         requires some_cylinders { 1 ≤ cylinders }
         requires most_cylinders { cylinders ≤ 80 }
@@ -44,7 +44,7 @@ impl Medium {
         Medium::blank_at(alloc, cylinders, heads, words, Rate::R500)
     }
 
-    /// An unprotected medium, all words 0000.
+    /// An unprotected medium with so many words a track, all 0000.
     pub fn blank_at(
         alloc: Global,
         cylinders: u8,
@@ -101,6 +101,7 @@ impl Medium {
         self.shape.protected
     }
 
+    /// How many cylinders it has, 1 to 80. They are numbered from 0.
     pub fn cylinders(&self) -> u8
         ensures value { result ≡ self.now.cylinders }
         ensures valid { IsDisk self.now }
@@ -108,6 +109,7 @@ impl Medium {
         self.shape.cylinders
     }
 
+    /// How many heads it has, 1 or 2. They are numbered from 0.
     pub fn heads(&self) -> u8
         ensures value { result ≡ self.now.heads }
         ensures valid { IsDisk self.now }
@@ -115,7 +117,7 @@ impl Medium {
         self.shape.heads
     }
 
-    /// How many words a track has.
+    /// How many words of sixteen cells a track has, 64 to 16,384.
     pub fn words(&self) -> u16
         ensures value { result ≡ self.now.words_per_track }
         ensures valid { IsDisk self.now }
@@ -123,6 +125,7 @@ impl Medium {
         self.shape.words_per_track
     }
 
+    /// The data rate of all its tracks.
     pub fn rate(&self) -> Rate
         ensures { result ≡ self.now.rate }
     {
@@ -138,7 +141,8 @@ impl Medium {
         (c as usize * self.shape.heads as usize + h as usize) * self.shape.words_per_track as usize
     }
 
-    /// The track of a cylinder and a head, if the medium has it.
+    /// The words of the track of a cylinder and a head, both from 0, if the medium has it. The first word is behind the
+    /// index.
     pub fn track(&self, c: u8, h: u8) -> Option<&[u16]>
         ensures found { IsSome result ↔ HasTrack self.now c h }
         ensures track { IfSome result (λ track. track.now ≡ track_of self.now c h) }

@@ -48,7 +48,8 @@ impl ImageReader {
         }
     }
 
-    /// Takes the next piece of the file. After an error this call and `finish` answer the same error for ever.
+    /// Takes the next piece of the file, of any length. After an error this call and `finish` answer the same error for
+    /// ever.
     pub fn feed(&mut self, piece: &[u8]) -> Result<(), ImageError>
         ensures fed { Feeds self.old piece.now self.new }
         ensures ok { OnOk result (IsSound self.new) }
@@ -71,7 +72,7 @@ impl ImageReader {
         }
     }
 
-    /// The medium that all the pieces together spell.
+    /// The medium that all the pieces together spell. That the file is too short shows only here.
     pub fn finish(self) -> Result<Medium, ImageError>
         ensures read { (bytes : List ℕ) → IsFed bytes self → Reads (image_of bytes) result }
         ensures valid { IfOk result IsDisk }

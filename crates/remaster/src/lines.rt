@@ -17,9 +17,12 @@ use track_fields::{Field, Look};
 /// cell of the field's marks, and what was found behind it.
 #[derive(Clone, Copy, Debug, PartialEq, Eq)]
 pub struct SurveyLine {
+    /// The cylinder of the track, from 0.
     pub cylinder: u8,
+    /// The head of the track, from 0.
     pub head: u8,
     pub field: Field,
+    /// `NoData` where the size code names no size.
     pub look: Look,
 }
 

@@ -10,7 +10,7 @@ use floppy_jobs::numbers::number;
 use std::alloc::{AllocError, Global};
 use std::fmt;
 
-/// A record that was not read, and the drive's refusal.
+/// A record that was not read, and the drive's refusal: 02, 04, 08, 10 or 40.
 #[derive(Clone, Copy, Debug, PartialEq, Eq)]
 pub struct LogLine {
     pub key: Chrn,

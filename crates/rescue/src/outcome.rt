@@ -8,7 +8,9 @@ use std::fmt;
 /// How many records were asked for, and how many of them were read and written.
 #[derive(Clone, Copy, Debug, PartialEq, Eq)]
 pub struct Outcome {
+    /// The records that were read and written.
     pub written: usize,
+    /// The records that were asked for, those written among them.
     pub asked: usize,
 }
 

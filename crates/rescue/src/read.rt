@@ -16,6 +16,7 @@ pub enum LogError {
     /// The first line that isn't understood, counted from 1.
     #[error("log line {line} not understood")]
     BadLine { line: usize },
+    /// Memory couldn't be had. This says nothing of the text.
     #[error("out of memory")]
     NoMemory,
 }
@@ -88,7 +89,7 @@ fn follows(lines: &[LogLine], line: LogLine) -> bool
     }
 }
 
-/// Reads the log of a diskette with so many sectors on a track.
+/// Reads the log of a diskette with so many sectors on a track. A text with a bad line is refused as a whole.
 pub fn read_log(alloc: Global, bytes: &[u8], sectors: u8) -> Result<Vec<LogLine>, LogError>
     ensures { ReadsLog (λ lines. lines.items) sectors bytes.now result }
 {

@@ -8,7 +8,7 @@ ghost use Rattle.track_model.specs.Windows.{window_word, cut_of};
 use flop_base::Chrn;
 use track_fields::window_word;
 
-/// Replaces the first `cut` words of the window of the address field at cell `place`.
+/// Replaces the first `cut` words of the window of the address field at cell `place`, as a write that stops there does.
 pub fn place_window(words: &mut [u16], place: usize, window: &[u16], cut: usize)
     requires sized { IsTrackSized words.old }
     requires most { cut ≤ length window.now }

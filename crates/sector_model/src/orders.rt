@@ -7,14 +7,15 @@ ghost use Rattle.sector_model.specs.Asked.{IsAsked};
 use bay_model::USER_BYTES;
 use flop_base::{Chrn, Rate, sector_size};
 
-/// A cylinder and a head of a drive.
+/// Whether a drive has this cylinder and head: cylinders 0 to 79, heads 0 and 1.
 pub fn is_place(c: u8, h: u8) -> bool
     ensures { result ≡ is_place c h }
 {
     c <= 79 && h <= 1
 }
 
-/// Whether a read or a write of this key can be asked for, at this address.
+/// Whether a read or a write of this key can be asked for, at this address: bay 0 or 1, a place of a drive, a record
+/// from 1, a size code from 1 to 6, and all bytes in user memory.
 pub fn is_sector_request(bay: u8, key: Chrn, address: u32) -> bool
     ensures value { result ≡ is_sector_request bay key address }
     ensures asked { IsTrue result → IsAsked bay key address }
@@ -35,7 +36,7 @@ pub fn crosses_page(address: u32, count: usize) -> bool
     first / 65_536 != (first + count - 1) / 65_536
 }
 
-/// The longest gap 3 with which the sectors of a rate fit on a track of that rate's usual length.
+/// The longest gap 3, in bytes, with which the sectors of a rate fit on a track of that rate's usual length.
 pub fn most_format_gap(rate: Rate) -> u8
     ensures { result ≡ most_format_gap rate }
 {

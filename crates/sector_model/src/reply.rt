@@ -10,11 +10,13 @@ use thiserror::Error;
 /// The answer to a request that was run.
 #[derive(Drop)]
 pub enum Reply {
+    /// It was done. A field that was read isn't marked deleted.
     Done,
     /// A field was read, and its mark says that it is deleted.
     DoneDeleted,
     /// The bytes of memory from the address on.
     Bytes { address: u32, content: Bytes },
+    /// It was refused, for this reason.
     Refused(Reason),
 }
 

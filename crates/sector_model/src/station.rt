@@ -73,7 +73,8 @@ pub trait Station: Drop {
         ensures counts { GoesOn (shown self.old).counters (shown self.new).counters }
         ensures ready { is_ready self.new };
 
-    /// Acknowledges a change of the medium, and finds the medium's rate.
+    /// Acknowledges a change of the medium, and finds the medium's rate. Refusals: `BadRequest` where the bay is above
+    /// 1; `NotReady` where no medium is in, or its drive lost pulse after pulse, and the bay then isn't acknowledged.
     fn ack(&mut self, bay: u8) -> Result<(), Code>
         requires ready { is_ready self.old }
         ensures step { Acks (shown self.old) bay result (shown self.new) }
@@ -88,14 +89,17 @@ pub trait Station: Drop {
         ensures counts { GoesOn (shown self.old).counters (shown self.new).counters }
         ensures ready { is_ready self.new };
 
-    /// Reads the sector of this key to memory from the address on; true where it is marked deleted.
+    /// Reads the sector of this key to memory from the address on; true where it is marked deleted. Refusals, in this
+    /// order: `BadRequest` where `is_sector_request` is false, `Page` where `crosses_page` is true, `Changed` where the
+    /// bay isn't acknowledged, and then the drive's.
     fn read(&mut self, bay: u8, key: Chrn, address: u32) -> Result<bool, Code>
         requires ready { is_ready self.old }
         ensures step { Reads (shown self.old) bay key address result (shown self.new) }
         ensures counts { GoesOn (shown self.old).counters (shown self.new).counters }
         ensures ready { is_ready self.new };
 
-    /// Writes memory from the address on to the sector of this key, marked deleted or not.
+    /// Writes memory from the address on to the sector of this key, marked deleted or not. Refusals: those of `read`,
+    /// with `Protected` before the drive's.
     fn write(&mut self, bay: u8, key: Chrn, address: u32, deleted: bool) -> Result<(), Code>
         requires ready { is_ready self.old }
         ensures step { WritesTo (shown self.old) bay key address deleted result (shown self.new) }
@@ -103,20 +107,23 @@ pub trait Station: Drop {
         ensures ready { is_ready self.new };
 
     /// Formats the track of a cylinder and head with records of 512 bytes `fill`: 18 at 500 kbit/s, 9 at 250 kbit/s.
+    /// Refusals, in this order: `BadRequest` for no bay, no place, or a gap 3 that isn't from 16 to `most_format_gap`;
+    /// `Changed`, `Protected`, and then the drive's.
     fn format(&mut self, bay: u8, c: u8, h: u8, gap3: u8, fill: u8) -> Result<(), Code>
         requires ready { is_ready self.old }
         ensures step { FormatsTo (shown self.old) bay c h gap3 fill result (shown self.new) }
         ensures counts { GoesOn (shown self.old).counters (shown self.new).counters }
         ensures ready { is_ready self.new };
 
-    /// Sets the rate of an acknowledged bay.
+    /// Sets the rate of an acknowledged bay. Refusals: `BadRequest` where the bay is above 1, `Changed` where it isn't
+    /// acknowledged.
     fn set_rate(&mut self, bay: u8, rate: Rate) -> Result<(), Code>
         requires ready { is_ready self.old }
         ensures step { RatesTo (shown self.old) bay rate result (shown self.new) }
         ensures counts { GoesOn (shown self.old).counters (shown self.new).counters }
         ensures ready { is_ready self.new };
 
-    /// Sets the number of attempts of the calls after it.
+    /// Sets the number of attempts of the calls after it, which is 3 at first.
     fn set_tries(&mut self, tries: u8)
         requires ready { is_ready self.old }
         requires least { 1 ≤ tries }
@@ -130,7 +137,7 @@ pub trait Station: Drop {
         requires bay { bay ≤ 1 }
         ensures { result ≡ faults_of (shown self.now).counters bay };
 
-    /// The DMA requests that waited too long.
+    /// The DMA requests that were held back for more than 8 device steps.
     fn stalls(&self) -> u64
         ensures { result ≡ (shown self.now).counters.stalls };
 

@@ -30,7 +30,7 @@ pub trait Commands: Drop {
         ensures resets { IsReset (rig self.old) (rig self.new) }
         ensures idle { is_idle self.new };
 
-    /// The change line of a drive.
+    /// The change line of a drive (PC/AT): set from an exchange of the medium on, until a pulse with a medium in.
     fn is_changed(&mut self, bay: u8) -> bool
         requires idle { is_idle self.old }
         requires bay { bay ≤ 1 }
@@ -65,7 +65,8 @@ pub trait Commands: Drop {
         ensures sound { IsSound (rig self.new) }
         ensures idle { is_idle self.new };
 
-    /// Steps to a cylinder by the controller's number.
+    /// Steps to a cylinder, from 0, with as many pulses as it is away by the controller's number. A lost pulse isn't
+    /// told, but counted as a fault.
     fn seek(&mut self, bay: u8, target: u8)
         requires idle { is_idle self.old }
         requires bay { bay ≤ 1 }
@@ -85,6 +86,7 @@ pub trait Commands: Drop {
         ensures idle { is_idle self.new };
 
     /// Reads the record of a key from the track under its head to user memory; true where it is marked deleted.
+    /// Refusals: `NoMark`, `NotFound`, `BadCrc` and `Overrun`.
     fn read(&mut self, bay: u8, key: Chrn, rate: Rate, address: u32) -> Result<bool, Code>
         requires idle { is_idle self.old }
         requires bay { bay ≤ 1 }
@@ -97,7 +99,7 @@ pub trait Commands: Drop {
         ensures sound { IsSound (rig self.new) }
         ensures idle { is_idle self.new };
 
-    /// Reads the record of a key to the beginning of the driver's page.
+    /// Reads the record of a key to the beginning of the driver's page, as `read` does.
     fn read_back(&mut self, bay: u8, key: Chrn, rate: Rate) -> Result<bool, Code>
         requires idle { is_idle self.old }
         requires bay { bay ≤ 1 }
@@ -108,7 +110,8 @@ pub trait Commands: Drop {
         ensures sound { IsSound (rig self.new) }
         ensures idle { is_idle self.new };
 
-    /// Writes user memory to the record of a key on the track under its head.
+    /// Writes user memory to the record of a key on the track under its head. Refusals: `NoMark`, `NotFound` and
+    /// `Overrun`.
     fn write(
         &mut self,
         bay: u8,
@@ -131,8 +134,8 @@ pub trait Commands: Drop {
         ensures sound { IsSound (rig self.new) }
         ensures idle { is_idle self.new };
 
-    /// Formats the track under a head with the records of the rate, for this cylinder and head. Part of the driver's page
-    /// is written over.
+    /// Formats the track under a head with the records of the rate, for this cylinder and head. Part of the driver's
+    /// page is written over. Refusals: `NoMark`, also where the layout doesn't fit, and `Overrun`.
     fn format(&mut self, bay: u8, c: u8, h: u8, rate: Rate, gap3: u8, fill: u8) -> Result<(), Code>
         requires idle { is_idle self.old }
         requires bay { bay ≤ 1 }
@@ -150,11 +153,11 @@ pub trait Commands: Drop {
         requires address { address < user_bytes }
         ensures byte { result ≡ slice_index (rig self.now).memory address };
 
-    /// A byte of the driver's page.
+    /// A byte of the driver's page, from F0000 on.
     fn page(&self, i: u16) -> u8
         ensures byte { result ≡ slice_index (rig self.now).page i };
 
-    /// The count of faults of a drive.
+    /// The count of faults of a drive, which stays at its last value.
     fn faults(&self, bay: u8) -> u64
         requires bay { bay ≤ 1 }
         ensures { result ≡ faults_of (rig self.now).counters bay };

@@ -5,7 +5,7 @@ ghost use Rattle.track_model.specs.Crc.{crc, crc_from};
 // What the CRC is preset to.
 const PRESET: u16 = 0xFFFF;
 
-/// The CRC of the three A1 bytes that begin a field.
+/// The CRC of the three A1 bytes that begin a field (IBM System 34: x^16 + x^12 + x^5 + 1, preset to FFFF).
 pub const MARKS_CRC: u16 = 0xCDB4;
 
 // What each byte leaves of a CRC of 0.
@@ -53,7 +53,7 @@ pub fn mark_crc(mark: u8) -> u16
     crc_step(MARKS_CRC, mark)
 }
 
-/// The CRC of the bytes of a field, of which the three A1 are the first.
+/// The CRC of the bytes of a field, of which the three A1 are the first. Its high byte is recorded first.
 pub fn field_crc(bytes: &[u8]) -> u16
     requires { 2 ≤ length bytes.now }
     ensures { result ≡ crc bytes.now }

@@ -16,7 +16,7 @@ pub(crate) fn byte_at_cell(words: &[u16], p: usize) -> u8
     decode_word(cells16(words, p))
 }
 
-/// Byte `i` of the content that begins at cell `place`.
+/// Byte `i`, from 0, of the content that begins at cell `place`. Its cells may begin at any phase.
 pub fn content_byte(words: &[u16], place: usize, i: usize) -> u8
     requires sized { IsTrackSized words.now }
     requires inside { IsInside words.now (place + 16 * i) 16 }

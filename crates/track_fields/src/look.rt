@@ -38,8 +38,8 @@ fn first_data_mark(words: &[u16], place: usize) -> Option<DataMark>
     None
 }
 
-/// The first data mark of the address field at cell `place`: whether it marks its data as deleted, and the first cell
-/// of the content behind it.
+/// The first data mark of the address field at cell `place`, less than 960 cells behind its end: whether it marks its
+/// data as deleted, and the first cell of the content behind it.
 pub fn data_at(words: &[u16], place: usize) -> Option<(bool, usize)>
     requires sized { IsTrackSized words.now }
     requires address { IsAddress words.now place }

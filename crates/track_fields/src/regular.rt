@@ -20,7 +20,8 @@ const WINDOW_WORDS: usize = 18;
 /// The words of a span behind the address field, besides the content.
 const SPAN_WORDS: usize = 67;
 
-/// The word at which the window of the address field at cell `place` begins.
+/// The word, from 0, at which the window of the address field at cell `place` begins: the first boundary 22 bytes or
+/// more behind the field (IBM System 34, gap 2).
 pub fn window_word(place: usize) -> usize
     requires { place ≤ 262144 }
     ensures { result ≡ window_word place }

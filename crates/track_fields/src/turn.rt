@@ -97,7 +97,8 @@ fn read_behind(
     TurnRead::NoData
 }
 
-/// Feeds a whole turn to a separator and reads the first sector of the key into `content`.
+/// Feeds a whole turn, from the index on, to a separator and reads the first sector of the key into `content`. That
+/// counts only after `Found`.
 pub fn read_turn(words: &[u16], key: Chrn, content: &mut [u8]) -> TurnRead
     requires coded { IsSizeCode key.n }
     requires sized { length content.old ≡ content_size key.n }

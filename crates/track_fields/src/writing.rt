@@ -47,7 +47,7 @@ fn fill_address_words(words: &mut [u16], key: Chrn)
     fill_bytes(words, 15, true, &field);
 }
 
-/// The 22 words of an address field, from its sync to its check.
+/// The 22 words of an address field, from its sync to its check (IBM System 34), as recorded after a bit 0.
 pub fn address_words(alloc: Global, key: Chrn) -> Result<Vec<u16>, NoMemory>
     ensures { IfOk result (λ words. words.items ≡ address_field key) }
 {

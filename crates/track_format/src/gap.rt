@@ -44,8 +44,8 @@ fn suits(n: u8, sectors: u8, words: usize, gap3: u8) -> bool
     gap + (words - laid) >= LEAST_END
 }
 
-/// The largest gap 3 with which a track of so many sectors of size code `n` can be formatted, so that each can be
-/// written over.
+/// The largest gap 3, in bytes, with which a track of so many sectors of size code `n` can be formatted, so that each
+/// can be written over: from 16 to the standard one of the rate. Nothing where no such gap leaves room.
 pub fn choose_gap(n: u8, sectors: u8, rate: Rate) -> Option<u8>
     requires at_least { 1 ≤ n }
     requires at_most { n ≤ 6 }

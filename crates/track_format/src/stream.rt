@@ -54,7 +54,8 @@ pub struct FormatStream {
 }
 
 impl FormatStream {
-    /// The track of so many sectors of size code `n`, whose content is `fill` bytes, with `gap3` bytes behind each.
+    /// The track of so many sectors of size code `n` (IBM System 34), whose content is `fill` bytes, with `gap3` bytes
+    /// behind each.
     pub fn new(n: u8, sectors: u8, gap3: u8, fill: u8) -> FormatStream
         requires at_least { 1 ≤ n }
         requires at_most { n ≤ 6 }

@@ -38,7 +38,8 @@ impl<T: Drop> From<AllocFailed<T>> for LayoutError {
     }
 }
 
-/// The words of a formatted track, with a sector of size code `n` for each key.
+/// The `words` words of a formatted track (IBM System 34), from the index on, with a sector of size code `n` and `gap3`
+/// bytes 4E for each key.
 pub fn layout(
     alloc: Global,
     keys: &[Chrn],

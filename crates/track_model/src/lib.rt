@@ -26,6 +26,8 @@ pub enum Look {
 /// An intact address field: its first cell and its key.
 #[derive(Clone, Copy, Debug, PartialEq, Eq)]
 pub struct Field {
+    /// The first cell of its marks, counted from the index on.
     pub place: usize,
+    /// The four bytes behind its mark byte.
     pub key: Chrn,
 }
