@@ -20,6 +20,14 @@ impl Model for Bytes {
 }
 
 impl Bytes {
+    /// Keeps a filled vector as it is, with no copy.
+    pub fn of(bytes: Vec<u8>) -> Bytes
+        ensures { result ≡ bytes.items }
+    {
+        Bytes { bytes }
+    }
+
+    /// Keeps a copy, for bytes that belong to the caller. It fails only where memory runs out.
     pub fn copy(alloc: Global, bytes: &[u8]) -> Result<Bytes, NoMemory>
         ensures { IfOk result (λ copy. copy ≡ bytes.now) }
     {
@@ -28,6 +36,7 @@ impl Bytes {
         })
     }
 
+    /// The bytes where they are kept, borrowed.
     pub fn as_slice(&self) -> &[u8]
         ensures { result.now ≡ self.now }
     {
@@ -50,6 +59,7 @@ impl Model for Name {
 }
 
 impl Name {
+    /// Keeps a copy of a text that belongs to the caller. It fails only where memory runs out.
     pub fn copy(alloc: Global, text: &str) -> Result<Name, NoMemory>
         ensures { IfOk result (λ copy. copy ≡ text.now) }
     {
@@ -58,6 +68,7 @@ impl Name {
         })
     }
 
+    /// The text where it is kept, borrowed.
     pub fn as_str(&self) -> &str
         ensures { result.now ≡ self.now }
     {

@@ -1,11 +1,15 @@
 -- How a request or a run stops.
-use Rattle.std.proofs.Common.{rules, ◌≡◌, ℕ, ◌≤◌, List, Option, Some, None, Result, Ok, Err, OnOk, OnErr, IfErr, false, refl, arith, subst, sym}
+use Rattle.std.proofs.Common.{rules, ◌≡◌, ℕ, ◌<◌, ◌≤◌, List, Option, Some, None, Result, Ok, Err, OnOk, OnErr, IfErr, false, refl, arith, subst, sym}
+use Rattle.std.proofs.lemmas.Bool.{lt-leb}
 use Rattle.flop_base.specs.Shelf.{Files, stored}
+use Rattle.flop_base.specs.declared.answers.Code.TheVariants.{BadRequest}
 use Rattle.raw_image.specs.Disk.{Disk}
 use Rattle.raw_image.specs.Image.{file_of}
 use Rattle.floppy_jobs.specs.declared.request.Request.{Request}
 use Rattle.floppy_jobs.specs.declared.request.Request.TheVariants as request
 use Rattle.sector_model.specs.declared.reply.Reply.{Reply}
+use Rattle.sector_model.specs.declared.reply.Reply.TheVariants as reply
+use Rattle.sector_model.specs.declared.reply.Reason.TheVariants as reason
 use Rattle.sector_model.specs.declared.reply.Stop.{Stop}
 use Rattle.bay_model.specs.Bays.{in_bay}
 use Rattle.sector_model.specs.Stations.{bay_of}
@@ -26,6 +30,21 @@ same_still state = record {
   idle = record { accesses = omega arith; no_commands = refl };
   counts = goes_on_itself state.station.counters;
 }
+
+-- a format in a bay past the second is a bad request, and the state is as it was
+pub format_refused : (state : State) (told : Option Files) (bay c h : ℕ) → 1 < bay → Step state told (request.Format bay c h) (reply.Refused (reason.Driver BadRequest)) state told
+format_refused state told bay c h past = (
+  record { names = refl; files = refl; counts = goes_on_itself state.station.counters },
+  (
+    Err BadRequest,
+    refl,
+    rw (lt-leb bay 1 past) (record {
+      refused = refl;
+      stays = refl;
+      idle = record { most_commands = omega arith; interrupts = omega arith; past_driver = refl };
+    }),
+  ),
+)
 
 insert_taken : (state : State) (bay : ℕ) (name : List ℕ) → bay ≤ 1 → is_loaded state bay ≡ false → refusal_of state (request.Insert bay name) ≡ None
 insert_taken state bay name low empty = grind (arith, rules)

@@ -1,12 +1,10 @@
 // The requests that are calls of the driver.
 ghost use Rattle.std.specs.Prelude.{◌≡◌, ◌+◌, ◌≤◌, length, Option, IfErr};
 ghost use Rattle.flop_base.specs.Shelf.{Files};
-ghost use Rattle.sector_model.specs.Stations.{bay_of};
-ghost use Rattle.flop_base.specs.Standard.{gap_at};
 ghost use Rattle.bay_model.specs.Memory.{SameOutside};
 ghost use Rattle.sector_model.specs.Steps.{Step, reply_of, read_reply};
 
-use crate::session::Session;
+use crate::session::{Session, bad_request};
 use flop_base::standard::FILL;
 use flop_base::{Chrn, Code, Rate};
 use floppy_jobs::Request;
@@ -96,16 +94,11 @@ impl<D: Station> Session<D> {
             result (state_of D.shown self.new) told }
         ensures running { IsRunning D.shown D.is_ready self.new }
     {
-        let gap3 = self.standard_gap(bay);
+        if bay > 1 {
+            return bad_request();
+        }
+        let gap3 = self.station.rate(bay).format_gap();
         reply(self.station.format(bay, c, h, gap3, FILL))
-    }
-
-    /// The gap 3 of the standard format at the rate of the bay.
-    fn standard_gap(&self, bay: u8) -> u8
-        requires { IsRunning D.shown D.is_ready self.now }
-        ensures { result ≡ gap_at (bay_of (state_of D.shown self.now).station bay).rate }
-    {
-        self.station.rate(bay.min(1)).format_gap()
     }
 
     /// Sets the data rate of the bay.

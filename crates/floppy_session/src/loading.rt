@@ -1,7 +1,7 @@
 // Image files, from a shelf and back to it.
 ghost use Rattle.std.specs.Prelude.{◌≡◌, ℕ, IfOk, IfErr, OnOk, OnErr, IsErrOf};
 ghost use Rattle.flop_base.specs.Shelf.{stored};
-ghost use Rattle.raw_image.specs.Image.{image_of, file_of, Reads};
+ghost use Rattle.raw_image.specs.Image.{file_of};
 ghost use Rattle.sector_model.specs.Steps.{IsImageOf, StopCause};
 ghost use Rattle.sector_model.specs.Runs.{IsEndStop};
 ghost use Rattle.sector_model.specs.Faults.{Blames};
@@ -9,15 +9,12 @@ ghost use Rattle.floppy_session.specs.Loads.{StopsFor, StopsForStore};
 
 use flop_base::{LoadError, Name, NoMemory, Shelf, StoreError};
 use floppy_jobs::Request;
-use raw_image::{ImageError, ImageReader, Medium, write_image};
+use raw_image::{ImageError, Medium, read_image, write_image};
 use sector_model::Stop;
 use std::alloc::Global;
 
 /// The longest image file, in bytes: 80 cylinders of 2 heads with 16,384 words a track.
 const MOST_IMAGE_BYTES: usize = 5_242_894;
-
-/// The bytes that the reader of images is given at a time.
-const PIECE_BYTES: usize = 4_096;
 
 /// The medium of the image file of this name. A missing name, a file past the longest image and one that is no image stop
 /// the run, each with its cause.
@@ -32,7 +29,7 @@ pub fn load_medium<S: Shelf>(alloc: Global, shelf: &mut S, name: &Name) -> Resul
         Ok(bytes) => bytes,
         Err(error) => return Err(stop_at_load(alloc, name, error)?),
     };
-    match read_pieces(alloc, &bytes) {
+    match read_image(alloc, &bytes) {
         Ok(medium) => Ok(medium),
         Err(ImageError::NoMemory) => Err(Stop::NoMemory),
         Err(error) => Err(Stop::BadImage {
@@ -40,20 +37,6 @@ pub fn load_medium<S: Shelf>(alloc: Global, shelf: &mut S, name: &Name) -> Resul
             error,
         }),
     }
-}
-
-/// The medium that an image's bytes spell, read piece by piece.
-fn read_pieces(alloc: Global, bytes: &[u8]) -> Result<Medium, ImageError>
-    ensures { Reads (image_of bytes.now) result }
-{
-    let mut reader = ImageReader::new(alloc);
-    let mut rest = bytes;
-    while !rest.is_empty() {
-        let (piece, others) = rest.split_at(rest.len().min(PIECE_BYTES));
-        reader.feed(piece)?;
-        rest = others;
-    }
-    reader.finish()
 }
 
 /// What a refused load stops the run with.

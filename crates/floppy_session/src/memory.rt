@@ -64,7 +64,7 @@ impl<D: Station> Session<D> {
         for i in 0..length {
             content.push(self.station.memory(address + i))?;
         }
-        Bytes::copy(self.alloc, &content)
+        Ok(Bytes::of(content))
     }
 }
 

@@ -43,7 +43,7 @@ fn content_bytes(alloc: Global, words: &[u16], place: usize, n: u8) -> Result<By
     for i in 0..size {
         content.push(content_byte(words, place, i))?;
     }
-    Bytes::copy(alloc, &content)
+    Ok(Bytes::of(content))
 }
 
 fn intact_kind(deleted: bool) -> ImdKind

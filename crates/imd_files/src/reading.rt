@@ -115,7 +115,7 @@ fn read_content<'a>(
     if type_byte % 2 == 0 {
         let (fill, after) = left.part(1)?;
         let content = vec![in alloc; fill[0]; size]?;
-        return Ok((Bytes::copy(alloc, &content)?, after));
+        return Ok((Bytes::of(content), after));
     }
     let (content, after) = left.part(size)?;
     Ok((Bytes::copy(alloc, content)?, after))

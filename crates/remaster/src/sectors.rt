@@ -31,7 +31,7 @@ fn copy_content(alloc: Global, words: &[u16], place: usize, n: u8) -> Result<Byt
     for i in 0..size {
         bytes.push(content_byte(words, place, i))?;
     }
-    Bytes::copy(alloc, &bytes)
+    Ok(Bytes::of(bytes))
 }
 
 /// Adds what was found behind an address field.
