@@ -1,5 +1,5 @@
 -- User memory, and ranges of it.
-use Rattle.std.specs.Prelude.{◌≡◌, ℕ, ◌+◌, ◌<◌, ◌≤◌, ◌⊎◌, List, length, replicate, take, drop, ◌++◌, slice_index}
+use Rattle.std.specs.Prelude.{◌≡◌, ℕ, ◌+◌, ◌<◌, ◌≤◌, ◌⊎◌, List, length, replicate, take, drop, slice_index}
 
 -- the bytes of user memory, from 00000 to EFFFF
 abbrev pub user_bytes : ℕ
@@ -12,10 +12,6 @@ zeroes count = replicate count 0
 -- the bytes of memory from an address on
 abbrev pub bytes_from : List ℕ → ℕ → ℕ → List ℕ
 bytes_from memory address count = take count (drop address memory)
-
--- memory with these bytes from an address on
-unfoldable pub with_bytes : List ℕ → ℕ → List ℕ → List ℕ
-with_bytes memory address bytes = take address memory ++ (bytes ++ drop (address + length bytes) memory)
 
 -- memory is the same but for a range
 pub record SameOutside (old : List ℕ) (address count : ℕ) (new : List ℕ) : Type 0 where

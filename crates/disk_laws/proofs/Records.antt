@@ -11,7 +11,8 @@ use Rattle.bay_model.specs.Counters.{Counters}
 use Rattle.track_model.specs.Fields.{IsAddressAt}
 use Rattle.track_model.specs.Sectors.{IsSector, IsUnder, IsLone}
 use Rattle.sector_map.proofs.RegularTracks.{key_cylinder}
-use Rattle.bay_model.specs.Memory.{user_bytes, bytes_from, with_bytes}
+use Rattle.flop_base.specs.Lists.{with_items}
+use Rattle.bay_model.specs.Memory.{user_bytes, bytes_from}
 use Rattle.track_model.specs.Bytes.{byte_at, bytes_at}
 use Rattle.floppy_jobs.specs.declared.request.Request.{Request}
 use Rattle.floppy_jobs.specs.declared.request.Request.TheVariants as request
@@ -29,7 +30,8 @@ use Rattle.disk_commands.specs.Plans.{record_address}
 use Rattle.disk_laws.specs.Requests.{read_records, mark_of, marks_read}
 use Rattle.disk_laws.specs.Copied.{SomeStep, Gave, IsSure}
 use Rattle.disk_laws.proofs.Steps.{NeverFell, step_never_fell, never_fell, keeps_drives, reached, or_false, done_does}
-use Rattle.disk_laws.proofs.UserMemory.{length-with, below_stays, at_stands}
+use Rattle.track_model.proofs.Splices.{length-with_items}
+use Rattle.disk_laws.proofs.UserMemory.{below_stays, at_stands}
 
 -- ---- one read
 
@@ -46,7 +48,7 @@ pub record ReadsOne (c h r : ℕ) (source : Disk) (old : State) (told : Option F
   pub mark : mark_of (request.Read 0 (key_of c h r) (record_address r)) answer ≡ deleted ∷ []
   pub content : List ℕ
   pub sized : length content ≡ 512
-  pub memory : new.station.memory ≡ with_bytes old.station.memory (record_address r) content
+  pub memory : new.station.memory ≡ with_items old.station.memory (record_address r) content
   pub bays : new.station.bays ≡ old.station.bays
   pub names : new.names ≡ old.names
   pub files : after ≡ told
@@ -168,7 +170,7 @@ all_records sure source c h a (suc n) old new told after (taken ∷ later) all s
     let one = one_record c h a source old taken.after told all.run.0 taken.answer does parts.0 medium in
     let sized = one.sized in
     let fits : address + length one.content ≤ length old.station.memory = omega arith in
-    let same_size : length taken.after.station.memory ≡ user_bytes = ap length one.memory ∙ length-with old.station.memory address one.content fits ∙ size in
+    let same_size : length taken.after.station.memory ≡ user_bytes = ap length one.memory ∙ length-with_items old.station.memory address one.content fits ∙ size in
     let behind : DoesAll taken.after all.run.0 (read_records 0 (keys_from c h (a + 1) n)) later new after = record { run = all.run.2; all = others; done = parts.1 } in
     let fell = step_never_fell old taken.after told all.run.0 (request.Read 0 key address) taken.answer step refl in
     let fell_later = never_fell taken.after new all.run.0 after (read_records 0 (keys_from c h (a + 1) n)) later behind (reads_keep (keys_from c h (a + 1) n)) in

@@ -1,21 +1,12 @@
 -- Ranges of user memory, and what a read puts at one.
 use Rattle.std.proofs.Common.{arith, ◌≡◌, ◌∙◌, ◌+◌, ◌<◌, ◌≤◌, ℕ, List, drop, length, get_or, refl, sym}
 use Rattle.std.proofs.lemmas.List.{ext_get_or, get_or-take, get_or-drop, length-take, length-drop}
-use Rattle.bay_model.specs.Memory.{bytes_from, with_bytes}
-use Rattle.track_model.specs.Windows.{with_words}
-use Rattle.track_model.proofs.Splices.{length-with_words, with_words_before, with_words_at}
+use Rattle.flop_base.specs.Lists.{with_items}
+use Rattle.bay_model.specs.Memory.{bytes_from}
+use Rattle.track_model.proofs.Splices.{length-with_items, with_items_before, with_items_at}
 
-pub length-with : (memory : List ℕ) (address : ℕ) (bytes : List ℕ) → address + length bytes ≤ length memory → length (with_bytes memory address bytes) ≡ length memory
-unfolding with_bytes with_words
-length-with memory address bytes fits = length-with_words memory address bytes fits
-
-pub with_before : (memory : List ℕ) (address : ℕ) (bytes : List ℕ) → address + length bytes ≤ length memory → (k : ℕ) → k < address → get_or (with_bytes memory address bytes) k 0 ≡ get_or memory k 0
-unfolding with_bytes with_words
-with_before memory address bytes fits k before = with_words_before memory address bytes fits k before
-
-pub with_at : (memory : List ℕ) (address : ℕ) (bytes : List ℕ) → address + length bytes ≤ length memory → (k : ℕ) → k < length bytes → get_or (with_bytes memory address bytes) (address + k) 0 ≡ get_or bytes k 0
-unfolding with_bytes with_words
-with_at memory address bytes fits k at = with_words_at memory address bytes fits (address + k) k refl at
+pub with_at : (memory : List ℕ) (address : ℕ) (bytes : List ℕ) → address + length bytes ≤ length memory → (k : ℕ) → k < length bytes → get_or (with_items memory address bytes) (address + k) 0 ≡ get_or bytes k 0
+with_at memory address bytes fits k at = with_items_at memory address bytes fits (address + k) k refl at
 
 -- the bytes of a range, one by one
 pub byte_from : (memory : List ℕ) (place count k : ℕ) → k < count → get_or (bytes_from memory place count) k 0 ≡ get_or memory (place + k) 0
@@ -25,25 +16,25 @@ pub length-bytes_from : (memory : List ℕ) (place count : ℕ) → place + coun
 length-bytes_from memory place count inside = omega (arith, length-take count (drop place memory), length-drop place memory)
 
 -- what is before a range stays
-pub below_stays : (memory : List ℕ) (address : ℕ) (bytes : List ℕ) (place count : ℕ) → address + length bytes ≤ length memory → place + count ≤ address → bytes_from (with_bytes memory address bytes) place count ≡ bytes_from memory place count
+pub below_stays : (memory : List ℕ) (address : ℕ) (bytes : List ℕ) (place count : ℕ) → address + length bytes ≤ length memory → place + count ≤ address → bytes_from (with_items memory address bytes) place count ≡ bytes_from memory place count
 below_stays memory address bytes place count fits below =
-    let long = length-with memory address bytes fits in
-    let one : length (bytes_from (with_bytes memory address bytes) place count) ≡ count = length-bytes_from (with_bytes memory address bytes) place count (omega arith) in
+    let long = length-with_items memory address bytes fits in
+    let one : length (bytes_from (with_items memory address bytes) place count) ≡ count = length-bytes_from (with_items memory address bytes) place count (omega arith) in
     let two : length (bytes_from memory place count) ≡ count = length-bytes_from memory place count (omega arith) in
-    ext_get_or 0 (bytes_from (with_bytes memory address bytes) place count) (bytes_from memory place count) (one ∙ sym two)
+    ext_get_or 0 (bytes_from (with_items memory address bytes) place count) (bytes_from memory place count) (one ∙ sym two)
     (λ k within.
     let inside : k < count = omega arith in
-    byte_from (with_bytes memory address bytes) place count k inside
-    ∙ with_before memory address bytes fits (place + k) (omega arith)
+    byte_from (with_items memory address bytes) place count k inside
+    ∙ with_items_before memory address bytes fits (place + k) (omega arith)
     ∙ sym (byte_from memory place count k inside))
 
 -- what is put at a range stands there
-pub at_stands : (memory : List ℕ) (address : ℕ) (bytes : List ℕ) (count : ℕ) → length bytes ≡ count → address + length bytes ≤ length memory → bytes_from (with_bytes memory address bytes) address count ≡ bytes
+pub at_stands : (memory : List ℕ) (address : ℕ) (bytes : List ℕ) (count : ℕ) → length bytes ≡ count → address + length bytes ≤ length memory → bytes_from (with_items memory address bytes) address count ≡ bytes
 at_stands memory address bytes count sized fits =
-    let long = length-with memory address bytes fits in
-    let one : length (bytes_from (with_bytes memory address bytes) address count) ≡ count = length-bytes_from (with_bytes memory address bytes) address count (omega arith) in
-    ext_get_or 0 (bytes_from (with_bytes memory address bytes) address count) bytes (one ∙ sym sized)
+    let long = length-with_items memory address bytes fits in
+    let one : length (bytes_from (with_items memory address bytes) address count) ≡ count = length-bytes_from (with_items memory address bytes) address count (omega arith) in
+    ext_get_or 0 (bytes_from (with_items memory address bytes) address count) bytes (one ∙ sym sized)
     (λ k within.
     let inside : k < count = omega arith in
     let at : k < length bytes = omega arith in
-    byte_from (with_bytes memory address bytes) address count k inside ∙ with_at memory address bytes fits k at)
+    byte_from (with_items memory address bytes) address count k inside ∙ with_at memory address bytes fits k at)

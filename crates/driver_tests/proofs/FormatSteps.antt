@@ -7,7 +7,7 @@ use Rattle.flop_base.specs.declared.answers.Code.TheVariants.{NoMark}
 use Rattle.flop_base.specs.Standard.{standard_code, sectors_at}
 use Rattle.raw_image.specs.Disk.{Disk, HasTrack, IsWithTrack, track_of}
 use Rattle.track_model.specs.Layouts.{Fits, lay, laid_words}
-use Rattle.track_model.specs.Windows.{with_words}
+use Rattle.flop_base.specs.Lists.{with_items}
 use Rattle.bay_model.specs.Bays.{in_bay}
 use Rattle.sector_map.specs.Standard.{track_keys}
 use Rattle.sector_map.specs.Layings.{Format, formatted, Laying, IsLaying, format_keys}
@@ -49,8 +49,8 @@ module _ (format : Format) (sectors c : ℕ) (count : sectors ≡ sectors_at for
       ∙ ap (formatted format) long
       ∙ sym (take_all d.words_per_track (formatted format d.words_per_track) (omega (arith, length-formatted format d.words_per_track)))
 
-  laid_with : (row : List ℕ) → words ≡ row → take 0 (track_of d c format.h) ++ (words ++ drop (0 + length words) (track_of d c format.h)) ≡ with_words (track_of d c format.h) 0 row
-  unfolding with_words
+  laid_with : (row : List ℕ) → words ≡ row → take 0 (track_of d c format.h) ++ (words ++ drop (0 + length words) (track_of d c format.h)) ≡ with_items (track_of d c format.h) 0 row
+  unfolding with_items
   laid_with row e = ap (λ r. take 0 (track_of d c format.h) ++ (r ++ drop (0 + length r) (track_of d c format.h))) e
 
   abbrev laying : Laying

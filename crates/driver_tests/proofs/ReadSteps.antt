@@ -16,7 +16,8 @@ use Rattle.track_model.specs.Sectors.{IsSector}
 use Rattle.track_model.proofs.Sectored.{found_sector, sector_under}
 use Rattle.bay_model.specs.Bays.{in_bay}
 use Rattle.bay_model.specs.Counters.{Counters}
-use Rattle.bay_model.specs.Memory.{with_bytes, SameOutside}
+use Rattle.flop_base.specs.Lists.{with_items}
+use Rattle.bay_model.specs.Memory.{SameOutside}
 use Rattle.bay_model.proofs.Counted.{drive_same}
 use Rattle.sector_map.specs.Met.{met_in}
 use Rattle.sector_map.proofs.MetTracks.{nothing_from}
@@ -31,8 +32,8 @@ use Rattle.driver_tests.specs.Shown.{rig_of, drive_of}
 
 -- ---- memory with a part written over
 
-pub put_bytes : (list memory bytes : List ℕ) (a k : ℕ) → list ≡ memory → k ≡ length bytes → put_mid a k list bytes ≡ with_bytes memory a bytes
-unfolding with_bytes
+pub put_bytes : (list memory bytes : List ℕ) (a k : ℕ) → list ≡ memory → k ≡ length bytes → put_mid a k list bytes ≡ with_items memory a bytes
+unfolding with_items
 put_bytes list memory bytes a k is long =
     ap (λ row. put_mid a k row bytes) is
     ∙ ap (λ row. take a memory ++ (bytes ++ row)) (drop-drop k a memory)
@@ -42,15 +43,15 @@ module _ (memory : List ℕ) (a : ℕ) (bytes : List ℕ) (fits : a + length byt
   front : length (take a memory) ≡ a
   front = omega (arith, length-take a memory)
 
-  pub length-with_bytes : length (with_bytes memory a bytes) ≡ length memory
-  unfolding with_bytes
-  length-with_bytes =
+  pub length-with_items : length (with_items memory a bytes) ≡ length memory
+  unfolding with_items
+  length-with_items =
       omega (arith, front, length-append (take a memory) (bytes ++ drop (a + length bytes) memory), length-append bytes (drop (a + length bytes) memory), length-drop (a + length bytes) memory)
 
-  pub same_outside : SameOutside memory a (length bytes) (with_bytes memory a bytes)
-  unfolding with_bytes
+  pub same_outside : SameOutside memory a (length bytes) (with_items memory a bytes)
+  unfolding with_items
   same_outside = record {
-    length = length-with_bytes;
+    length = length-with_items;
     others = λ k where_is.
         let rest = drop (a + length bytes) memory in
         elim where_is [
@@ -173,7 +174,7 @@ module _ (drives : Drives) (memory page memory_after page_after : List ℕ) (cou
     refused code miss =
         missed (track_under old bay rate key.h) key bay code old.counters new.counters (at_bay drives bay drive (λ m c. IsMissedOn (met_in m rate c key.h) key code) at miss)
 
-    pub reads_data : (answer : Result Bool Code) (address : ℕ) → memory_after ≡ with_bytes memory address content → address + content_size key.n ≤ length memory → page_after ≡ page → IfOk answer (λ deleted. FindsOn drive.medium rate drive.cylinder key deleted content) → IfErr answer (λ code. IsMissedOn (met_in drive.medium rate drive.cylinder key.h) key code) → ReadsData old bay key rate address answer new
+    pub reads_data : (answer : Result Bool Code) (address : ℕ) → memory_after ≡ with_items memory address content → address + content_size key.n ≤ length memory → page_after ≡ page → IfOk answer (λ deleted. FindsOn drive.medium rate drive.cylinder key deleted content) → IfErr answer (λ code. IsMissedOn (met_in drive.medium rate drive.cylinder key.h) key code) → ReadsData old bay key rate address answer new
     reads_data answer address is fits same_page found miss = record {
       sends = sends;
       found = found_as answer found;
@@ -181,11 +182,11 @@ module _ (drives : Drives) (memory page memory_after page_after : List ℕ) (cou
       outside =
           let room : address + length content ≤ length memory = omega arith in
           subst (λ m. SameOutside memory address (content_size key.n) m) (sym is)
-          (subst (λ k. SameOutside memory address k (with_bytes memory address content)) size (same_outside memory address content room));
+          (subst (λ k. SameOutside memory address k (with_items memory address content)) size (same_outside memory address content room));
       page = same_page;
     }
       where
-        found_as : (a : Result Bool Code) → IfOk a (λ deleted. FindsOn drive.medium rate drive.cylinder key deleted content) → IfOk a (λ deleted. (bytes : List ℕ) × FindsField old bay key rate deleted bytes new × (memory_after ≡ with_bytes memory address bytes))
+        found_as : (a : Result Bool Code) → IfOk a (λ deleted. FindsOn drive.medium rate drive.cylinder key deleted content) → IfOk a (λ deleted. (bytes : List ℕ) × FindsField old bay key rate deleted bytes new × (memory_after ≡ with_items memory address bytes))
         found_as (Ok deleted) f = (content, done deleted f, is)
         found_as (Err code) f = tt
 
@@ -193,7 +194,7 @@ module _ (drives : Drives) (memory page memory_after page_after : List ℕ) (cou
         refused_as (Ok deleted) f = tt
         refused_as (Err code) f = refused code f
 
-    pub reads_back : (answer : Result Bool Code) → page_after ≡ with_bytes page 0 content → memory_after ≡ memory → IfOk answer (λ deleted. FindsOn drive.medium rate drive.cylinder key deleted content) → IfErr answer (λ code. IsMissedOn (met_in drive.medium rate drive.cylinder key.h) key code) → ReadsBack old bay key rate answer new
+    pub reads_back : (answer : Result Bool Code) → page_after ≡ with_items page 0 content → memory_after ≡ memory → IfOk answer (λ deleted. FindsOn drive.medium rate drive.cylinder key deleted content) → IfErr answer (λ code. IsMissedOn (met_in drive.medium rate drive.cylinder key.h) key code) → ReadsBack old bay key rate answer new
     reads_back answer is same_memory found miss = record {
       sends = sends;
       found = found_as answer found;
@@ -201,7 +202,7 @@ module _ (drives : Drives) (memory page memory_after page_after : List ℕ) (cou
       memory = same_memory;
     }
       where
-        found_as : (a : Result Bool Code) → IfOk a (λ deleted. FindsOn drive.medium rate drive.cylinder key deleted content) → IfOk a (λ deleted. (bytes : List ℕ) × FindsField old bay key rate deleted bytes new × (page_after ≡ with_bytes page 0 bytes))
+        found_as : (a : Result Bool Code) → IfOk a (λ deleted. FindsOn drive.medium rate drive.cylinder key deleted content) → IfOk a (λ deleted. (bytes : List ℕ) × FindsField old bay key rate deleted bytes new × (page_after ≡ with_items page 0 bytes))
         found_as (Ok deleted) f = (content, done deleted f, is)
         found_as (Err code) f = tt
 

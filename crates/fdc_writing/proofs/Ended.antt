@@ -5,7 +5,8 @@ use Rattle.flop_base.specs.declared.key.Chrn.{Chrn}
 use Rattle.track_model.specs.Fields.{content_size}
 use Rattle.track_model.specs.Writing.{window}
 use Rattle.track_model.specs.Layouts.{laid_words, lay}
-use Rattle.track_model.specs.Windows.{window_word, with_words}
+use Rattle.flop_base.specs.Lists.{with_items}
+use Rattle.track_model.specs.Windows.{window_word}
 use Rattle.track_separator.proofs.Lawful.{address_stays}
 use Rattle.track_format.proofs.Asked.{length-key_bytes}
 use Rattle.fdc_stages.specs.declared.ending.Ending.{Ending}
@@ -83,7 +84,7 @@ first_written past key deleted handed (inr (p, begun)) =
         field = λ track part. record { address = address_stays past.seen track part p key begun.address; size = long };
         cut = λ track inside. record {
           cuttable = record { most = taken.0; inside = omega (arith, begun.place, inside) };
-          is = ap (λ start. with_words track start past.words) begun.place ∙ ap (with_words track (window_word p)) taken.1;
+          is = ap (λ start. with_items track start past.words) begun.place ∙ ap (with_items track (window_word p)) taken.1;
         };
       },
     )
@@ -98,13 +99,13 @@ whole_written past key deleted handed marked written =
         counted = written.cause.1;
         words = at.whole;
         field = λ track part. record { address = address_stays past.seen track part p key at.address; size = at.size };
-        written = λ track. ap (λ start. with_words track start past.words) at.place ∙ ap (with_words track (window_word p)) (at.whole ∙ sym (take_all (length all) all (omega arith)));
+        written = λ track. ap (λ start. with_items track start past.words) at.place ∙ ap (with_items track (window_word p)) (at.whole ∙ sym (take_all (length all) all (omega arith)));
       },
     )
 
 -- a track of so many words
-pub track_over : (track words : List ℕ) → length track ≡ length words → with_words track 0 words ≡ words
-unfolding with_words
+pub track_over : (track words : List ℕ) → length track ≡ length words → with_items track 0 words ≡ words
+unfolding with_items
 track_over track words same =
     let over : length track ≤ 0 + length words = omega (arith, same) in
     ap (λ xs. words ++ xs) (drop_all (0 + length words) track over) ∙ append-nil words

@@ -4,7 +4,7 @@ use Rattle.std.specs.List.{flat_map}
 use Rattle.flop_base.specs.declared.key.Chrn.{Chrn}
 use Rattle.track_model.specs.declared.symbol.Symbol.{Symbol}
 use Rattle.track_model.specs.Layouts.{recorded, track_symbols, lay, Fits}
-use Rattle.track_model.specs.Windows.{with_words}
+use Rattle.flop_base.specs.Lists.{with_items}
 use Rattle.track_separator.specs.Parts.{with_word}
 use Rattle.track_format.specs.Keys.{key_bytes, asked_in}
 use Rattle.track_format.specs.Streams.{Gives, AsksKey, filled}
@@ -242,4 +242,4 @@ pub record LaysWhole (past : Past) (numbers : Numbers) (handed : List ℕ) : Typ
   pub fits : Fits (keys_from numbers.sectors handed) numbers.n numbers.gap3 (length past.words)
   pub all : length handed ≡ 4 * numbers.sectors
   pub written : (track : List ℕ) → length track ≡ length past.words
-      → with_words track 0 past.words ≡ lay (keys_from numbers.sectors handed) numbers.n numbers.gap3 numbers.fill (length track)
+      → with_items track 0 past.words ≡ lay (keys_from numbers.sectors handed) numbers.n numbers.gap3 numbers.fill (length track)

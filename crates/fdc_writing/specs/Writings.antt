@@ -2,7 +2,8 @@
 use Rattle.std.specs.Prelude.{◌≡◌, ◌⊎◌, ℕ, zero, suc, ◌+◌, ◌<◌, ◌≤◌, Bool, true, false, Option, None, Some, List, [], ◌++◌, length, replicate}
 use Rattle.flop_base.specs.declared.key.Chrn.{Chrn}
 use Rattle.track_model.specs.Fields.{IsAddressAt, content_size}
-use Rattle.track_model.specs.Windows.{window_word, window_words, with_words, IsFieldFor, IsCut}
+use Rattle.flop_base.specs.Lists.{with_items}
+use Rattle.track_model.specs.Windows.{window_word, window_words, IsFieldFor, IsCut}
 use Rattle.track_model.specs.Laid.{with_window}
 use Rattle.track_model.specs.Writing.{window}
 use Rattle.track_separator.specs.Parts.{with_word, IsPart}
@@ -214,7 +215,7 @@ IsStopped past _ = ⊥
 pub record WritesCut (past : Past) (key : Chrn) (deleted : Bool) (content : List ℕ) (p : ℕ) : Type 0 where
   pub field : (track : List ℕ) → IsPart past.seen track → IsFieldFor track p key content
   pub cut : (track : List ℕ) → length past.seen + length past.words ≤ length track
-      → IsCut track (with_words track (length past.seen) past.words) p (length past.words) (window deleted content)
+      → IsCut track (with_items track (length past.seen) past.words) p (length past.words) (window deleted content)
 
 -- nothing was written, or such words; the content is what was handed in, and then 00
 abbrev pub WritesFirst : Past → Chrn → Bool → List ℕ → Type 0
@@ -226,7 +227,7 @@ pub record WritesWindow (past : Past) (key : Chrn) (deleted : Bool) (handed : Li
   pub counted : past.counted ≡ true
   pub words : past.words ≡ window deleted handed
   pub field : (track : List ℕ) → IsPart past.seen track → IsFieldFor track p key handed
-  pub written : (track : List ℕ) → with_words track (length past.seen) past.words ≡ with_window track p deleted handed
+  pub written : (track : List ℕ) → with_items track (length past.seen) past.words ≡ with_window track p deleted handed
 
 abbrev pub WritesWhole : Past → Chrn → Bool → List ℕ → Type 0
 WritesWhole past key deleted handed = (p : ℕ) × WritesWindow past key deleted handed p

@@ -5,7 +5,8 @@ use Rattle.std.proofs.lemmas.List.{ext_get_or}
 use Rattle.flop_base.specs.Shelf.{Files}
 use Rattle.bay_model.specs.Bays.{Two}
 use Rattle.bay_model.specs.Counters.{Counters}
-use Rattle.bay_model.specs.Memory.{user_bytes, bytes_from, with_bytes}
+use Rattle.flop_base.specs.Lists.{with_items}
+use Rattle.bay_model.specs.Memory.{user_bytes, bytes_from}
 use Rattle.floppy_jobs.specs.declared.request.Request.{Request}
 use Rattle.floppy_jobs.specs.declared.request.Request.TheVariants as request
 use Rattle.flat_image.specs.Flat.{sector_place}
@@ -17,7 +18,8 @@ use Rattle.disk_commands.specs.Plans.{record_address}
 use Rattle.flat_commands.specs.Requests.{fill_byte, fill_record, fill_track}
 use Rattle.flat_laws.specs.Imported.{sector_bytes}
 use Rattle.disk_laws.proofs.Steps.{begins, ends_there}
-use Rattle.disk_laws.proofs.UserMemory.{length-with, byte_from, with_before, with_at, length-bytes_from}
+use Rattle.track_model.proofs.Splices.{length-with_items, with_items_before}
+use Rattle.disk_laws.proofs.UserMemory.{byte_from, with_at, length-bytes_from}
 use Rattle.flat_laws.proofs.Each.{AllDone, IsWithin, keeps_each, each_does}
 use Rattle.flat_laws.proofs.Places.{place_is}
 
@@ -31,7 +33,7 @@ pub record IsFilled (bytes : List ℕ) (from n : ℕ) (bays : Two Bay) (names : 
 
 -- ---- one byte
 
-one_more : (memory bytes : List ℕ) (from n address byte : ℕ) → length memory ≡ user_bytes → address ≡ 0x10000 + n → n < 9216 → byte ≡ get_or bytes (from + n) 0 → ((j : ℕ) → j < n → get_or memory (0x10000 + j) 0 ≡ get_or bytes (from + j) 0) → (j : ℕ) → j < n + 1 → get_or (with_bytes memory address (byte ∷ [])) (0x10000 + j) 0 ≡ get_or bytes (from + j) 0
+one_more : (memory bytes : List ℕ) (from n address byte : ℕ) → length memory ≡ user_bytes → address ≡ 0x10000 + n → n < 9216 → byte ≡ get_or bytes (from + n) 0 → ((j : ℕ) → j < n → get_or memory (0x10000 + j) 0 ≡ get_or bytes (from + j) 0) → (j : ℕ) → j < n + 1 → get_or (with_items memory address (byte ∷ [])) (0x10000 + j) 0 ≡ get_or bytes (from + j) 0
 one_more memory bytes from n address byte size at few is filled j below =
     let one = byte ∷ [] in
     let fits : address + length one ≤ length memory = omega (arith, size, at, few) in
@@ -39,8 +41,8 @@ one_more memory bytes from n address byte size at few is filled j below =
       | inl same ↦
           let place : 0x10000 + j ≡ address + 0 = omega (arith, same, at) in
           let stands = with_at memory address one fits 0 (omega arith) in
-          ap (λ k. get_or (with_bytes memory address one) k 0) place ∙ stands ∙ is ∙ ap (λ k. get_or bytes (from + k) 0) (sym same)
-      | inr other ↦ with_before memory address one fits (0x10000 + j) (omega (arith, at, below, other)) ∙ filled j (omega (arith, below, other))
+          ap (λ k. get_or (with_items memory address one) k 0) place ∙ stands ∙ is ∙ ap (λ k. get_or bytes (from + k) 0) (sym same)
+      | inr other ↦ with_items_before memory address one fits (0x10000 + j) (omega (arith, at, below, other)) ∙ filled j (omega (arith, below, other))
     ]
 
 fills_one : (bytes : List ℕ) (from n address byte : ℕ) (bays : Two Bay) (names : Two (Option (List ℕ))) (told : Option Files) (old new : Stage) (steps : List Taken) → address ≡ 0x10000 + n → n < 9216 → byte ≡ get_or bytes (from + n) 0 → AllDone (request.Fill address 1 byte ∷ []) old steps new → IsFilled bytes from n bays names told old → IsFilled bytes from (n + 1) bays names told new
@@ -49,9 +51,9 @@ fills_one bytes from n address byte bays names told old new steps at few is all 
     let end = ends_there first.mid new.state first.files new.files first.later first.behind in
     let fills = first.does.2 in
     let one = byte ∷ [] in
-    let memory : new.state.station.memory ≡ with_bytes old.state.station.memory address one = ap (λ (s : State). s.station.memory) end.0 ∙ ap (λ (s : StationState). s.memory) fills.becomes in
+    let memory : new.state.station.memory ≡ with_items old.state.station.memory address one = ap (λ (s : State). s.station.memory) end.0 ∙ ap (λ (s : StationState). s.memory) fills.becomes in
     let size = holds.size in
-    let long = length-with old.state.station.memory address one (omega (arith, size, at, few)) in
+    let long = length-with_items old.state.station.memory address one (omega (arith, size, at, few)) in
     record {
       bays_stay = ap (λ (s : State). s.station.bays) end.0 ∙ ap (λ (s : StationState). s.bays) fills.becomes ∙ holds.bays_stay;
       names_stay = ap (λ (s : State). s.names) end.0 ∙ fills.names ∙ holds.names_stay;

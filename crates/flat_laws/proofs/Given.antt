@@ -30,7 +30,8 @@ use Rattle.disk_laws.specs.Copied.{SomeStep, Gave, IsSure}
 use Rattle.disk_laws.proofs.Marks.{some_first, some_second}
 use Rattle.disk_laws.proofs.Records.{one_record}
 use Rattle.disk_laws.proofs.Steps.{NeverFell, or_false, done_does, step_never_fell}
-use Rattle.disk_laws.proofs.UserMemory.{length-with, at_stands}
+use Rattle.track_model.proofs.Splices.{length-with_items}
+use Rattle.disk_laws.proofs.UserMemory.{at_stands}
 use Rattle.flat_laws.specs.Imported.{sector_bytes}
 use Rattle.flat_laws.specs.Exported.{IsFieldOf, IsAsRead}
 use Rattle.flat_laws.proofs.Each.{AllDone, counts, IsWithin, sure_within}
@@ -71,7 +72,7 @@ read_gives source c h r old new (taken ∷ []) all least most medium size =
     let one = one_record c h r source old.state taken.after old.files all.run.0 taken.answer does done medium in
     let sized = one.sized in
     let fits : address + length one.content ≤ length old.state.station.memory = omega (arith, size, sized, most) in
-    let long = length-with old.state.station.memory address one.content fits in
+    let long = length-with_items old.state.station.memory address one.content fits in
     let placed : bytes_from taken.after.station.memory address 512 ≡ one.content = ap (λ (m : List ℕ). bytes_from m address 512) one.memory ∙ at_stands old.state.station.memory address one.content 512 sized fits in
     let mark : mark_of taken.asked taken.answer ≡ one.deleted ∷ [] = ap (λ (q : Request). mark_of q taken.answer) asked ∙ one.mark in
     let fell = step_never_fell old.state taken.after old.files all.run.0 (request.Read 0 key address) taken.answer here refl in

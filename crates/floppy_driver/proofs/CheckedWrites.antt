@@ -11,7 +11,8 @@ use Rattle.raw_image.specs.Disk.{Disk, track_of}
 use Rattle.track_model.specs.Fields.{content_size}
 use Rattle.track_model.specs.Sectors.{IsSector, IsUnder}
 use Rattle.bay_model.specs.Bays.{Two, in_bay}
-use Rattle.bay_model.specs.Memory.{user_bytes, bytes_from, with_bytes}
+use Rattle.flop_base.specs.Lists.{with_items}
+use Rattle.bay_model.specs.Memory.{user_bytes, bytes_from}
 use Rattle.bay_model.specs.Counters.{Counters, IsFaultless, IsUndisturbed, GoesOn}
 use Rattle.bay_model.proofs.Counted.{goes_on_after}
 use Rattle.sector_map.specs.Met.{met_in}
@@ -31,8 +32,8 @@ use Rattle.floppy_driver.proofs.Rising.{less_first, less_later, less_than_two, d
 
 module _ (page memory content : List ℕ) (address count : ℕ) (long : length content ≡ count) (sized : length memory ≡ user_bytes) (within : address + count ≤ user_bytes) where
   -- what stands at the beginning of the page
-  page_byte : (k : ℕ) → k < count → get_or (with_bytes page 0 content) k 0 ≡ get_or content k 0
-  unfolding with_bytes
+  page_byte : (k : ℕ) → k < count → get_or (with_items page 0 content) k 0 ≡ get_or content k 0
+  unfolding with_items
   page_byte k h = get_or_append_left content (drop (0 + length content) page) 0 k (omega arith)
 
   memory_byte : (k : ℕ) → k < count → get_or (bytes_from memory address count) k 0 ≡ get_or memory (address + k) 0
@@ -41,12 +42,12 @@ module _ (page memory content : List ℕ) (address count : ℕ) (long : length c
   long_bytes : length (bytes_from memory address count) ≡ count
   long_bytes = omega (arith, length-take count (drop address memory), length-drop address memory)
 
-  pub alike_content : AreBytesAlike (with_bytes page 0 content) memory address count → content ≡ bytes_from memory address count
+  pub alike_content : AreBytesAlike (with_items page 0 content) memory address count → content ≡ bytes_from memory address count
   alike_content alike =
       ext_get_or 0 content (bytes_from memory address count) (long ∙ sym long_bytes)
       (λ k h. let below : k < count = omega arith in sym (page_byte k below) ∙ alike k below ∙ sym (memory_byte k below))
 
-  pub content_alike : content ≡ bytes_from memory address count → AreBytesAlike (with_bytes page 0 content) memory address count
+  pub content_alike : content ≡ bytes_from memory address count → AreBytesAlike (with_items page 0 content) memory address count
   content_alike same k h = page_byte k h ∙ ap (λ bytes. get_or bytes k 0) same ∙ memory_byte k h
 
 -- ---- a write that was refused
@@ -264,9 +265,9 @@ module _ (old : Rig) (bay : ℕ) (rate : Rate) (written : Written) (mid new : Ri
         (back_missed old bay rate written wrote.0 mid done answer new back code failed)
 
     module _ (marked : Bool) (read : answer ≡ Ok marked) where
-      found : (content : List ℕ) × FindsField mid bay written.key rate marked content new × (new.page ≡ with_bytes mid.page 0 content)
+      found : (content : List ℕ) × FindsField mid bay written.key rate marked content new × (new.page ≡ with_items mid.page 0 content)
       found =
-          let Found : Result Bool Code → Type 0 = λ r. IfOk r (λ deleted. (content : List ℕ) × FindsField mid bay written.key rate deleted content new × (new.page ≡ with_bytes mid.page 0 content)) in
+          let Found : Result Bool Code → Type 0 = λ r. IfOk r (λ deleted. (content : List ℕ) × FindsField mid bay written.key rate deleted content new × (new.page ≡ with_items mid.page 0 content)) in
           subst Found read back.found
 
       pub ends_marked : (marked ≡ written.deleted → ⊥) → WritesChecked old bay rate written (Err BadCrc) new
@@ -279,13 +280,13 @@ module _ (old : Rig) (bay : ℕ) (rate : Rate) (written : Written) (mid new : Ri
 
         page_alike : AreBytesAlike new.page new.memory address (content_size written.key.n) → found.0 ≡ written.content
         page_alike alike =
-            let shown : AreBytesAlike (with_bytes mid.page 0 found.0) old.memory address (content_size written.key.n) = subst (λ m. AreBytesAlike (with_bytes mid.page 0 found.0) m address (content_size written.key.n)) memory_same (subst (λ p. AreBytesAlike p new.memory address (content_size written.key.n)) found.2 alike) in
+            let shown : AreBytesAlike (with_items mid.page 0 found.0) old.memory address (content_size written.key.n) = subst (λ m. AreBytesAlike (with_items mid.page 0 found.0) m address (content_size written.key.n)) memory_same (subst (λ p. AreBytesAlike p new.memory address (content_size written.key.n)) found.2 alike) in
             alike_content mid.page old.memory found.0 address (content_size written.key.n) found.1.size sized.length within shown ∙ sym is
 
         alike_page : found.0 ≡ written.content → AreBytesAlike new.page new.memory address (content_size written.key.n)
         alike_page same =
-            let shown : AreBytesAlike (with_bytes mid.page 0 found.0) old.memory address (content_size written.key.n) = content_alike mid.page old.memory found.0 address (content_size written.key.n) found.1.size sized.length within (same ∙ is) in
-            subst (λ p. AreBytesAlike p new.memory address (content_size written.key.n)) (sym found.2) (subst (λ m. AreBytesAlike (with_bytes mid.page 0 found.0) m address (content_size written.key.n)) (sym memory_same) shown)
+            let shown : AreBytesAlike (with_items mid.page 0 found.0) old.memory address (content_size written.key.n) = content_alike mid.page old.memory found.0 address (content_size written.key.n) found.1.size sized.length within (same ∙ is) in
+            subst (λ p. AreBytesAlike p new.memory address (content_size written.key.n)) (sym found.2) (subst (λ m. AreBytesAlike (with_items mid.page 0 found.0) m address (content_size written.key.n)) (sym memory_same) shown)
 
         pub ends_other : (AreBytesAlike new.page new.memory address (content_size written.key.n) → ⊥) → WritesChecked old bay rate written (Err BadCrc) new
         ends_other differs =

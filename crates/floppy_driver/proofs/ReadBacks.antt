@@ -16,7 +16,7 @@ use Rattle.bay_model.proofs.Counted.{goes_on_after, goes_on_itself}
 use Rattle.sector_map.specs.Met.{met_in}
 use Rattle.sector_map.specs.Standard.{key_of}
 use Rattle.bay_model.specs.Counters.{IsUndisturbed}
-use Rattle.bay_model.specs.Memory.{with_bytes}
+use Rattle.flop_base.specs.Lists.{with_items}
 use Rattle.sector_map.specs.MetTracks.{HasNothing}
 use Rattle.sector_map.proofs.MetTracks.{met_track}
 use Rattle.single_commands.specs.Rigs.{Rig, HeadsStay, track_under}
@@ -67,8 +67,8 @@ unmarked_code track key Page nothing reason = absurd reason
 unmarked_code track key Seek nothing reason = absurd reason
 
 -- the beginning of a page of this byte
-filled_page : (page content new : List ℕ) (count fill : ℕ) → new ≡ with_bytes page 0 content → length content ≡ count → content ≡ replicate count fill → IsFilled new count fill
-unfolding with_bytes
+filled_page : (page content new : List ℕ) (count fill : ℕ) → new ≡ with_items page 0 content → length content ≡ count → content ≡ replicate count fill → IsFilled new count fill
+unfolding with_items
 filled_page page content new count fill is long all k below =
     ap (λ (bytes : List ℕ). get_or bytes k 0) is
     ∙ get_or_append_left content (drop (0 + length content) page) 0 k (omega arith)

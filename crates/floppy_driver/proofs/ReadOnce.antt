@@ -10,7 +10,8 @@ use Rattle.retry_plan.specs.declared.Prepare.TheVariants as prepare
 use Rattle.track_model.specs.Fields.{content_size}
 use Rattle.bay_model.specs.Bays.{Two, in_bay}
 use Rattle.bay_model.specs.Counters.{DriveCounts, IsFaultless, GoesOn}
-use Rattle.bay_model.specs.Memory.{with_bytes, SameOutside}
+use Rattle.flop_base.specs.Lists.{with_items}
+use Rattle.bay_model.specs.Memory.{SameOutside}
 use Rattle.bay_model.proofs.Counted.{goes_on_after, goes_on_itself, faults_go_on}
 use Rattle.sector_map.specs.Met.{met_in}
 use Rattle.single_commands.specs.Rigs.{Rig, track_under}
@@ -51,13 +52,13 @@ module _ (driver after : Driver) (old mid : Rig) (bay : ℕ) (key : Chrn) (addre
     later : GoesOn (with_waiting mid.counters waiting) (with_waiting new.counters waiting)
     later = waiting_goes_on mid.counters new.counters waiting reads.sends.counts
 
-    done_field : (deleted : Bool) (content : List ℕ) → FindsField mid bay key rate deleted content new → new.memory ≡ with_bytes mid.memory address content → IsReadWhole (shown driver old spares waiting) bay key address deleted (shown after new spares waiting)
+    done_field : (deleted : Bool) (content : List ℕ) → FindsField mid bay key rate deleted content new → new.memory ≡ with_items mid.memory address content → IsReadWhole (shown driver old spares waiting) bay key address deleted (shown after new spares waiting)
     done_field deleted content field memory =
         let f = faults_go_on old.counters mid.counters bay prepared.moves.counts in
         let g = faults_go_on mid.counters new.counters bay reads.sends.counts in
         let less : IsFaultless bay old.counters new.counters → IsFaultless bay mid.counters new.counters = λ is. (let h = is.0 in omega arith, is.1) in
         let before = shown driver old spares waiting in
-        let memory_is : new.memory ≡ with_bytes old.memory address content = memory ∙ ap (λ (m : List ℕ). with_bytes m address content) prepared.moves.memory in
+        let memory_is : new.memory ≡ with_items old.memory address content = memory ∙ ap (λ (m : List ℕ). with_items m address content) prepared.moves.memory in
         record {
           read = record {
             disk = field.disk;
@@ -102,7 +103,7 @@ module _ (driver after : Driver) (old mid : Rig) (bay : ℕ) (key : Chrn) (addre
           lost = λ is. absurd (no_seek code miss.coded is);
         }
 
-    by_ok : (a : Result Bool Code) → IfOk a (λ deleted. (content : List ℕ) × FindsField mid bay key rate deleted content new × (new.memory ≡ with_bytes mid.memory address content)) → IfOk a (λ deleted. IsReadWhole (shown driver old spares waiting) bay key address deleted (shown after new spares waiting))
+    by_ok : (a : Result Bool Code) → IfOk a (λ deleted. (content : List ℕ) × FindsField mid bay key rate deleted content new × (new.memory ≡ with_items mid.memory address content)) → IfOk a (λ deleted. IsReadWhole (shown driver old spares waiting) bay key address deleted (shown after new spares waiting))
     by_ok (Ok deleted) found = done_field deleted found.0 found.1 found.2
     by_ok (Err code) found = tt
 

@@ -10,7 +10,8 @@ use Rattle.track_model.specs.declared.Look.TheVariants as look
 use Rattle.track_model.specs.Fields.{content_size}
 use Rattle.track_model.proofs.Unique.{one_look_at}
 use Rattle.bay_model.specs.Counters.{Counters, IsFaultless, DisturbedLess, GoesOn}
-use Rattle.bay_model.specs.Memory.{with_bytes, SameOutside}
+use Rattle.flop_base.specs.Lists.{with_items}
+use Rattle.bay_model.specs.Memory.{SameOutside}
 use Rattle.bay_model.proofs.Counted.{goes_on_after, goes_on_itself, faults_go_on}
 use Rattle.sector_map.specs.Met.{HasClearAddress, HasLook, AllFound}
 use Rattle.single_commands.specs.Reading.{IsReadReason}
@@ -34,9 +35,9 @@ outside_after a b c address count one two = record {
 }
 
 -- what the range held before it was written over is nothing
-with_bytes_outside : (old mid : List ℕ) (address : ℕ) (bytes : List ℕ) (count : ℕ) → SameOutside old address count mid → length bytes ≡ count → with_bytes mid address bytes ≡ with_bytes old address bytes
-unfolding with_bytes
-with_bytes_outside old mid address bytes count same long =
+with_items_outside : (old mid : List ℕ) (address : ℕ) (bytes : List ℕ) (count : ℕ) → SameOutside old address count mid → length bytes ≡ count → with_items mid address bytes ≡ with_items old address bytes
+unfolding with_items
+with_items_outside old mid address bytes count same long =
     let end = address + length bytes in
     let front : take address mid ≡ take address old =
     same_number_lists (take address mid) (take address old)
@@ -126,7 +127,7 @@ module _ (start : StationState) (bay : ℕ) (key : Chrn) (address : ℕ) where
           whole = read.whole;
           steady = λ steady. read.steady (record { kept = steady.kept; acknowledged = steady.acknowledged; count = steady.count; below = steady.below });
           sector = λ is. read.sector (elim is [ inl faultless ↦ inl (less faultless) | inr lone ↦ inr lone ]);
-          becomes = read.becomes ∙ ap (λ (m : List ℕ). record start { memory = m; counters = new.counters }) (with_bytes_outside start.memory memory address read.content (content_size key.n) same done.size);
+          becomes = read.becomes ∙ ap (λ (m : List ℕ). record start { memory = m; counters = new.counters }) (with_items_outside start.memory memory address read.content (content_size key.n) same done.size);
           commands = let c = read.commands in omega arith;
         }
 

@@ -2,7 +2,8 @@
 use Rattle.std.proofs.Common.{◌≡◌, ℕ, ◌+◌, ◌-◌, ◌<◌, List, [], ◌∷◌, ◌++◌, length, take, drop, min, suc, replicate, get_or, refl, sym, ap, ◌∙◌, subst, arith, append_assoc, slice_set, length-append, length-take, length-drop}
 use Rattle.std.proofs.lemmas.List.{take-append-drop, replicate-append-replicate, length-replicate}
 use Rattle.std.proofs.Math.Seq.{drop-cons, set-append_seam}
-use Rattle.bay_model.specs.Memory.{with_bytes, user_bytes}
+use Rattle.flop_base.specs.Lists.{with_items}
+use Rattle.bay_model.specs.Memory.{user_bytes}
 use Rattle.sector_model.specs.Stations.{StationState}
 use Rattle.bay_model.specs.Counters.{GoesOn}
 use Rattle.sector_model.specs.Calls.{SetsMemory}
@@ -12,20 +13,20 @@ use Rattle.bay_model.proofs.Counted.{goes_on_after, goes_on_itself}
 
 module _ (memory : List ℕ) (address : ℕ) where
   -- no bytes change nothing
-  pub with_bytes-nil : with_bytes memory address [] ≡ memory
-  unfolding with_bytes
-  with_bytes-nil =
+  pub with_items-nil : with_items memory address [] ≡ memory
+  unfolding with_items
+  with_items-nil =
       let e : address + 0 ≡ address = omega arith in
       ap (λ n. take address memory ++ drop n memory) e ∙ take-append-drop address memory
 
-  pub length-with_bytes : (bytes : List ℕ) → length (with_bytes memory address bytes) ≡ min address (length memory) + (length bytes + (length memory - (address + length bytes)))
-  unfolding with_bytes
-  length-with_bytes bytes = simp (length-append, length-take, length-drop)
+  pub length-with_items : (bytes : List ℕ) → length (with_items memory address bytes) ≡ min address (length memory) + (length bytes + (length memory - (address + length bytes)))
+  unfolding with_items
+  length-with_items bytes = simp (length-append, length-take, length-drop)
 
   -- one more byte behind those that were set
-  pub set-with_bytes : (bytes : List ℕ) (byte : ℕ) → address + length bytes < length memory → slice_set (with_bytes memory address bytes) (address + length bytes) byte ≡ with_bytes memory address (bytes ++ byte ∷ [])
-  unfolding with_bytes
-  set-with_bytes bytes byte inside =
+  pub set-with_items : (bytes : List ℕ) (byte : ℕ) → address + length bytes < length memory → slice_set (with_items memory address bytes) (address + length bytes) byte ≡ with_items memory address (bytes ++ byte ∷ [])
+  unfolding with_items
+  set-with_items bytes byte inside =
       let front : List ℕ = take address memory ++ bytes in
       let here : ℕ = address + length bytes in
       let old : ℕ = get_or memory here 0 in
@@ -43,19 +44,19 @@ module _ (memory : List ℕ) (address : ℕ) where
       ap (λ s. slice_set s here byte) cut ∙ put ∙ back
 
   -- one more byte of a fill
-  pub set-filled : (i byte : ℕ) → address + i < length (with_bytes memory address (replicate i byte)) → slice_set (with_bytes memory address (replicate i byte)) (address + i) byte ≡ with_bytes memory address (replicate (i + 1) byte)
+  pub set-filled : (i byte : ℕ) → address + i < length (with_items memory address (replicate i byte)) → slice_set (with_items memory address (replicate i byte)) (address + i) byte ≡ with_items memory address (replicate (i + 1) byte)
   set-filled i byte inside =
       let size : length (replicate i byte) ≡ i = length-replicate i byte in
-      let room : address + length (replicate i byte) < length memory = omega (arith, inside, size, length-with_bytes (replicate i byte)) in
-      ap (λ n. slice_set (with_bytes memory address (replicate i byte)) (address + n) byte) (sym size)
-      ∙ set-with_bytes (replicate i byte) byte room
-      ∙ ap (λ bytes. with_bytes memory address bytes) (replicate-append-replicate i 1 byte)
+      let room : address + length (replicate i byte) < length memory = omega (arith, inside, size, length-with_items (replicate i byte)) in
+      ap (λ n. slice_set (with_items memory address (replicate i byte)) (address + n) byte) (sym size)
+      ∙ set-with_items (replicate i byte) byte room
+      ∙ ap (λ bytes. with_items memory address bytes) (replicate-append-replicate i 1 byte)
 
 -- no byte is filled yet
 pub fills_none : (old : State) (address byte : ℕ) → Fills old address 0 byte old
 fills_none old address byte = record {
   names = refl;
-  becomes = ap (λ (memory : List ℕ). let station : StationState = record old.station { memory = memory } in station) (sym (with_bytes-nil old.station.memory address));
+  becomes = ap (λ (memory : List ℕ). let station : StationState = record old.station { memory = memory } in station) (sym (with_items-nil old.station.memory address));
   access = record { accesses = omega arith; no_commands = refl };
   counts = goes_on_itself old.station.counters;
 }
@@ -63,8 +64,8 @@ fills_none old address byte = record {
 -- a byte behind those that were filled
 pub fills_more : (old mid new : State) (address i byte : ℕ) → Fills old address i byte mid → new.names ≡ mid.names → SetsMemory mid.station (address + i) byte new.station → GoesOn mid.station.counters new.station.counters → length mid.station.memory ≡ user_bytes → address + i < 983040 → Fills old address (i + 1) byte new
 fills_more old mid new address i byte filled names sets counts size inside =
-    let memory : mid.station.memory ≡ with_bytes old.station.memory address (replicate i byte) = ap (λ (s : StationState). s.memory) filled.becomes in
-    let long : length (with_bytes old.station.memory address (replicate i byte)) ≡ 983040 = ap length (sym memory) ∙ size in
+    let memory : mid.station.memory ≡ with_items old.station.memory address (replicate i byte) = ap (λ (s : StationState). s.memory) filled.becomes in
+    let long : length (with_items old.station.memory address (replicate i byte)) ≡ 983040 = ap length (sym memory) ∙ size in
     let more = set-filled old.station.memory address i byte (omega (arith, long, inside)) in
     record {
       names = names ∙ filled.names;

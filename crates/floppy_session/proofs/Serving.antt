@@ -12,7 +12,8 @@ use Rattle.flop_base.specs.Shelf.{Files}
 use Rattle.flop_base.specs.declared.key.Chrn.{Chrn}
 use Rattle.flop_base.specs.declared.answers.Code.{Code}
 use Rattle.raw_image.specs.Disk.{track_of}
-use Rattle.bay_model.specs.Memory.{with_bytes, bytes_from, SameOutside}
+use Rattle.flop_base.specs.Lists.{with_items}
+use Rattle.bay_model.specs.Memory.{bytes_from, SameOutside}
 use Rattle.floppy_jobs.specs.declared.request.Request.{Request}
 use Rattle.floppy_jobs.specs.declared.request.Request.TheVariants as request
 use Rattle.sector_model.specs.declared.reply.Reply.{Reply}
@@ -89,13 +90,13 @@ module _ (memory : List ℕ) (a : ℕ) (bytes : List ℕ) (fits : a + length byt
   front : length (take a memory) ≡ a
   front = omega (arith, length-take a memory)
 
-  length-written : length (with_bytes memory a bytes) ≡ length memory
-  unfolding with_bytes
+  length-written : length (with_items memory a bytes) ≡ length memory
+  unfolding with_items
   length-written =
       omega (arith, front, length-append (take a memory) (bytes ++ drop (a + length bytes) memory), length-append bytes (drop (a + length bytes) memory), length-drop (a + length bytes) memory)
 
-  written_outside : SameOutside memory a (length bytes) (with_bytes memory a bytes)
-  unfolding with_bytes
+  written_outside : SameOutside memory a (length bytes) (with_items memory a bytes)
+  unfolding with_items
   written_outside = record {
     length = length-written;
     others = λ k where_is.
@@ -117,8 +118,8 @@ module _ (memory : List ℕ) (a : ℕ) (bytes : List ℕ) (fits : a + length byt
   }
 
   -- one more byte behind those that were put
-  pub put_one : (byte : ℕ) → with_bytes (with_bytes memory a bytes) (a + length bytes) (byte ∷ []) ≡ with_bytes memory a (bytes ++ byte ∷ [])
-  unfolding with_bytes
+  pub put_one : (byte : ℕ) → with_items (with_items memory a bytes) (a + length bytes) (byte ∷ []) ≡ with_items memory a (bytes ++ byte ∷ [])
+  unfolding with_items
   put_one byte =
       let here : ℕ = a + length bytes in
       let rest : List ℕ = drop here memory in
@@ -146,8 +147,8 @@ outside_after a b c address count one two = record {
 }
 
 -- what was there is put back over whatever the range holds
-pub put_back_all : (old mid : List ℕ) (address count : ℕ) → address + count ≤ length old → SameOutside old address count mid → with_bytes mid address (bytes_from old address count) ≡ old
-unfolding with_bytes
+pub put_back_all : (old mid : List ℕ) (address count : ℕ) → address + count ≤ length old → SameOutside old address count mid → with_items mid address (bytes_from old address count) ≡ old
+unfolding with_items
 put_back_all old mid address count room same =
     let bytes : List ℕ = take count (drop address old) in
     let long : length bytes ≡ count = omega (arith, room, length-take count (drop address old), length-drop address old) in
@@ -178,7 +179,7 @@ read_outside old new bay key address (Ok deleted) reads size room =
     let long : length read.content ≡ 128 * 2 ^ key.n = ap length read.whole.content_is ∙ length-map-range_with_len _ 0 (128 * 2 ^ key.n) in
     let size : length read.content ≡ 512 = long ∙ ap (λ n. 128 * 2 ^ n) size in
     subst (λ m. SameOutside old.memory address 512 m) (sym (ap (λ (s : StationState). s.memory) read.becomes))
-    (subst (λ k. SameOutside old.memory address k (with_bytes old.memory address read.content)) size
+    (subst (λ k. SameOutside old.memory address k (with_items old.memory address read.content)) size
     (written_outside old.memory address read.content (omega (arith, room, size))))
 read_outside old new bay key address (Err code) reads size room =
     subst (λ n. SameOutside old.memory address (128 * 2 ^ n) new.memory) size reads.refused.memory
@@ -280,16 +281,16 @@ puts_more address bytes i old mid new told course answer within done step =
     let put = put_step mid new told (address + i) (slice_index bytes i) answer within step in
     done_more _ _ (put_request address bytes i) answer old mid new told course (map-range_with_len_more (put_request address bytes) 0 i i (omega arith)) done (ap is_refusal put.0) step
 
-pub put_memory : (memory : List ℕ) (address : ℕ) (bytes : List ℕ) (i : ℕ) (mid new : State) (told : Option Files) (answer : Reply) → address + i + 1 ≤ 983040 → i < length bytes → address + length bytes ≤ length memory → mid.station.memory ≡ with_bytes memory address (take i bytes) → Step mid told (request.Fill (address + i) 1 (slice_index bytes i)) answer new told → new.station.memory ≡ with_bytes memory address (take (i + 1) bytes)
+pub put_memory : (memory : List ℕ) (address : ℕ) (bytes : List ℕ) (i : ℕ) (mid new : State) (told : Option Files) (answer : Reply) → address + i + 1 ≤ 983040 → i < length bytes → address + length bytes ≤ length memory → mid.station.memory ≡ with_items memory address (take i bytes) → Step mid told (request.Fill (address + i) 1 (slice_index bytes i)) answer new told → new.station.memory ≡ with_items memory address (take (i + 1) bytes)
 put_memory memory address bytes i mid new told answer within inside room so_far step =
     let put = put_step mid new told (address + i) (slice_index bytes i) answer within step in
     let long : length (take i bytes) ≡ i = omega (arith, length-take i bytes, inside) in
     let fills = put.2 in
     ap (λ (s : StationState). s.memory) fills.becomes
-    ∙ ap (λ (m : List ℕ). with_bytes m (address + i) (slice_index bytes i ∷ [])) so_far
-    ∙ ap (λ (n : ℕ). with_bytes (with_bytes memory address (take i bytes)) (address + n) (slice_index bytes i ∷ [])) (sym long)
+    ∙ ap (λ (m : List ℕ). with_items m (address + i) (slice_index bytes i ∷ [])) so_far
+    ∙ ap (λ (n : ℕ). with_items (with_items memory address (take i bytes)) (address + n) (slice_index bytes i ∷ [])) (sym long)
     ∙ put_one memory address (take i bytes) (omega (arith, long, inside, room)) (slice_index bytes i)
-    ∙ ap (with_bytes memory address) (sym (take_more bytes i 0 inside))
+    ∙ ap (with_items memory address) (sym (take_more bytes i 0 inside))
 
 pub puts_are : (address : ℕ) (bytes : List ℕ) (count : ℕ) → count ≡ length bytes → map (put_request address bytes) (range_with_len 0 count) ≡ put_requests address bytes
 unfolding put_requests

@@ -1,7 +1,8 @@
 // Calls of INT 13h: what each asks the station, request by request.
 ghost use Rattle.std.specs.Prelude.{◌≡◌, ◌+◌, ◌≤◌, not, if◌then◌else◌, List, length, Option};
 ghost use Rattle.flop_base.specs.Shelf.{Files};
-ghost use Rattle.bay_model.specs.Memory.{user_bytes, bytes_from, with_bytes, SameOutside};
+ghost use Rattle.flop_base.specs.Lists.{with_items};
+ghost use Rattle.bay_model.specs.Memory.{user_bytes, bytes_from, SameOutside};
 ghost use Rattle.sector_model.specs.Runs.{Taken};
 ghost use Rattle.sector_model.specs.Orders.{is_acknowledged};
 ghost use Rattle.sector_model.specs.States.{IsSame};
@@ -262,7 +263,7 @@ impl<D: Station> Session<D> {
         ensures puts { (told : Option Files) → (course : List Taken) × AreDone (put_requests address kept.now)
             (state_of D.shown self.old) told course (state_of D.shown self.new) }
         ensures memory { (state_of D.shown self.new).station.memory
-            ≡ with_bytes (state_of D.shown self.old).station.memory address kept.now }
+            ≡ with_items (state_of D.shown self.old).station.memory address kept.now }
         ensures running { IsRunning D.shown D.is_ready self.new }
     {
         for i in 0..RECORD_BYTES {

@@ -6,7 +6,8 @@ use Rattle.flop_base.specs.declared.answers.Code.{Code}
 use Rattle.flop_base.specs.declared.answers.Code.TheVariants as code
 use Rattle.raw_image.specs.Disk.{HasTrack, track_of}
 use Rattle.bay_model.specs.Counters.{GoesOn, IsUndisturbed}
-use Rattle.bay_model.specs.Memory.{user_bytes, with_bytes}
+use Rattle.flop_base.specs.Lists.{with_items}
+use Rattle.bay_model.specs.Memory.{user_bytes}
 use Rattle.track_model.specs.declared.Look.{Look}
 use Rattle.track_model.specs.declared.Look.TheVariants as look
 use Rattle.track_model.specs.Bytes.{byte_at, bytes_at}
@@ -14,9 +15,8 @@ use Rattle.track_model.specs.Fields.{IsAddressAt, content_size}
 use Rattle.track_model.specs.Looks.{HasAddressMark}
 use Rattle.track_model.specs.Sectors.{IsSector}
 use Rattle.track_model.specs.Regular.{IsRegular}
-use Rattle.track_model.specs.Windows.{with_words}
 use Rattle.track_model.proofs.Sectored.{plain_clear}
-use Rattle.track_model.proofs.Splices.{length-with_words}
+use Rattle.track_model.proofs.Splices.{length-with_items}
 use Rattle.sector_map.proofs.MetTracks.{met_track}
 use Rattle.sector_map.proofs.RegularTracks.{clear_address, key_cylinder}
 use Rattle.sector_model.specs.Stations.{StationState, Becomes, bay_of, met}
@@ -127,10 +127,6 @@ pub record Remembers (old new : StationState) : Type 0 where
   pub size : length memory ≡ user_bytes
   pub becomes : Becomes (record old { memory = memory }) new
 
-pub length-with : (memory : List ℕ) (address : ℕ) (bytes : List ℕ) → address + length bytes ≤ length memory → length (with_bytes memory address bytes) ≡ length memory
-unfolding with_bytes with_words
-length-with memory address bytes fits = length-with_words memory address bytes fits
-
 length-bytes_at : (track : List ℕ) (place count : ℕ) → length (bytes_at track place count) ≡ count
 length-bytes_at track place count = length-map-range_with_len (λ i. byte_at track (place + 16 * i)) 0 count
 
@@ -139,8 +135,8 @@ read_remembers bay key address old new (Ok deleted) size within drive =
     let read = drive.found in
     let sized : length read.content ≡ content_size key.n = ap length read.whole.content_is ∙ length-bytes_at (track_of read.disk read.cylinder key.h) (read.mark + 64) (content_size key.n) in
     record {
-      memory = with_bytes old.memory address read.content;
-      size = length-with old.memory address read.content (omega (arith, size, sized, within)) ∙ size;
+      memory = with_items old.memory address read.content;
+      size = length-with_items old.memory address read.content (omega (arith, size, sized, within)) ∙ size;
       becomes = read.becomes;
     }
 read_remembers bay key address old new (Err c) size within drive = record {

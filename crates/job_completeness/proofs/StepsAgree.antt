@@ -11,7 +11,8 @@ use Rattle.raw_image.specs.Disk.{Disk, IsDisk}
 use Rattle.raw_image.specs.Image.{file_of}
 use Rattle.bay_model.specs.Bays.{Two, in_bay, with_bay}
 use Rattle.bay_model.specs.Counters.{Counters, IsUndisturbed}
-use Rattle.bay_model.specs.Memory.{user_bytes, bytes_from, with_bytes}
+use Rattle.flop_base.specs.Lists.{with_items}
+use Rattle.bay_model.specs.Memory.{user_bytes, bytes_from}
 use Rattle.floppy_jobs.specs.declared.request.Request.{Request}
 use Rattle.floppy_jobs.specs.declared.request.Request.TheVariants as request
 use Rattle.sector_model.specs.declared.reply.Reply.{Reply}
@@ -29,7 +30,7 @@ use Rattle.job_completeness.proofs.AfterDisks.{in_both}
 use Rattle.job_completeness.proofs.AlikeFiles.{AlikeTold, images_alike, disk_files, stored_same}
 use Rattle.job_completeness.proofs.Calm.{calm_bay}
 use Rattle.job_completeness.proofs.CallsAgree.{CallsAgree, both_ways, length-bytes_from, read_call, write_call, format_call, rate_call, ack_call}
-use Rattle.job_completeness.proofs.Sees.{length-with}
+use Rattle.track_model.proofs.Splices.{length-with_items}
 
 -- two states with their told files that differ in contents alone
 pub record AlikeStages (one : State) (told : Option Files) (two : State) (other : Option Files) : Type 0 where
@@ -180,13 +181,13 @@ module _ (one two one_new two_new : State) (told other told_after other_after : 
       let long : length bytes ≡ count = length-replicate count byte in
       let size = same.stations.size in
       let size_too = same.stations.other_size in
-      let left = with_bytes one.station.memory address bytes in
-      let left_too = with_bytes two.station.memory address bytes in
+      let left = with_items one.station.memory address bytes in
+      let left_too = with_items two.station.memory address bytes in
       agree reply.Done is is_too (second.names ∙ same.names ∙ sym first.names)
       (becomes_same (record one.station { memory = left }) (record two.station { memory = left_too }) one_new.station two_new.station
       (memory_same one.station two.station left left_too same.stations
-      (length-with one.station.memory address bytes (omega (arith, long, size, within)) ∙ size)
-      (length-with two.station.memory address bytes (omega (arith, long, size_too, within)) ∙ size_too))
+      (length-with_items one.station.memory address bytes (omega (arith, long, size, within)) ∙ size)
+      (length-with_items two.station.memory address bytes (omega (arith, long, size_too, within)) ∙ size_too))
       first.becomes second.becomes)
       (files_stay files files_too)
 

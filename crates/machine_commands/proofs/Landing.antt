@@ -1,30 +1,14 @@
 -- Bytes that a read puts into memory, as a driver sees them.
 use Rattle.std.proofs.Common.{◌≡◌, ◌⊎◌, inl, inr, ℕ, zero, suc, ◌+◌, ◌-◌, ◌^◌, ◌<◌, ◌≤◌, List, length, get_or, slice_index, sym, ◌∙◌, ap, subst, arith}
 use Rattle.std.proofs.lemmas.List.{ext_get_or, get_or_past, get_or-take, get_or-drop, length-take, length-drop}
-use Rattle.bay_model.specs.Memory.{user_bytes, with_bytes, SameOutside}
-use Rattle.track_model.specs.Windows.{with_words}
-use Rattle.track_model.proofs.Splices.{length-with_words, with_words_before, with_words_at, with_words_behind}
+use Rattle.flop_base.specs.Lists.{with_items}
+use Rattle.bay_model.specs.Memory.{user_bytes, SameOutside}
+use Rattle.track_model.proofs.Splices.{length-with_items, with_items_before, with_items_at, with_items_behind}
 use Rattle.machine_reads.specs.Underway.{HasBytes}
 use Rattle.drive_model.specs.Drive.{InRange}
 use Rattle.pc_bus.specs.Boards.{Board, memory_of}
 use Rattle.single_commands.specs.Rigs.{IsSound}
 use Rattle.machine_commands.specs.Shown.{rig_of, user_part, page_part}
-
-length-with : (memory : List ℕ) (address : ℕ) (bytes : List ℕ) → address + length bytes ≤ length memory → length (with_bytes memory address bytes) ≡ length memory
-unfolding with_bytes with_words
-length-with memory address bytes fits = length-with_words memory address bytes fits
-
-with_before : (memory : List ℕ) (address : ℕ) (bytes : List ℕ) → address + length bytes ≤ length memory → (k : ℕ) → k < address → get_or (with_bytes memory address bytes) k 0 ≡ get_or memory k 0
-unfolding with_bytes with_words
-with_before memory address bytes fits k before = with_words_before memory address bytes fits k before
-
-with_at : (memory : List ℕ) (address : ℕ) (bytes : List ℕ) → address + length bytes ≤ length memory → (k i : ℕ) → k ≡ address + i → i < length bytes → get_or (with_bytes memory address bytes) k 0 ≡ get_or bytes i 0
-unfolding with_bytes with_words
-with_at memory address bytes fits k i is at = with_words_at memory address bytes fits k i is at
-
-with_behind : (memory : List ℕ) (address : ℕ) (bytes : List ℕ) → address + length bytes ≤ length memory → (k : ℕ) → address + length bytes ≤ k → get_or (with_bytes memory address bytes) k 0 ≡ get_or memory k 0
-unfolding with_bytes with_words
-with_behind memory address bytes fits k behind = with_words_behind memory address bytes fits k behind
 
 -- ---- both parts
 
@@ -87,40 +71,40 @@ user_outside old new address size long but =
 -- ---- bytes put there
 
 pub user_with : (old new : List ℕ) (address : ℕ) (bytes : List ℕ) → length old ≡ 1048576 → HasBytes old address bytes new → address + length bytes ≤ user_bytes
-    → user_part new ≡ with_bytes (user_part old) address bytes
+    → user_part new ≡ with_items (user_part old) address bytes
 user_with old new address bytes long has fits =
     let one = user_length old long in
     let two = user_length new (has.lengths ∙ long) in
     let inside : address + length bytes ≤ length (user_part old) = omega arith in
-    let three = length-with (user_part old) address bytes inside in
-    ext_get_or 0 (user_part new) (with_bytes (user_part old) address bytes) (two ∙ sym (three ∙ one))
+    let three = length-with_items (user_part old) address bytes inside in
+    ext_get_or 0 (user_part new) (with_items (user_part old) address bytes) (two ∙ sym (three ∙ one))
     (λ k within. (let below : k < user_bytes = omega arith in user_at new k below ∙ at k below inside))
   where
-    at : (k : ℕ) → k < user_bytes → address + length bytes ≤ length (user_part old) → get_or new k 0 ≡ get_or (with_bytes (user_part old) address bytes) k 0
+    at : (k : ℕ) → k < user_bytes → address + length bytes ≤ length (user_part old) → get_or new k 0 ≡ get_or (with_items (user_part old) address bytes) k 0
     at k below inside = elim (within_or k address) [
-      | inl before ↦ has.others k (inl before) ∙ (sym (user_at old k below) ∙ sym (with_before (user_part old) address bytes inside k before))
+      | inl before ↦ has.others k (inl before) ∙ (sym (user_at old k below) ∙ sym (with_items_before (user_part old) address bytes inside k before))
       | inr behind ↦ elim (within_or k (address + length bytes)) [
         | inl there ↦ put k (k - address) (omega arith) (omega arith) inside
-        | inr beyond ↦ has.others k (inr beyond) ∙ (sym (user_at old k below) ∙ sym (with_behind (user_part old) address bytes inside k beyond))
+        | inr beyond ↦ has.others k (inr beyond) ∙ (sym (user_at old k below) ∙ sym (with_items_behind (user_part old) address bytes inside k beyond))
       ]
     ]
       where
-        put : (k i : ℕ) → k ≡ address + i → i < length bytes → address + length bytes ≤ length (user_part old) → get_or new k 0 ≡ get_or (with_bytes (user_part old) address bytes) k 0
-        put k i is at inside = ap (λ n. get_or new n 0) is ∙ (has.put i at ∙ sym (with_at (user_part old) address bytes inside k i is at))
+        put : (k i : ℕ) → k ≡ address + i → i < length bytes → address + length bytes ≤ length (user_part old) → get_or new k 0 ≡ get_or (with_items (user_part old) address bytes) k 0
+        put k i is at inside = ap (λ n. get_or new n 0) is ∙ (has.put i at ∙ sym (with_items_at (user_part old) address bytes inside k i is at))
 
 pub page_with : (old new : List ℕ) (bytes : List ℕ) → length old ≡ 1048576 → HasBytes old user_bytes bytes new → length bytes ≤ 65536
-    → page_part new ≡ with_bytes (page_part old) 0 bytes
+    → page_part new ≡ with_items (page_part old) 0 bytes
 page_with old new bytes long has fits =
     let one = page_length old long in
     let two = page_length new (has.lengths ∙ long) in
     let inside : 0 + length bytes ≤ length (page_part old) = omega arith in
-    let three = length-with (page_part old) 0 bytes inside in
-    ext_get_or 0 (page_part new) (with_bytes (page_part old) 0 bytes) (two ∙ sym (three ∙ one)) (λ k within. page_at new k ∙ at k inside)
+    let three = length-with_items (page_part old) 0 bytes inside in
+    ext_get_or 0 (page_part new) (with_items (page_part old) 0 bytes) (two ∙ sym (three ∙ one)) (λ k within. page_at new k ∙ at k inside)
   where
-    at : (k : ℕ) → 0 + length bytes ≤ length (page_part old) → get_or new (user_bytes + k) 0 ≡ get_or (with_bytes (page_part old) 0 bytes) k 0
+    at : (k : ℕ) → 0 + length bytes ≤ length (page_part old) → get_or new (user_bytes + k) 0 ≡ get_or (with_items (page_part old) 0 bytes) k 0
     at k inside = elim (within_or k (length bytes)) [
-      | inl there ↦ has.put k there ∙ sym (with_at (page_part old) 0 bytes inside k k (omega arith) there)
-      | inr beyond ↦ has.others (user_bytes + k) (inr (omega arith)) ∙ (sym (page_at old k) ∙ sym (with_behind (page_part old) 0 bytes inside k (omega arith)))
+      | inl there ↦ has.put k there ∙ sym (with_items_at (page_part old) 0 bytes inside k k (omega arith) there)
+      | inr beyond ↦ has.others (user_bytes + k) (inr (omega arith)) ∙ (sym (page_at old k) ∙ sym (with_items_behind (page_part old) 0 bytes inside k (omega arith)))
     ]
 
 -- ---- ranges

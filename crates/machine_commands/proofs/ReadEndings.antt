@@ -9,7 +9,8 @@ use Rattle.flop_base.specs.declared.answers.Code.TheVariants as code
 use Rattle.flop_base.specs.declared.answers.Rate.{Rate}
 use Rattle.bay_model.specs.Bays.{in_bay}
 use Rattle.bay_model.specs.Counters.{IsFaultless, IsUndisturbed, faults_of}
-use Rattle.bay_model.specs.Memory.{user_bytes, with_bytes as put_bytes}
+use Rattle.flop_base.specs.Lists.{with_items}
+use Rattle.bay_model.specs.Memory.{user_bytes}
 use Rattle.track_model.specs.Bytes.{byte_at}
 use Rattle.track_model.specs.Fields.{IsAddressAt, IsDataMark, IsWhole, IsSizeCode, content_size}
 use Rattle.track_model.specs.Sectors.{IsSector, IsLone}
@@ -422,7 +423,7 @@ module _ (laws : ReadEndLaws) (motors : Motors) (bay : ℕ) (key : Chrn) (rate :
     where
       by_told : (told : result Bool Code) → Tells scene faults (memory_of at) Stall told
           → IfOk told (λ deleted. (content : List ℕ) × FindsField (rig_of old) bay key rate deleted content (rig_of new)
-          × (user_part (memory_of new) ≡ put_bytes (user_part (memory_of old)) address content))
+          × (user_part (memory_of new) ≡ with_items (user_part (memory_of old)) address content))
       by_told (Ok deleted) (content, finds) =
           let long = content_long deleted content finds in
           (content, field deleted content finds, user_with (memory_of old) (memory_of new) address content sends.prepares.memory (landed content finds.in_memory) (omega arith))
@@ -438,7 +439,7 @@ module _ (laws : ReadEndLaws) (motors : Motors) (bay : ℕ) (key : Chrn) (rate :
     where
       by_told : (told : result Bool Code) → Tells scene faults (memory_of at) Stall told
           → IfOk told (λ deleted. (content : List ℕ) × FindsField (rig_of old) bay key rate deleted content (rig_of new)
-          × (page_part (memory_of new) ≡ put_bytes (page_part (memory_of old)) 0 content))
+          × (page_part (memory_of new) ≡ with_items (page_part (memory_of old)) 0 content))
       by_told (Ok deleted) (content, finds) =
           let long = content_long deleted content finds in
           let range = size_range key.n coded in

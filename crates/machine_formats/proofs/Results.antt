@@ -4,7 +4,7 @@ use Rattle.std.specs.List.{flat_map}
 use Rattle.flop_base.specs.declared.key.Chrn.{Chrn}
 use Rattle.raw_image.specs.Disk.{Disk, HasTrack, IsWithTrack, track_of}
 use Rattle.track_model.specs.Layouts.{laid_words, lay}
-use Rattle.track_model.specs.Windows.{with_words}
+use Rattle.flop_base.specs.Lists.{with_items}
 use Rattle.track_format.specs.Keys.{key_bytes}
 use Rattle.sector_map.specs.Layings.{Format, IsLaying, Laying, format_keys, formatted}
 use Rattle.flop_base.specs.Standard.{standard_code}
@@ -103,9 +103,9 @@ made scene numbers keys executes past drive was there some of =
     let (others, is) = of.first in
     let track = track_of scene.disk scene.cylinder (head_sent scene.sent) in
     let inside = put.stands.inside in
-    let row : with_words track (start_in scene past) (take put.count past.words) ≡ with_words track 0 (take put.count (layout_in scene numbers keys)) =
-    ap (with_words track (start_in scene past)) (take_less past.words (layout_in scene numbers keys) others put.count is put.stands.few)
-    ∙ ap (λ n. with_words track n (take put.count (layout_in scene numbers keys))) of.start in
+    let row : with_items track (start_in scene past) (take put.count past.words) ≡ with_items track 0 (take put.count (layout_in scene numbers keys)) =
+    ap (with_items track (start_in scene past)) (take_less past.words (layout_in scene numbers keys) others put.count is put.stands.few)
+    ∙ ap (λ n. with_items track n (take put.count (layout_in scene numbers keys))) of.start in
     record {
       has = record {
         laying = record { cylinder = scene.cylinder; words = put.count };
@@ -207,7 +207,7 @@ lays_disk scene numbers keys laying after format head same code gap fill is =
     ap (λ k. lay k numbers.n numbers.gap3 numbers.fill words) same
     ∙ (ap (λ n. lay (format_keys format) n numbers.gap3 numbers.fill words) code
     ∙ (ap (λ g. lay (format_keys format) standard_code g numbers.fill words) gap ∙ ap (λ f. lay (format_keys format) standard_code format.gap3 f words) fill)) in
-    let At : ℕ → ℕ → List ℕ → Type 0 = λ c h row. HasTrack scene.disk c h × IsWithTrack scene.disk c h (with_words (track_of scene.disk c h) 0 (take laying.words row)) after in
+    let At : ℕ → ℕ → List ℕ → Type 0 = λ c h row. HasTrack scene.disk c h × IsWithTrack scene.disk c h (with_items (track_of scene.disk c h) 0 (take laying.words row)) after in
     let there : At scene.cylinder (head_sent scene.sent) (layout_in scene numbers keys) = (is.track, is.laid) in
     let here : At laying.cylinder format.h (formatted format words) =
     subst (λ c. At c format.h (formatted format words)) (sym is.cylinder) (subst (λ h. At scene.cylinder h (formatted format words)) head (subst (At scene.cylinder (head_sent scene.sent)) layout there)) in

@@ -4,7 +4,7 @@ use Rattle.std.specs.List.{flat_map}
 use Rattle.flop_base.specs.declared.key.Chrn.{Chrn}
 use Rattle.raw_image.specs.Disk.{Disk, IsWithTrack, track_of}
 use Rattle.track_model.specs.Layouts.{Fits, lay}
-use Rattle.track_model.specs.Windows.{with_words}
+use Rattle.flop_base.specs.Lists.{with_items}
 use Rattle.track_format.specs.Keys.{key_bytes}
 use Rattle.sector_map.specs.Layings.{Laying}
 use Rattle.drive_model.specs.Drive.{DriveState}
@@ -40,7 +40,7 @@ pub record LaysTo (scene : Scene) (numbers : Numbers) (keys : List Chrn) (laying
   pub track : IsThere scene
   pub most : laying.words ≤ scene.disk.words_per_track
   pub laid : IsWithTrack scene.disk scene.cylinder (head_sent scene.sent)
-      (with_words (track_of scene.disk scene.cylinder (head_sent scene.sent)) 0 (take laying.words (layout_in scene numbers keys))) after
+      (with_items (track_of scene.disk scene.cylinder (head_sent scene.sent)) 0 (take laying.words (layout_in scene numbers keys))) after
 
 -- the medium was laid so
 pub record HasLaying (scene : Scene) (numbers : Numbers) (keys : List Chrn) (drive : DriveState) : Type 0 where

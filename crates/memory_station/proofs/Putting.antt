@@ -6,7 +6,8 @@ use Rattle.std.proofs.lemmas.List.FromFn.{length-map-range_with_len, get_or-map-
 use Rattle.raw_image.specs.Disk.{Disk, IsDisk, HasTrack, IsWithTrack, track_of}
 use Rattle.track_model.specs.Bytes.{byte_at}
 use Rattle.track_model.specs.Fields.{content_at, content_size}
-use Rattle.track_model.specs.Windows.{window_word, with_words, cut_of}
+use Rattle.flop_base.specs.Lists.{with_items}
+use Rattle.track_model.specs.Windows.{window_word, cut_of}
 use Rattle.sector_map.proofs.RegularTracks.{length-track_of}
 use Rattle.memory_station.specs.Put.{IsCutTo, PutsWindow}
 
@@ -15,7 +16,7 @@ match_bool true P Q at_true at_false = at_true refl
 match_bool false P Q at_true at_false = at_false refl
 
 cut_is : (track words : List ℕ) (p start k : ℕ) → start ≡ window_word p → take start track ++ (take k words ++ drop (start + length (take k words)) track) ≡ cut_of track p k words
-unfolding with_words
+unfolding with_items
 cut_is track words p start k at = ap (λ s. take s track ++ (take k words ++ drop (s + length (take k words)) track)) at
 
 module _ (d : Disk) (c h p start cut : ℕ) (words : List ℕ) (after : Disk) (valid : IsDisk d) (has : HasTrack d c h) (at : start ≡ window_word p) (within : start ≤ d.words_per_track) (cut_to : cut ≡ min (length words) (d.words_per_track - start)) where

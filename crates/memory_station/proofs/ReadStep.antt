@@ -14,7 +14,8 @@ use Rattle.track_model.proofs.Sectored.{found_sector, sector_under}
 use Rattle.track_model.proofs.Unique.{one_look_at}
 use Rattle.bay_model.specs.Bays.{Two, in_bay}
 use Rattle.bay_model.specs.Counters.{Counters}
-use Rattle.bay_model.specs.Memory.{with_bytes, SameOutside}
+use Rattle.flop_base.specs.Lists.{with_items}
+use Rattle.bay_model.specs.Memory.{SameOutside}
 use Rattle.sector_model.specs.Stations.{StationState, Bay, met}
 use Rattle.sector_model.specs.Orders.{IsDeviceRefusal}
 use Rattle.sector_map.specs.Met.{AllFound}
@@ -27,8 +28,8 @@ use Rattle.memory_station.proofs.StationSteps.{station}
 
 -- ---- memory with a part written over
 
-pub put_bytes : (list memory bytes : List ℕ) (a k : ℕ) → list ≡ memory → k ≡ length bytes → put_mid a k list bytes ≡ with_bytes memory a bytes
-unfolding with_bytes
+pub put_bytes : (list memory bytes : List ℕ) (a k : ℕ) → list ≡ memory → k ≡ length bytes → put_mid a k list bytes ≡ with_items memory a bytes
+unfolding with_items
 put_bytes list memory bytes a k is long =
     ap (λ row. put_mid a k row bytes) is
     ∙ ap (λ row. take a memory ++ (bytes ++ row)) (drop-drop k a memory)
@@ -38,15 +39,15 @@ module _ (memory : List ℕ) (a : ℕ) (bytes : List ℕ) (fits : a + length byt
   front : length (take a memory) ≡ a
   front = omega (arith, length-take a memory)
 
-  pub length-with_bytes : length (with_bytes memory a bytes) ≡ length memory
-  unfolding with_bytes
-  length-with_bytes =
+  pub length-with_items : length (with_items memory a bytes) ≡ length memory
+  unfolding with_items
+  length-with_items =
       omega (arith, front, length-append (take a memory) (bytes ++ drop (a + length bytes) memory), length-append bytes (drop (a + length bytes) memory), length-drop (a + length bytes) memory)
 
-  pub same_outside : SameOutside memory a (length bytes) (with_bytes memory a bytes)
-  unfolding with_bytes
+  pub same_outside : SameOutside memory a (length bytes) (with_items memory a bytes)
+  unfolding with_items
   same_outside = record {
-    length = length-with_bytes;
+    length = length-with_items;
     others = λ k where_is.
         let rest = drop (a + length bytes) memory in
         elim where_is [
@@ -115,7 +116,7 @@ module _ (track : List ℕ) (key : Chrn) (tries n : ℕ) (code : Code) (old new 
 
 -- ---- the step
 
-module _ (bays : Two Bay) (memory after : List ℕ) (spares tries n address : ℕ) (old new : Counters) (key : Chrn) (slot : Bay) (content : List ℕ) (was : slot ≡ in_bay bays n) (is : after ≡ with_bytes memory address content) (size : length content ≡ content_size key.n) (fits : address + content_size key.n ≤ length memory) (some : 1 ≤ tries) (sent : HasSent 1 old new) where
+module _ (bays : Two Bay) (memory after : List ℕ) (spares tries n address : ℕ) (old new : Counters) (key : Chrn) (slot : Bay) (content : List ℕ) (was : slot ≡ in_bay bays n) (is : after ≡ with_items memory address content) (size : length content ≡ content_size key.n) (fits : address + content_size key.n ≤ length memory) (some : 1 ≤ tries) (sent : HasSent 1 old new) where
   abbrev before_read : StationState
   before_read = station bays memory spares tries old
 
@@ -154,7 +155,7 @@ module _ (bays : Two Bay) (memory after : List ℕ) (spares tries n address : �
     memory =
         let room : address + length content ≤ length memory = omega arith in
         let outside = same_outside memory address content room in
-        subst (λ m. SameOutside memory address (content_size key.n) m) (sym is) (subst (λ k. SameOutside memory address k (with_bytes memory address content)) size outside);
+        subst (λ m. SameOutside memory address (content_size key.n) m) (sym is) (subst (λ k. SameOutside memory address k (with_items memory address content)) size outside);
     becomes = refl;
   }
 

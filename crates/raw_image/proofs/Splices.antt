@@ -3,38 +3,39 @@ use Rattle.std.proofs.Common.{◌≡◌, ℕ, ◌+◌, ◌-◌, ◌*◌, ◌^◌
 use Rattle.std.proofs.lemmas.Bool.{cases_lt}
 use Rattle.std.proofs.lemmas.List.{ext_get_or, get_or_append_left, get_or-append-add, get_or-take, get_or-drop, length-append, length-take, length-drop, drop-drop}
 use borrow.Rule.Slice.PartMut.{put_mid}
+use Rattle.flop_base.specs.Lists.{with_items}
 use Rattle.raw_image.specs.Header.{Header}
 use Rattle.raw_image.specs.Image.{disk_of}
 use Rattle.raw_image.specs.Disk.{Disk, IsDisk, HasTrack, IsWithTrack, track_start, track_of}
 use Rattle.raw_image.proofs.Tracks.{apart, rows_apart}
 
--- a list with some of its elements replaced
-abbrev pub spliced : List ℕ → ℕ → List ℕ → List ℕ
-spliced list at words = take at list ++ (words ++ drop (at + length words) list)
-
 module _ (list : List ℕ) (at : ℕ) (words : List ℕ) (fits : at + length words ≤ length list) where
   before : length (take at list) ≡ at
   before = omega (arith, length-take at list)
 
-  pub length-spliced : length (spliced list at words) ≡ length list
-  length-spliced =
+  pub length-with_items : length (with_items list at words) ≡ length list
+  unfolding with_items
+  length-with_items =
       omega (arith, before, length-append (take at list) (words ++ drop (at + length words) list), length-append words (drop (at + length words) list), length-drop (at + length words) list)
 
-  pub spliced_before : (k : ℕ) → k < at → get_or (spliced list at words) k 0 ≡ get_or list k 0
-  spliced_before k h =
+  pub with_items_before : (k : ℕ) → k < at → get_or (with_items list at words) k 0 ≡ get_or list k 0
+  unfolding with_items
+  with_items_before k h =
       let within : k < length (take at list) = omega (arith, before) in
       get_or_append_left (take at list) (words ++ drop (at + length words) list) 0 k within ∙ get_or-take at list k 0 h
 
-  pub spliced_at : (k i : ℕ) → k ≡ at + i → i < length words → get_or (spliced list at words) k 0 ≡ get_or words i 0
-  spliced_at k i e h =
+  pub with_items_at : (k i : ℕ) → k ≡ at + i → i < length words → get_or (with_items list at words) k 0 ≡ get_or words i 0
+  unfolding with_items
+  with_items_at k i e h =
       let rest = drop (at + length words) list in
       let place : k ≡ length (take at list) + i = omega (arith, before) in
       ap (λ j. get_or (take at list ++ (words ++ rest)) j 0) place
       ∙ get_or-append-add (take at list) (words ++ rest) i 0
       ∙ get_or_append_left words rest 0 i h
 
-  pub spliced_behind : (k : ℕ) → at + length words ≤ k → get_or (spliced list at words) k 0 ≡ get_or list k 0
-  spliced_behind k h =
+  pub with_items_behind : (k : ℕ) → at + length words ≤ k → get_or (with_items list at words) k 0 ≡ get_or list k 0
+  unfolding with_items
+  with_items_behind k h =
       let rest = drop (at + length words) list in
       let i = k - (at + length words) in
       let place : k ≡ length (take at list) + (length words + i) = omega (arith, before) in
@@ -46,14 +47,14 @@ module _ (list : List ℕ) (at : ℕ) (words : List ℕ) (fits : at + length wor
       ∙ ap (λ j. get_or list j 0) back
 
   -- all are words of 16 bits where those of both lists are
-  pub spliced_fits : ((k : ℕ) → get_or list k 0 < 2 ^ 16) → ((k : ℕ) → get_or words k 0 < 2 ^ 16) → (k : ℕ) → get_or (spliced list at words) k 0 < 2 ^ 16
-  spliced_fits old new k =
+  pub with_items_fits : ((k : ℕ) → get_or list k 0 < 2 ^ 16) → ((k : ℕ) → get_or words k 0 < 2 ^ 16) → (k : ℕ) → get_or (with_items list at words) k 0 < 2 ^ 16
+  with_items_fits old new k =
       let Fits : ℕ → Type 0 = λ w. w < 2 ^ 16 in
       elim (cases_lt k at) [
-        | inl lower ↦ subst Fits (sym (spliced_before k lower)) (old k)
+        | inl lower ↦ subst Fits (sym (with_items_before k lower)) (old k)
         | inr upper ↦ elim (cases_lt k (at + length words)) [
-          | inl inner ↦ subst Fits (sym (spliced_at k (k - at) (omega arith) (omega arith))) (new (k - at))
-          | inr beyond ↦ subst Fits (sym (spliced_behind k beyond)) (old k)
+          | inl inner ↦ subst Fits (sym (with_items_at k (k - at) (omega arith) (omega arith))) (new (k - at))
+          | inr beyond ↦ subst Fits (sym (with_items_behind k beyond)) (old k)
         ]
       ]
 
@@ -78,41 +79,41 @@ module _ (list : List ℕ) (from w start : ℕ) (words : List ℕ) (within : sta
   fits : from + start + length words ≤ length list
   fits = omega arith
 
-  after_long : length (take w (drop from (spliced list (from + start) words))) ≡ w
+  after_long : length (take w (drop from (with_items list (from + start) words))) ≡ w
   after_long =
-      omega (arith, length-take w (drop from (spliced list (from + start) words)), length-drop from (spliced list (from + start) words), length-spliced list (from + start) words fits)
+      omega (arith, length-take w (drop from (with_items list (from + start) words)), length-drop from (with_items list (from + start) words), length-with_items list (from + start) words fits)
 
-  element_of : (k : ℕ) → k < w → get_or (spliced list (from + start) words) (from + k) 0 ≡ get_or (spliced (take w (drop from list)) start words) k 0
+  element_of : (k : ℕ) → k < w → get_or (with_items list (from + start) words) (from + k) 0 ≡ get_or (with_items (take w (drop from list)) start words) k 0
   element_of k h =
       let room : start + length words ≤ length (take w (drop from list)) = omega (arith, part_long) in
       elim (cases_lt k start) [
         | inl lower ↦
-            spliced_before list (from + start) words fits (from + k) (omega arith)
+            with_items_before list (from + start) words fits (from + k) (omega arith)
             ∙ sym (element from w k list h)
-            ∙ sym (spliced_before (take w (drop from list)) start words room k lower)
+            ∙ sym (with_items_before (take w (drop from list)) start words room k lower)
         | inr upper ↦ elim (cases_lt k (start + length words)) [
           | inl inner ↦
-              spliced_at list (from + start) words fits (from + k) (k - start) (omega arith) (omega arith)
-              ∙ sym (spliced_at (take w (drop from list)) start words room k (k - start) (omega arith) (omega arith))
+              with_items_at list (from + start) words fits (from + k) (k - start) (omega arith) (omega arith)
+              ∙ sym (with_items_at (take w (drop from list)) start words room k (k - start) (omega arith) (omega arith))
           | inr beyond ↦
-              spliced_behind list (from + start) words fits (from + k) (omega arith)
+              with_items_behind list (from + start) words fits (from + k) (omega arith)
               ∙ sym (element from w k list h)
-              ∙ sym (spliced_behind (take w (drop from list)) start words room k beyond)
+              ∙ sym (with_items_behind (take w (drop from list)) start words room k beyond)
         ]
       ]
 
-  pub part_of-spliced : take w (drop from (spliced list (from + start) words)) ≡ spliced (take w (drop from list)) start words
-  part_of-spliced =
+  pub part_of-with_items : take w (drop from (with_items list (from + start) words)) ≡ with_items (take w (drop from list)) start words
+  part_of-with_items =
       let room : start + length words ≤ length (take w (drop from list)) = omega (arith, part_long) in
       ext_get_or 0 _ _
-      (omega (arith, after_long, part_long, length-spliced (take w (drop from list)) start words room))
+      (omega (arith, after_long, part_long, length-with_items (take w (drop from list)) start words room))
       (λ k h.
       let below : k < w = omega (arith, after_long) in
-      element from w k (spliced list (from + start) words) below ∙ element_of k below)
+      element from w k (with_items list (from + start) words) below ∙ element_of k below)
 
 -- the medium with words of one track replaced
 abbrev pub with_splice : Disk → ℕ → ℕ → ℕ → List ℕ → Disk
-with_splice d c h start words = record d { words = spliced d.words (track_start d c h + start) words }
+with_splice d c h start words = record d { words = with_items d.words (track_start d c h + start) words }
 
 module _ (d : Disk) (c h start : ℕ) (words : List ℕ) (valid : IsDisk d) (each : (k : ℕ) → get_or words k 0 < 2 ^ 16) (has : HasTrack d c h) (within : start + length words ≤ d.words_per_track) (inside : track_start d c h + d.words_per_track ≤ length d.words) where
   disk_fits : track_start d c h + start + length words ≤ length d.words
@@ -126,51 +127,53 @@ module _ (d : Disk) (c h start : ℕ) (words : List ℕ) (valid : IsDisk d) (eac
       elim (apart b g c h d.heads had.1 has.1 other) [
         | inl before ↦
             let far : from + w ≤ track_start d c h = rows_apart (b * d.heads + g) (c * d.heads + h) w before in
-            same_part (spliced d.words at words) d.words from w (length-spliced d.words at words disk_fits)
-            (λ k low high. spliced_before d.words at words disk_fits k (omega arith))
+            same_part (with_items d.words at words) d.words from w (length-with_items d.words at words disk_fits)
+            (λ k low high. with_items_before d.words at words disk_fits k (omega arith))
         | inr after ↦
             let far : track_start d c h + w ≤ from = rows_apart (c * d.heads + h) (b * d.heads + g) w after in
-            same_part (spliced d.words at words) d.words from w (length-spliced d.words at words disk_fits)
-            (λ k low high. spliced_behind d.words at words disk_fits k (omega arith))
+            same_part (with_items d.words at words) d.words from w (length-with_items d.words at words disk_fits)
+            (λ k low high. with_items_behind d.words at words disk_fits k (omega arith))
       ]
 
-  pub with_splice_is : IsWithTrack d c h (spliced (track_of d c h) start words) (with_splice d c h start words)
+  pub with_splice_is : IsWithTrack d c h (with_items (track_of d c h) start words) (with_splice d c h start words)
   with_splice_is = record {
     valid = record {
       cylinders = valid.cylinders;
       heads = valid.heads;
       words_per_track = valid.words_per_track;
-      count = length-spliced d.words (track_start d c h + start) words disk_fits ∙ valid.count;
-      each = spliced_fits d.words (track_start d c h + start) words disk_fits valid.each each;
+      count = length-with_items d.words (track_start d c h + start) words disk_fits ∙ valid.count;
+      each = with_items_fits d.words (track_start d c h + start) words disk_fits valid.each each;
     };
     protected = refl;
     cylinders = refl;
     heads = refl;
     rate = refl;
     words_per_track = refl;
-    has = part_of-spliced d.words (track_start d c h) d.words_per_track start words within inside;
+    has = part_of-with_items d.words (track_start d c h) d.words_per_track start words within inside;
     others = others_kept;
   }
 
 -- what a part of a list was written over with
-pub put_mid-spliced : (list part words : List ℕ) (at k : ℕ) → part ≡ words → k ≡ length words → put_mid at k list part ≡ spliced list at words
-put_mid-spliced list part words at k is long =
+pub put_mid-with_items : (list part words : List ℕ) (at k : ℕ) → part ≡ words → k ≡ length words → put_mid at k list part ≡ with_items list at words
+unfolding with_items
+put_mid-with_items list part words at k is long =
     ap (λ row. take at list ++ (row ++ drop k (drop at list))) is
     ∙ ap (λ row. take at list ++ (words ++ row)) (drop-drop k at list)
     ∙ ap (λ n. take at list ++ (words ++ drop (at + n) list)) long
 
 -- a medium in memory whose words became these
-pub becomes_with : (d : Disk) (shape : Header) (list after : List ℕ) (c h start from : ℕ) (words : List ℕ) → disk_of shape list ≡ d → IsDisk (disk_of shape list) → ((k : ℕ) → get_or words k 0 < 2 ^ 16) → HasTrack d c h → start + length words ≤ d.words_per_track → from ≡ track_start d c h → from + d.words_per_track ≤ length d.words → after ≡ spliced list (from + start) words → IsWithTrack d c h (spliced (track_of d c h) start words) (disk_of shape after)
+pub becomes_with : (d : Disk) (shape : Header) (list after : List ℕ) (c h start from : ℕ) (words : List ℕ) → disk_of shape list ≡ d → IsDisk (disk_of shape list) → ((k : ℕ) → get_or words k 0 < 2 ^ 16) → HasTrack d c h → start + length words ≤ d.words_per_track → from ≡ track_start d c h → from + d.words_per_track ≤ length d.words → after ≡ with_items list (from + start) words → IsWithTrack d c h (take start (track_of d c h) ++ (words ++ drop (start + length words) (track_of d c h))) (disk_of shape after)
+unfolding with_items
 becomes_with d shape list after c h start from words view valid each has within at inside is =
     let inside : track_start d c h + d.words_per_track ≤ length d.words = subst (λ n. n + d.words_per_track ≤ length d.words) at inside in
     let same : with_splice d c h start words ≡ disk_of shape after =
     sym (ap (λ (e : Disk). with_splice e c h start words) view)
-    ∙ ap (λ (e : Disk). disk_of shape (spliced list (track_start e c h + start) words)) view
-    ∙ ap (λ n. disk_of shape (spliced list (n + start) words)) (sym at)
+    ∙ ap (λ (e : Disk). disk_of shape (with_items list (track_start e c h + start) words)) view
+    ∙ ap (λ n. disk_of shape (with_items list (n + start) words)) (sym at)
     ∙ ap (disk_of shape) (sym is) in
-    let With : Disk → Type 0 = λ e. IsWithTrack d c h (spliced (track_of d c h) start words) e in
+    let With : Disk → Type 0 = λ e. IsWithTrack d c h (with_items (track_of d c h) start words) e in
     subst With same (with_splice_is d c h start words (subst IsDisk view valid) each has within inside)
 
 -- how long a list is after a part of it was written over
 pub put_mid-long : (list part words : List ℕ) (at k : ℕ) → part ≡ words → k ≡ length words → at + length words ≤ length list → length (put_mid at k list part) ≡ length list
-put_mid-long list part words at k is long fits = ap length (put_mid-spliced list part words at k is long) ∙ length-spliced list at words fits
+put_mid-long list part words at k is long fits = ap length (put_mid-with_items list part words at k is long) ∙ length-with_items list at words fits

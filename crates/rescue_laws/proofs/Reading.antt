@@ -21,7 +21,7 @@ use Rattle.disk_laws.specs.Copied.{Gave}
 use Rattle.disk_laws.specs.Requests.{mark_of}
 use Rattle.disk_laws.proofs.Records.{length-bytes_at}
 use Rattle.disk_laws.proofs.Steps.{NeverFell, either, keeps_drives}
-use Rattle.disk_laws.proofs.UserMemory.{length-with}
+use Rattle.track_model.proofs.Splices.{length-with_items}
 use Rattle.rescue.specs.Course.{read_of, write_of}
 use Rattle.rescue_commands.specs.Tasks.{line_at}
 use Rattle.rescue_laws.specs.Rescued.{is_write}
@@ -39,7 +39,7 @@ drive_keeps key old new (Ok deleted) sized size drive =
     let long : length found.content ≡ 512 = ap length found.whole.content_is ∙ length-bytes_at (track_of found.disk found.cylinder key.h) (found.mark + 64) (content_size key.n) ∙ ap content_size sized in
     record {
       bays = ap (λ (s : StationState). s.bays) found.becomes;
-      size = ap (λ (s : StationState). length s.memory) found.becomes ∙ length-with old.memory 0x10000 found.content (omega arith);
+      size = ap (λ (s : StationState). length s.memory) found.becomes ∙ length-with_items old.memory 0x10000 found.content (omega arith);
     }
 drive_keeps key old new (Err code) sized size drive = record {
   bays = ap (λ (s : StationState). s.bays) drive.refused.becomes;

@@ -11,7 +11,7 @@ use Rattle.track_model.specs.Regular.{IsRegular}
 use Rattle.track_model.specs.Kept.{KeepsOthers}
 use Rattle.track_model.specs.Windows.{window_word, window_words, window_place, cut_of, IsCuttable, IsFieldFor}
 use Rattle.track_model.proofs.Frames.{same_address_at}
-use Rattle.track_model.proofs.Splices.{same_before, length-with_words}
+use Rattle.track_model.proofs.Splices.{same_before, length-with_items}
 use Rattle.track_model.proofs.Unique.{one_look_at}
 use Rattle.track_model.proofs.Written.{length-window}
 use Rattle.track_model.proofs.Kept as cuts
@@ -31,7 +31,7 @@ module _ (track : List ℕ) (p k : ℕ) (words : List ℕ) (cuttable : IsCuttabl
   cut_fits = let most = cuttable.most in let inside = cuttable.inside in omega (arith, length-take k words)
 
   pub length-cut : length (cut_of track p k words) ≡ length track
-  length-cut = length-with_words track (window_word p) (take k words) cut_fits
+  length-cut = length-with_items track (window_word p) (take k words) cut_fits
 
   address_in_cut : (key : Chrn) → IsAddressAt track p key → IsAddressAt (cut_of track p k words) p key
   address_in_cut key address =

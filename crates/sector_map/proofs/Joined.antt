@@ -4,7 +4,8 @@ use Rattle.std.proofs.lemmas.List.{take-append-drop}
 use Rattle.raw_image.specs.Disk.{Disk, IsDisk, HasTrack, track_of, IsWithTrack}
 use Rattle.track_model.specs.Fields.{IsAddressAt}
 use Rattle.track_model.specs.Regular.{IsRegular}
-use Rattle.track_model.specs.Windows.{window_word, with_words, cut_of, IsCuttable}
+use Rattle.flop_base.specs.Lists.{with_items}
+use Rattle.track_model.specs.Windows.{window_word, cut_of, IsCuttable}
 use Rattle.track_model.proofs.Splices.{longer_cut}
 use Rattle.sector_map.specs.Disks.{IsRegularDisk}
 use Rattle.sector_map.specs.Changes.{Change, Written, window_of, IsChange}
@@ -17,7 +18,7 @@ use Rattle.sector_map.proofs.Changed.{length-cut, change_keeps_tracks, change_ke
 -- ---- no words
 
 none_cut : (track words : List ℕ) (p k : ℕ) → k ≡ 0 → cut_of track p k words ≡ track
-unfolding with_words
+unfolding with_items
 none_cut track words p k none =
     ap (λ j. take (window_word p) track ++ (take j words ++ drop (window_word p + length (take j words)) track)) none
     ∙ ap (λ s. take (window_word p) track ++ drop s track) (omega arith)

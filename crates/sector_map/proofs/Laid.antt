@@ -8,7 +8,7 @@ use Rattle.raw_image.specs.Disk.{Disk, IsDisk, HasTrack, track_of, IsWithTrack}
 use Rattle.track_model.specs.declared.symbol.Symbol.{Symbol}
 use Rattle.track_model.specs.declared.symbol.Symbol.TheVariants.{Byte}
 use Rattle.track_model.specs.Layouts.{lay, track_symbols, gap, laid_words, Fits}
-use Rattle.track_model.specs.Windows.{with_words}
+use Rattle.flop_base.specs.Lists.{with_items}
 use Rattle.track_model.proofs.Recorded.{length-recorded}
 use Rattle.track_model.proofs.Splices.{longer_cut}
 use Rattle.sector_map.specs.Standard.{key_of, track_keys}
@@ -72,8 +72,8 @@ length-formatted format words = length-lay (format_keys format) standard_code fo
 pub laying_keeps_tracks : (format : Format) (disk : Disk) (laying : Laying) (after : Disk) → IsLaying format disk laying after → KeepsTracks disk laying.cylinder format.h after
 laying_keeps_tracks format disk laying after is = with_track_keeps disk after laying.cylinder format.h _ is.laid
 
-all_laid : (track words : List ℕ) (k : ℕ) → k ≡ length words → k ≡ length track → with_words track 0 (take k words) ≡ words
-unfolding with_words
+all_laid : (track words : List ℕ) (k : ℕ) → k ≡ length words → k ≡ length track → with_items track 0 (take k words) ≡ words
+unfolding with_items
 all_laid track words k all whole =
     let taken : take k words ≡ words = take_all k words (omega arith) in
     ap (λ row. row ++ drop (0 + length row) track) taken
@@ -107,8 +107,8 @@ can_format_alike format disk after alike = (
   },
 )
 
-none_laid : (track words : List ℕ) (k : ℕ) → k ≡ 0 → with_words track 0 (take k words) ≡ track
-unfolding with_words
+none_laid : (track words : List ℕ) (k : ℕ) → k ≡ 0 → with_items track 0 (take k words) ≡ track
+unfolding with_items
 none_laid track words k none =
     ap (λ j. take 0 track ++ (take j words ++ drop (0 + length (take j words)) track)) none
     ∙ take-append-drop 0 track
@@ -129,7 +129,7 @@ laying_of_none format disk laying valid has none = record {
       (none_laid (track_of disk laying.cylinder format.h) (formatted format disk.words_per_track) laying.words none);
 }
 
-laid_twice : (track words : List ℕ) (j k : ℕ) → length words ≡ length track → j ≤ length words → k ≤ length words → with_words (with_words track 0 (take j words)) 0 (take k words) ≡ with_words track 0 (take (max j k) words)
+laid_twice : (track words : List ℕ) (j k : ℕ) → length words ≡ length track → j ≤ length words → k ≤ length words → with_items (with_items track 0 (take j words)) 0 (take k words) ≡ with_items track 0 (take (max j k) words)
 laid_twice track words j k long few more = longer_cut track 0 words j k few more (omega arith)
 
 -- a laying and a later one of the same format on the same cylinder are one from the first disk: the longer stands
@@ -139,8 +139,8 @@ layings_join format disk one middle two after valid first second same =
     let w = disk.words_per_track in
     let track = track_of disk one.cylinder h in
     let words = formatted format w in
-    let row = with_words track 0 (take one.words words) in
-    let Laid : ℕ → List ℕ → List ℕ → Type 0 = λ c r all. IsWithTrack middle c h (with_words r 0 (take two.words all)) after in
+    let row = with_items track 0 (take one.words words) in
+    let Laid : ℕ → List ℕ → List ℕ → Type 0 = λ c r all. IsWithTrack middle c h (with_items r 0 (take two.words all)) after in
     let there : Laid one.cylinder (track_of middle one.cylinder h) (formatted format middle.words_per_track) = subst (λ c. Laid c (track_of middle c h) (formatted format middle.words_per_track)) same second.laid in
     let same_layout : formatted format middle.words_per_track ≡ words = ap (λ n. formatted format n) first.laid.words_per_track in
     let laid : Laid one.cylinder row words = subst (λ r. Laid one.cylinder r words) first.laid.has (subst (Laid one.cylinder (track_of middle one.cylinder h)) same_layout there) in

@@ -4,10 +4,11 @@ use Rattle.std.proofs.Math.Seq.{take-length}
 use Rattle.std.proofs.lemmas.List.{length-take}
 use Rattle.std.proofs.lemmas.Slice.{put_mid-paste}
 use borrow.Rule.Slice.PartMut.{put_mid}
-use Rattle.track_model.specs.Windows.{window_word, with_words, cut_of}
+use Rattle.flop_base.specs.Lists.{with_items}
+use Rattle.track_model.specs.Windows.{window_word, cut_of}
 
 pub placed : (words part window : List ℕ) (p start cut : ℕ) → start ≡ window_word p → part ≡ take cut window → cut ≤ length window → put_mid start (start + cut - start) words part ≡ cut_of words p cut window
-unfolding with_words
+unfolding with_items
 placed words part window p start cut at is most =
     let first : List ℕ = take cut window in
     let long : cut ≡ length first = omega (arith, length-take cut window) in

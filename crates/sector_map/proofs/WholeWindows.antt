@@ -11,7 +11,8 @@ use Rattle.track_model.specs.Marks.{data_byte, IsSound, IsRun}
 use Rattle.track_model.specs.Fields.{after_marks, content_size, content_at, data_cells, IsDataMark, IsWhole}
 use Rattle.track_model.specs.Sectors.{IsUnder}
 use Rattle.track_model.specs.Writing.{sync_and_marks, check_bytes, window}
-use Rattle.track_model.specs.Windows.{window_word, with_words}
+use Rattle.flop_base.specs.Lists.{with_items}
+use Rattle.track_model.specs.Windows.{window_word}
 use Rattle.track_model.proofs.CrcSteps.{crc_below}
 use Rattle.track_model.proofs.OwnField.{legal_not_zero}
 use Rattle.track_model.proofs.Splices
@@ -50,7 +51,7 @@ module _ (track : List ℕ) (start : ℕ) (deleted : Bool) (content : List ℕ) 
   rest = content ++ check_bytes check
 
   abbrev row : List ℕ
-  row = with_words track start (window deleted content)
+  row = with_items track start (window deleted content)
 
   long_rest : length rest ≡ content_size n + 2
   long_rest = omega (arith, length-append content (check_bytes check))
@@ -77,11 +78,11 @@ module _ (track : List ℕ) (start : ℕ) (deleted : Bool) (content : List ℕ) 
 
   row_sound : (m : ℕ) → 192 + m ≤ 16 * length (window deleted content) → IsSound row (16 * start + 192) m
   row_sound m h = record {
-    inside = omega (arith, Splices.length-with_words track start (window deleted content) fits);
+    inside = omega (arith, Splices.length-with_items track start (window deleted content) fits);
     no_zero = λ q low high zero.
         let i = q / 16 - start in
         let place : q / 16 ≡ start + i = omega arith in
-        let word = Splices.with_words_at track start (window deleted content) fits (q / 16) i place (omega (arith, long)) in
+        let word = Splices.with_items_at track start (window deleted content) fits (q / 16) i place (omega (arith, long)) in
         not_zero deleted rest i (omega arith) (omega (arith, long, long_rest)) (sym word ∙ zero);
   }
 
@@ -136,7 +137,7 @@ change_is_under written disk change after is fits whole =
     let start = window_word change.place in
     let most = is.cuttable.inside in
     let inside : start + length (window_of written) ≤ length track = omega arith in
-    let row_is : with_words track start (window_of written) ≡ track_of after change.cylinder written.key.h = ap (λ words. with_words track start words) (sym (take_all change.words (window_of written) (omega arith))) ∙ sym is.cut.has in (
+    let row_is : with_items track start (window_of written) ≡ track_of after change.cylinder written.key.h = ap (λ words. with_items track start words) (sym (take_all change.words (window_of written) (omega arith))) ∙ sym is.cut.has in (
       change.place,
       16 * start + 192,
       change_keeps_address written disk change after is,

@@ -5,7 +5,7 @@ use Rattle.flop_base.specs.declared.key.Chrn.{Chrn}
 use Rattle.flop_base.specs.declared.answers.Rate.{Rate}
 use Rattle.raw_image.specs.Disk.{Disk, HasTrack, track_of, IsWithTrack}
 use Rattle.track_model.specs.Layouts.{lay, Fits}
-use Rattle.track_model.specs.Windows.{with_words}
+use Rattle.flop_base.specs.Lists.{with_items}
 use Rattle.sector_map.specs.Standard.{track_keys}
 
 -- what is asked of a format: records from 1 on of 512 bytes, as many as the rate has, for a cylinder and a head
@@ -34,7 +34,7 @@ pub record IsLaying (format : Format) (disk : Disk) (laying : Laying) (after : D
   pub track : HasTrack disk laying.cylinder format.h
   pub most : laying.words ≤ disk.words_per_track
   pub laid : IsWithTrack disk laying.cylinder format.h
-      (with_words (track_of disk laying.cylinder format.h) 0 (take laying.words (formatted format disk.words_per_track))) after
+      (with_items (track_of disk laying.cylinder format.h) 0 (take laying.words (formatted format disk.words_per_track))) after
 
 -- the medium has the track, at the rate of the bay, and the sectors fit on it
 pub record CanFormat (format : Format) (disk : Disk) : Type 0 where

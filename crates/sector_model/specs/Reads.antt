@@ -10,7 +10,8 @@ use Rattle.track_model.specs.Looks.{HasAddressMark}
 use Rattle.track_model.specs.Sectors.{IsSector, IsLone}
 use Rattle.flop_base.specs.Counts.{RoseBy}
 use Rattle.bay_model.specs.Counters.{IsFaultless, IsUndisturbed, DisturbedLess, FaultsRoseBy, IsDriven}
-use Rattle.bay_model.specs.Memory.{with_bytes, SameOutside}
+use Rattle.flop_base.specs.Lists.{with_items}
+use Rattle.bay_model.specs.Memory.{SameOutside}
 use Rattle.sector_map.specs.Met.{HasNoClearMark, HasClearAddress, HasLook, AllFound}
 use Rattle.sector_model.specs.Stations.{StationState, Becomes, bay_of, met, IsSteady}
 use Rattle.sector_model.specs.Orders.{read_refusal, IsRefusedAtOnce, IsDeviceRefusal}
@@ -35,7 +36,7 @@ pub record IsRead (old : StationState) (bay : ℕ) (key : Chrn) (address : ℕ) 
   pub steady : IsSteady old bay new → cylinder ≡ key.c
   pub sector : (IsFaultless bay old.counters new.counters ⊎ IsLone (track_of disk cylinder key.h) place)
       → IsSector (track_of disk cylinder key.h) key deleted content
-  pub becomes : Becomes (record old { memory = with_bytes old.memory address content }) new
+  pub becomes : Becomes (record old { memory = with_items old.memory address content }) new
   pub commands : RoseBy 1 old.counters.data_commands new.counters.data_commands
 
 -- why a read of what is met on the track was refused

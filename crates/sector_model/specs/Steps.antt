@@ -19,7 +19,8 @@ use Rattle.sector_model.specs.declared.reply.Stop.{Stop}
 use Rattle.sector_model.specs.declared.reply.Stop.TheVariants as stop
 use Rattle.bay_model.specs.Bays.{in_bay}
 use Rattle.bay_model.specs.Counters.{GoesOn, IsPastDriver}
-use Rattle.bay_model.specs.Memory.{user_bytes, bytes_from, with_bytes}
+use Rattle.flop_base.specs.Lists.{with_items}
+use Rattle.bay_model.specs.Memory.{user_bytes, bytes_from}
 use Rattle.sector_model.specs.Stations.{Becomes, bay_of}
 use Rattle.sector_model.specs.Orders.{is_bay}
 use Rattle.sector_model.specs.Reads.{Reads}
@@ -107,7 +108,7 @@ StoresMedium old told bay new told_after =
 -- memory was filled
 pub record Fills (old : State) (address count byte : ℕ) (new : State) : Type 0 where
   pub names : new.names ≡ old.names
-  pub becomes : Becomes (record old.station { memory = with_bytes old.station.memory address (replicate count byte) }) new.station
+  pub becomes : Becomes (record old.station { memory = with_items old.station.memory address (replicate count byte) }) new.station
   pub access : IsPastDriver count old.station.counters new.station.counters
   pub counts : GoesOn old.station.counters new.station.counters
 

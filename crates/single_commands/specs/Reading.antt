@@ -12,7 +12,8 @@ use Rattle.track_model.specs.Looks.{HasAddressMark}
 use Rattle.track_model.specs.Sectors.{IsSector, IsLone}
 use Rattle.bay_model.specs.Bays.{in_bay}
 use Rattle.bay_model.specs.Counters.{Counters, IsFaultless, IsUndisturbed, GoesOn, IsDriven}
-use Rattle.bay_model.specs.Memory.{with_bytes, SameOutside}
+use Rattle.flop_base.specs.Lists.{with_items}
+use Rattle.bay_model.specs.Memory.{SameOutside}
 use Rattle.sector_map.specs.Met.{HasNoClearMark, HasClearAddress, HasLook}
 use Rattle.single_commands.specs.Rigs.{Rig, track_under, HeadsStay}
 
@@ -64,7 +65,7 @@ pub record SendsRead (old new : Rig) : Type 0 where
 pub record ReadsData (old : Rig) (bay : ℕ) (key : Chrn) (rate : Rate) (address : ℕ) (answer : Result Bool Code) (new : Rig) : Type 0 where
   pub sends : SendsRead old new
   pub found : IfOk answer (λ deleted. (content : List ℕ) × FindsField old bay key rate deleted content new
-      × (new.memory ≡ with_bytes old.memory address content))
+      × (new.memory ≡ with_items old.memory address content))
   pub refused : IfErr answer (λ code. IsReadMiss (track_under old bay rate key.h) key bay code old.counters new.counters)
   pub outside : SameOutside old.memory address (content_size key.n) new.memory
   pub page : new.page ≡ old.page
@@ -73,7 +74,7 @@ pub record ReadsData (old : Rig) (bay : ℕ) (key : Chrn) (rate : Rate) (address
 pub record ReadsBack (old : Rig) (bay : ℕ) (key : Chrn) (rate : Rate) (answer : Result Bool Code) (new : Rig) : Type 0 where
   pub sends : SendsRead old new
   pub found : IfOk answer (λ deleted. (content : List ℕ) × FindsField old bay key rate deleted content new
-      × (new.page ≡ with_bytes old.page 0 content))
+      × (new.page ≡ with_items old.page 0 content))
   pub refused : IfErr answer (λ code. IsReadMiss (track_under old bay rate key.h) key bay code old.counters new.counters)
   pub memory : new.memory ≡ old.memory
 

@@ -105,7 +105,7 @@ module _ (track : List ℕ) (p : ℕ) (key : Chrn) (k : ℕ) (deleted : Bool) (r
   own_inside : window_end p key.n ≤ 16 * length (cut_of track p k (marked (data_byte deleted ∷ rest)))
   own_inside =
       let inside = spaced.spans.inside p key here in
-      omega (arith, Splices.length-with_words track (window_word p) (take k (marked (data_byte deleted ∷ rest))) own_fits)
+      omega (arith, Splices.length-with_items track (window_word p) (take k (marked (data_byte deleted ∷ rest))) own_fits)
 
   pub own_sound : (m : ℕ) → window_place p + 192 + m ≤ window_end p key.n → IsSound (cut_of track p k (marked (data_byte deleted ∷ rest))) (window_place p + 192) m
   own_sound m h = record {
@@ -113,7 +113,7 @@ module _ (track : List ℕ) (p : ℕ) (key : Chrn) (k : ℕ) (deleted : Bool) (r
     no_zero = λ q low high zero.
         let i = q / 16 - window_word p in
         let place : q / 16 ≡ window_word p + i = omega arith in
-        let word = Splices.with_words_at track (window_word p) (take k (marked (data_byte deleted ∷ rest))) own_fits (q / 16) i place (omega (arith, taken, own_long)) in
+        let word = Splices.with_items_at track (window_word p) (take k (marked (data_byte deleted ∷ rest))) own_fits (q / 16) i place (omega (arith, taken, own_long)) in
         not_zero deleted rest i (omega arith) (omega (arith, own_long)) (sym (ap (λ ws. get_or ws i 0) own_words) ∙ sym word ∙ zero);
   }
 

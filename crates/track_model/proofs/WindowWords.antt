@@ -3,10 +3,10 @@ use Rattle.std.proofs.Common.{◌≡◌, ℕ, zero, suc, ◌+◌, ◌-◌, ◌%�
 use Rattle.std.proofs.lemmas.Bool.{cases_lt, cases_eq}
 use Rattle.std.proofs.lemmas.List.{append-nil, length-take, get_or-take}
 use Rattle.track_model.specs.Bytes.{last_bit, legal}
-use Rattle.track_model.specs.Windows.{with_words}
+use Rattle.flop_base.specs.Lists.{with_items}
 use Rattle.track_model.proofs.Legals.{legal-cons, legal-nil, last_of}
 use Rattle.track_model.proofs.Recorded.{byte_word, bit_behind, IsWord, AreWords, Nowhere, byte_word_bit}
-use Rattle.track_model.proofs.Splices.{length-with_words, with_words_before, with_words_at, with_words_behind}
+use Rattle.track_model.proofs.Splices.{length-with_items, with_items_before, with_items_at, with_items_behind}
 use Rattle.track_model.proofs.WindowMarks.{marked}
 
 -- a recorded word stays one where the bit before it stays, or where it becomes a seam
@@ -81,7 +81,7 @@ marked_words bytes =
 
 module _ (track : List ℕ) (start : ℕ) (words : List ℕ) (k : ℕ) (most : k ≤ length words) (inside : start + k ≤ length track) where
   abbrev after : List ℕ
-  after = with_words track start (take k words)
+  after = with_items track start (take k words)
 
   -- the seams that were there, and the word behind the words put in
   abbrev pub WithCut : (ℕ → Type 0) → ℕ → Type 0
@@ -94,16 +94,16 @@ module _ (track : List ℕ) (start : ℕ) (words : List ℕ) (k : ℕ) (most : k
   fits = omega (arith, long)
 
   pub put_before : (i : ℕ) → i < start → get_or after i 0 ≡ get_or track i 0
-  put_before i h = with_words_before track start (take k words) fits i h
+  put_before i h = with_items_before track start (take k words) fits i h
 
   pub put_at : (i j : ℕ) → i ≡ start + j → j < k → get_or after i 0 ≡ get_or words j 0
-  put_at i j e h = with_words_at track start (take k words) fits i j e (omega (arith, long)) ∙ get_or-take k words j 0 h
+  put_at i j e h = with_items_at track start (take k words) fits i j e (omega (arith, long)) ∙ get_or-take k words j 0 h
 
   pub put_behind : (i : ℕ) → start + k ≤ i → get_or after i 0 ≡ get_or track i 0
-  put_behind i h = with_words_behind track start (take k words) fits i (omega (arith, long))
+  put_behind i h = with_items_behind track start (take k words) fits i (omega (arith, long))
 
   pub length-put : length after ≡ length track
-  length-put = length-with_words track start (take k words) fits
+  length-put = length-with_items track start (take k words) fits
 
   module _ (bit : bit_behind false track start ≡ false) where
     bit_within : (j i : ℕ) → i ≡ start + j → j < k → bit_behind false words j ≡ bit_behind false after i

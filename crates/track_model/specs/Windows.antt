@@ -1,7 +1,8 @@
 -- Windows: the words that are written over a data field, at their place on the track, and writes that stop before the end.
-use Rattle.std.specs.Prelude.{◌≡◌, ℕ, ◌+◌, ◌*◌, ◌/◌, ◌≤◌, Bool, true, List, ◌∷◌, ◌++◌, length, take, drop, replicate}
+use Rattle.std.specs.Prelude.{◌≡◌, ℕ, ◌+◌, ◌*◌, ◌/◌, ◌≤◌, Bool, true, List, ◌∷◌, ◌++◌, length, take, replicate}
 use Rattle.std.specs.Int.Bits.{bit_xor}
 use Rattle.flop_base.specs.declared.key.Chrn.{Chrn}
+use Rattle.flop_base.specs.Lists.{with_items}
 use Rattle.track_model.specs.Bytes.{legal}
 use Rattle.track_model.specs.Crc.{crc}
 use Rattle.track_model.specs.Marks.{data_byte, IsAddressMark}
@@ -34,13 +35,9 @@ empty_window n = replicate (window_words n) 0x9254
 abbrev pub window_end : ℕ → ℕ → ℕ
 window_end p n = window_place p + 16 * window_words n
 
--- the track with these words from word `start` on, in place of as many of its own
-unfoldable pub with_words : List ℕ → ℕ → List ℕ → List ℕ
-with_words track start words = take start track ++ (words ++ drop (start + length words) track)
-
 -- Cut: the track with the first k of these words at the window's place of the address field at p
 abbrev pub cut_of : List ℕ → ℕ → ℕ → List ℕ → List ℕ
-cut_of track p k words = with_words track (window_word p) (take k words)
+cut_of track p k words = with_items track (window_word p) (take k words)
 
 -- the window has k words, and so many are inside the track
 pub record IsCuttable (track : List ℕ) (p k : ℕ) (words : List ℕ) : Type 0 where

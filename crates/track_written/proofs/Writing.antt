@@ -10,8 +10,8 @@ use Rattle.std.proofs.lemmas.Grind.{get_or-set_at}
 use Rattle.flop_base.specs.Counts.{Rose}
 use Rattle.raw_image.specs.Disk.{Disk, IsDisk, HasTrack, IsWithTrack, track_of, track_start, with_word}
 use Rattle.raw_image.proofs.Tracks.{track_of-others}
-use Rattle.track_model.specs.Windows.{with_words}
-use Rattle.track_model.proofs.Splices.{length-with_words, with_words_before, with_words_at, with_words_behind}
+use Rattle.flop_base.specs.Lists.{with_items}
+use Rattle.track_model.proofs.Splices.{length-with_items, with_items_before, with_items_at, with_items_behind}
 use Rattle.sector_map.proofs.RegularTracks.{length-track_of}
 use Rattle.sector_map.proofs.KeptTracks.{with_itself}
 use Rattle.drive_model.specs.Drive.{DriveState, Becomes, Writes, can_write, rewritten, with_gate}
@@ -33,38 +33,38 @@ early_or_last i n h = grind (arith, nat_tests)
 length_more : (words : List ℕ) (word : ℕ) → length (words ++ word ∷ []) ≡ length words + 1
 length_more words word = length-append words (word ∷ [])
 
-none_of : (track : List ℕ) (start : ℕ) → start < length track → with_words track start [] ≡ track
-unfolding with_words
+none_of : (track : List ℕ) (start : ℕ) → start < length track → with_items track start [] ≡ track
+unfolding with_items
 none_of track start room =
     let same : start + 0 ≡ start = omega arith in
     ap (λ n. take start track ++ ([] ++ drop n track)) same ∙ take-append-drop start track
 
 one_more : (track : List ℕ) (start : ℕ) (words : List ℕ) (word : ℕ) → start + length words < length track
-    → slice_set (with_words track start words) (start + length words) word ≡ with_words track start (words ++ word ∷ [])
+    → slice_set (with_items track start words) (start + length words) word ≡ with_items track start (words ++ word ∷ [])
 one_more track start words word room =
     let more = length_more words word in
     let fits : start + length words ≤ length track = omega arith in
     let wide : start + length (words ++ word ∷ []) ≤ length track = omega arith in
-    let long = length-with_words track start words fits in
-    let old = with_words track start words in
-    ext_get_or 0 (slice_set old (start + length words) word) (with_words track start (words ++ word ∷ []))
-    (length-set old (start + length words) word ∙ (long ∙ sym (length-with_words track start (words ++ word ∷ []) wide)))
+    let long = length-with_items track start words fits in
+    let old = with_items track start words in
+    ext_get_or 0 (slice_set old (start + length words) word) (with_items track start (words ++ word ∷ []))
+    (length-set old (start + length words) word ∙ (long ∙ sym (length-with_items track start (words ++ word ∷ []) wide)))
     (λ k below. elim (cases_lt k start) [
       | inl before ↦
           get_or-set_other old (start + length words) k word 0 (λ same. absurd (omega arith))
-          ∙ (with_words_before track start words fits k before ∙ sym (with_words_before track start (words ++ word ∷ []) wide k before))
+          ∙ (with_items_before track start words fits k before ∙ sym (with_items_before track start (words ++ word ∷ []) wide k before))
       | inr from ↦ elim (cases_lt k (start + length words)) [
         | inl inner ↦
             get_or-set_other old (start + length words) k word 0 (λ same. absurd (omega arith))
-            ∙ (with_words_at track start words fits k (k - start) (omega arith) (omega arith)
-            ∙ (sym (get_or-append words (word ∷ []) 0 (k - start) (omega arith)) ∙ sym (with_words_at track start (words ++ word ∷ []) wide k (k - start) (omega arith) (omega arith))))
+            ∙ (with_items_at track start words fits k (k - start) (omega arith) (omega arith)
+            ∙ (sym (get_or-append words (word ∷ []) 0 (k - start) (omega arith)) ∙ sym (with_items_at track start (words ++ word ∷ []) wide k (k - start) (omega arith) (omega arith))))
         | inr beyond ↦ elim (cases_lt k (start + length words + 1)) [
           | inl last ↦
               get_or-set_at old (start + length words) k word 0 (omega arith) (omega arith)
-              ∙ (sym (get_or_push words word 0 (k - start) (omega arith)) ∙ sym (with_words_at track start (words ++ word ∷ []) wide k (k - start) (omega arith) (omega arith)))
+              ∙ (sym (get_or_push words word 0 (k - start) (omega arith)) ∙ sym (with_items_at track start (words ++ word ∷ []) wide k (k - start) (omega arith) (omega arith)))
           | inr behind ↦
               get_or-set_other old (start + length words) k word 0 (λ same. absurd (omega arith))
-              ∙ (with_words_behind track start words fits k (omega arith) ∙ sym (with_words_behind track start (words ++ word ∷ []) wide k (omega arith)))
+              ∙ (with_items_behind track start words fits k (omega arith) ∙ sym (with_items_behind track start (words ++ word ∷ []) wide k (omega arith)))
         ]
       ]
     ])
@@ -103,8 +103,8 @@ stands_more disk c h start words now word whole has room was valid =
         rate = is.rate;
         words_per_track = is.words_per_track;
         has = track_set now c h (start + length words) word wide
-            ∙ (ap (λ row. slice_set row (start + length words) word) (is.has ∙ ap (with_words (track_of disk c h) start) all)
-            ∙ (one_more (track_of disk c h) start words word (omega arith) ∙ ap (with_words (track_of disk c h) start) (sym all_more)));
+            ∙ (ap (λ row. slice_set row (start + length words) word) (is.has ∙ ap (with_items (track_of disk c h) start) all)
+            ∙ (one_more (track_of disk c h) start words word (omega arith) ∙ ap (with_items (track_of disk c h) start) (sym all_more)));
         others = λ b g had other.
             track_of-others now c h (start + length words) word there wide b g (same_tracks disk now b g is.cylinders is.heads had) other
             ∙ is.others b g had other;
@@ -120,7 +120,7 @@ stands_less disk c h start words count now word was =
     record {
       few = omega arith;
       inside = was.inside;
-      track = subst (λ row. IsWithTrack disk c h (with_words (track_of disk c h) start row) now) (shorter words word count few) was.track;
+      track = subst (λ row. IsWithTrack disk c h (with_items (track_of disk c h) start row) now) (shorter words word count few) was.track;
     }
   where
     shorter : (words : List ℕ) (word count : ℕ) → count ≤ length words → take count words ≡ take count (words ++ word ∷ [])

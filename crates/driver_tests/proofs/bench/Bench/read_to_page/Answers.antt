@@ -3,7 +3,7 @@ use Rattle.std.proofs.lemmas.List.{with_items_is, length-take, length-drop}
 use borrow.Rule.Slice.PartMut.{put_mid}
 use Rattle.track_model.specs.Fields.{content_size}
 use Rattle.track_model.proofs.Sizes.{content_size_bound}
-use Rattle.driver_tests.proofs.ReadSteps.{put_bytes, length-with_bytes, reads_back}
+use Rattle.driver_tests.proofs.ReadSteps.{put_bytes, length-with_items, reads_back}
 use Rattle.driver_tests.proofs.bench.Bench.read_to_page.Goals as goal
 
 pub returns : goal.returns
@@ -18,6 +18,6 @@ returns c =
     omega (arith, length-take k (drop 0 c.deref_mut.result.now), length-drop 0 c.deref_mut.result.now, ap length c.deref_mut.ensures.value, c.sector_size.ensures.size) in
     let room : 0 + length content ≤ length page = omega arith in
     let put = put_bytes c.deref_mut.result.now page content 0 k c.deref_mut.ensures.value (omega (arith, c.sector_size.ensures.size)) in
-    let long = ap length put ∙ length-with_bytes page 0 content room ∙ ap length (sym c.deref_mut.ensures.value) ∙ c.deref_mut.ensures.len in
+    let long = ap length put ∙ length-with_items page 0 content room ∙ ap length (sym c.deref_mut.ensures.value) ∙ c.deref_mut.ensures.len in
     reads_back self.drives self.memory.items page self.memory.items _ self.counts c.send.new.self c.send.ensures c.args.bay c.args.key c.args.rate c.get.result.now content
     c.get.ensures size c.read.result (with_items_is self.page (put_mid 0 k c.deref_mut.result.now content) long ∙ put) refl c.read.ensures.found c.read.ensures.refused

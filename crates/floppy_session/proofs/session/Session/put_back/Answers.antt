@@ -1,17 +1,17 @@
 use Rattle.std.proofs.Common.{◌∷◌, ◌++◌, [], List, None, sym, ap, ◌∙◌, subst, arith}
 use Rattle.std.proofs.lemmas.List.{take_all}
 use Rattle.floppy_jobs.specs.declared.request.Request.{Request}
-use Rattle.bay_model.specs.Memory.{with_bytes}
+use Rattle.flop_base.specs.Lists.{with_items}
 use Rattle.floppy_session.specs.Services.{AreDone, put_request}
 use Rattle.floppy_session.specs.Session.{state_of}
-use Rattle.floppy_session.proofs.Memories.{with_bytes-nil}
+use Rattle.floppy_session.proofs.Memories.{with_items-nil}
 use Rattle.floppy_session.proofs.Serving.{done_none, puts_more, put_memory, puts_are}
 use Rattle.floppy_session.proofs.session.Session.put_back.Goals as goal
 
 pub loop-i-init : goal.loop-i-init
 loop-i-init g c = record {
   done = λ told. ([], done_none (state_of g.D.Station.shown c.args.self.now) told);
-  memory = sym (with_bytes-nil (g.D.Station.shown c.args.self.now.station).memory c.args.address);
+  memory = sym (with_items-nil (g.D.Station.shown c.args.self.now.station).memory c.args.address);
   running = c.requires.running;
 }
 
@@ -32,4 +32,4 @@ returns-clause-puts g c = λ told.
     (so_far.0, subst (λ (r : List Request). AreDone r (state_of g.D.Station.shown c.args.self.now) told so_far.0 (state_of g.D.Station.shown c.loop-i.self)) (puts_are c.args.address c.args.kept.now c.loop-i.i (omega arith)) so_far.1)
 
 pub returns-clause-memory : goal.returns-clause-memory
-returns-clause-memory g c = c.loop-i.invariant.memory ∙ ap (with_bytes (g.D.Station.shown c.args.self.now.station).memory c.args.address) (take_all c.loop-i.i c.args.kept.now (omega arith))
+returns-clause-memory g c = c.loop-i.invariant.memory ∙ ap (with_items (g.D.Station.shown c.args.self.now.station).memory c.args.address) (take_all c.loop-i.i c.args.kept.now (omega arith))

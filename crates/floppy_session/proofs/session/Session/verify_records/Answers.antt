@@ -1,5 +1,5 @@
 use Rattle.std.proofs.Common.{◌++◌, ℕ, List, refl, ap, ◌∙◌, subst}
-use Rattle.bay_model.specs.Memory.{with_bytes}
+use Rattle.flop_base.specs.Lists.{with_items}
 use Rattle.floppy_session.specs.Services.{AreDone, put_requests}
 use Rattle.floppy_session.specs.Session.{state_of}
 use Rattle.floppy_session.proofs.Serving.{put_back_all}
@@ -19,6 +19,6 @@ returns-clause-verifies g c = λ told.
         course_is = refl;
         moves = moved.1;
         puts_back = subst (λ (b : List ℕ). AreDone (put_requests c.args.address b) (state_of g.D.Station.shown c.move_records-outcome.new.self) told puts.0 (state_of g.D.Station.shown c.put_back.new.self)) c.bytes_at-kept.ensures.bytes puts.1;
-        memory = c.put_back.ensures.memory ∙ ap (with_bytes (g.D.Station.shown c.move_records-outcome.new.self.station).memory c.args.address) c.bytes_at-kept.ensures.bytes ∙ put_back_all memory (g.D.Station.shown c.move_records-outcome.new.self.station).memory c.args.address 512 c.bytes_at-kept.ensures.room outside;
+        memory = c.put_back.ensures.memory ∙ ap (with_items (g.D.Station.shown c.move_records-outcome.new.self.station).memory c.args.address) c.bytes_at-kept.ensures.bytes ∙ put_back_all memory (g.D.Station.shown c.move_records-outcome.new.self.station).memory c.args.address 512 c.bytes_at-kept.ensures.room outside;
       },
     )
