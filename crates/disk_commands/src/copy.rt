@@ -13,7 +13,7 @@ use crate::format::blank_request;
 use crate::open::open_disk;
 use flop_base::standard::SIZE_CODE;
 use flop_base::{Chrn, Name, Shelf, Sink, Status};
-use floppy_jobs::Request;
+use floppy_requests::Request;
 use floppy_report::put_last_line;
 use floppy_session::{Session, Shape};
 use sector_model::{Reply, Station, Stop};

@@ -16,7 +16,7 @@ use crate::open::open_disk;
 use crate::tally::Tally;
 use flop_base::standard::SIZE_CODE;
 use flop_base::{Chrn, Name, Shelf, Sink, Status};
-use floppy_jobs::Request;
+use floppy_requests::Request;
 use floppy_report::{put_last, put_last_line, put_line, reason_word};
 use floppy_session::{Session, Shape};
 use sector_model::{Reason, Reply, Station};

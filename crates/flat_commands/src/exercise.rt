@@ -15,7 +15,7 @@ use crate::ask::{Halt, acknowledge, blank_request, carry, tell_halt};
 use crate::tally::Tally;
 use crate::work::run_work;
 use flop_base::{Name, NoMemory, Rate, Shelf, Sink, Status};
-use floppy_jobs::Request;
+use floppy_requests::Request;
 use floppy_report::put_last_line;
 use floppy_session::Session;
 use sector_model::{Station, Stop};

@@ -16,7 +16,7 @@ use crate::flat_file::load_flat;
 use flat_image::place;
 use flop_base::standard::SIZE_CODE;
 use flop_base::{Chrn, Name, Rate, Shelf, Sink, Status};
-use floppy_jobs::Request;
+use floppy_requests::Request;
 use floppy_report::{put_last, put_last_line};
 use floppy_session::Session;
 use sector_model::{Station, Stop};

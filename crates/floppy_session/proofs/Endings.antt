@@ -3,8 +3,8 @@ use Rattle.std.proofs.Common.{rules, ◌≡◌, ℕ, ◌≤◌, List, Option, So
 use Rattle.flop_base.specs.Shelf.{Files, stored}
 use Rattle.raw_image.specs.Disk.{Disk}
 use Rattle.raw_image.specs.Image.{file_of}
-use Rattle.floppy_jobs.specs.declared.request.Request.{Request}
-use Rattle.floppy_jobs.specs.declared.request.Request.TheVariants as request
+use Rattle.floppy_requests.specs.declared.request.Request.{Request}
+use Rattle.floppy_requests.specs.declared.request.Request.TheVariants as request
 use Rattle.sector_model.specs.declared.reply.Reply.{Reply}
 use Rattle.sector_model.specs.declared.reply.Stop.{Stop}
 use Rattle.bay_model.specs.Bays.{in_bay}

@@ -17,7 +17,7 @@ use crate::logs::{NoLog, find_log, store_log};
 use crate::prepare::{open_disk, prepare};
 use crate::records::rescue_records;
 use flop_base::{Chrn, Name, NoMemory, Shelf, Sink, Status};
-use floppy_jobs::Request;
+use floppy_requests::Request;
 use floppy_report::put_last_line;
 use floppy_session::{Session, Shape};
 use rescue::{LogLine, Outcome, logged_keys, standard_keys};
