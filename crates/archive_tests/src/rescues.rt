@@ -1,6 +1,6 @@
 // The log of a rescue, the records that it asks for, and its course.
 use flop_base::{Chrn, Code, Rate, Status};
-use floppy_jobs::Request;
+use floppy_requests::Request;
 use rescue::{
     AfterRead, LogError, LogLine, Outcome, after_read, logged_keys, read_log, read_request,
     standard_keys, write_log,

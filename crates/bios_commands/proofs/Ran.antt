@@ -6,7 +6,7 @@ use Rattle.flop_base.specs.declared.answers.Status.{Status}
 use Rattle.floppy_jobs.specs.Texts.{calls_of}
 use Rattle.floppy_jobs.specs.declared.calls.CallLine.{CallLine}
 use Rattle.floppy_jobs.specs.declared.calls.CallLine.TheVariants as call
-use Rattle.floppy_jobs.specs.declared.request.Request.{Request}
+use Rattle.floppy_requests.specs.declared.request.Request.{Request}
 use Rattle.sector_model.specs.States.{State}
 use Rattle.sector_model.specs.Orders.{is_acknowledged}
 use Rattle.sector_model.specs.Runs.{Taken, Run, requests_of, has_refusal}

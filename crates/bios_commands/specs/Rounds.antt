@@ -5,7 +5,7 @@ use Rattle.flop_base.specs.Sink.{grown, GrowsByPart}
 use Rattle.flop_base.specs.declared.answers.Status.{Status}
 use Rattle.floppy_jobs.specs.declared.calls.CallLine.{CallLine}
 use Rattle.floppy_jobs.specs.declared.calls.CallLine.TheVariants as call
-use Rattle.floppy_jobs.specs.declared.request.Request.{Request}
+use Rattle.floppy_requests.specs.declared.request.Request.{Request}
 use Rattle.sector_model.specs.declared.reply.Reply.{Reply}
 use Rattle.sector_model.specs.declared.reply.Stop.{Stop}
 use Rattle.sector_model.specs.States.{State}

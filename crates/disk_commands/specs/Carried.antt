@@ -1,7 +1,7 @@
 -- How far a plan was carried out, up to the first request that was refused or stopped the run.
 use Rattle.std.specs.Prelude.{◌≡◌, false, List, ◌∷◌, ◌++◌, Option, Result, Ok, Err}
 use Rattle.flop_base.specs.Shelf.{Files}
-use Rattle.floppy_jobs.specs.declared.request.Request.{Request}
+use Rattle.floppy_requests.specs.declared.request.Request.{Request}
 use Rattle.sector_model.specs.declared.reply.Reply.{Reply}
 use Rattle.sector_model.specs.declared.reply.Reply.TheVariants as reply
 use Rattle.sector_model.specs.Stations.{StationState}

@@ -9,8 +9,8 @@ ghost use Rattle.disk_commands.specs.Halts.{TellsHalt};
 ghost use Rattle.disk_commands.specs.Carried.{Any, stage_of, IsTaken, HaltsAt, Goes, Judges};
 
 use flop_base::{Rate, Shelf, Sink, Status};
-use floppy_jobs::Request;
 use floppy_report::{put_last, put_last_stopped};
+use floppy_requests::Request;
 use floppy_session::Session;
 use sector_model::{Reason, Reply, Station, Stop};
 use std::alloc::Global;

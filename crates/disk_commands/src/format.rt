@@ -10,8 +10,8 @@ ghost use Rattle.disk_commands.specs.Worlds.{world_of};
 
 use crate::ask::{Halt, acknowledge, carry, tell_halt};
 use flop_base::{Name, Rate, Shelf, Sink, Status};
-use floppy_jobs::Request;
 use floppy_report::put_last_line;
+use floppy_requests::Request;
 use floppy_session::Session;
 use sector_model::{Station, Stop};
 use std::alloc::{AllocError, Global};

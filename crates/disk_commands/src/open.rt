@@ -8,7 +8,7 @@ ghost use Rattle.disk_commands.specs.Marks.{Opens};
 
 use crate::ask::{Halt, ask};
 use flop_base::{Name, Shelf};
-use floppy_jobs::Request;
+use floppy_requests::Request;
 use floppy_session::{Session, Shape};
 use sector_model::{Station, Stop};
 

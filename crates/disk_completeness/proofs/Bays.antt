@@ -10,7 +10,7 @@ use Rattle.flop_base.specs.declared.answers.Rate.{Rate}
 use Rattle.flop_base.specs.declared.answers.Rate.TheVariants.{R500, R250}
 use Rattle.raw_image.specs.Disk.{Disk, HasTrack, track_of}
 use Rattle.bay_model.specs.Counters.{Counters, IsUndisturbed, IsFaultless}
-use Rattle.floppy_jobs.specs.declared.request.Request.TheVariants as request
+use Rattle.floppy_requests.specs.declared.request.Request.TheVariants as request
 use Rattle.sector_map.specs.Layings.{format_keys, IsFormattable, formatted}
 use Rattle.sector_map.specs.LaidDisks.{format_at}
 use Rattle.sector_map.specs.KeptDisks.{AreAlike, KeepsTracks}

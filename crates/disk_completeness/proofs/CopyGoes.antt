@@ -7,8 +7,8 @@ use Rattle.raw_image.specs.Disk.{Disk, IsDisk, HasTrack}
 use Rattle.bay_model.specs.Bays.{Two, in_bay}
 use Rattle.bay_model.specs.Counters.{IsUndisturbed}
 use Rattle.track_model.specs.Regular.{IsRegular}
-use Rattle.floppy_jobs.specs.declared.request.Request.{Request}
-use Rattle.floppy_jobs.specs.declared.request.Request.TheVariants as request
+use Rattle.floppy_requests.specs.declared.request.Request.{Request}
+use Rattle.floppy_requests.specs.declared.request.Request.TheVariants as request
 use Rattle.sector_map.specs.Disks.{IsRegularDisk}
 use Rattle.sector_map.specs.Standard.{key_of}
 use Rattle.sector_map.proofs.KeptTracks.{stays_regular}

@@ -9,7 +9,7 @@ use Rattle.flop_base.specs.declared.key.Chrn.{Chrn}
 use Rattle.raw_image.specs.Disk.{Disk}
 use Rattle.bay_model.specs.Counters.{Counters}
 use Rattle.bay_model.specs.Memory.{user_bytes, zeroes}
-use Rattle.floppy_jobs.specs.declared.request.Request.TheVariants as request
+use Rattle.floppy_requests.specs.declared.request.Request.TheVariants as request
 use Rattle.sector_map.specs.Standard.{key_of}
 use Rattle.sector_model.specs.Stations.{StationState, IsFresh}
 use Rattle.sector_model.specs.Steps.{IsImageOf}

@@ -4,7 +4,7 @@ use Rattle.std.specs.Prelude.{is_some, ◌==◌, if◌then◌else◌}
 use Rattle.flop_base.specs.declared.answers.Rate.{Rate}
 use Rattle.raw_image.specs.Disk.{IsDisk}
 use Rattle.bay_model.specs.Bays.{Two, in_bay}
-use Rattle.floppy_jobs.specs.declared.request.Request.TheVariants as request
+use Rattle.floppy_requests.specs.declared.request.Request.TheVariants as request
 use Rattle.sector_map.proofs.KeptTracks.{alike_itself}
 use Rattle.sector_model.specs.Stations.{StationState, Bay, IsFresh, bay_of, fresh_bay}
 use Rattle.sector_model.specs.States.{State}

@@ -12,7 +12,7 @@ use Rattle.bay_model.specs.Memory.{user_bytes}
 use Rattle.track_model.specs.Fields.{IsAddressAt, content_size}
 use Rattle.track_model.specs.Looks.{LookAt}
 use Rattle.track_model.specs.declared.Look.TheVariants as look
-use Rattle.floppy_jobs.specs.declared.request.Request.TheVariants as request
+use Rattle.floppy_requests.specs.declared.request.Request.TheVariants as request
 use Rattle.sector_map.specs.Disks.{Entry, IsOnMap, IsRegularDisk}
 use Rattle.sector_map.specs.Met.{HasClearAddress, AllFound}
 use Rattle.sector_map.specs.Standard.{key_of}

@@ -1,6 +1,6 @@
 -- A course that asks what a plan says, where the plan names each request.
 use Rattle.std.proofs.Common.{◌≡◌, ◌∙◌, List, [], ◌∷◌, ◌++◌, map, refl, ap, subst}
-use Rattle.floppy_jobs.specs.declared.request.Request.{Request}
+use Rattle.floppy_requests.specs.declared.request.Request.{Request}
 use Rattle.sector_model.specs.Runs.{Taken, requests_of}
 use Rattle.disk_commands.specs.Plans.{Planned, Asks, Asked}
 

@@ -11,7 +11,7 @@ use Rattle.track_model.specs.Regular.{IsRegular}
 use Rattle.bay_model.specs.Bays.{Two, in_bay}
 use Rattle.bay_model.specs.Memory.{user_bytes}
 use Rattle.bay_model.specs.Counters.{IsFaultless}
-use Rattle.floppy_jobs.specs.declared.request.Request.TheVariants as request
+use Rattle.floppy_requests.specs.declared.request.Request.TheVariants as request
 use Rattle.sector_map.specs.Disks.{IsRegularDisk}
 use Rattle.sector_map.specs.Met.{unrecorded}
 use Rattle.sector_map.specs.MetTracks.{HasNothing}

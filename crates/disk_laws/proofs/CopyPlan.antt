@@ -8,8 +8,8 @@ use Rattle.flop_base.specs.declared.answers.Rate.{Rate}
 use Rattle.flop_base.specs.declared.answers.Rate.TheVariants.{R500, R250}
 use Rattle.raw_image.specs.Disk.{Disk}
 use Rattle.sector_map.specs.Standard.{key_of, track_keys}
-use Rattle.floppy_jobs.specs.declared.request.Request.{Request}
-use Rattle.floppy_jobs.specs.declared.request.Request.TheVariants as request
+use Rattle.floppy_requests.specs.declared.request.Request.{Request}
+use Rattle.floppy_requests.specs.declared.request.Request.TheVariants as request
 use Rattle.floppy_session.specs.Blanks.{blank_request}
 use Rattle.floppy_session.specs.Shapes.{shape_of}
 use Rattle.disk_commands.specs.Plans.{Planned, Asks, WritesBack, record_address, ack_plan, by_track, read_track, write_track, copy_plan}

@@ -7,8 +7,8 @@ use Rattle.flop_base.specs.declared.answers.Rate.TheVariants.{R500, R250}
 use Rattle.flop_base.specs.declared.answers.Status.{Status}
 use Rattle.raw_image.specs.Disk.{Disk}
 use Rattle.bay_model.specs.Counters.{IsUndisturbed, faults_of}
-use Rattle.floppy_jobs.specs.declared.request.Request.{Request}
-use Rattle.floppy_jobs.specs.declared.request.Request.TheVariants as request
+use Rattle.floppy_requests.specs.declared.request.Request.{Request}
+use Rattle.floppy_requests.specs.declared.request.Request.TheVariants as request
 use Rattle.sector_model.specs.declared.reply.Reply.{Reply}
 use Rattle.sector_model.specs.Stations.{StationState, bay_of}
 use Rattle.sector_model.specs.Orders.{rate_refusal}

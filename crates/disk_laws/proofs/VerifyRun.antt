@@ -14,7 +14,7 @@ use Rattle.track_model.specs.declared.Look.{Look}
 use Rattle.bay_model.specs.Counters.{IsUndisturbed}
 use Rattle.sector_map.specs.Failing.{AreFailing}
 use Rattle.sector_map.specs.Standard.{standard_keys}
-use Rattle.floppy_jobs.specs.declared.request.Request.{Request}
+use Rattle.floppy_requests.specs.declared.request.Request.{Request}
 use Rattle.sector_model.specs.declared.reply.Stop.{Stop}
 use Rattle.sector_model.specs.declared.reply.Stop.TheVariants as stop
 use Rattle.sector_model.specs.Stations.{bay_of}

@@ -3,8 +3,8 @@ use Rattle.std.proofs.Common.{◌≡◌, ℕ, ◌+◌, List, [], ◌∷◌, ◌+
 use Rattle.std.specs.Prelude.{◌||◌, if◌then◌else◌}
 use Rattle.std.proofs.lemmas.Grind.{flat_map-append}
 use Rattle.bay_model.specs.Memory.{bytes_from}
-use Rattle.floppy_jobs.specs.declared.request.Request.{Request}
-use Rattle.floppy_jobs.specs.declared.request.Request.TheVariants as request
+use Rattle.floppy_requests.specs.declared.request.Request.{Request}
+use Rattle.floppy_requests.specs.declared.request.Request.TheVariants as request
 use Rattle.flop_base.specs.declared.key.Chrn.{Chrn}
 use Rattle.sector_model.specs.declared.reply.Reply.{Reply}
 use Rattle.flop_base.specs.declared.answers.Rate.{Rate}

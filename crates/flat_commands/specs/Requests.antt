@@ -6,8 +6,8 @@ use Rattle.flop_base.specs.declared.answers.Rate.TheVariants.{R500, R250}
 use Rattle.flop_base.specs.Standard.{sectors_at}
 use Rattle.sector_map.specs.Standard.{key_of}
 use Rattle.flat_image.specs.Flat.{sector_place}
-use Rattle.floppy_jobs.specs.declared.request.Request.{Request}
-use Rattle.floppy_jobs.specs.declared.request.Request.TheVariants as request
+use Rattle.floppy_requests.specs.declared.request.Request.{Request}
+use Rattle.floppy_requests.specs.declared.request.Request.TheVariants as request
 use Rattle.floppy_session.specs.Blanks.{blank_request}
 use Rattle.disk_commands.specs.Plans.{record_address}
 

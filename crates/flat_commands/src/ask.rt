@@ -10,8 +10,8 @@ ghost use Rattle.flat_commands.specs.Requests.{ack_requests, rate_requests};
 ghost use Rattle.flat_commands.specs.Carried.{IsTaken, HaltsAt, Judges, Goes, TellsHalt};
 
 use flop_base::{Name, Rate, Shelf, Sink, Status};
-use floppy_jobs::Request;
 use floppy_report::{put_last, put_last_stopped};
+use floppy_requests::Request;
 use floppy_session::Session;
 use sector_model::{Reason, Reply, Station, Stop};
 use std::alloc::Global;

@@ -13,8 +13,8 @@ ghost use Rattle.flat_commands.specs.Commands.{export_text, sectors_of, StoresFl
 use crate::ask::{Halt, acknowledge, ask, record_address, tell_halt};
 use flop_base::standard::SIZE_CODE;
 use flop_base::{Chrn, Name, NoMemory, Rate, Shelf, Sink, Status, StoreError};
-use floppy_jobs::Request;
 use floppy_report::put_last_line;
+use floppy_requests::Request;
 use floppy_session::{Session, Shape};
 use sector_model::{Station, Stop};
 use std::alloc::{AllocError, Global};

@@ -12,7 +12,7 @@ ghost use Rattle.flat_commands.specs.Exercises.{RunsOn, Works};
 use crate::draws::{Draws, Work};
 use crate::tally::Tally;
 use flop_base::{Chrn, Shelf};
-use floppy_jobs::Request;
+use floppy_requests::Request;
 use floppy_session::Session;
 use sector_model::{Reply, Station};
 

@@ -4,7 +4,7 @@ use Rattle.std.specs.List.{list_all}
 use Rattle.flop_base.specs.Shelf.{Files}
 use Rattle.raw_image.specs.Disk.{Disk}
 use Rattle.bay_model.specs.Counters.{Counters, IsFaultless}
-use Rattle.floppy_jobs.specs.declared.request.Request.{Request}
+use Rattle.floppy_requests.specs.declared.request.Request.{Request}
 use Rattle.sector_model.specs.States.{State}
 use Rattle.sector_model.specs.Runs.{Taken}
 use Rattle.disk_commands.specs.Carried.{Stage}

@@ -10,8 +10,8 @@ use Rattle.flop_base.specs.declared.answers.Status.TheVariants as status
 use Rattle.raw_image.specs.Disk.{Disk, HasTrack}
 use Rattle.bay_model.specs.Bays.{Two, in_bay}
 use Rattle.bay_model.specs.Counters.{Counters, IsFaultless}
-use Rattle.floppy_jobs.specs.declared.request.Request.{Request}
-use Rattle.floppy_jobs.specs.declared.request.Request.TheVariants as request
+use Rattle.floppy_requests.specs.declared.request.Request.{Request}
+use Rattle.floppy_requests.specs.declared.request.Request.TheVariants as request
 use Rattle.sector_map.specs.Standard.{key_of}
 use Rattle.sector_model.specs.Stations.{Bay}
 use Rattle.sector_model.specs.States.{State}

@@ -7,8 +7,8 @@ use Rattle.bay_model.specs.Bays.{Two}
 use Rattle.bay_model.specs.Counters.{Counters}
 use Rattle.flop_base.specs.Lists.{with_items}
 use Rattle.bay_model.specs.Memory.{user_bytes, bytes_from}
-use Rattle.floppy_jobs.specs.declared.request.Request.{Request}
-use Rattle.floppy_jobs.specs.declared.request.Request.TheVariants as request
+use Rattle.floppy_requests.specs.declared.request.Request.{Request}
+use Rattle.floppy_requests.specs.declared.request.Request.TheVariants as request
 use Rattle.flat_image.specs.Flat.{sector_place}
 use Rattle.sector_model.specs.Stations.{StationState, Bay}
 use Rattle.sector_model.specs.States.{State}

@@ -2,7 +2,7 @@
 use Rattle.std.proofs.Common.{◌≡◌, ℕ, List, Option}
 use Rattle.flop_base.specs.declared.answers.Status.{Status}
 use Rattle.flop_base.specs.declared.answers.Status.TheVariants as status
-use Rattle.floppy_jobs.specs.declared.request.Request.{Request}
+use Rattle.floppy_requests.specs.declared.request.Request.{Request}
 use Rattle.sector_model.specs.declared.reply.Stop.{Stop}
 use Rattle.sector_model.specs.Texts.{stop_text, stop_status}
 use Rattle.sector_model.specs.Runs.{Taken}

@@ -16,8 +16,8 @@ use Rattle.raw_image.specs.declared.error.ImageError.TheVariants.{TooShort, Trai
 use Rattle.bay_model.specs.Bays.{Two, in_bay}
 use Rattle.bay_model.specs.Counters.{IsFaultless}
 use Rattle.bay_model.specs.Memory.{user_bytes}
-use Rattle.floppy_jobs.specs.declared.request.Request.{Request}
-use Rattle.floppy_jobs.specs.declared.request.Request.TheVariants as request
+use Rattle.floppy_requests.specs.declared.request.Request.{Request}
+use Rattle.floppy_requests.specs.declared.request.Request.TheVariants as request
 use Rattle.flat_image.specs.Flat.{IsSector, flat_length, sectors_told}
 use Rattle.sector_map.proofs.KeptTracks.{alike_itself}
 use Rattle.sector_model.specs.Stations.{StationState, bay_of}

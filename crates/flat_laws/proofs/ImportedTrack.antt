@@ -13,8 +13,8 @@ use Rattle.bay_model.specs.Memory.{user_bytes, bytes_from}
 use Rattle.track_model.specs.Laid.{IsLaid}
 use Rattle.track_model.specs.Regular.{IsRegular}
 use Rattle.track_format.proofs.Laid.{laid_tidy}
-use Rattle.floppy_jobs.specs.declared.request.Request.{Request}
-use Rattle.floppy_jobs.specs.declared.request.Request.TheVariants as request
+use Rattle.floppy_requests.specs.declared.request.Request.{Request}
+use Rattle.floppy_requests.specs.declared.request.Request.TheVariants as request
 use Rattle.sector_map.specs.Layings.{formatted}
 use Rattle.sector_map.specs.LaidDisks.{format_at}
 use Rattle.sector_map.specs.Disks.{IsOnMap, IsRegularDisk}

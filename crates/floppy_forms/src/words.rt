@@ -1,6 +1,6 @@
 // The words of the program, done over a session.
 ghost use Rattle.std.specs.Prelude.{◌≡◌, ◌≢◌, ◌≤◌, ◌+◌, ℕ, List, Option, Some, None, Ok, map, string_bytes};
-ghost use Rattle.floppy_jobs.specs.declared.request.Request.{Request};
+ghost use Rattle.floppy_requests.specs.declared.request.Request.{Request};
 ghost use Rattle.bay_model.specs.Bays.{Two};
 ghost use Rattle.sector_model.specs.Faults.{Blames};
 ghost use Rattle.sector_model.specs.Ties.{IsJob, accesses_of_job};

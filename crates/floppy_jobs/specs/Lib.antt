@@ -1,9 +1,5 @@
 pub mod Calls
 pub mod Lines
-pub mod Names
 pub mod Numbers
 pub mod Ports
-pub mod Requests
-pub mod Spelling
 pub mod Texts
-pub mod Valid

@@ -8,7 +8,7 @@ ghost use Rattle.sector_model.specs.Faults.{Blames};
 ghost use Rattle.floppy_report.specs.LastLines.{bad_words_text, stopped_text, unfit_text};
 
 use flop_base::{PutError, Sink, Status};
-use floppy_jobs::{Address, MemoryByte, Request};
+use floppy_requests::{Address, MemoryByte, Request};
 use raw_image::ImageError;
 use sector_model::{Reason, Reply, Stop};
 use std::alloc::{AllocError, Global};

@@ -7,7 +7,7 @@ ghost use Rattle.sector_model.specs.Steps.{Step, StopsAt, Fills};
 use crate::session::{Session, bad_request};
 use bay_model::USER_BYTES;
 use flop_base::{Bytes, NoMemory};
-use floppy_jobs::Request;
+use floppy_requests::Request;
 use sector_model::{Reply, Station, Stop};
 
 impl<D: Station> Session<D> {

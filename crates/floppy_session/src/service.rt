@@ -12,7 +12,7 @@ ghost use Rattle.floppy_session.specs.Services.{Serves, DoesWork, Transfers, Mov
 use crate::session::Session;
 use flop_base::standard::SIZE_CODE;
 use flop_base::{Chrn, Code};
-use floppy_jobs::Request;
+use floppy_requests::Request;
 use int13::{Int13, Kind, Regs, Work};
 use sector_model::Station;
 

@@ -10,7 +10,7 @@ ghost use Rattle.floppy_session.specs.Shapes.{shape_in};
 
 use crate::shape::Shape;
 use flop_base::{Code, Name, Rate, Shelf};
-use floppy_jobs::Request;
+use floppy_requests::Request;
 use sector_model::{Reason, Reply, Station, Stop};
 use std::alloc::Global;
 

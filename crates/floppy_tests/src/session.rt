@@ -1,7 +1,7 @@
 // A session by itself: requests one by one, and the station behind them.
 use crate::disks::formatted;
 use flop_base::{Chrn, Code, MemShelf, Name, Rate};
-use floppy_jobs::Request;
+use floppy_requests::Request;
 use floppy_session::Session;
 use memory_station::MemoryStation;
 use sector_model::{Reason, Reply, Station};

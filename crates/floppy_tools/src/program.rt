@@ -1,6 +1,6 @@
 // The top call.
 ghost use Rattle.std.specs.Prelude.{◌≡◌, ◌≢◌, ◌≤◌, ◌+◌, All, List, ℕ, None, Some, map, string_bytes};
-ghost use Rattle.floppy_jobs.specs.declared.request.Request.{Request};
+ghost use Rattle.floppy_requests.specs.declared.request.Request.{Request};
 ghost use Rattle.pc_bus.specs.Boards.{board, IsEmpty};
 ghost use Rattle.sector_model.specs.Faults.{Blames};
 ghost use Rattle.sector_model.specs.Ties.{IsJob, accesses_of_job};

@@ -12,7 +12,7 @@ ghost use Rattle.machine_station.specs.Started.{IsFreshBoard};
 
 use drive_model::Drive;
 use flop_base::Shelf;
-use floppy_jobs::Request;
+use floppy_requests::Request;
 use floppy_session::Session as StationSession;
 use int13::{Int13, Regs};
 use machine_station::MachineStation;

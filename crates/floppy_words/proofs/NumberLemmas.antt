@@ -1,7 +1,7 @@
 -- Numbers of cylinders.
 use Rattle.std.proofs.Common.{◌≡◌, ◌≤◌, ◌<◌, length, ℕ, Bool, true, false, List, Option, Some, None, refl, arith, if◌then◌else◌}
 use Rattle.std.proofs.lemmas.Bool.Decides.{nat_tests}
-use Rattle.floppy_jobs.specs.Numbers.{number_of}
+use Rattle.floppy_requests.specs.Numbers.{number_of}
 use Rattle.floppy_jobs.proofs.NumberLemmas.{read_on, number_of-short, number_of-long, number_of-read}
 use Rattle.floppy_words.specs.Forms.{seed_of}
 

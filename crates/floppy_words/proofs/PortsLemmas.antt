@@ -6,7 +6,7 @@ use Rattle.std.specs.List.{list_any}
 use Rattle.std.proofs.lemmas.Bool.{eqb-true}
 use Rattle.std.proofs.lemmas.Slice.Eq.{bytes_eq-Decides}
 use Rattle.flop_base.specs.declared.answers.NoMemory.{NoMemory}
-use Rattle.floppy_jobs.specs.Names.{name_of}
+use Rattle.floppy_requests.specs.Names.{name_of}
 use Rattle.floppy_words.specs.Forms.{Reads, begins_with_dash, form_of, ports_file_of}
 use Rattle.floppy_words.proofs.DashLemmas.{dash_name, any_one, either_or}
 

@@ -1,7 +1,7 @@
 // The line that tells an answer.
 ghost use Rattle.std.specs.Prelude.{◌≡◌, ◌++◌, codes, Some, IfOk, IfErr, OnOk, OnErr, IsErrOf, string_bytes};
 ghost use Rattle.flop_base.specs.Sink.{grown, GrowsByPart};
-ghost use Rattle.floppy_jobs.specs.Spelling.{hex2};
+ghost use Rattle.floppy_requests.specs.Spelling.{hex2};
 ghost use Rattle.sector_model.specs.Faults.{Blames};
 ghost use Rattle.sector_model.specs.Plays.{IsPutFault};
 ghost use Rattle.sector_model.specs.Texts.{reason_text, line_end};

@@ -8,8 +8,8 @@ ghost use Rattle.rescue_commands.specs.Tasks.{Ask};
 ghost use Rattle.rescue_commands.specs.Carried.{Judges, Goes, no_lines, TellsHalt};
 
 use flop_base::{Shelf, Sink, Status};
-use floppy_jobs::Request;
 use floppy_report::{put_last, put_last_stopped};
+use floppy_requests::Request;
 use floppy_session::Session;
 use sector_model::{Reason, Reply, Station, Stop};
 use std::alloc::Global;

@@ -11,7 +11,7 @@ ghost use Rattle.rescue_commands.specs.Carried.{Goes, no_lines, Opens, IsHalted}
 
 use crate::ask::{Halt, ask};
 use flop_base::{Name, Rate, Shelf};
-use floppy_jobs::Request;
+use floppy_requests::Request;
 use floppy_session::{Session, Shape};
 use sector_model::{Station, Stop};
 

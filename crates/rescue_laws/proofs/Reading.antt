@@ -6,8 +6,8 @@ use Rattle.flop_base.specs.declared.answers.Code.{Code}
 use Rattle.raw_image.specs.Disk.{track_of}
 use Rattle.bay_model.specs.Memory.{user_bytes, bytes_from}
 use Rattle.track_model.specs.Fields.{content_size}
-use Rattle.floppy_jobs.specs.declared.request.Request.{Request}
-use Rattle.floppy_jobs.specs.declared.request.Request.TheVariants as request
+use Rattle.floppy_requests.specs.declared.request.Request.{Request}
+use Rattle.floppy_requests.specs.declared.request.Request.TheVariants as request
 use Rattle.sector_model.specs.declared.reply.Reply.{Reply}
 use Rattle.sector_model.specs.declared.reply.Reply.TheVariants as reply
 use Rattle.sector_model.specs.Orders.{read_refusal}

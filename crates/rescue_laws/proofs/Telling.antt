@@ -10,7 +10,7 @@ use Rattle.bay_model.specs.Counters.{IsUndisturbed, faults_of}
 use Rattle.track_model.specs.declared.Look.{Look}
 use Rattle.track_model.specs.declared.Look.TheVariants.{NoMark}
 use Rattle.track_model.proofs.Unique.{one_look_for}
-use Rattle.floppy_jobs.specs.declared.request.Request.TheVariants as request
+use Rattle.floppy_requests.specs.declared.request.Request.TheVariants as request
 use Rattle.sector_map.specs.Disks.{LookOn}
 use Rattle.sector_map.specs.MetTracks.{HasNothing}
 use Rattle.sector_map.proofs.MetTracks.{by_met, in_is_on, nothing_unrecorded}

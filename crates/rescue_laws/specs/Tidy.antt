@@ -5,8 +5,8 @@ use Rattle.raw_image.specs.Disk.{Disk, HasTrack, track_of}
 use Rattle.bay_model.specs.Memory.{bytes_from}
 use Rattle.track_model.specs.Fields.{IsAddressAt, content_size}
 use Rattle.track_model.specs.Windows.{IsTidy}
-use Rattle.floppy_jobs.specs.declared.request.Request.{Request}
-use Rattle.floppy_jobs.specs.declared.request.Request.TheVariants as request
+use Rattle.floppy_requests.specs.declared.request.Request.{Request}
+use Rattle.floppy_requests.specs.declared.request.Request.TheVariants as request
 use Rattle.sector_model.specs.Stations.{StationState, bay_of}
 use Rattle.sector_model.specs.States.{State}
 use Rattle.sector_model.specs.Runs.{Taken}

@@ -1,5 +1,5 @@
 use Rattle.std.proofs.Common.{[], ◌∷◌}
-use Rattle.floppy_jobs.specs.declared.request.Request.TheVariants as request
+use Rattle.floppy_requests.specs.declared.request.Request.TheVariants as request
 use Rattle.disk_commands.specs.Carried.{stage_of, Any}
 use Rattle.disk_commands.specs.Plans.{Asks, rate_plan}
 use Rattle.disk_commands.proofs.Carrying.{goes_then, halts_first}

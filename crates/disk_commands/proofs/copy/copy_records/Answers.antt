@@ -1,6 +1,6 @@
 use Rattle.std.proofs.Common.{[], ◌∷◌, ◌++◌}
 use Rattle.std.proofs.lemmas.Result.{err_from_is_err_and}
-use Rattle.floppy_jobs.specs.declared.request.Request.TheVariants as request
+use Rattle.floppy_requests.specs.declared.request.Request.TheVariants as request
 use Rattle.disk_commands.specs.Plans.{Asks, read_track, write_track}
 use Rattle.disk_commands.specs.Carried.{stage_of, Any}
 use Rattle.disk_commands.proofs.Carrying.{goes_then, then_halts, halts_first}

@@ -1,7 +1,7 @@
 use Rattle.std.proofs.Common.{arith, ◌+◌, ◌-◌, ◌≡◌, ◌∷◌, ◌∙◌, [], ℕ, Bool, refl, ap, sym, subst, set}
 use Rattle.std.proofs.lemmas.Result.{err_from_is_err_and}
 use Rattle.sector_map.specs.Standard.{key_of}
-use Rattle.floppy_jobs.specs.declared.request.Request.TheVariants as request
+use Rattle.floppy_requests.specs.declared.request.Request.TheVariants as request
 use Rattle.disk_commands.specs.Plans.{Asks, each, record_address}
 use Rattle.disk_commands.specs.Carried.{stage_of, Any, IsHalted}
 use Rattle.disk_commands.specs.Marks.{ReadsMarks}

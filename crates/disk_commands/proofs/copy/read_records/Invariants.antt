@@ -1,6 +1,6 @@
 use Rattle.std.proofs.Common.{◌≤◌, ◌-◌, ◌∷◌, [], ◌≡◌, length}
 use Rattle.sector_map.specs.Standard.{key_of}
-use Rattle.floppy_jobs.specs.declared.request.Request.TheVariants as request
+use Rattle.floppy_requests.specs.declared.request.Request.TheVariants as request
 use Rattle.floppy_session.specs.Session.{IsRunning}
 use Rattle.disk_commands.specs.Plans.{Asks, each, record_address}
 use Rattle.disk_commands.specs.Carried.{stage_of}

@@ -1,7 +1,7 @@
 use Rattle.std.proofs.Common.{[], ◌∷◌, ◌++◌, subst, ℕ}
 use Rattle.std.proofs.lemmas.Result.{err_from_is_err_and}
 use Rattle.flop_base.specs.Standard.{sectors_at}
-use Rattle.floppy_jobs.specs.declared.request.Request.TheVariants as request
+use Rattle.floppy_requests.specs.declared.request.Request.TheVariants as request
 use Rattle.disk_commands.specs.Plans.{Asks, by_track, copy_track, prepare_plan}
 use Rattle.disk_commands.specs.Carried.{stage_of, Any, Carries, IsHalted}
 use Rattle.disk_commands.proofs.Carrying.{goes_then, then_halts, halts_first}

@@ -1,6 +1,6 @@
 use Rattle.std.proofs.Common.{refl, ap, ◌∙◌, Bool, []}
 use Rattle.std.specs.Prelude.{if◌then◌else◌}
-use Rattle.floppy_jobs.specs.declared.request.Request.TheVariants as request
+use Rattle.floppy_requests.specs.declared.request.Request.TheVariants as request
 use Rattle.disk_commands.specs.Plans.{track_address}
 use Rattle.disk_commands.specs.Verifies.{ReadStops, LineIsCut}
 use Rattle.disk_commands.specs.Worlds.{world_of}

@@ -1,6 +1,6 @@
 use Rattle.std.proofs.Common.{◌≤◌, ◌-◌, ◌∷◌, []}
 use Rattle.sector_map.specs.Standard.{key_of}
-use Rattle.floppy_jobs.specs.declared.request.Request.TheVariants as request
+use Rattle.floppy_requests.specs.declared.request.Request.TheVariants as request
 use Rattle.floppy_session.specs.Session.{IsRunning}
 use Rattle.disk_commands.specs.Plans.{Asks, each, track_address}
 use Rattle.disk_commands.specs.Verifies.{Verified}

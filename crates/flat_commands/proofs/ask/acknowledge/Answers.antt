@@ -1,6 +1,6 @@
 use Rattle.std.proofs.Common.{◌∷◌, []}
 use Rattle.std.proofs.lemmas.Result.{err_from_is_err_and}
-use Rattle.floppy_jobs.specs.declared.request.Request.TheVariants as request
+use Rattle.floppy_requests.specs.declared.request.Request.TheVariants as request
 use Rattle.disk_commands.specs.Carried.{stage_of}
 use Rattle.flat_commands.specs.Requests.{rate_requests}
 use Rattle.flat_commands.proofs.Carrying.{first_halted, goes_then}

@@ -1,7 +1,7 @@
 use Rattle.std.proofs.Common.{◌∷◌, ◌++◌, [], ◌∙◌, ap, subst, ℕ, List, codes}
 use Rattle.std.proofs.lemmas.Result.{err_from_is_err_and}
 use Rattle.flop_base.specs.declared.answers.Rate.TheVariants.{R500}
-use Rattle.floppy_jobs.specs.declared.request.Request.{Request}
+use Rattle.floppy_requests.specs.declared.request.Request.{Request}
 use Rattle.floppy_session.specs.Blanks.{blank_request}
 use Rattle.disk_commands.specs.Carried.{stage_of}
 use Rattle.flat_commands.specs.Requests.{by_track, ack_requests}

@@ -1,6 +1,6 @@
 use Rattle.std.proofs.Common.{sym}
 use Rattle.std.proofs.lemmas.Result.{err_from_is_err_and}
-use Rattle.floppy_jobs.specs.declared.request.Request.TheVariants as request
+use Rattle.floppy_requests.specs.declared.request.Request.TheVariants as request
 use Rattle.disk_commands.specs.Carried.{stage_of}
 use Rattle.flat_commands.proofs.Carrying.{one_carried}
 use Rattle.flat_commands.proofs.export.open_disk.Goals as goal

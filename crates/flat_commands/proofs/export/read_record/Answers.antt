@@ -2,7 +2,7 @@ use Rattle.flat_commands.specs.declared.ask.Halt.TheVariants.{Starved}
 use Rattle.std.proofs.Common.{◌∷◌, [], subst, ℕ}
 use Rattle.std.proofs.lemmas.Result.{err_from_is_err_and}
 use Rattle.sector_map.specs.Standard.{key_of}
-use Rattle.floppy_jobs.specs.declared.request.Request.TheVariants as request
+use Rattle.floppy_requests.specs.declared.request.Request.TheVariants as request
 use Rattle.disk_commands.specs.Carried.{stage_of}
 use Rattle.flat_commands.specs.Carried.{IsHalted, Gathers}
 use Rattle.flat_commands.proofs.Carrying.{one_halted}

@@ -1,5 +1,5 @@
 use Rattle.std.proofs.Common.{◌∙◌, sym, refl}
-use Rattle.floppy_jobs.specs.declared.request.Request.TheVariants as request
+use Rattle.floppy_requests.specs.declared.request.Request.TheVariants as request
 use Rattle.disk_commands.specs.Carried.{stage_of}
 use Rattle.flat_commands.proofs.Working.{refused_worked, done_worked}
 use Rattle.flat_commands.proofs.work.read.Goals as goal

@@ -1,6 +1,6 @@
 use Rattle.std.proofs.Common.{◌*◌}
 use Rattle.std.proofs.Common.{arith, ◌+◌, subst, ℕ, List}
-use Rattle.floppy_jobs.specs.declared.request.Request.{Request}
+use Rattle.floppy_requests.specs.declared.request.Request.{Request}
 use Rattle.disk_commands.specs.Carried.{stage_of}
 use Rattle.flat_commands.specs.Workload.{work_behind, number_after}
 use Rattle.flat_commands.specs.Exercises.{Works}

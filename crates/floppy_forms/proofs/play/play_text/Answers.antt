@@ -1,8 +1,8 @@
 use Rattle.std.proofs.Common.{refl}
 use Rattle.std.specs.Prelude.{Vec}
 use Rattle.std.specs.declared.alloc.Global.{Global}
-use Rattle.floppy_jobs.specs.declared.request.Request.{Request}
-use Rattle.floppy_jobs.specs.Texts.{job_of}
+use Rattle.floppy_requests.specs.declared.request.Request.{Request}
+use Rattle.floppy_requests.specs.Texts.{job_of}
 use Rattle.floppy_session.specs.Session.{state_of}
 use Rattle.floppy_forms.specs.Rounds.{world}
 use Rattle.floppy_forms.proofs.InRounds.{parsed_plays, read_bad, unparsed_tells}

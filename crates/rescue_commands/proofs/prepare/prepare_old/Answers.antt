@@ -1,6 +1,6 @@
 use Rattle.std.proofs.Common.{[], ◌∷◌}
 use Rattle.std.proofs.lemmas.Result.{err_from_is_err_and}
-use Rattle.floppy_jobs.specs.declared.request.Request.TheVariants as request
+use Rattle.floppy_requests.specs.declared.request.Request.TheVariants as request
 use Rattle.disk_commands.specs.Carried.{stage_of}
 use Rattle.rescue_commands.specs.Tasks.{Ask, both_tasks}
 use Rattle.rescue_commands.specs.Carried.{no_lines}

@@ -1,5 +1,5 @@
 use Rattle.floppy_session.specs.Session.{state_of}
-use Rattle.floppy_jobs.specs.declared.request.Request.TheVariants as request
+use Rattle.floppy_requests.specs.declared.request.Request.TheVariants as request
 use Rattle.floppy_session.proofs.Serving.{replied}
 use Rattle.floppy_session.proofs.session.Session.ack.Goals as goal
 

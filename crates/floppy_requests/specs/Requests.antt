@@ -1,13 +1,13 @@
 -- What the lines of a job spell: D, C, H, R, N and CYLS are bytes in decimal, ADDR and BYTE are hexadecimal.
 use Rattle.std.specs.Prelude.{ℕ, List, [], ◌∷◌, Option, Some, None, option_and_then, codes, if◌then◌else◌}
 use Rattle.std.specs.Str.{bytes_eq}
-use Rattle.floppy_jobs.specs.Names.{name_of}
-use Rattle.floppy_jobs.specs.Numbers.{byte_of, address_of, length_of, hex_byte_of, tries_of}
+use Rattle.floppy_requests.specs.Names.{name_of}
+use Rattle.floppy_requests.specs.Numbers.{byte_of, address_of, length_of, hex_byte_of, tries_of}
 use Rattle.flop_base.specs.declared.key.Chrn.{Chrn}
 use Rattle.flop_base.specs.declared.answers.Rate.{Rate}
 use Rattle.flop_base.specs.declared.answers.Rate.TheVariants.{R500, R250}
-use Rattle.floppy_jobs.specs.declared.request.Request.{Request}
-use Rattle.floppy_jobs.specs.declared.request.Request.TheVariants as request
+use Rattle.floppy_requests.specs.declared.request.Request.{Request}
+use Rattle.floppy_requests.specs.declared.request.Request.TheVariants as request
 
 infixl 10 ◌>>=◌
 abbrev pub ◌>>=◌ : {A B : Type 0} → Option A → (A → Option B) → Option B

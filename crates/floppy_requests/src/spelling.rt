@@ -1,7 +1,7 @@
 // The plain spelling of a request.
 ghost use Rattle.std.specs.Prelude.{◌≡◌, Some};
-ghost use Rattle.floppy_jobs.specs.Spelling.{hex2, hex5, rate_text, spelling};
-ghost use Rattle.floppy_jobs.specs.declared.request.Request.{Request};
+ghost use Rattle.floppy_requests.specs.Spelling.{hex2, hex5, rate_text, spelling};
+ghost use Rattle.floppy_requests.specs.declared.request.Request.{Request};
 
 use crate::Request;
 use flop_base::{Chrn, Rate};

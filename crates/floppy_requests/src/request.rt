@@ -38,7 +38,7 @@ pub enum Request {
 }
 
 impl Request {
-    ghost use Rattle.floppy_jobs.specs.Spelling.{verb_text};
+    ghost use Rattle.floppy_requests.specs.Spelling.{verb_text};
 
     /// The first word of the request's line.
     pub fn verb(&self) -> &'static str

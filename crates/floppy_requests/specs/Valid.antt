@@ -1,9 +1,9 @@
 -- What a parser can give: each number in its field's range, each name a name.
 use Rattle.std.specs.Prelude.{ℕ, ◌<◌, ◌≤◌}
-use Rattle.floppy_jobs.specs.Names.{IsName}
+use Rattle.floppy_requests.specs.Names.{IsName}
 use Rattle.flop_base.specs.declared.key.Chrn.{Chrn}
-use Rattle.floppy_jobs.specs.declared.request.Request.{Request}
-use Rattle.floppy_jobs.specs.declared.request.Request.TheVariants.{Insert, Blank, BlankDd, Eject, Ack, Read, Write, WriteDeleted, Format, Fill, Dump, Unit, SetRate, Tries}
+use Rattle.floppy_requests.specs.declared.request.Request.{Request}
+use Rattle.floppy_requests.specs.declared.request.Request.TheVariants.{Insert, Blank, BlankDd, Eject, Ack, Read, Write, WriteDeleted, Format, Fill, Dump, Unit, SetRate, Tries}
 
 abbrev pub IsByte : ℕ → Type 0
 IsByte n = n < 256
