@@ -11,7 +11,7 @@ use Rattle.fdc_writing.specs.Writings.{opens, is_due, needs_byte}
 use Rattle.fdc_writing.specs.declared.writing.WriteStage.{WriteStage}
 use Rattle.fdc_writing.specs.declared.writing.WriteStage.TheVariants as stages
 use Rattle.fdc_core.specs.Formatting as formats
-use Rattle.fdc_core.specs.Formatting.{IsFormatTime, HearsAWord, LaysByte}
+use Rattle.fdc_core.specs.Formatting.{IsFormatTime, AwaitsIndex, LaysByte}
 use Rattle.fdc_core.specs.Listening.{SeesUnder, StepsOn}
 use Rattle.fdc_core.specs.Phases.{head_of}
 use Rattle.fdc_core.specs.Rates.{rate_fits, seen_of}
@@ -124,13 +124,13 @@ opens_laid Due is = refl
 opens_laid Lay is = absurd (false≢true is)
 opens_laid Barred is = absurd (false≢true is)
 
-pub heard_turn : (head_drive steps : ℕ) (formatting : Formatting) (old : Fdc) (before after : DriveState) (new : Fdc) → formats_of.is_due formatting.stage ≡ false → HearsAWord head_drive steps formatting old before after new → IsFormatTime head_drive steps formatting old before after new
-heard_turn head_drive steps formatting old before after new due is =
+pub heard_index : (head_drive steps : ℕ) (formatting : Formatting) (old : Fdc) (before after : DriveState) (new : Fdc) → formats_of.is_due formatting.stage ≡ false → AwaitsIndex head_drive steps formatting old before after new → IsFormatTime head_drive steps formatting old before after new
+heard_index head_drive steps formatting old before after new due is =
     record { time = Saw is.index is.word; is = is.is; does = (due, is.does) }
 
-pub kept_turn : (head_drive steps : ℕ) (formatting : Formatting) (old : Fdc) (before after : DriveState) (new : Fdc) → formats_of.opens formatting.stage ≡ true → rate_fits old.rate (rate_of before.medium) ≡ false → HearsAWord head_drive steps formatting old before after new
+pub kept_index : (head_drive steps : ℕ) (formatting : Formatting) (old : Fdc) (before after : DriveState) (new : Fdc) → formats_of.opens formatting.stage ≡ true → rate_fits old.rate (rate_of before.medium) ≡ false → AwaitsIndex head_drive steps formatting old before after new
     → IsFormatTime head_drive steps formatting old before after new
-kept_turn head_drive steps formatting old before after new firsts unfit is =
+kept_index head_drive steps formatting old before after new firsts unfit is =
     record { time = KeptOut is.index is.word; is = (unfit, is.is); does = (firsts, is.does) }
 
 pub laid_time : (head_drive steps byte : ℕ) (needs : Bool) (formatting : Formatting) (old mid_fdc : Fdc) (before after : DriveState) (new : Fdc) → steps < 65535 → (formats_of.opens formatting.stage ≡ true → rate_fits old.rate (rate_of before.medium) ≡ true) → formats_of.is_due formatting.stage ≡ true

@@ -101,7 +101,7 @@ pub record IsFormatStep (head_drive steps : ℕ) (formatting : Formatting) (old 
 -- ---- its parts
 
 -- a word is heard
-pub record HearsAWord (head_drive steps : ℕ) (formatting : Formatting) (old : Fdc) (before after : DriveState) (new : Fdc) : Type 0 where
+pub record AwaitsIndex (head_drive steps : ℕ) (formatting : Formatting) (old : Fdc) (before after : DriveState) (new : Fdc) : Type 0 where
   pub index : Bool
   pub word : ℕ
   pub is : IsHeardTime index word old.rate (head_of head_drive) before after

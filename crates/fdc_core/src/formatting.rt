@@ -4,7 +4,7 @@ ghost use Rattle.drive_model.specs.Drive.{rate_of};
 ghost use Rattle.fdc_writing.specs.Formats.{opens, is_due};
 ghost use Rattle.fdc_core.specs.Rates.{rate_fits};
 ghost use Rattle.fdc_writing.specs.declared.formatting.FormatNext.{FormatNext};
-ghost use Rattle.fdc_core.specs.Formatting.{IsFormatStep, IsFormatTime, HearsAWord, LaysByte, StageHearsIndex, after_laid, is_ended};
+ghost use Rattle.fdc_core.specs.Formatting.{IsFormatStep, IsFormatTime, AwaitsIndex, LaysByte, StageHearsIndex, after_laid, is_ended};
 
 use crate::controller::Fdc;
 use crate::phases::{LAST_STEP, NO_KEY, Task, head_of};
@@ -63,7 +63,7 @@ impl Fdc {
         drive: &mut D,
     )
         requires { steps < 65535 }
-        ensures { HearsAWord head_drive steps formatting self.old (D.state drive.old) (D.state drive.new) self.new }
+        ensures { AwaitsIndex head_drive steps formatting self.old (D.state drive.old) (D.state drive.new) self.new }
     {
         let passing = self.listen(head_of(head_drive), drive);
         let next = formatting.stage.hear(passing.index);

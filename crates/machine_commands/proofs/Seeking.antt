@@ -9,7 +9,7 @@ use Rattle.fdc_core.specs.Steps.{polled, seek_stepped, RestsIn, MovesIn, Moves}
 use Rattle.fdc_core.specs.declared.controller.Fdc.{Fdc}
 use Rattle.machine_pace.specs.declared.holding.Request.TheVariants.{Low}
 use Rattle.pc_bus.specs.Boards.{Board, controller_of, memory_of, holds_of, drive_in, selected_of}
-use Rattle.pc_bus.specs.Steps.{Turns, Step, Runs}
+use Rattle.pc_bus.specs.Steps.{PassesWordTime, Step, Runs}
 use Rattle.pc_bus.specs.declared.chips.Chips.{Chips}
 use Rattle.machine_commands.specs.Idling.{IsResting, KeepsDrive, KeepsSpeed}
 use Rattle.machine_commands.proofs.Steps.{OnlyTurns, passes_turn, calm_asks, calm_dma, unpolled, rests_in, moves_in, or_false, still_seeks, gate_turns, drive_none, drive_then, speed_none, speed_then}
@@ -38,7 +38,7 @@ pub record SeekStep (bay : ℕ) (old new : Board) : Type 0 where
   pub carries : Carries old new
 
 -- the word time of a step
-record SeekTurn (bay : ℕ) (old : Board) (between : Fdc) (new : Board) : Type 0 where
+record SeekWordTime (bay : ℕ) (old : Board) (between : Fdc) (new : Board) : Type 0 where
   pub controller_is : between ≡ seek_stepped ((drive_in old bay).cylinder == 0) (controller_of old)
   pub moves : Moves (pulse_due (controller_of old).seeks ((drive_in old bay).cylinder == 0)) (drive_in old bay) (drive_in new bay)
   pub other : OnlyTurns (drive_in old (1 - bay)) (drive_in new (1 - bay))
@@ -52,25 +52,25 @@ seek_moves : (fdc : Fdc) (bay : ℕ) (before after : DriveState) → CanSeek bay
 seek_moves fdc bay before after can is =
     moves_in fdc.phase fdc before after can.no_command (subst (λ f. MovesIn f.phase f before after) (unpolled fdc can.no_poll) is)
 
-seek_turn : (bay : ℕ) (old new : Board) (between : Fdc) → bay ≤ 1 → CanSeek bay (controller_of old)
-    → Turns (selected_of old) (controller_of old) old.first old.second between new.first new.second → SeekTurn bay old between new
-seek_turn zero old new between small can turn =
+seek_word_time : (bay : ℕ) (old new : Board) (between : Fdc) → bay ≤ 1 → CanSeek bay (controller_of old)
+    → PassesWordTime (selected_of old) (controller_of old) old.first old.second between new.first new.second → SeekWordTime bay old between new
+seek_word_time zero old new between small can turn =
     let (works, passes) = turn.at_first can.selects in record {
       controller_is = seek_rests (controller_of old) 0 (old.first.cylinder == 0) between can works.rests;
       moves = seek_moves (controller_of old) 0 old.first new.first can works.drive;
       other = passes_turn old.second new.second passes;
     }
-seek_turn (suc zero) old new between small can turn =
+seek_word_time (suc zero) old new between small can turn =
     let (works, passes) = turn.at_second can.selects in record {
       controller_is = seek_rests (controller_of old) 1 (old.second.cylinder == 0) between can works.rests;
       moves = seek_moves (controller_of old) 1 old.second new.second can works.drive;
       other = passes_turn old.first new.first passes;
     }
-seek_turn (suc (suc bay)) old new between small can turn = absurd (omega arith)
+seek_word_time (suc (suc bay)) old new between small can turn = absurd (omega arith)
 
 pub seek_step : (bay : ℕ) (old new : Board) → bay ≤ 1 → CanSeek bay (controller_of old) → Step old new → SeekStep bay old new
 seek_step bay old new small can step =
-    let turned = seek_turn bay old new step.between small can step.turns in
+    let turned = seek_word_time bay old new step.between small can step.word_time in
     let calm = calm_asks step.between (ap (λ f. f.asking) turned.controller_is ∙ can.not_asking) in
     let worked : Chips = record old.bus.chips { controller = step.between } in
     let rested : Chips = record worked { holding = record worked.holding { request = Low } } in

@@ -17,7 +17,7 @@ use Rattle.fdc_core.specs.declared.phases.Phase.TheVariants.{Command, Execute, R
 use Rattle.machine_pace.specs.Holds.{looked, is_due}
 use Rattle.machine_pace.specs.declared.holding.Request.TheVariants.{Low}
 use Rattle.pc_bus.specs.Boards.{Board, controller_of, channel_of, selected_of}
-use Rattle.pc_bus.specs.Steps.{Turns, Step, Runs}
+use Rattle.pc_bus.specs.Steps.{PassesWordTime, Step, Runs}
 use Rattle.pc_bus.specs.Transfers.{granted, dma_stepped}
 use Rattle.pc_bus.specs.declared.chips.Chips.{Chips}
 use Rattle.machine_commands.specs.Idling.{IsResting, KeepsDrive, KeepsSpeed, KeepsAll, StaysIdle, Idles, is_up}
@@ -172,9 +172,9 @@ first_second_or_none zero = inl refl
 first_second_or_none (suc zero) = inr (inl refl)
 first_second_or_none (suc (suc n)) = inr (inr (omega arith))
 
-turns_idle : (old new : Board) (fdc between : Fdc) → Turns (selected_of old) (controller_of old) old.first old.second between new.first new.second
+word_time_idle : (old new : Board) (fdc between : Fdc) → PassesWordTime (selected_of old) (controller_of old) old.first old.second between new.first new.second
     → polled (controller_of old) ≡ fdc → IsResting fdc → TurnsIdle old fdc between new.first new.second
-turns_idle old new fdc between turn poll rest = elim (first_second_or_none (selected_of old)) [
+word_time_idle old new fdc between turn poll rest = elim (first_second_or_none (selected_of old)) [
   | inl at ↦ (let (works, passes) = turn.at_first at in record {
     same = stays_same (controller_of old) fdc (old.first.cylinder == 0) between poll rest works.rests;
     first_turns = moves_turn (controller_of old) fdc old.first new.first poll rest works.drive;
@@ -204,7 +204,7 @@ pub record StepsTo (old : Board) (fdc : Fdc) (new : Board) : Type 0 where
 
 pub step_to : (old new : Board) (fdc : Fdc) → Step old new → polled (controller_of old) ≡ fdc → IsResting fdc → StepsTo old fdc new
 step_to old new fdc step poll rest =
-    let turned = turns_idle old new fdc step.between step.turns poll rest in
+    let turned = word_time_idle old new fdc step.between step.word_time poll rest in
     let calm = subst (λ c. asks c ≡ false) (sym turned.same) (calm_asks fdc rest.not_asking) in
     let worked : Chips = record old.bus.chips { controller = step.between } in
     let rested : Chips = record worked { holding = record worked.holding { request = Low } } in
