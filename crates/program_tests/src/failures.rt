@@ -1,29 +1,14 @@
 // Shelves and sinks that fail under a machine.
-use crate::machines::{lines, run};
+use crate::machines::{is_stored, lines, run, shelf_with_disk};
 use flop_base::{MemShelf, Status};
 use std::alloc::Global;
 use std::test::Fail;
 
-/// A shelf with a formatted disk `a.rt` in the first version of image files, and a job. The call of this number fails.
+/// A shelf with a formatted disk `a.rt` and a job. The call of this number fails.
 fn shelf(alloc: Global, fails: u64) -> Result<MemShelf, Fail> {
-    let mut made = MemShelf::new(alloc, Vec::new(alloc));
-    run(alloc, "format a.rt 1", &mut made, 0)?;
-    let mut image = made.file("a.rt").ok_or("a.rt is stored")?.to_vec(alloc)?;
-    for byte in image.iter_mut().skip(7).take(1) {
-        *byte = b'1';
-    }
-    let mut shelf = MemShelf::new(alloc, vec![in alloc; fails]?);
-    shelf.put_file("a.rt", &image)?;
+    let mut shelf = shelf_with_disk(alloc, fails)?;
     shelf.put_file("job", &lines(alloc, "insert 0 a.rt;eject 0")?)?;
     Ok(shelf)
-}
-
-/// The disk was stored anew, which is in the second version.
-fn is_stored(shelf: &MemShelf) -> bool {
-    match shelf.file("a.rt") {
-        Some(image) => image.starts_with(b"RTIMAGE2"),
-        None => false,
-    }
 }
 
 #[test]

@@ -1,4 +1,4 @@
-// Machines of the tests, and runs of the program over them. In the texts `;` stands for the end of a line.
+// Machines and shelves of the tests, and runs of the program over them. In the texts `;` stands for the end of a line.
 ghost use Rattle.std.specs.Prelude.{◌≡◌, All, IfOk};
 ghost use Rattle.drive_model.specs.PlainDrive.{plain_state};
 ghost use Rattle.pc_bus.specs.Boards.{board, IsEmpty};
@@ -90,4 +90,25 @@ pub(crate) fn run(
         status,
         machine,
     })
+}
+
+/// A shelf with a formatted disk `a.rt` in the first version of image files. The call of this number fails.
+pub(crate) fn shelf_with_disk(alloc: Global, fails: u64) -> Result<MemShelf, Fail> {
+    let mut made = MemShelf::new(alloc, Vec::new(alloc));
+    run(alloc, "format a.rt 1", &mut made, 0)?;
+    let mut image = made.file("a.rt").ok_or("a.rt is stored")?.to_vec(alloc)?;
+    for byte in image.iter_mut().skip(7).take(1) {
+        *byte = b'1';
+    }
+    let mut shelf = MemShelf::new(alloc, vec![in alloc; fails]?);
+    shelf.put_file("a.rt", &image)?;
+    Ok(shelf)
+}
+
+/// The disk was stored anew, which is in the second version.
+pub(crate) fn is_stored(shelf: &MemShelf) -> bool {
+    match shelf.file("a.rt") {
+        Some(image) => image.starts_with(b"RTIMAGE2"),
+        None => false,
+    }
 }

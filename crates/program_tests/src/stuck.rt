@@ -1,0 +1,123 @@
+// A drive of the tests' own, handed in as a spare.
+ghost use Rattle.std.specs.Prelude.{◌≡◌, ◌≤◌, All, IfOk, None};
+ghost use Rattle.flop_base.specs.Counts.{last_count};
+ghost use Rattle.pc_bus.specs.Boards.{IsEmpty};
+
+use crate::machines::{lines, machine_with, run, words};
+use drive_model::{Drive, PlainDrive, Turn};
+use flop_base::{MemShelf, MemSink, NoMemory, Rate, Status};
+use floppy_tools::floppy;
+use raw_image::Medium;
+use std::alloc::Global;
+use std::test::Fail;
+
+/// A drive whose pulses are all lost.
+#[derive(Drop)]
+struct StuckDrive {
+    inside: PlainDrive,
+    faults: u64,
+    ghost counted: { faults ≤ last_count },
+}
+
+impl Drive for StuckDrive {
+    ghost use Rattle.drive_model.specs.PlainDrive.{plain_state};
+
+    ghost state = { λ drive. record (plain_state drive.inside) { faults = drive.faults; left = None } };
+
+    fn insert(&mut self, medium: Medium) -> Result<(), Medium> {
+        self.inside.insert(medium)
+    }
+
+    fn eject(&mut self) -> Option<Medium> {
+        self.inside.eject()
+    }
+
+    fn motor(&mut self, on: bool) {
+        self.inside.motor(on);
+    }
+
+    fn pulse(&mut self, _inward: bool) {
+        self.faults = self.faults.saturating_add(1);
+    }
+
+    fn track0(&self) -> bool {
+        self.inside.track0()
+    }
+
+    fn changed(&self) -> bool {
+        self.inside.changed()
+    }
+
+    fn protected(&self) -> bool {
+        self.inside.protected()
+    }
+
+    fn rate(&self) -> Rate {
+        self.inside.rate()
+    }
+
+    fn gate(&mut self, on: bool) {
+        self.inside.gate(on);
+    }
+
+    fn pass(&mut self) -> bool {
+        self.inside.pass()
+    }
+
+    fn read_word(&mut self, head: u8) -> Turn {
+        self.inside.read_word(head)
+    }
+
+    fn write_word(&mut self, head: u8, word: u16) -> bool {
+        self.inside.write_word(head, word)
+    }
+
+    fn faults(&self) -> u64 {
+        let _inside = self.inside.faults();
+        self.faults
+    }
+}
+
+/// One spare drive.
+fn one_spare<D: Drive>(alloc: Global, drive: D) -> Result<Vec<D>, NoMemory>
+    requires { IsEmpty (D.state drive) }
+    ensures { IfOk result (λ spare. All (λ drive. IsEmpty (D.state drive)) spare.items) }
+{
+    let mut spare = Vec::new(alloc);
+    spare.push(drive)?;
+    Ok(spare)
+}
+
+#[test]
+fn a_spare_whose_pulses_are_lost(rt: HostRuntime) -> Result<(), Fail> {
+    let alloc = rt.alloc();
+    let mut shelf = MemShelf::new(alloc, Vec::new(alloc));
+    run(alloc, "format a.rt 1", &mut shelf, 0)?;
+    shelf.put_file("job", &lines(alloc, "unit 0;insert 0 a.rt;ack 0")?)?;
+    let stuck = StuckDrive {
+        inside: PlainDrive::new(),
+        faults: 0,
+    };
+    let first: Box<dyn Drive> = Box::new(alloc, PlainDrive::new())?;
+    let second: Box<dyn Drive> = Box::new(alloc, PlainDrive::new())?;
+    let next: Box<dyn Drive> = Box::new(alloc, stuck)?;
+    let spare = one_spare(alloc, next)?;
+    let machine = machine_with(alloc, first, second)?;
+    let mut sink = MemSink::new(alloc, Vec::new(alloc));
+    let (status, machine) = floppy(
+        alloc,
+        &words(alloc, "play job")?,
+        &mut shelf,
+        &mut sink,
+        machine,
+        spare,
+    );
+    assert_eq!(rt; status, Status::SomeRefused);
+    assert_eq!(rt;
+        sink.bytes(),
+        b"unit ok\ninsert ok\nack refused 80\n".as_slice()
+    );
+    assert!(rt; machine.faults(0) >= 3);
+    assert_eq!(rt; machine.faults(1), 0);
+    Ok(())
+}
