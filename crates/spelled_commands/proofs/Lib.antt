@@ -1,2 +1,2 @@
-mod Reads
-mod Writes
+mod ReadSpellings
+mod WriteSpellings

@@ -1,4 +1,4 @@
-use Rattle.spelled_commands.proofs.Reads.{spells_read, spells_id}
+use Rattle.spelled_commands.proofs.ReadSpellings.{spells_read, spells_id}
 use Rattle.spelled_commands.proofs.laws.reads_are_spelled.Goals as goal
 
 pub returns-clause-data : goal.returns-clause-data

@@ -1,4 +1,4 @@
-use Rattle.spelled_commands.proofs.Writes.{spells_write, spells_format}
+use Rattle.spelled_commands.proofs.WriteSpellings.{spells_write, spells_format}
 use Rattle.spelled_commands.proofs.laws.writes_are_spelled.Goals as goal
 
 pub returns-clause-data : goal.returns-clause-data
