@@ -1,5 +1,5 @@
 -- Writes of the records of a formatted track in a bay.
-use Rattle.std.proofs.Common.{arith, ◌≡◌, ◌≢◌, ◌↔◌, ◌∙◌, ◌+◌, ◌<◌, ◌≤◌, ℕ, zero, suc, Bool, true, false, List, [], ◌∷◌, ◌++◌, length, refl, sym, ap, subst, inl, Option, Some, Result, IsOk}
+use Rattle.std.proofs.Common.{arith, ◌≡◌, ◌≢◌, ◌↔◌, ◌∙◌, ◌+◌, ◌<◌, ◌≤◌, ℕ, zero, suc, Bool, true, false, List, [], ◌∷◌, length, refl, sym, ap, subst, Option, Some, Result, IsOk}
 use Rattle.std.specs.List.{list_all}
 use Rattle.std.specs.Prelude.{◌==◌, if◌then◌else◌}
 use Rattle.flop_base.specs.Shelf.{Files}
@@ -10,24 +10,20 @@ use Rattle.bay_model.specs.Bays.{Two, with_bay, in_bay}
 use Rattle.bay_model.specs.Memory.{user_bytes, bytes_from}
 use Rattle.bay_model.specs.Counters.{Counters, IsFaultless, faults_of}
 use Rattle.track_model.specs.Fields.{IsAddressAt}
-use Rattle.track_model.specs.Laid.{IsLaid, with_window}
-use Rattle.track_model.specs.Windows.{window_word, cut_of, HasFieldFor, IsTidy}
+use Rattle.track_model.specs.Laid.{IsLaid}
+use Rattle.track_model.specs.Windows.{HasFieldFor, IsTidy}
 use Rattle.track_model.proofs.Laid.{written_laid}
-use Rattle.sector_map.specs.Changes.{Change, Written, window_of, IsChange}
 use Rattle.sector_map.specs.Disks.{Entry, IsOnMap, IsRegularDisk}
 use Rattle.sector_map.specs.KeptDisks.{KeepsTracks}
 use Rattle.sector_map.specs.Standard.{key_of}
-use Rattle.sector_map.proofs.Changed.{change_keeps_tracks, change_keeps_address}
-use Rattle.sector_map.proofs.KeptTracks.{with_track_keeps, alike_tracks, keeps_itself, keeps_both}
-use Rattle.sector_map.proofs.MetTracks.{met_track}
-use Rattle.sector_map.proofs.RegularTracks.{key_cylinder, one_address}
+use Rattle.sector_map.proofs.KeptTracks.{alike_tracks, keeps_itself, keeps_both}
 use Rattle.sector_model.specs.declared.reply.Reply.{Reply}
 use Rattle.sector_model.specs.Orders.{write_refusal}
-use Rattle.sector_model.specs.Stations.{StationState, Bay, bay_of, met}
+use Rattle.sector_model.specs.Stations.{StationState, Bay, bay_of}
 use Rattle.sector_model.specs.States.{State}
 use Rattle.sector_model.specs.Steps.{Does, IsDriverCall, reply_of}
 use Rattle.sector_model.specs.Texts.{is_refusal}
-use Rattle.sector_model.specs.Writes.{ChangesDisk, Reaches, WritesDrive, WritesTo, ChangesAlone, written_from}
+use Rattle.sector_model.specs.Writes.{WritesDrive, WritesTo, written_from}
 use Rattle.sector_model.specs.Runs.{Taken}
 use Rattle.disk_laws.specs.Done.{DoesAll}
 use Rattle.disk_commands.specs.Plans.{record_address}
@@ -37,22 +33,11 @@ use Rattle.disk_laws.proofs.Prepared.{in_with}
 use Rattle.disk_laws.proofs.Records.{keys_from}
 use Rattle.disk_laws.proofs.UserMemory.{length-bytes_from}
 use Rattle.disk_laws.proofs.Steps.{NeverFell, begins, ends_there, step_never_fell, never_fell, keeps_drives, ok_called, reached}
-use Rattle.disk_laws.proofs.WholeWindow.{whole_is}
+use Rattle.disk_laws.proofs.WrittenHere.{WritesHere, writes_here}
 
 -- on Laid tracks no write brings up an address mark, however short it stops
 abbrev pub AllTidy : Type 0
 AllTidy = (track : List ℕ) (p : ℕ) (deleted : Bool) (content : List ℕ) → IsLaid track → HasFieldFor track p content → IsTidy track p deleted content
-
--- ---- the last change
-
-last_change : (written : Written) (disk : Disk) (earlier : List Change) (last : Change) (after : Disk) → ChangesDisk written disk (earlier ++ last ∷ []) after → (mid : Disk) × IsChange written mid last after
-last_change written disk [] last after changes = (disk, subst (λ (d : Disk). IsChange written disk last d) (sym changes.2) changes.1)
-last_change written disk (change ∷ earlier) last after changes = last_change written changes.0 earlier last after changes.2
-
-reaches_in : (written : Written) (before after : Option Disk) (disk next : Disk) (changes : List Change) → before ≡ Some disk → after ≡ Some next → Reaches written before changes after → ChangesDisk written disk changes next
-reaches_in written before after disk next changes e f reach =
-    let here = subst (λ (o : Option Disk). Reaches written o changes after) e reach in
-    subst (λ (o : Option Disk). Reaches written (Some disk) changes o) f here
 
 -- ---- one bay of two
 
@@ -92,85 +77,39 @@ pub record WritesOne (bay : ℕ) (disk : Disk) (c h r : ℕ) (deleted : Bool) (o
   pub names : new.names ≡ old.names
   pub files : after ≡ told
 
-module _ (tidy : AllTidy) (bay c h r : ℕ) (deleted : Bool) (disk : Disk) (valid : IsDisk disk) (regular : IsRegularDisk disk) (has : HasTrack disk c h) (laid : IsLaid (track_of disk c h)) (p : ℕ) (address : IsAddressAt (track_of disk c h) p (key_of c h r)) (old new : StationState) (size : length old.memory ≡ user_bytes) (few : record_address r + 512 ≤ user_bytes) (called : Result (Unit {0}) Code) (drive : WritesDrive (written_from old (key_of c h r) (record_address r) deleted) bay called old new) (ok : IsOk called) (faultless : IsFaultless bay old.counters new.counters) (medium : (bay_of old bay).medium ≡ Some disk) (rate : (bay_of old bay).rate ≡ disk.rate) where
+-- such a write is Tidy, so its whole window stands
+module _ (tidy : AllTidy) (bay c h r : ℕ) (deleted : Bool) (disk : Disk) (regular : IsRegularDisk disk) (has : HasTrack disk c h) (laid : IsLaid (track_of disk c h)) (p : ℕ) (address : IsAddressAt (track_of disk c h) p (key_of c h r)) (old new : StationState) (size : length old.memory ≡ user_bytes) (few : record_address r + 512 ≤ user_bytes) (called : Result (Unit {0}) Code) (drive : WritesDrive (written_from old (key_of c h r) (record_address r) deleted) bay called old new) (ok : IsOk called) (faultless : IsFaultless bay old.counters new.counters) (medium : (bay_of old bay).medium ≡ Some disk) (rate : (bay_of old bay).rate ≡ disk.rate) where
   abbrev content : List ℕ
   content = bytes_from old.memory (record_address r) 512
-
-  abbrev written : Written
-  written = written_from old (key_of c h r) (record_address r) deleted
 
   field : HasFieldFor (track_of disk c h) p content
   field = (key_of c h r, record { address = address; size = length-bytes_from old.memory (record_address r) 512 (omega (arith, size)) })
 
-  met_is : met (bay_of old bay) c h ≡ track_of disk c h
-  met_is = met_track (bay_of old bay).medium (bay_of old bay).rate c h disk (record { is_in = medium; has = has; same_rate = sym rate })
+  stands : WritesHere bay disk (key_of c h r) p (record_address r) deleted old new
+  stands =
+      writes_here bay (key_of c h r) (record_address r) deleted disk regular has p address old new
+      (tidy (track_of disk c h) p deleted content laid field) called drive ok faultless medium rate
 
-  alone : ChangesAlone written bay p disk called old new
-  alone =
-      let here = subst (λ track. IsAddressAt track p (key_of c h r)) (sym met_is) address in
-      let neat = subst (λ track. IsTidy track p deleted content) (sym met_is) (tidy (track_of disk c h) p deleted content laid field) in
-      (drive.regular disk medium regular).one p here (inl neat)
+  still_laid : IsLaid (track_of stands.next c h)
+  still_laid = subst IsLaid (sym stands.window) (written_laid (track_of disk c h) p deleted content laid field)
 
-  entry : IsOnMap alone.after (copied_entry c h r p deleted content)
-  entry = alone.entry ok (inl (omega (arith, faultless.0), faultless.1))
-
-  keeps : KeepsTracks disk c h alone.after
-  keeps = with_track_keeps disk alone.after c h _ alone.cut
-
-  has_after : HasTrack alone.after c h
-  has_after = (alike_tracks disk alone.after c h keeps.alike).0 has
-
-  -- the track is a cut of such a track, at this cylinder and place, by so many words
-  abbrev HasCut : Disk → ℕ → ℕ → ℕ → Type 0
-  HasCut mid b q k =
-      (track_of alone.after b h ≡ cut_of (track_of mid b h) q k (window_of written)) × (window_word q + k ≤ length (track_of mid b h))
-
-  -- the last change wrote the whole window, at this address field
-  last_whole : (mid : Disk) × HasCut mid c p (length (window_of written))
-  last_whole =
-      let last = (drive.done ok).last faultless in
-      let change = last.1 in
-      let reach = reaches_in written _ _ disk alone.after drive.changes medium alone.medium drive.reach in
-      let at_end = subst (λ (row : List Change). ChangesDisk written disk row alone.after) last.2 reach in
-      let ends = last_change written disk last.0 change alone.after at_end in
-      let mid = ends.0 in
-      let is = ends.1 in
-      let there = change_keeps_address written mid change alone.after is in
-      let has_last = (alike_tracks mid alone.after change.cylinder h (change_keeps_tracks written mid change alone.after is).alike).0 is.track in
-      let cylinder = (key_cylinder alone.after change.cylinder h change.place (key_of c h r) alone.regular has_last there).0 in
-      let here = subst (λ (b : ℕ). IsAddressAt (track_of alone.after b h) change.place (key_of c h r)) (sym cylinder) there in
-      let place = one_address alone.after c h change.place p (key_of c h r) alone.regular has_after here entry.address in
-      let cut : HasCut mid change.cylinder change.place change.words = (is.cut.has, is.cuttable.inside) in
-      let at_cylinder = subst (λ (b : ℕ). HasCut mid b change.place change.words) (sym cylinder) cut in
-      let at_place = subst (λ (q : ℕ). HasCut mid c q change.words) place at_cylinder in
-      (mid, subst (λ (k : ℕ). HasCut mid c p k) last.3 at_place)
-
-  -- so the track has the whole window
-  window_stands : track_of alone.after c h ≡ with_window (track_of disk c h) p deleted content
-  window_stands =
-      whole_is (track_of disk c h) (track_of last_whole.0 c h) (window_of written) (track_of alone.after c h) (window_word p) alone.words
-      alone.cut.has alone.cuttable.most alone.cuttable.inside last_whole.1.0 last_whole.1.1
-
-  still_laid : IsLaid (track_of alone.after c h)
-  still_laid = subst IsLaid (sym window_stands) (written_laid (track_of disk c h) p deleted content laid field)
-
-pub one_write : (tidy : AllTidy) (bay : ℕ) (disk : Disk) (c h r p : ℕ) (deleted : Bool) (old new : State) (told after : Option Files) (answer : Reply) → IsDisk disk → IsRegularDisk disk → HasTrack disk c h → IsLaid (track_of disk c h) → IsAddressAt (track_of disk c h) p (key_of c h r) → length old.station.memory ≡ user_bytes → record_address r + 512 ≤ user_bytes → Does old told (write_record bay (key_of c h r) deleted) answer new after → is_refusal answer ≡ false → IsFaultless bay old.station.counters new.station.counters → (bay_of old.station bay).medium ≡ Some disk → (bay_of old.station bay).rate ≡ disk.rate → WritesOne bay disk c h r deleted old told new after
-one_write tidy bay disk c h r p deleted old new told after answer valid regular has laid address size few does done faultless medium rate =
+pub one_write : (tidy : AllTidy) (bay : ℕ) (disk : Disk) (c h r p : ℕ) (deleted : Bool) (old new : State) (told after : Option Files) (answer : Reply) → IsRegularDisk disk → HasTrack disk c h → IsLaid (track_of disk c h) → IsAddressAt (track_of disk c h) p (key_of c h r) → length old.station.memory ≡ user_bytes → record_address r + 512 ≤ user_bytes → Does old told (write_record bay (key_of c h r) deleted) answer new after → is_refusal answer ≡ false → IsFaultless bay old.station.counters new.station.counters → (bay_of old.station bay).medium ≡ Some disk → (bay_of old.station bay).rate ≡ disk.rate → WritesOne bay disk c h r deleted old told new after
+one_write tidy bay disk c h r p deleted old new told after answer regular has laid address size few does done faultless medium rate =
     let call = write_does bay (key_of c h r) deleted old new told after answer does in
     let ok = ok_called call.1.0 answer call.1.1 done in
     let drive = reached (write_refusal old.station bay (key_of c h r) (record_address r)) call.1.0 old.station new.station call.1.2 ok in
     let kept : Bay = record (bay_of old.station bay) { medium = (bay_of new.station bay).medium } in
-    let it = alone tidy bay c h r deleted disk valid regular has laid p address old.station new.station size few call.1.0 drive ok faultless medium rate in
+    let it = stands tidy bay c h r deleted disk regular has laid p address old.station new.station size few call.1.0 drive ok faultless medium rate in
     record {
-      next = it.after;
+      next = it.next;
       medium = it.medium;
       bay_rate = ap (λ (s : StationState). (bay_of s bay).rate) drive.becomes ∙ ap (λ (b : Bay). b.rate) (in_with old.station.bays bay kept);
-      keeps = keeps tidy bay c h r deleted disk valid regular has laid p address old.station new.station size few call.1.0 drive ok faultless medium rate;
+      keeps = it.keeps;
       regular = it.regular;
-      laid = still_laid tidy bay c h r deleted disk valid regular has laid p address old.station new.station size few call.1.0 drive ok faultless medium rate;
+      laid = still_laid tidy bay c h r deleted disk regular has laid p address old.station new.station size few call.1.0 drive ok faultless medium rate;
       others = it.others;
       place = p;
-      entry = entry tidy bay c h r deleted disk valid regular has laid p address old.station new.station size few call.1.0 drive ok faultless medium rate;
+      entry = it.entry;
       first = λ other. ap (λ (s : StationState). bay_of s 0) drive.becomes ∙ first_stays old.station.bays bay kept other;
       memory = ap (λ (s : StationState). s.memory) drive.becomes;
       names = call.0.names;
@@ -245,7 +184,7 @@ all_writes tidy bay disk c h a (suc n) (deleted ∷ marks) old new told after co
     let some = there a (omega arith) (omega arith) in
     let fell = fell_at bay old.station.counters first.mid.station.counters here in
     let fell_later = fell_at bay first.mid.station.counters new.station.counters later in
-    let one = one_write tidy bay disk c h a some.0 deleted old first.mid told first.files first.answer valid regular has laid some.3.address size (omega arith) first.does first.done (omega (arith, fell, fell_later, faultless.0), omega (arith, fell_later, faultless.1)) medium rate in
+    let one = one_write tidy bay disk c h a some.0 deleted old first.mid told first.files first.answer regular has laid some.3.address size (omega arith) first.does first.done (omega (arith, fell, fell_later, faultless.0), omega (arith, fell_later, faultless.1)) medium rate in
     let has_next = (alike_tracks disk one.next c h one.keeps.alike).0 has in
     let next_there = λ (r : ℕ) (from : a + 1 ≤ r) (below : r < a + 1 + n).
     let had = there r (omega arith) (omega arith) in

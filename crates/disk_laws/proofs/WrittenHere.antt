@@ -1,4 +1,4 @@
--- A write in bay 1 to a regular disk, behind the one address field of its key, where that is Tidy: the whole window stands.
+-- A write to a regular disk, behind the one address field of its key, where that is Tidy: the whole window stands.
 use Rattle.std.proofs.Common.{arith, ◌≡◌, ◌≢◌, ◌↔◌, ◌+◌, ◌≤◌, ℕ, Bool, List, [], ◌∷◌, ◌++◌, length, sym, subst, inl, Option, Some, Result, IsOk}
 use Rattle.flop_base.specs.declared.key.Chrn.{Chrn}
 use Rattle.flop_base.specs.declared.answers.Code.{Code}
@@ -34,26 +34,26 @@ reaches_in written before after disk next changes e f reach =
 -- ---- the write
 
 -- what such a write made of the disk
-pub record WritesHere (disk : Disk) (key : Chrn) (p address : ℕ) (deleted : Bool) (old new : StationState) : Type 0 where
+pub record WritesHere (bay : ℕ) (disk : Disk) (key : Chrn) (p address : ℕ) (deleted : Bool) (old new : StationState) : Type 0 where
   pub next : Disk
-  pub medium : (bay_of new 1).medium ≡ Some next
+  pub medium : (bay_of new bay).medium ≡ Some next
   pub keeps : KeepsTracks disk key.c key.h next
   pub regular : IsRegularDisk next
   pub others : (entry : Entry) → entry.key ≢ key → IsOnMap disk entry ↔ IsOnMap next entry
   pub entry : IsOnMap next (entry_of (written_from old key address deleted) p)
   pub window : track_of next key.c key.h ≡ with_window (track_of disk key.c key.h) p deleted (bytes_from old.memory address (content_size key.n))
 
-module _ (key : Chrn) (address : ℕ) (deleted : Bool) (disk : Disk) (regular : IsRegularDisk disk) (has : HasTrack disk key.c key.h) (p : ℕ) (field : IsAddressAt (track_of disk key.c key.h) p key) (old new : StationState) (neat : IsTidy (track_of disk key.c key.h) p deleted (bytes_from old.memory address (content_size key.n))) (called : Result (Unit {0}) Code) (drive : WritesDrive (written_from old key address deleted) 1 called old new) (ok : IsOk called) (faultless : IsFaultless 1 old.counters new.counters) (medium : (bay_of old 1).medium ≡ Some disk) (rate : (bay_of old 1).rate ≡ disk.rate) where
+module _ (bay : ℕ) (key : Chrn) (address : ℕ) (deleted : Bool) (disk : Disk) (regular : IsRegularDisk disk) (has : HasTrack disk key.c key.h) (p : ℕ) (field : IsAddressAt (track_of disk key.c key.h) p key) (old new : StationState) (neat : IsTidy (track_of disk key.c key.h) p deleted (bytes_from old.memory address (content_size key.n))) (called : Result (Unit {0}) Code) (drive : WritesDrive (written_from old key address deleted) bay called old new) (ok : IsOk called) (faultless : IsFaultless bay old.counters new.counters) (medium : (bay_of old bay).medium ≡ Some disk) (rate : (bay_of old bay).rate ≡ disk.rate) where
   abbrev content : List ℕ
   content = bytes_from old.memory address (content_size key.n)
 
   abbrev written : Written
   written = written_from old key address deleted
 
-  met_is : met (bay_of old 1) key.c key.h ≡ track_of disk key.c key.h
-  met_is = met_track (bay_of old 1).medium (bay_of old 1).rate key.c key.h disk (record { is_in = medium; has = has; same_rate = sym rate })
+  met_is : met (bay_of old bay) key.c key.h ≡ track_of disk key.c key.h
+  met_is = met_track (bay_of old bay).medium (bay_of old bay).rate key.c key.h disk (record { is_in = medium; has = has; same_rate = sym rate })
 
-  alone : ChangesAlone written 1 p disk called old new
+  alone : ChangesAlone written bay p disk called old new
   alone =
       let here = subst (λ track. IsAddressAt track p key) (sym met_is) field in
       let tidy = subst (λ track. IsTidy track p deleted content) (sym met_is) neat in
@@ -99,7 +99,7 @@ module _ (key : Chrn) (address : ℕ) (deleted : Bool) (disk : Disk) (regular : 
       whole_is (track_of disk key.c key.h) (track_of last_whole.0 key.c key.h) (window_of written) (track_of alone.after key.c key.h) (window_word p) alone.words
       alone.cut.has alone.cuttable.most alone.cuttable.inside last_whole.1.0 last_whole.1.1
 
-  pub writes_here : WritesHere disk key p address deleted old new
+  pub writes_here : WritesHere bay disk key p address deleted old new
   writes_here = record {
     next = alone.after;
     medium = alone.medium;

@@ -141,8 +141,8 @@ module _ (tidy : AllTidy) (heads : ℕ) (disk : Disk) (key : Chrn) (deleted : Bo
   field : HasFieldFor (track_of disk key.c key.h) goes.field.place content
   field = (key, record { address = goes.field.address; size = long })
 
-  here : IsTidy (track_of disk key.c key.h) goes.field.place deleted content → WritesHere disk key goes.field.place 0x10000 deleted old.station new.station
-  here neat = writes_here key 0x10000 deleted disk regular goes.field.has goes.field.place goes.field.address old.station new.station neat called drive ok faultless medium goes.rate
+  here : IsTidy (track_of disk key.c key.h) goes.field.place deleted content → WritesHere 1 disk key goes.field.place 0x10000 deleted old.station new.station
+  here neat = writes_here 1 key 0x10000 deleted disk regular goes.field.has goes.field.place goes.field.address old.station new.station neat called drive ok faultless medium goes.rate
 
   saves : (told after : Option Files) (later : List Taken) (neat : IsTidy (track_of disk key.c key.h) goes.field.place deleted content) → IsDriverCall old told new after → IsGuarded heads (here neat).next new later → SavesKey heads disk key deleted old told new after later
   saves told after later neat call guarded = record {
