@@ -14,7 +14,6 @@ use Rattle.disk_completeness.specs.Complete.{BeginsSound, IsReadable}
 use Rattle.disk_completeness.proofs.Endings.{AllAnswered, Ends, ends_outside}
 use Rattle.disk_completeness.proofs.FormatGoes.{fresh_empty}
 use Rattle.disk_completeness.proofs.CopyGoes.{copy_rest_goes}
-use Rattle.disk_completeness.proofs.ImageLeast.{some_cylinder}
 use Rattle.disk_completeness.proofs.PutIn.{answered}
 
 pub copy_ends : (from to : List ℕ) (old new : World) (ended : Status) (files : Files) (disk : Disk) → BeginsSound old → old.files ≡ Some files → IsImageOf (Some files) from disk → IsReadable disk → Runs (Copies from to) old new ended → Ends ended
@@ -25,7 +24,7 @@ copy_ends from to old new ended files disk begins told image readable runs =
     let ranges = image_ranges files from disk image in
     let all : AllAnswered (copy_plan from to shape) old runs.course = λ before tail next mid after is begun calm.
     answered (λ (s : Shape). copy_rest to s) from files disk old.state image empty other
-    (λ one put. copy_rest_goes disk to one readable (some_cylinder files from disk image) ranges.0 ranges.1 put.medium put.empty)
+    (λ one put. copy_rest_goes disk to one readable ranges.2 ranges.0 ranges.1 put.medium put.empty)
     shape begun.done next begun.later before tail mid after begun.parts
     (subst (λ (steps : List Taken). IsShapePutIn steps shape) is runs.does.1)
     (subst (λ (f : Option Files). Run old.state f before mid after) told begun.run) begun.asked calm in

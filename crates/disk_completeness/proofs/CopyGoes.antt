@@ -29,7 +29,7 @@ use Rattle.disk_completeness.proofs.Asking.{stops_outside, blank_done, ack_first
 use Rattle.disk_completeness.proofs.FormatGoes.{blank_holds}
 use Rattle.disk_completeness.proofs.ReadDone.{read_taken}
 use Rattle.disk_completeness.proofs.WriteDone.{HasRecords, write_taken}
-use Rattle.disk_completeness.proofs.BlankDisk.{blank_regular}
+use Rattle.disk_laws.proofs.BlankDisk.{blank_regular}
 
 -- bay 0 has the source and bay 1 a regular disk of its cylinders and rate, of which this holds; both are ready
 pub record IsCopying (source : Disk) (Also : Disk → Type 0) (stage : Stage) : Type 0 where

@@ -1,6 +1,5 @@
 pub mod Asking
 pub mod Bays
-pub mod BlankDisk
 pub mod CopyEnds
 pub mod CopyGoes
 pub mod CopyStored
@@ -9,7 +8,6 @@ pub mod FormatEnds
 pub mod FormatGoes
 pub mod FoundAll
 pub mod Going
-pub mod ImageLeast
 pub mod PlanAccesses
 pub mod PutIn
 pub mod ReadDone

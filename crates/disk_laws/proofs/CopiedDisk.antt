@@ -1,21 +1,13 @@
 -- The run of the command that copies, from its opening to its last request.
-use Rattle.std.proofs.Common.{arith, ◌≡◌, ◌∙◌, ◌+◌, ◌-◌, ◌*◌, take, replicate, ℕ, Bool, List, [], ◌∷◌, ◌++◌, length, refl, sym, ap, subst, inl, inr, Option, Some}
-use Rattle.std.proofs.lemmas.Bool.{cases_lt}
-use Rattle.std.proofs.lemmas.List.{append-nil, take_all, take-replicate, drop-replicate, length-replicate}
+use Rattle.std.proofs.Common.{arith, ◌≡◌, ◌∙◌, ◌+◌, ◌-◌, ℕ, Bool, List, [], ◌∷◌, ◌++◌, length, refl, sym, ap, subst, inl, Option, Some}
+use Rattle.std.proofs.lemmas.List.{append-nil}
 use Rattle.flop_base.specs.Shelf.{Files, stored}
-use Rattle.flop_base.specs.Standard.{words_at}
-use Rattle.flop_base.specs.declared.answers.Rate.{Rate}
-use Rattle.raw_image.specs.Disk.{Disk, HasTrack, track_of}
+use Rattle.raw_image.specs.Disk.{Disk, HasTrack}
 use Rattle.raw_image.specs.Image.{file_of}
-use Rattle.track_model.specs.Regular.{IsRegular}
 use Rattle.bay_model.specs.Bays.{Two, in_bay}
 use Rattle.bay_model.specs.Memory.{user_bytes}
 use Rattle.bay_model.specs.Counters.{IsFaultless}
 use Rattle.floppy_requests.specs.declared.request.Request.TheVariants as request
-use Rattle.sector_map.specs.Disks.{IsRegularDisk}
-use Rattle.sector_map.specs.Met.{unrecorded}
-use Rattle.sector_map.specs.MetTracks.{HasNothing}
-use Rattle.sector_map.proofs.MetTracks.{nothing_unrecorded}
 use Rattle.sector_map.specs.Standard.{key_of}
 use Rattle.sector_model.specs.States.{State}
 use Rattle.sector_model.specs.Steps.{blank_of}
@@ -25,54 +17,13 @@ use Rattle.disk_laws.specs.Copied.{SomeStep, Gave, IsSure, StoresCopy, CopiesDis
 use Rattle.disk_laws.proofs.Copied.{copies_each, copies_keep}
 use Rattle.disk_laws.proofs.CopiedTrack.{IsReady, both_fell}
 use Rattle.disk_laws.proofs.Records.{sure_parts}
+use Rattle.disk_laws.proofs.BlankDisk.{blank_regular}
 use Rattle.disk_laws.proofs.Marks.{marks-append, no_marks, some_first, some_second}
 use Rattle.disk_laws.proofs.Steps.{begins, ends_there, splits, never_fell}
 use Rattle.disk_laws.proofs.Tracks.{Among, among_all, among_only}
 use Rattle.disk_laws.proofs.Verified.{image_ranges}
 use Rattle.disk_laws.proofs.Written.{AllTidy}
 use Rattle.disk_laws.proofs.CopyOpened.{opens_copy, opening_keeps, opening_reads_none}
-
--- ---- a blank disk
-
--- a track with nothing recorded is regular
-none_regular : (track : List ℕ) (c h : ℕ) → HasNothing track → IsRegular track c h
-none_regular track c h none = record {
-  plain = λ p mark. absurd (none.marks (p, mark));
-  keys = record {
-    distinct = λ p q key at other. absurd (none.addresses p key at);
-    cylinder = λ p key at. absurd (none.addresses p key at);
-    head = λ p key at. absurd (none.addresses p key at);
-    coded = λ p key at. absurd (none.addresses p key at);
-  };
-  spans = record {
-    inside = λ p key at. absurd (none.addresses p key at);
-    apart = λ p q key other at next before. absurd (none.addresses p key at);
-  };
-  gaps = λ p q key at from below mark. absurd (none.addresses p key at);
-  ends = λ p q key at from below mark. absurd (none.addresses p key at);
-}
-
-abbrev zeroes : ℕ → List ℕ
-zeroes m = replicate m 0
-
-some_zeroes : (w m : ℕ) → (k : ℕ) × (take w (zeroes m) ≡ unrecorded k)
-unfolding unrecorded
-some_zeroes w m =
-    let long : length (zeroes m) ≡ m = length-replicate m 0 in
-    elim (cases_lt m w) [
-      | inl short ↦ (m, take_all w (zeroes m) (omega (arith, long)))
-      | inr enough ↦ (w, take-replicate w m 0 (omega arith))
-    ]
-
-pub blank_regular : (count : ℕ) (rate : Rate) → IsRegularDisk (blank_of count rate)
-blank_regular count rate c h has =
-    let words = count * 2 * words_at rate in
-    let start = (c * 2 + h) * words_at rate in
-    let row = some_zeroes (words_at rate) (words - start) in
-    let is : track_of (blank_of count rate) c h ≡ unrecorded row.0 = ap (λ (rest : List ℕ). take (words_at rate) rest) (drop-replicate start words 0) ∙ row.1 in
-    subst (λ (track : List ℕ). IsRegular track c h) (sym is) (none_regular (unrecorded row.0) c h (nothing_unrecorded row.0))
-
--- ---- the whole command
 
 pub copies_disk : (tidy : AllTidy) (from to : List ℕ) (disk : Disk) (files : Files) (old new : State) (after : Option Files) (course : List Taken) → CopiesDisk old files from to disk course new after → length old.station.memory ≡ user_bytes → IsFaultless 1 old.station.counters new.station.counters → StoresCopy old.station.counters new.station.counters course disk to (Some files) after
 copies_disk tidy from to disk files old new after course all size faultless =

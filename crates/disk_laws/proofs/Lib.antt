@@ -1,5 +1,6 @@
 pub mod Asked
 pub mod AskedParts
+pub mod BlankDisk
 pub mod Copied
 pub mod CopiedDisk
 pub mod CopiedTrack

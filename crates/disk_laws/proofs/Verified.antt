@@ -61,10 +61,10 @@ one_image files name a b one two = go (file_at files name) one two
     go (Some bytes) x y = same (image_of bytes) x.1 y.1
 
 -- such a disk has ranges
-pub image_ranges : (files : Files) (name : List ℕ) (disk : Disk) → IsImageOf (Some files) name disk → (disk.cylinders ≤ 80) × (disk.heads ≤ 2)
+pub image_ranges : (files : Files) (name : List ℕ) (disk : Disk) → IsImageOf (Some files) name disk → (disk.cylinders ≤ 80) × (disk.heads ≤ 2) × (1 ≤ disk.cylinders)
 image_ranges files name disk is = go (file_at files name) is
   where
-    go : (o : Option (List ℕ)) → IsSomeAnd o (λ bytes. (length bytes ≤ most_image_bytes) × (image_of bytes ≡ Ok disk)) → (disk.cylinders ≤ 80) × (disk.heads ≤ 2)
+    go : (o : Option (List ℕ)) → IsSomeAnd o (λ bytes. (length bytes ≤ most_image_bytes) × (image_of bytes ≡ Ok disk)) → (disk.cylinders ≤ 80) × (disk.heads ≤ 2) × (1 ≤ disk.cylinders)
     go None x = absurd x
     go (Some bytes) x = image_range bytes disk x.1
 

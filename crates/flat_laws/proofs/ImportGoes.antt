@@ -23,7 +23,7 @@ use Rattle.disk_commands.specs.Plans.{Planned, record_address, rate_plan}
 use Rattle.flat_commands.specs.Requests.{each, by_track, rate_requests, ack_requests, fill_byte, fill_record, fill_track, write_record, write_track, import_track, import_requests}
 use Rattle.disk_laws.specs.Formatted.{standard_content}
 use Rattle.disk_laws.proofs.Asked.{asks_all}
-use Rattle.disk_laws.proofs.CopiedDisk.{blank_regular}
+use Rattle.disk_laws.proofs.BlankDisk.{blank_regular}
 use Rattle.disk_laws.proofs.Reading.{reaches}
 use Rattle.disk_laws.proofs.Sectors.{track_regular, track_sector, HasContent}
 use Rattle.disk_laws.proofs.Written.{HasSome}

@@ -32,7 +32,7 @@ use Rattle.flat_commands.specs.Commands.{Imports, Imported, NotTaken, ImportHalt
 use Rattle.disk_laws.specs.Done.{DoesAll}
 use Rattle.disk_laws.specs.Requests as whole
 use Rattle.disk_laws.proofs.Copied.{keeps-append}
-use Rattle.disk_laws.proofs.CopiedDisk.{blank_regular}
+use Rattle.disk_laws.proofs.BlankDisk.{blank_regular}
 use Rattle.disk_laws.proofs.CopiedTrack.{both_fell}
 use Rattle.disk_laws.proofs.Ended.{prints_status, no_stop_is_ok}
 use Rattle.disk_laws.proofs.Formatted.{blank_keeps}

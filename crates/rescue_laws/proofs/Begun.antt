@@ -15,7 +15,7 @@ use Rattle.sector_model.specs.Runs.{Taken}
 use Rattle.floppy_session.specs.Blanks.{blank_request}
 use Rattle.disk_laws.specs.Done.{DoesAll}
 use Rattle.disk_laws.specs.Requests.{tracks_of, format_each}
-use Rattle.disk_laws.proofs.CopiedDisk.{blank_regular}
+use Rattle.disk_laws.proofs.BlankDisk.{blank_regular}
 use Rattle.disk_laws.proofs.CopiedTrack.{IsReady}
 use Rattle.disk_laws.proofs.Steps.{ends_there, never_fell}
 use Rattle.disk_laws.proofs.Tracks.{Among, among_all, among_only}
