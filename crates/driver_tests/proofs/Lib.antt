@@ -1,4 +1,3 @@
-mod FormatKeys
 mod FormatSteps
 mod Putting
 mod ReadSteps

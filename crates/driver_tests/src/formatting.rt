@@ -1,8 +1,6 @@
 // Formats of a bench.
-ghost use Rattle.std.specs.Prelude.{◌≡◌, ◌+◌, ◌*◌, ◌≤◌, ◌↔◌, ℕ, IsTrue, IsOk, IfErr, length, slice_index, Option};
-ghost use Rattle.std.specs.List.{flat_map};
+ghost use Rattle.std.specs.Prelude.{◌≡◌, ◌+◌, ◌*◌, ◌≤◌, ◌↔◌, IsTrue, IsOk, IfErr, length, Option};
 ghost use Rattle.track_model.specs.Layouts.{lay, laid_words};
-ghost use Rattle.track_format.specs.Keys.{key_bytes};
 ghost use Rattle.sector_map.specs.Standard.{track_keys};
 ghost use Rattle.sector_map.specs.Layings.{Laying};
 ghost use Rattle.single_commands.specs.Writing.{FormatsTrack};
@@ -13,7 +11,8 @@ use crate::drive::{Drive, same_rate};
 use crate::script::Trouble;
 use flop_base::standard::SIZE_CODE;
 use flop_base::{Code, Rate};
-use track_format::FormatStream;
+use sector_map::keys_of_track;
+use track_format::fill_layout;
 
 /// The answer of a format of a track of so many words: whether so many sectors of 512 bytes fit on it.
 fn format_answer(sectors: u8, gap3: u8, words: usize) -> Result<(), Code>
@@ -27,35 +26,13 @@ fn format_answer(sectors: u8, gap3: u8, words: usize) -> Result<(), Code>
     }
 }
 
-/// Byte `i` of the keys one after the other, 0 behind the last.
-fn key_byte(sectors: u8, c: u8, h: u8, i: usize) -> u8
-    ensures { result ≡ slice_index (flat_map key_bytes (track_keys sectors c h)) i }
-{
-    if i / 4 >= usize::from(sectors) {
-        return 0;
-    }
-    match i % 4 {
-        0 => c,
-        1 => h,
-        2 => (1 + i / 4) as u8,
-        _ => SIZE_CODE,
-    }
-}
-
 /// Fills words with those of a formatted track.
 fn fill_track(words: &mut [u16], sectors: u8, c: u8, h: u8, gap3: u8, fill: u8)
+    requires { sectors ≤ 18 }
     ensures { words.new ≡ lay (track_keys sectors c h) 2 gap3 fill (length words.old) }
 {
-    let mut stream = FormatStream::new(SIZE_CODE, sectors, gap3, fill);
-    let mut asked = 0;
-    for i in 0..words.len() {
-        let mut byte = 0;
-        if stream.needs_byte() {
-            byte = key_byte(sectors, c, h, asked);
-            asked += 1;
-        }
-        words[i] = stream.next(byte);
-    }
+    let keys = keys_of_track(c, h);
+    fill_layout(words, &keys[..usize::from(sectors)], SIZE_CODE, gap3, fill);
 }
 
 impl Drive {

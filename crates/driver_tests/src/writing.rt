@@ -1,7 +1,6 @@
 // Writes of a bench.
-ghost use Rattle.std.specs.Prelude.{◌≡◌, ◌+◌, ◌≤◌, ℕ, length, Option, MatchResult};
+ghost use Rattle.std.specs.Prelude.{◌≡◌, ◌+◌, ◌≤◌, length, Option, MatchResult};
 ghost use Rattle.raw_image.specs.Disk.{IsDisk, HasTrack, track_of};
-ghost use Rattle.track_model.specs.Cells.{IsTrackSized};
 ghost use Rattle.track_model.specs.Fields.{IsAddressAt, IsSizeCode, content_size};
 ghost use Rattle.bay_model.specs.Memory.{user_bytes, bytes_from};
 ghost use Rattle.sector_map.specs.Met.{met_in};
@@ -14,8 +13,7 @@ use crate::drive::Drive;
 use crate::script::Trouble;
 use flop_base::{Chrn, Code, Rate, sector_size};
 use raw_image::Medium;
-use track_fields::{fill_field_words, find_address, find_sector, window_word};
-use track_model::Look;
+use track_fields::{Absent, fill_field_words, find_address, window_word};
 
 /// The words of a window beside those of its content.
 const WINDOW_WORDS: usize = 18;
@@ -39,20 +37,6 @@ fn put_window(medium: &mut Medium, c: u8, key: Chrn, place: usize, words: &[u16]
     cut == words.len()
 }
 
-/// The refusal of a write to a key of which the track has no address field.
-fn absent_code(track: &[u16], key: Chrn) -> Code
-    requires sized { IsTrackSized track.now }
-    requires coded { IsSizeCode key.n }
-    requires none { (p : ℕ) → IsAddressAt track.now p key → ⊥ }
-    ensures { IsAbsent track.now key result }
-{
-    match find_sector(track, key) {
-        Look::NoMark => Code::NoMark,
-        Look::NoSector => Code::NotFound,
-        _ => unreachable!(),
-    }
-}
-
 impl Drive {
     ghost use Rattle.driver_tests.specs.Drives.{SameDrive};
 
@@ -66,8 +50,9 @@ impl Drive {
             return Err(Code::NoMark);
         };
         match find_address(track, key) {
-            Some(place) => Ok(place),
-            None => Err(absent_code(track, key)),
+            Ok(place) => Ok(place),
+            Err(Absent::NoMark) => Err(Code::NoMark),
+            Err(Absent::NoSector) => Err(Code::NotFound),
         }
     }
 

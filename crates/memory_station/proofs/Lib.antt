@@ -1,6 +1,5 @@
 mod Acked
 mod DrivenBays
-mod FormatKeys
 mod Formatted
 mod Looked
 mod Putting

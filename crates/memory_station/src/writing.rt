@@ -13,9 +13,7 @@ use crate::bay::Bay;
 use crate::outcome::Outcome;
 use flop_base::{Chrn, Code};
 use raw_image::Medium;
-use track_fields::{
-    content_byte, fill_field_words, find_address, find_sector, look_at, window_word,
-};
+use track_fields::{Absent, content_byte, fill_field_words, find_address, look_at, window_word};
 use track_model::Look;
 
 /// The words of a window beside those of its content.
@@ -78,20 +76,6 @@ fn read_back(track: &[u16], place: usize, n: u8, deleted: bool, content: &[u8]) 
     }
 }
 
-/// The refusal of a write to a key of which the track has no address field.
-fn absent_code(track: &[u16], key: Chrn) -> Code
-    requires sized { IsTrackSized track.now }
-    requires coded { IsSizeCode key.n }
-    requires none { (p : ℕ) → IsAddressAt track.now p key → ⊥ }
-    ensures { IsAbsent track.now key result }
-{
-    match find_sector(track, key) {
-        Look::NoMark => Code::NoMark,
-        Look::NoSector => Code::NotFound,
-        _ => unreachable!(),
-    }
-}
-
 impl Bay {
     /// The first address field of a key, or the refusal of a write to it.
     fn find_field(&self, key: Chrn) -> Result<usize, Code>
@@ -103,8 +87,9 @@ impl Bay {
             return Err(Code::NoMark);
         };
         match find_address(track, key) {
-            Some(place) => Ok(place),
-            None => Err(absent_code(track, key)),
+            Ok(place) => Ok(place),
+            Err(Absent::NoMark) => Err(Code::NoMark),
+            Err(Absent::NoSector) => Err(Code::NotFound),
         }
     }
 

@@ -1,8 +1,8 @@
 -- Lists of failing keys, one after the other.
-use Rattle.std.proofs.Common.{◌≡◌, ℕ, zero, suc, ◌+◌, ◌-◌, ◌≤◌, List, [], ◌∷◌, ◌++◌, map, sym, ap, subst, ◌∙◌, append_assoc, refl, arith}
+use Rattle.std.proofs.Common.{◌≡◌, ℕ, zero, suc, ◌+◌, ◌-◌, ◌≤◌, List, [], ◌∷◌, ◌++◌, map, take, sym, ap, subst, ◌∙◌, append_assoc, refl, arith}
 use Rattle.std.specs.List.{range_with_len, flat_map}
 use Rattle.std.proofs.lemmas.List.{append-nil, flat_map_more}
-use Rattle.std.proofs.lemmas.List.FromFn.{map-range_with_len_more}
+use Rattle.std.proofs.lemmas.List.FromFn.{map-range_with_len_more, take-map-range_with_len}
 use Rattle.flop_base.specs.declared.key.Chrn.{Chrn}
 use Rattle.raw_image.specs.Disk.{Disk}
 use Rattle.track_model.specs.declared.Look.{Look}
@@ -102,3 +102,13 @@ added_all disk keys all items e added =
     let With : List (Chrn × Look) → Type 0 = λ fs. AreFailing disk all fs in
     let Of : List Chrn → Type 0 = λ ks. AreFailing disk ks added.more in
     subst With (sym added.items_are) (subst Of e added.failing)
+
+-- the first keys of a track are those of one with fewer
+pub take-track_keys : (sectors more c h : ℕ) → sectors ≤ more → take sectors (track_keys more c h) ≡ track_keys sectors c h
+unfolding track_keys
+take-track_keys sectors more c h few = take-map-range_with_len (key_of c h) 1 more sectors few
+
+-- one key more
+pub track_keys-next : (i c h : ℕ) → track_keys (i + 1) c h ≡ track_keys i c h ++ key_of c h (i + 1) ∷ []
+unfolding track_keys
+track_keys-next i c h = map-range_with_len_more (key_of c h) 1 i (i + 1) (omega arith)

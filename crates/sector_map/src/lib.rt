@@ -7,5 +7,5 @@ mod standard;
 mod window;
 
 pub use disks::{is_regular_disk, look};
-pub use standard::failing;
+pub use standard::{failing, keys_of_track};
 pub use window::place_window;

@@ -1,5 +1,5 @@
-// The keys of a standard format that aren't found on a medium.
-ghost use Rattle.std.specs.Prelude.{◌≡◌, ◌++◌, ◌<◌, ◌≤◌, List, OnOk, IfOk};
+// The keys of a standard format, and those that aren't found on a medium.
+ghost use Rattle.std.specs.Prelude.{◌≡◌, ◌++◌, ◌<◌, ◌≤◌, ℕ, List, OnOk, IfOk, take};
 ghost use Rattle.flop_base.specs.declared.key.Chrn.{Chrn};
 ghost use Rattle.track_model.specs.declared.Look.{Look};
 ghost use Rattle.flop_base.specs.Standard.{sectors_at};
@@ -12,6 +12,23 @@ use flop_base::{Chrn, NoMemory};
 use raw_image::Medium;
 use std::alloc::Global;
 use track_fields::Look;
+
+/// The keys of a track in a standard format of 512 bytes a sector, by record: all 18 at 500 kbit/s, the first 9 at
+/// 250 kbit/s.
+pub fn keys_of_track(c: u8, h: u8) -> [Chrn; 18]
+    ensures { (sectors : ℕ) → sectors ≤ 18 → take sectors result ≡ track_keys sectors c h }
+{
+    let mut keys = [Chrn { c, h, r: 0, n: 0 }; 18];
+    for i in 0..18 {
+        keys[i] = Chrn {
+            c,
+            h,
+            r: (i + 1) as u8,
+            n: SIZE_CODE,
+        };
+    }
+    keys
+}
 
 /// Adds the key with its look, unless it was found.
 fn push_unless_found(failed: &mut Vec<(Chrn, Look)>, key: Chrn, look: Look) -> Result<(), NoMemory>

@@ -1,11 +1,8 @@
 // A data field written over, whole or in part.
 ghost use Rattle.std.specs.Prelude.{◌≡◌, ◌+◌, ◌≤◌, length};
-ghost use Rattle.flop_base.specs.declared.key.Chrn.{Chrn};
 ghost use Rattle.track_model.specs.Cells.{IsTrackSized};
-ghost use Rattle.track_model.specs.Writing.{window};
 ghost use Rattle.track_model.specs.Windows.{window_word, cut_of};
 
-use flop_base::Chrn;
 use track_fields::window_word;
 
 /// Replaces the first `cut` words of the window of the address field at cell `place`, as a write that stops there does.

@@ -1,2 +1,3 @@
+pub mod Absences
 pub mod Places
 pub mod Turned

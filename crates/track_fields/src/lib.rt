@@ -14,7 +14,7 @@ mod writing;
 
 pub use bytes::content_byte;
 pub use fields::list_fields;
-pub use look::{data_at, find_address, find_sector, has_address, look_at};
+pub use look::{Absent, data_at, find_address, find_sector, has_address, look_at};
 pub use regular::{is_regular, window_word};
 pub use track_check::{crc_step, field_crc, mark_crc};
 pub use track_model::{Field, Look};

@@ -1,8 +1,9 @@
 // The look for a sector's data.
-ghost use Rattle.std.specs.Prelude.{◌≡◌, ℕ, ◌+◌, ◌≤◌, ◌↔◌, Bool, IsTrue, MatchOption};
+ghost use Rattle.std.specs.Prelude.{◌≡◌, ℕ, ◌+◌, ◌≤◌, ◌↔◌, Bool, IsTrue, MatchOption, MatchResult};
 ghost use Rattle.track_model.specs.Cells.{IsTrackSized, IsInside};
 ghost use Rattle.track_model.specs.Fields.{IsAddress, IsAddressAt, IsDataMark, IsSizeCode, data_cells};
 ghost use Rattle.track_model.specs.Looks.{IsFirstAddress, IsFirstDataMark, IsIntact, LookAt, LookFor};
+ghost use Rattle.track_fields.specs.Absences.{IsWithout};
 
 use crate::bytes::is_checked;
 use crate::fields::{ADDRESS_CELLS, address_at};
@@ -88,11 +89,19 @@ pub fn look_at(words: &[u16], place: usize, n: u8) -> Look
     }
 }
 
-/// The look at the first address field of the key.
-pub fn find_sector(words: &[u16], key: Chrn) -> Look
-    requires sized { IsTrackSized words.now }
-    requires coded { IsSizeCode key.n }
-    ensures { LookFor words.now key result }
+/// Why a track has no intact address field of a key.
+#[derive(Clone, Copy, Debug, PartialEq, Eq)]
+pub enum Absent {
+    /// It has no address mark.
+    NoMark,
+    /// It has address marks, and none begins an intact address field of the key.
+    NoSector,
+}
+
+/// The first cell of the first intact address field of the key.
+pub fn find_address(words: &[u16], key: Chrn) -> Result<usize, Absent>
+    requires { IsTrackSized words.now }
+    ensures { MatchResult result (λ p. IsFirstAddress words.now key p) (λ absent. IsWithout words.now key absent) }
 {
     let mut has_mark = false;
     for p in 0..16 * words.len() - (MARK_CELLS - 1) {
@@ -101,31 +110,28 @@ pub fn find_sector(words: &[u16], key: Chrn) -> Look
             if let Some(found) = address_at(words, p)
                 && found == key
             {
-                return look_at(words, p, key.n);
+                return Ok(p);
             }
         }
     }
     if has_mark {
-        Look::NoSector
+        Err(Absent::NoSector)
     } else {
-        Look::NoMark
+        Err(Absent::NoMark)
     }
 }
 
-/// The place of the first intact address field of the key.
-pub fn find_address(words: &[u16], key: Chrn) -> Option<usize>
-    requires { IsTrackSized words.now }
-    ensures { MatchOption result ((p : ℕ) → IsAddressAt words.now p key → ⊥)
-        (λ p. IsFirstAddress words.now key p) }
+/// The look at the first address field of the key.
+pub fn find_sector(words: &[u16], key: Chrn) -> Look
+    requires sized { IsTrackSized words.now }
+    requires coded { IsSizeCode key.n }
+    ensures { LookFor words.now key result }
 {
-    for p in 0..16 * words.len() - (MARK_CELLS - 1) {
-        if let Some(found) = address_at(words, p)
-            && found == key
-        {
-            return Some(p);
-        }
+    match find_address(words, key) {
+        Ok(place) => look_at(words, place, key.n),
+        Err(Absent::NoMark) => Look::NoMark,
+        Err(Absent::NoSector) => Look::NoSector,
     }
-    None
 }
 
 /// Whether the track has an intact address field.

@@ -9,4 +9,4 @@ mod whole;
 
 pub use gap::choose_gap;
 pub use stream::FormatStream;
-pub use whole::{LayoutError, layout};
+pub use whole::{LayoutError, fill_layout, layout};

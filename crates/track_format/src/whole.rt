@@ -1,5 +1,5 @@
 // A whole formatted track.
-ghost use Rattle.std.specs.Prelude.{◌≡◌, ◌≤◌, ◌↔◌, IfOk, slice_index};
+ghost use Rattle.std.specs.Prelude.{◌≡◌, ◌≤◌, ◌↔◌, IfOk, length, slice_index};
 ghost use Rattle.std.specs.List.{flat_map};
 ghost use Rattle.track_model.specs.Layouts.{lay, Fits};
 ghost use Rattle.track_format.specs.Keys.{key_bytes};
@@ -38,6 +38,25 @@ impl<T: Drop> From<AllocFailed<T>> for LayoutError {
     }
 }
 
+/// Fills the words of a track with those of a formatted one (IBM System 34), from the index on, with a sector of size code
+/// `n` and `gap3` bytes 4E for each key. What is longer than the track is left out.
+pub fn fill_layout(words: &mut [u16], keys: &[Chrn], n: u8, gap3: u8, fill: u8)
+    requires at_least { 1 ≤ n }
+    requires at_most { n ≤ 6 }
+    ensures { words.new ≡ lay keys.now n gap3 fill (length words.old) }
+{
+    let mut stream = FormatStream::of_sectors(n, keys.len(), gap3, fill);
+    let mut asked = 0;
+    for i in 0..words.len() {
+        let mut byte = 0;
+        if stream.needs_byte() {
+            byte = key_byte(keys, asked);
+            asked += 1;
+        }
+        words[i] = stream.next(byte);
+    }
+}
+
 /// The `words` words of a formatted track (IBM System 34), from the index on, with a sector of size code `n` and `gap3`
 /// bytes 4E for each key.
 pub fn layout(
@@ -56,17 +75,8 @@ pub fn layout(
     if !fits(keys.len(), n, gap3, words) {
         return Err(LayoutError::DoesNotFit);
     }
-    let mut stream = FormatStream::of_sectors(n, keys.len(), gap3, fill);
-    let mut track = Vec::with_capacity(alloc, words)?;
-    let mut asked = 0;
-    while track.len() < words {
-        let mut byte = 0;
-        if stream.needs_byte() {
-            byte = key_byte(keys, asked);
-            asked += 1;
-        }
-        track.push(stream.next(byte))?;
-    }
+    let mut track = vec![in alloc; 0; words]?;
+    fill_layout(track.as_mut_slice(), keys, n, gap3, fill);
     Ok(track)
 }
 

@@ -4,13 +4,12 @@ use Rattle.track_model.specs.declared.symbol.Symbol.{Symbol}
 use Rattle.track_model.specs.Layouts.{lay, recorded}
 use Rattle.track_format.specs.Keys.{key_bytes, asked_in}
 use Rattle.track_format.specs.Streams.{Gives, filled}
-use Rattle.sector_map.specs.Standard.{track_keys}
-use Rattle.driver_tests.proofs.formatting.fill_track.Given as goal
+use Rattle.track_format.proofs.whole.fill_layout.Given as goal
 
 -- the words so far and those that the stream gives next are the track
 abbrev pub invariant-loop-i : goal.invariant-loop-i
 invariant-loop-i l =
     (last : Bool) × (left : List Symbol) × Gives l.stream last left
-    × (take l.i l.words ++ recorded last (filled (length l.initial.words - length (take l.i l.words)) left) ≡ lay (track_keys l.sectors l.c l.h) 2 l.gap3 l.fill (length l.initial.words))
-    × (asked_in left ≡ drop l.asked (flat_map key_bytes (track_keys l.sectors l.c l.h)))
+    × (take l.i l.words ++ recorded last (filled (length l.initial.words - length (take l.i l.words)) left) ≡ lay l.keys l.n l.gap3 l.fill (length l.initial.words))
+    × (asked_in left ≡ drop l.asked (flat_map key_bytes l.keys))
     × (l.asked ≤ l.i)

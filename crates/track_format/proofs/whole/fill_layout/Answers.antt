@@ -6,19 +6,17 @@ use Rattle.track_model.specs.Layouts.{lay, symbol_bit, next_symbol, track_symbol
 use Rattle.track_format.specs.Keys.{key_bytes}
 use Rattle.track_format.specs.Streams.{KeyIs}
 use Rattle.track_format.proofs.Asked.{asked-track, asked_same, laid_start, laid_more, laid_all, asked_byte, asked_more}
-use Rattle.sector_map.specs.Standard.{track_keys}
-use Rattle.sector_map.proofs.Laid.{length-track_keys}
-use Rattle.memory_station.proofs.formatting.fill_track.Goals as goal
-use Rattle.memory_station.proofs.formatting.fill_track.Goals.{then-needs_byte, else-needs_byte}
+use Rattle.track_format.proofs.whole.fill_layout.Goals as goal
+use Rattle.track_format.proofs.whole.fill_layout.Goals.{then-needs_byte, else-needs_byte}
 
 pub loop-i-init : goal.loop-i-init
 loop-i-init c =
-    let keys = track_keys c.args.sectors c.args.c c.args.h in (
+    let keys = c.args.keys.now in (
       false,
-      track_symbols keys 2 c.args.gap3 c.args.fill,
-      c.new-stream.ensures keys (length-track_keys c.args.sectors c.args.c c.args.h),
-      laid_start keys 2 c.args.gap3 c.args.fill (length c.args.words.now) (take 0 c.args.words.now) refl,
-      asked-track keys 2 c.args.gap3 c.args.fill,
+      track_symbols keys c.args.n c.args.gap3 c.args.fill,
+      c.of_sectors-stream.ensures keys refl,
+      laid_start keys c.args.n c.args.gap3 c.args.fill (length c.args.words.now) (take 0 c.args.words.now) refl,
+      asked-track keys c.args.n c.args.gap3 c.args.fill,
       omega arith,
     )
 
@@ -27,8 +25,8 @@ overflow_add-asked c = let few = c.loop-i.invariant.5 in omega arith
 
 pub loop-i-preserved : goal.loop-i-preserved
 loop-i-preserved c =
-    let keys = track_keys c.args.sectors c.args.c c.args.h in
-    let track = lay keys 2 c.args.gap3 c.args.fill (length c.args.words.now) in
+    let keys = c.args.keys.now in
+    let track = lay keys c.args.n c.args.gap3 c.args.fill (length c.args.words.now) in
     let so_far = c.loop-i.invariant in
     let last = so_far.0 in
     let left = so_far.1 in
@@ -59,8 +57,8 @@ loop-i-preserved c =
 
 pub returns : goal.returns
 returns c =
-    let keys = track_keys c.args.sectors c.args.c c.args.h in
+    let keys = c.args.keys.now in
     let words = c.loop-i.words in
     let so_far = c.loop-i.invariant in
     sym (take_all c.loop-i.i words (omega arith))
-    ∙ laid_all (lay keys 2 c.args.gap3 c.args.fill (length c.args.words.now)) (take c.loop-i.i words) so_far.0 so_far.1 (length c.args.words.now) (omega (arith, length-take c.loop-i.i words)) so_far.3
+    ∙ laid_all (lay keys c.args.n c.args.gap3 c.args.fill (length c.args.words.now)) (take c.loop-i.i words) so_far.0 so_far.1 (length c.args.words.now) (omega (arith, length-take c.loop-i.i words)) so_far.3
