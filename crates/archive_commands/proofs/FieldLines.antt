@@ -39,7 +39,7 @@ line_cut told before now lines i d so_far within cut =
     (part-behind told now (field_lines (take i lines)) (field_line (get_or lines i d)) (field_lines (drop (suc i) lines)) there)
 
 -- the last line behind the others
-pub end_put : (told mid now : Option (List ℕ)) (lines : List SurveyLine) (ended : Status) → mid ≡ grown told (field_lines lines) → Prints mid (end_line (length lines)) status.AllOk now ended → Prints told (survey_text lines) status.AllOk now ended
+pub end_put : (told mid now : Option (List ℕ)) (lines : List SurveyLine) (ended : Status) → mid ≡ grown told (field_lines lines) → Prints (end_line (length lines)) status.AllOk mid now ended → Prints (survey_text lines) status.AllOk told now ended
 end_put told mid now lines ended before (Whole grows ok) =
     Whole (grows ∙ ap (λ (b : Option (List ℕ)). grown b (end_line (length lines))) before ∙ grown-twice told (field_lines lines) (end_line (length lines))) ok
 end_put told mid now lines ended before (Part grows fault) =
@@ -48,7 +48,7 @@ end_put told mid now lines ended before (Part grows fault) =
     Part (subst (λ (text : List ℕ). GrowsByPart told text now) all (part-behind told now (field_lines lines) (end_line (length lines)) [] there)) fault
 
 -- a part of the lines is a part of the survey
-pub fields_cut : (told now : Option (List ℕ)) (lines : List SurveyLine) (ended : Status) → GrowsByPart told (field_lines lines) now → IsPutFault ended → Prints told (survey_text lines) status.AllOk now ended
+pub fields_cut : (told now : Option (List ℕ)) (lines : List SurveyLine) (ended : Status) → GrowsByPart told (field_lines lines) now → IsPutFault ended → Prints (survey_text lines) status.AllOk told now ended
 fields_cut told now lines ended grows fault = Part (part_longer told now (field_lines lines) (end_line (length lines)) grows) fault
   where
     part_longer : (told now : Option (List ℕ)) (first second : List ℕ) → GrowsByPart told first now → GrowsByPart told (first ++ second) now

@@ -48,7 +48,7 @@ outcome_status (Err (halt.Unfit c h)) = status.SomeRefused
 outcome_status (Err (halt.Stopped cause)) = stop_status cause
 
 abbrev pub Tells : List ℕ → Result ℕ Halt → Option (List ℕ) → Option (List ℕ) → Status → Type 0
-Tells verb outcome old new ended = Prints old (outcome_text verb outcome) (outcome_status outcome) new ended
+Tells verb outcome old new ended = Prints (outcome_text verb outcome) (outcome_status outcome) old new ended
 
 -- ---- fromimd: the disk of an ImageDisk file; the tracks of that file are told
 

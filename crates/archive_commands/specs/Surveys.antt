@@ -35,8 +35,8 @@ SurveysFile told name (Ok lines) = (disk : Disk) × ReadsAs image_of told name (
 SurveysFile told name (Err cause) = StopsAt image_of told name cause
 
 abbrev pub TellsSurvey : Result (List SurveyLine) Stop → Option (List ℕ) → Option (List ℕ) → Status → Type 0
-TellsSurvey (Ok lines) old new ended = Prints old (survey_text lines) status.AllOk new ended
-TellsSurvey (Err cause) old new ended = Prints old (stop_text cause) (stop_status cause) new ended
+TellsSurvey (Ok lines) old new ended = Prints (survey_text lines) status.AllOk old new ended
+TellsSurvey (Err cause) old new ended = Prints (stop_text cause) (stop_status cause) old new ended
 
 -- a survey: it stores nothing
 abbrev pub Surveys : List ℕ → Desk → Desk → Status → Type 0

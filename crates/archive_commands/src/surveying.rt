@@ -81,7 +81,7 @@ fn end_line(alloc: Global, count: usize) -> Result<String, AllocError>
 
 /// Puts a survey, and gives the status.
 fn put_survey<K: Sink>(alloc: Global, out: &mut K, lines: &[SurveyLine]) -> Status
-    ensures prints { Prints (K.told out.old) (survey_text lines.now) Status.AllOk (K.told out.new) result }
+    ensures prints { Prints (survey_text lines.now) Status.AllOk (K.told out.old) (K.told out.new) result }
     ensures only { result ≢ Status.AllOk → IsPutFault result }
     ensures faults { Blames (result ≡ Status.SinkFault) (K.fault_count out.old) (K.fault_count out.new) }
 {

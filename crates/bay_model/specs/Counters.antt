@@ -92,7 +92,7 @@ pub record IsPastDriver (most : ℕ) (old new : Counters) : Type 0 where
   pub no_commands : new.data_commands ≡ old.data_commands
 
 -- how counters go on where the next spare drive takes the place of the one in a bay: it comes with its own counts
-pub record TakesSpare (old : Counters) (bay : ℕ) (new : Counters) : Type 0 where
+pub record TakesSpare (bay : ℕ) (old new : Counters) : Type 0 where
   pub other : in_bay new.drives (1 - bay) ≡ in_bay old.drives (1 - bay)
   pub spare : (next : DriveCounts) × (old.spares ≡ next ∷ new.spares) × DriveGoesOn next (in_bay new.drives bay)
   pub stalls : new.stalls ≡ old.stalls

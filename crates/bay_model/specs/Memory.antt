@@ -14,6 +14,6 @@ abbrev pub bytes_from : List ℕ → ℕ → ℕ → List ℕ
 bytes_from memory address count = take count (drop address memory)
 
 -- memory is the same but for a range
-pub record SameOutside (old : List ℕ) (address count : ℕ) (new : List ℕ) : Type 0 where
+pub record SameOutside (address count : ℕ) (old new : List ℕ) : Type 0 where
   pub length : length new ≡ length old
   pub others : (k : ℕ) → ((k < address) ⊎ (address + count ≤ k)) → slice_index new k ≡ slice_index old k

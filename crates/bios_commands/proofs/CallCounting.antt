@@ -43,7 +43,7 @@ OfCall (request.Fill address count byte) = Unit {0}
 OfCall (request.Dump address count) = Unit {0}
 OfCall _ = ⊥
 
-at_once : {A : Type 0} (n : ℕ) (old new : StationState) (code : Code) (answer : Result A Code) → IsRefusedAtOnce old code answer new → Counts n 0 old new
+at_once : {A : Type 0} (n : ℕ) (old new : StationState) (code : Code) (answer : Result A Code) → IsRefusedAtOnce code old answer new → Counts n 0 old new
 at_once n old new code answer refused = record {
   tries = ap (λ (s : StationState). s.tries) refused.stays;
   sent = omega (arith, refused.idle.most_commands);
@@ -57,7 +57,7 @@ same_counts old new same = record {
   put = same.idle.accesses;
 }
 
-read_counts : (old new : StationState) (bay : ℕ) (key : Chrn) (address : ℕ) (answer : Result Bool Code) → ReadsDrive old bay key address answer new → Counts old.tries 0 old new
+read_counts : (old new : StationState) (bay : ℕ) (key : Chrn) (address : ℕ) (answer : Result Bool Code) → ReadsDrive bay key address old answer new → Counts old.tries 0 old new
 read_counts old new bay key address (Ok deleted) reads = record {
   tries = ap (λ (s : StationState). s.tries) reads.found.becomes;
   sent = reads.driven.most_commands;
@@ -69,7 +69,7 @@ read_counts old new bay key address (Err code) reads = record {
   put = omega (arith, reads.driven.past_driver);
 }
 
-ack_counts : (old new : StationState) (bay : ℕ) (answer : Result (Unit {0}) Code) → AcksDrive old bay answer new → Counts 6 0 old new
+ack_counts : (old new : StationState) (bay : ℕ) (answer : Result (Unit {0}) Code) → AcksDrive bay old answer new → Counts 6 0 old new
 ack_counts old new bay (Ok u) acks = let done = acks.done refl in record {
   tries = ap (λ (s : StationState). s.tries) done.becomes;
   sent = acks.driven.most_commands;
@@ -81,11 +81,11 @@ ack_counts old new bay (Err code) acks = record {
   put = omega (arith, acks.driven.past_driver);
 }
 
-ack_either : (b : Bool) (old new : StationState) (bay : ℕ) (answer : Result (Unit {0}) Code) (code : Code) → MatchBool b (AcksDrive old bay answer new) (IsRefusedAtOnce old code answer new) → Counts 6 0 old new
+ack_either : (b : Bool) (old new : StationState) (bay : ℕ) (answer : Result (Unit {0}) Code) (code : Code) → MatchBool b (AcksDrive bay old answer new) (IsRefusedAtOnce code old answer new) → Counts 6 0 old new
 ack_either true old new bay answer code acks = ack_counts old new bay answer acks
 ack_either false old new bay answer code acks = at_once 6 old new code answer acks
 
-does_counts : (old new : State) (told after : Option Files) (asked : Request) (answer : Reply) → OfCall asked → Does old told asked answer new after → Counts (commands_of old.station.tries asked) (bytes_put asked) old.station new.station
+does_counts : (old new : State) (told after : Option Files) (asked : Request) (answer : Reply) → OfCall asked → Does asked old told answer new after → Counts (commands_of old.station.tries asked) (bytes_put asked) old.station new.station
 does_counts old new told after (request.Read bay key address) answer of does = either (read_refusal old.station bay key address) does.1.2 (read_counts old.station new.station bay key address does.1.0) (λ code refused. at_once old.station.tries old.station new.station code does.1.0 refused)
 does_counts old new told after (request.Write bay key address) answer of does = either (write_refusal old.station bay key address) does.1.2
     (λ writes. record { tries = ap (λ (s : StationState). s.tries) writes.becomes; sent = writes.driven.most_commands; put = omega (arith, writes.driven.past_driver) })
@@ -110,7 +110,7 @@ does_counts old new told after (request.Tries tries) answer of does = absurd of
 more : (n m : ℕ) (old new : StationState) → Counts 0 0 old new → Counts n m old new
 more n m old new counts = record { tries = counts.tries; sent = omega (arith, counts.sent); put = omega (arith, counts.put) }
 
-step_counts : (old new : State) (told after : Option Files) (asked : Request) (answer : Reply) → OfCall asked → Step old told asked answer new after → Counts (commands_of old.station.tries asked) (bytes_put asked) old.station new.station
+step_counts : (old new : State) (told after : Option Files) (asked : Request) (answer : Reply) → OfCall asked → Step asked old told answer new after → Counts (commands_of old.station.tries asked) (bytes_put asked) old.station new.station
 step_counts old new told after asked answer of step =
     either (refusal_of old asked) step (does_counts old new told after asked answer of)
     (λ cause refused. more _ _ old.station new.station (same_counts old new refused.same))

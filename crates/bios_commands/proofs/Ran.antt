@@ -75,7 +75,7 @@ Ties old course new = TiesCounts old.state.station.counters course new.state.sta
 abbrev silent : State → Option Files → World
 silent state files = record { state = state; files = files; report = None }
 
-lines_ties : (old new : World) (lines : List CallLine) (course : List Taken) (ended : Status) → ServesLines old lines course new ended → Ties old course new
+lines_ties : (old new : World) (lines : List CallLine) (course : List Taken) (ended : Status) → ServesLines lines old course new ended → Ties old course new
 lines_ties old new lines course ended (Through p) =
     let run = rounds_run 0 old.state old.files p.rounds p.kept p.mid.state p.mid.files p.served.served in
     subst (λ (c : List Taken). Ties old c new) (sym p.course_is)
@@ -90,7 +90,7 @@ lines_ties old new lines course ended (Broken p) =
     let run = rounds_run 0 old.state old.files p.rounds p.kept p.mid.state p.mid.files p.served.served in
     subst (λ (c : List Taken). Ties old c new) (sym p.course_is) (broken p.mid p.kept p.line (course_of p.rounds) p.last run p.breaks)
   where
-    broken : (mid : World) (kept : ℕ) (line : CallLine) (before last : List Taken) → Run old.state old.files before mid.state mid.files → Breaks mid kept line last new ended → Ties old (before ++ last) new
+    broken : (mid : World) (kept : ℕ) (line : CallLine) (before last : List Taken) → Run old.state old.files before mid.state mid.files → Breaks kept line mid last new ended → Ties old (before ++ last) new
     broken mid kept line before last run (AtStop asked cause is none stops prints) =
         subst (λ (l : List Taken). Ties old (before ++ l) new) (sym none)
         (subst (λ (l : List Taken). Ties old l new) (sym (append-nil before))
@@ -105,7 +105,7 @@ idle_ties old new course nothing same =
     subst (λ (c : List Taken). Ties old c new) (sym nothing)
     (subst (λ (w : World). Ties old [] w) (sym same) (ran_ties old.state old.state old.files old.files [] (refl, refl)))
 
-parsed_ties : (old new : World) (parsed : Result (List CallLine) ℕ) (course : List Taken) (ended : Status) → ServesParsed old parsed course new ended → Ties old course new
+parsed_ties : (old new : World) (parsed : Result (List CallLine) ℕ) (course : List Taken) (ended : Status) → ServesParsed parsed old course new ended → Ties old course new
 parsed_ties old new (Ok lines) course ended serves = lines_ties old new lines course ended serves
 parsed_ties old new (Err line) course ended alone = alone_ties old new _ _ course ended alone
 

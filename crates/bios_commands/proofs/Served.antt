@@ -43,7 +43,7 @@ asked_line asked answer kept after = record {
   after = after;
 }
 
-pub asked_round : (kept : ℕ) (asked : Request) (answer : Reply) (refused : Bool) (old new : World) → Step old.state old.files asked answer new.state new.files → new.report ≡ grown old.report (reply_text asked answer) → refused ≡ is_refusal answer → IsRound old kept (call.Job asked) refused new kept
+pub asked_round : (kept : ℕ) (asked : Request) (answer : Reply) (refused : Bool) (old new : World) → Step asked old.state old.files answer new.state new.files → new.report ≡ grown old.report (reply_text asked answer) → refused ≡ is_refusal answer → IsRound kept (call.Job asked) old refused new kept
 asked_round kept asked answer refused old new step report is = record {
   round = asked_line asked answer kept new.state;
   line_is = refl;
@@ -54,11 +54,11 @@ asked_round kept asked answer refused old new step report is = record {
   is_refused = is;
 }
 
-pub asked_cut : (kept : ℕ) (asked : Request) (answer : Reply) (old new : World) (ended : Status) → Step old.state old.files asked answer new.state new.files → GrowsByPart old.report (reply_text asked answer) new.report → IsPutFault ended → (last : List Taken) × Breaks old kept (call.Job asked) last new ended
+pub asked_cut : (kept : ℕ) (asked : Request) (answer : Reply) (old new : World) (ended : Status) → Step asked old.state old.files answer new.state new.files → GrowsByPart old.report (reply_text asked answer) new.report → IsPutFault ended → (last : List Taken) × Breaks kept (call.Job asked) old last new ended
 asked_cut kept asked answer old new ended step part fault =
     ((asked_line asked answer kept new.state).course, AtPut (asked_line asked answer kept new.state) (record { answer = answer; step = step; course_is = refl; text_is = refl; is_refused = refl; keeps = refl }) refl refl part fault)
 
-pub asked_stop : (kept : ℕ) (asked : Request) (cause : Stop) (old new : World) (ended : Status) → StopsAt old.state old.files asked cause new.state new.files → Prints old.report (stop_text cause) (stop_status cause) new.report ended → (last : List Taken) × Breaks old kept (call.Job asked) last new ended
+pub asked_stop : (kept : ℕ) (asked : Request) (cause : Stop) (old new : World) (ended : Status) → StopsAt asked old.state old.files cause new.state new.files → Prints (stop_text cause) (stop_status cause) old.report new.report ended → (last : List Taken) × Breaks kept (call.Job asked) old last new ended
 asked_stop kept asked cause old new ended stops prints = ([], AtStop asked cause refl refl stops prints)
 
 abbrev served_line : CallLine → Regs → List Taken → ℕ → State → Round
@@ -81,7 +81,7 @@ served_does (call.Call ax bx cx dx es) regs kept kept_after old new answered cou
   files = files;
 }
 
-pub served_round : (line : CallLine) (regs : Regs) (kept kept_after : ℕ) (old new : World) (answered : Regs) → IsCallOf regs line → ((course : List Taken) × Serves kept regs old.state old.files answered kept_after course new.state) → new.files ≡ old.files → new.report ≡ grown old.report (call_text answered) → IsRound old kept line answered.carry new kept_after
+pub served_round : (line : CallLine) (regs : Regs) (kept kept_after : ℕ) (old new : World) (answered : Regs) → IsCallOf regs line → ((course : List Taken) × Serves kept regs old.state old.files answered kept_after course new.state) → new.files ≡ old.files → new.report ≡ grown old.report (call_text answered) → IsRound kept line old answered.carry new kept_after
 served_round line regs kept kept_after old new answered is serves files report = record {
   round = served_line line answered serves.0 kept_after new.state;
   line_is = refl;
@@ -92,7 +92,7 @@ served_round line regs kept kept_after old new answered is serves files report =
   is_refused = refl;
 }
 
-pub served_cut : (line : CallLine) (regs : Regs) (kept kept_after : ℕ) (old new : World) (answered : Regs) (ended : Status) → IsCallOf regs line → ((course : List Taken) × Serves kept regs old.state old.files answered kept_after course new.state) → new.files ≡ old.files → GrowsByPart old.report (call_text answered) new.report → IsPutFault ended → (last : List Taken) × Breaks old kept line last new ended
+pub served_cut : (line : CallLine) (regs : Regs) (kept kept_after : ℕ) (old new : World) (answered : Regs) (ended : Status) → IsCallOf regs line → ((course : List Taken) × Serves kept regs old.state old.files answered kept_after course new.state) → new.files ≡ old.files → GrowsByPart old.report (call_text answered) new.report → IsPutFault ended → (last : List Taken) × Breaks kept line old last new ended
 served_cut line regs kept kept_after old new answered ended is serves files part fault =
     (serves.0, AtPut (served_line line answered serves.0 kept_after new.state) (served_does line regs kept kept_after old new answered serves.0 is serves.1 files) refl refl part fault)
 
@@ -130,10 +130,10 @@ refused_more (first ∷ later) round =
     ap (λ (rest : Bool). first.refused || rest) (refused_more later round) ∙ or-moves first.refused (has_refused later) round.refused
 
 -- no line was served
-pub served_none : (old : World) (kept : ℕ) → kept ≡ 0 → HasServed old [] false kept old
+pub served_none : (old : World) (kept : ℕ) → kept ≡ 0 → HasServed [] old false kept old
 served_none old kept is = record { rounds = []; served = record { served = (is, refl, refl); all = refl; report = sym (grown-nothing old.report) }; is_refused = refl }
 
-served_more : (old mid new : World) (lines : List CallLine) (line : CallLine) (refused refusal : Bool) (kept kept_after : ℕ) → HasServed old lines refused kept mid → IsRound mid kept line refusal new kept_after → HasServed old (lines ++ line ∷ []) (refused || refusal) kept_after new
+served_more : (old mid new : World) (lines : List CallLine) (line : CallLine) (refused refusal : Bool) (kept kept_after : ℕ) → HasServed lines old refused kept mid → IsRound kept line mid refusal new kept_after → HasServed (lines ++ line ∷ []) old (refused || refusal) kept_after new
 served_more old mid new lines line refused refusal kept kept_after so_far is =
     let round : Round = is.round in
     let does : DoesLine round.line kept mid.state mid.files round new.files = subst (λ (l : CallLine). DoesLine l kept mid.state mid.files round new.files) (sym is.line_is) is.does in
@@ -149,13 +149,13 @@ served_more old mid new lines line refused refusal kept kept_after so_far is =
     }
 
 -- the lines up to one more were served
-pub served_next : (old mid new : World) (lines : List CallLine) (i : ℕ) (line : CallLine) (refused refusal now : Bool) (kept kept_after : ℕ) → HasServed old (take i lines) refused kept mid → IsRound mid kept line refusal new kept_after → i < length lines → line ≡ get_or lines i line → now ≡ (refused || refusal) → HasServed old (take (i + 1) lines) now kept_after new
+pub served_next : (old mid new : World) (lines : List CallLine) (i : ℕ) (line : CallLine) (refused refusal now : Bool) (kept kept_after : ℕ) → HasServed (take i lines) old refused kept mid → IsRound kept line mid refusal new kept_after → i < length lines → line ≡ get_or lines i line → now ≡ (refused || refusal) → HasServed (take (i + 1) lines) old now kept_after new
 served_next old mid new lines i line refused refusal now kept kept_after so_far round within item either =
     let one : take (i + 1) lines ≡ take i lines ++ line ∷ [] = take_more lines i line within ∙ ap (λ (r : CallLine). take i lines ++ r ∷ []) (sym item) in
-    subst (λ (b : Bool). HasServed old (take (i + 1) lines) b kept_after new) (sym either) (subst (λ (rs : List CallLine). HasServed old rs (refused || refusal) kept_after new) (sym one) (served_more old mid new (take i lines) line refused refusal kept kept_after so_far round))
+    subst (λ (b : Bool). HasServed (take (i + 1) lines) old b kept_after new) (sym either) (subst (λ (rs : List CallLine). HasServed rs old (refused || refusal) kept_after new) (sym one) (served_more old mid new (take i lines) line refused refusal kept kept_after so_far round))
 
 -- a line broke off
-pub broken : (old mid new : World) (lines : List CallLine) (i : ℕ) (line : CallLine) (refused : Bool) (kept : ℕ) (ended : Status) → HasServed old (take i lines) refused kept mid → i < length lines → line ≡ get_or lines i line → ((last : List Taken) × Breaks mid kept line last new ended) → HasBroken old lines new ended
+pub broken : (old mid new : World) (lines : List CallLine) (i : ℕ) (line : CallLine) (refused : Bool) (kept : ℕ) (ended : Status) → HasServed (take i lines) old refused kept mid → i < length lines → line ≡ get_or lines i line → ((last : List Taken) × Breaks kept line mid last new ended) → HasBroken lines old new ended
 broken old mid new lines i line refused kept ended so_far within item breaks = (
   course_of so_far.rounds ++ breaks.0,
   record {
@@ -173,11 +173,11 @@ broken old mid new lines i line refused kept ended so_far within item breaks = (
   },
 )
 
-pub broken_serving : (old new : World) (lines : List CallLine) (ended : Status) → HasBroken old lines new ended → Serving old lines new ended
+pub broken_serving : (old new : World) (lines : List CallLine) (ended : Status) → HasBroken lines old new ended → Serving lines old new ended
 broken_serving old new lines ended p = (p.0, Broken p.1)
 
 -- all lines were served, and then the end came
-pub served_ends : (old mid new : World) (lines : List CallLine) (refused : Bool) (ended : Status) → ((kept : ℕ) × HasServed old lines refused kept mid) → new.report ≡ mid.report → EndsAs mid.state mid.files refused new.state new.files ended → Serving old lines new ended
+pub served_ends : (old mid new : World) (lines : List CallLine) (refused : Bool) (ended : Status) → ((kept : ℕ) × HasServed lines old refused kept mid) → new.report ≡ mid.report → EndsAs refused mid.state mid.files new.state new.files ended → Serving lines old new ended
 served_ends old mid new lines refused ended so_far report (InWhole ends whole) = (
   course_of so_far.1.rounds,
   Through (record {
@@ -209,21 +209,21 @@ served_ends old mid new lines refused ended so_far report (AtStore cause only st
 
 -- ---- A text.
 
-pub parsed_serves : (old new : World) (text : List ℕ) (given lines : List CallLine) (ended : Status) → calls_of text ≡ Ok lines → given ≡ lines → Serving old given new ended → ServesOrStarves old text new ended
+pub parsed_serves : (old new : World) (text : List ℕ) (given lines : List CallLine) (ended : Status) → calls_of text ≡ Ok lines → given ≡ lines → Serving given old new ended → ServesOrStarves text old new ended
 parsed_serves old new text given lines ended spelled same serving =
     AsParsed serving.0
-    (subst (λ (parsed : Result (List CallLine) ℕ). ServesParsed old parsed serving.0 new ended) (sym spelled)
-    (subst (λ (ls : List CallLine). ServesLines old ls serving.0 new ended) same serving.1))
+    (subst (λ (parsed : Result (List CallLine) ℕ). ServesParsed parsed old serving.0 new ended) (sym spelled)
+    (subst (λ (ls : List CallLine). ServesLines ls old serving.0 new ended) same serving.1))
 
 pub read_bad : {A : Type 0} (items : A → List CallLine) (cause : JobError) (said : Result (List CallLine) ℕ) (line : ℕ) → ReadsText items (Err cause) said → cause ≡ error.BadLine line → said ≡ Err line
 read_bad items cause said line reads is = subst (λ (e : JobError). ReadsText items (Err e) said) is reads
 
-pub unparsed_tells : (old new : World) (text : List ℕ) (line : ℕ) (ended : Status) → calls_of text ≡ Err line → Tells old (bad_line_text line) status.BadJob new ended → ServesOrStarves old text new ended
+pub unparsed_tells : (old new : World) (text : List ℕ) (line : ℕ) (ended : Status) → calls_of text ≡ Err line → Tells (bad_line_text line) status.BadJob old new ended → ServesOrStarves text old new ended
 unparsed_tells old new text line ended spelled tells =
     AsParsed []
-    (subst (λ (parsed : Result (List CallLine) ℕ). ServesParsed old parsed [] new ended) (sym spelled) (record { nothing = refl; tells = tells }))
+    (subst (λ (parsed : Result (List CallLine) ℕ). ServesParsed parsed old [] new ended) (sym spelled) (record { nothing = refl; tells = tells }))
 
-as_text : (old new : World) (name text : List ℕ) (ended : Status) → IsText old.files name text → ServesOrStarves old text new ended → (course : List Taken) × ServesCalls name old course new ended
+as_text : (old new : World) (name text : List ℕ) (ended : Status) → IsText old.files name text → ServesOrStarves text old new ended → (course : List Taken) × ServesCalls name old course new ended
 as_text old new name text ended told (AsParsed course serves) = (course, There (record { text = text; told = told; serves = serves }))
 as_text old new name text ended told (Starving idle) = ([], Starved refl idle)
 
@@ -235,11 +235,11 @@ abbrev world : State → Option Files → Option (List ℕ) → World
 world state files report = record { state = state; files = files; report = report }
 
 -- a text that was loaded
-pub text_serves : (state : State) (told loaded : Option Files) (report : Option (List ℕ)) (new : World) (name text : List ℕ) (bytes : Vec ℕ Global) (ended : Status) → loaded ≡ told → text ≡ bytes.items → IfSome told (λ files. Loads files name 4194304 (Ok bytes)) → ServesOrStarves (world state loaded report) text new ended → (course : List Taken) × ServesCalls name (world state told report) course new ended
+pub text_serves : (state : State) (told loaded : Option Files) (report : Option (List ℕ)) (new : World) (name text : List ℕ) (bytes : Vec ℕ Global) (ended : Status) → loaded ≡ told → text ≡ bytes.items → IfSome told (λ files. Loads files name 4194304 (Ok bytes)) → ServesOrStarves text (world state loaded report) new ended → (course : List Taken) × ServesCalls name (world state told report) course new ended
 text_serves state told loaded report new name text bytes ended stays same loads serves =
     as_text (world state told report) new name bytes.items ended (loaded_text told name bytes loads)
-    (subst (λ (files : Option Files). ServesOrStarves (world state files report) bytes.items new ended) stays
-    (subst (λ (read : List ℕ). ServesOrStarves (world state loaded report) read new ended) same serves))
+    (subst (λ (files : Option Files). ServesOrStarves bytes.items (world state files report) new ended) stays
+    (subst (λ (read : List ℕ). ServesOrStarves read (world state loaded report) new ended) same serves))
 
 -- a text that wasn't had
 as_missed : (told : Option Files) (state : State) (report after : Option (List ℕ)) (name : List ℕ) (cause : LoadError) (ended : Status) → IfSome told (λ files. Loads files name 4194304 (Err cause)) → Misses cause name report after ended → (course : List Taken) × ServesCalls name (world state told report) course (world state told after) ended

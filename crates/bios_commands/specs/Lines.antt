@@ -30,33 +30,33 @@ IsCallOf regs (call.Job asked) = ⊥
 IsCallOf regs (call.Call ax bx cx dx es) = regs ≡ registers ax bx cx dx es
 
 -- some lines were served and told whole; `refused` says that one counts as a refusal
-pub record HasServed (old : World) (lines : List CallLine) (refused : Bool) (kept : ℕ) (new : World) : Type 0 where
+pub record HasServed (lines : List CallLine) (old : World) (refused : Bool) (kept : ℕ) (new : World) : Type 0 where
   pub rounds : List Round
-  pub served : AreServed old lines rounds new kept
+  pub served : AreServed lines old rounds new kept
   pub is_refused : refused ≡ has_refused rounds
 
 -- a line broke off
-abbrev pub HasBroken : World → List CallLine → World → Status → Type 0
-HasBroken old lines new ended = (course : List Taken) × IsBroken old lines course new ended
+abbrev pub HasBroken : List CallLine → World → World → Status → Type 0
+HasBroken lines old new ended = (course : List Taken) × IsBroken lines old course new ended
 
 -- the end of a run: what was left in was stored, or a stop came at a store
-pub data EndsAs (old : State) (files : Option Files) (refused : Bool) (new : State) (after : Option Files) (ended : Status) : Type 0 where
-  InWhole : Ends old files new after → ended ≡ whole_status refused → EndsAs old files refused new after ended
+pub data EndsAs (refused : Bool) (old : State) (files : Option Files) (new : State) (after : Option Files) (ended : Status) : Type 0 where
+  InWhole : Ends old files new after → ended ≡ whole_status refused → EndsAs refused old files new after ended
   AtStore : (cause : Stop) → IsEndStop cause → EndStopsAt old files new after → ended ≡ stop_status cause
-      → EndsAs old files refused new after ended
+      → EndsAs refused old files new after ended
 
 -- lines are served, by some course
-abbrev pub Serving : World → List CallLine → World → Status → Type 0
-Serving old lines new ended = (course : List Taken) × ServesLines old lines course new ended
+abbrev pub Serving : List CallLine → World → World → Status → Type 0
+Serving lines old new ended = (course : List Taken) × ServesLines lines old course new ended
 
 -- a text is served as it is parsed, or memory for that couldn't be had
-pub data ServesOrStarves (old : World) (text : List ℕ) (new : World) (ended : Status) : Type 0 where
-  AsParsed : (course : List Taken) → ServesParsed old (calls_of text) course new ended → ServesOrStarves old text new ended
-  Starving : IsIdle old new status.NoMemory ended → ServesOrStarves old text new ended
+pub data ServesOrStarves (text : List ℕ) (old new : World) (ended : Status) : Type 0 where
+  AsParsed : (course : List Taken) → ServesParsed (calls_of text) old course new ended → ServesOrStarves text old new ended
+  Starving : IsIdle old new status.NoMemory ended → ServesOrStarves text old new ended
 
 -- why a text wasn't had, and what was printed of it
 abbrev pub Misses : LoadError → List ℕ → Option (List ℕ) → Option (List ℕ) → Status → Type 0
-Misses load.Absent name old new ended = Prints old (absent_text name) status.Absent new ended
-Misses load.TooLong name old new ended = Prints old (bad_line_text 0) status.BadJob new ended
+Misses load.Absent name old new ended = Prints (absent_text name) status.Absent old new ended
+Misses load.TooLong name old new ended = Prints (bad_line_text 0) status.BadJob old new ended
 Misses load.Failed name old new ended = (new ≡ old) × (ended ≡ status.FileFault)
 Misses load.NoMemory name old new ended = (new ≡ old) × (ended ≡ status.NoMemory)

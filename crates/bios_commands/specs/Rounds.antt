@@ -30,7 +30,7 @@ pub record Round : Type 0 where
 -- a request as in a job
 pub record IsAsked (asked : Request) (kept : ℕ) (old : State) (told : Option Files) (round : Round) (after : Option Files) : Type 0 where
   pub answer : Reply
-  pub step : Step old told asked answer round.after after
+  pub step : Step asked old told answer round.after after
   pub course_is : round.course ≡ record { asked = asked; answer = answer; after = round.after } ∷ []
   pub text_is : round.text ≡ reply_text asked answer
   pub is_refused : round.refused ≡ is_refusal answer
@@ -75,7 +75,7 @@ has_refused [] = false
 has_refused (round ∷ later) = round.refused || has_refused later
 
 -- a line was done and told whole
-pub record IsRound (old : World) (kept : ℕ) (line : CallLine) (refused : Bool) (new : World) (kept_after : ℕ) : Type 0 where
+pub record IsRound (kept : ℕ) (line : CallLine) (old : World) (refused : Bool) (new : World) (kept_after : ℕ) : Type 0 where
   pub round : Round
   pub line_is : round.line ≡ line
   pub does : DoesLine line kept old.state old.files round new.files
@@ -85,15 +85,15 @@ pub record IsRound (old : World) (kept : ℕ) (line : CallLine) (refused : Bool)
   pub is_refused : refused ≡ round.refused
 
 -- a request stopped the run, or what a line prints couldn't be put whole; `last` are the requests that the line ran
-pub data Breaks (old : World) (kept : ℕ) (line : CallLine) (last : List Taken) (new : World) (ended : Status) : Type 0 where
+pub data Breaks (kept : ℕ) (line : CallLine) (old : World) (last : List Taken) (new : World) (ended : Status) : Type 0 where
   AtStop : (asked : Request) (cause : Stop) → line ≡ call.Job asked → last ≡ []
-      → StopsAt old.state old.files asked cause new.state new.files
-      → Prints old.report (stop_text cause) (stop_status cause) new.report ended → Breaks old kept line last new ended
+      → StopsAt asked old.state old.files cause new.state new.files
+      → Prints (stop_text cause) (stop_status cause) old.report new.report ended → Breaks kept line old last new ended
   AtPut : (round : Round) → DoesLine line kept old.state old.files round new.files → last ≡ round.course → round.after ≡ new.state
-      → GrowsByPart old.report round.text new.report → IsPutFault ended → Breaks old kept line last new ended
+      → GrowsByPart old.report round.text new.report → IsPutFault ended → Breaks kept line old last new ended
 
 -- some lines were done and told whole, from the service as it comes
-pub record AreServed (old : World) (lines : List CallLine) (rounds : List Round) (new : World) (kept : ℕ) : Type 0 where
+pub record AreServed (lines : List CallLine) (old : World) (rounds : List Round) (new : World) (kept : ℕ) : Type 0 where
   pub served : AreRounds 0 old.state old.files rounds kept new.state new.files
   pub all : lines ≡ lines_of rounds
   pub report : new.report ≡ grown old.report (rounds_text rounds)

@@ -40,10 +40,10 @@ fn ask<S: Shelf, K: Sink, D: Station>(
 ) -> Result<bool, Status>
     requires running { IsRunning D.shown D.is_ready session.old }
     requires tries { HasTries request.now }
-    ensures round { (kept : ℕ) → IfOk result (λ refused. IsRound (world_of D.shown S.told K.told session.old shelf.old out.old) kept (calls.Job request.now) refused
+    ensures round { (kept : ℕ) → IfOk result (λ refused. IsRound kept (calls.Job request.now) (world_of D.shown S.told K.told session.old shelf.old out.old) refused
         (world_of D.shown S.told K.told session.new shelf.new out.new) kept) }
     ensures breaks { (kept : ℕ) → IfErr result (λ ended. (last : List Taken) × Breaks
-        (world_of D.shown S.told K.told session.old shelf.old out.old) kept (calls.Job request.now) last
+        kept (calls.Job request.now) (world_of D.shown S.told K.told session.old shelf.old out.old) last
         (world_of D.shown S.told K.told session.new shelf.new out.new) ended) }
     ensures running { IsRunning D.shown D.is_ready session.new }
     ensures is_form { result ≢ Err Status.BadWords }
@@ -72,10 +72,10 @@ fn call<S: Shelf, K: Sink, D: Station>(
 ) -> Result<bool, Status>
     requires running { IsRunning D.shown D.is_ready session.old }
     ensures round { (line : CallLine) → IsCallOf regs line → IfOk result (λ refused. IsRound
-        (world_of D.shown S.told K.told session.old shelf.now out.old) front.old line refused
+        front.old line (world_of D.shown S.told K.told session.old shelf.now out.old) refused
         (world_of D.shown S.told K.told session.new shelf.now out.new) front.new) }
     ensures breaks { (line : CallLine) → IsCallOf regs line → IfErr result (λ ended. (last : List Taken) × Breaks
-        (world_of D.shown S.told K.told session.old shelf.now out.old) front.old line last
+        front.old line (world_of D.shown S.told K.told session.old shelf.now out.old) last
         (world_of D.shown S.told K.told session.new shelf.now out.new) ended) }
     ensures running { IsRunning D.shown D.is_ready session.new }
     ensures is_form { result ≢ Err Status.BadWords }
@@ -101,10 +101,10 @@ pub(crate) fn serve_line<S: Shelf, K: Sink, D: Station>(
 ) -> Result<bool, Status>
     requires running { IsRunning D.shown D.is_ready session.old }
     requires tries { LineHasTries line.now }
-    ensures round { IfOk result (λ refused. IsRound (world_of D.shown S.told K.told session.old shelf.old out.old) front.old line.now refused
+    ensures round { IfOk result (λ refused. IsRound front.old line.now (world_of D.shown S.told K.told session.old shelf.old out.old) refused
         (world_of D.shown S.told K.told session.new shelf.new out.new) front.new) }
     ensures breaks { IfErr result (λ ended. (last : List Taken) × Breaks
-        (world_of D.shown S.told K.told session.old shelf.old out.old) front.old line.now last
+        front.old line.now (world_of D.shown S.told K.told session.old shelf.old out.old) last
         (world_of D.shown S.told K.told session.new shelf.new out.new) ended) }
     ensures running { IsRunning D.shown D.is_ready session.new }
     ensures is_form { result ≢ Err Status.BadWords }

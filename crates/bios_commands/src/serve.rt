@@ -38,9 +38,9 @@ fn serve_lines<S: Shelf, K: Sink, D: Station>(
 ) -> Result<bool, Status>
     requires running { IsRunning D.shown D.is_ready session.old }
     requires tries { All LineHasTries lines.now }
-    ensures serves { IfOk result (λ refused. (kept : ℕ) × HasServed (world_of D.shown S.told K.told session.old shelf.old out.old) lines.now refused kept
+    ensures serves { IfOk result (λ refused. (kept : ℕ) × HasServed lines.now (world_of D.shown S.told K.told session.old shelf.old out.old) refused kept
         (world_of D.shown S.told K.told session.new shelf.new out.new)) }
-    ensures breaks { IfErr result (λ ended. HasBroken (world_of D.shown S.told K.told session.old shelf.old out.old) lines.now
+    ensures breaks { IfErr result (λ ended. HasBroken lines.now (world_of D.shown S.told K.told session.old shelf.old out.old)
         (world_of D.shown S.told K.told session.new shelf.new out.new) ended) }
     ensures running { IsRunning D.shown D.is_ready session.new }
     ensures is_form { result ≢ Err Status.BadWords }
@@ -73,7 +73,7 @@ fn whole_status(refused: bool) -> Status
 /// Stores what is left in the bays of a session, and gives the status of a run to the end.
 fn finish<S: Shelf, D: Station>(session: &mut Session<D>, shelf: &mut S, refused: bool) -> Status
     requires running { IsRunning D.shown D.is_ready session.old }
-    ensures ends { EndsAs (state_of D.shown session.old) (S.told shelf.old) refused
+    ensures ends { EndsAs refused (state_of D.shown session.old) (S.told shelf.old)
         (state_of D.shown session.new) (S.told shelf.new) result }
     ensures running { IsRunning D.shown D.is_ready session.new }
     ensures is_form { result ≢ Status.BadWords }
@@ -97,7 +97,7 @@ fn serve_all<S: Shelf, K: Sink, D: Station>(
 ) -> Status
     requires running { IsRunning D.shown D.is_ready session.old }
     requires tries { All LineHasTries lines.now }
-    ensures serves { Serving (world_of D.shown S.told K.told session.old shelf.old out.old) lines.now
+    ensures serves { Serving lines.now (world_of D.shown S.told K.told session.old shelf.old out.old)
         (world_of D.shown S.told K.told session.new shelf.new out.new) result }
     ensures running { IsRunning D.shown D.is_ready session.new }
     ensures is_form { result ≢ Status.BadWords }
@@ -121,7 +121,7 @@ fn serve_text<S: Shelf, K: Sink, D: Station>(
     out: &mut K,
 ) -> Status
     requires running { IsRunning D.shown D.is_ready session.old }
-    ensures serves { ServesOrStarves (world_of D.shown S.told K.told session.old shelf.old out.old) text.now
+    ensures serves { ServesOrStarves text.now (world_of D.shown S.told K.told session.old shelf.old out.old)
         (world_of D.shown S.told K.told session.new shelf.new out.new) result }
     ensures running { IsRunning D.shown D.is_ready session.new }
     ensures is_form { result ≢ Status.BadWords }

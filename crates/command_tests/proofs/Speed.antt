@@ -16,6 +16,6 @@ there media zero medium small = refl
 there media (suc zero) medium small = refl
 there media (suc (suc bay)) medium small = absurd (omega arith)
 
-pub put_there : (old new : Rig) (bay : ℕ) (medium : Disk) (answer : Result (Unit {0}) Disk) → bay ≤ 1 → is_err answer ≡ false → PutsIn old bay medium answer new → IsSome (in_bay new.media bay)
+pub put_there : (old new : Rig) (bay : ℕ) (medium : Disk) (answer : Result (Unit {0}) Disk) → bay ≤ 1 → is_err answer ≡ false → PutsIn bay medium old answer new → IsSome (in_bay new.media bay)
 put_there old new bay medium (Ok _) small ok (empty, is) = subst (λ media. IsSome (in_bay media bay)) (sym is.media) (there old.media bay medium small)
 put_there old new bay medium (Err back) small wrong puts = absurd (false≢true (sym wrong))

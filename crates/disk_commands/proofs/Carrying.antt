@@ -41,7 +41,7 @@ pub none_carried : (Fits : List Taken → Type 0) (stage : Stage) → Carries Fi
 none_carried Fits stage = record { course = []; run = (refl, refl); asked = λ earlier fits. tt; fine = refl }
 
 -- a request that was answered is the plan of that request
-pub taken_carried : (Fits : List Taken → Type 0) (next : Planned) (asked : Request) (answer : Reply) (old new : Stage) → ((earlier : List Taken) → Fits earlier → asked_after earlier next ≡ asked) → IsTaken asked answer old new → Carries Fits (next ∷ []) old new
+pub taken_carried : (Fits : List Taken → Type 0) (next : Planned) (asked : Request) (answer : Reply) (old new : Stage) → ((earlier : List Taken) → Fits earlier → asked_after earlier next ≡ asked) → IsTaken asked old answer new → Carries Fits (next ∷ []) old new
 taken_carried Fits next asked answer old new is taken =
     let step : Taken = record { asked = asked; answer = answer; after = new.state } in
     record {
@@ -64,7 +64,7 @@ taken_halted Fits next asked old new cause is halts = record {
   halts = halts;
 }
 
-pub one_carried : (asked : Request) (answer : Reply) (old new : Stage) → IsTaken asked answer old new → Carries Any (Asks asked ∷ []) old new
+pub one_carried : (asked : Request) (answer : Reply) (old new : Stage) → IsTaken asked old answer new → Carries Any (Asks asked ∷ []) old new
 one_carried asked answer old new taken = taken_carried Any (Asks asked) asked answer old new (λ earlier fits. refl) taken
 
 pub one_halted : (asked : Request) (old new : Stage) (cause : Halt) → HaltsAt asked old cause new → IsHalted Any (Asks asked ∷ []) old cause new

@@ -20,7 +20,7 @@ use Rattle.disk_commands.specs.Halts.{TellsHalt}
 abbrev pub told_of : Stage → Option (List ℕ) → World
 told_of stage report = record { state = stage.state; files = stage.files; report = report }
 
-pub whole_performs : (plan : List Planned) (line : List ℕ) (old new : Stage) (report after : Option (List ℕ)) (ended : Status) (carried : Carries Any plan old new) → Prints report line status.AllOk after ended → Performs plan line (told_of old report) carried.course (told_of new after) ended
+pub whole_performs : (plan : List Planned) (line : List ℕ) (old new : Stage) (report after : Option (List ℕ)) (ended : Status) (carried : Carries Any plan old new) → Prints line status.AllOk report after ended → Performs plan line (told_of old report) carried.course (told_of new after) ended
 whole_performs plan line old new report after ended carried prints =
     Whole (record { run = carried.run; asked = carried.asked [] tt; fine = carried.fine; prints = prints })
 
@@ -29,7 +29,7 @@ abbrev pub course_to : List Taken → Request → Halt → State → List Taken
 course_to before asked (halt.Refused named cause) after = before ++ (record { asked = asked; answer = reply.Refused cause; after = after }) ∷ []
 course_to before asked (halt.Stopped cause) after = before
 
-pub halt_told : (plan : List Planned) (old new : Stage) (report after : Option (List ℕ)) (cause : Halt) (ended : Status) (halted : IsHalted Any plan old cause new) → TellsHalt report cause after ended → Halts plan (told_of old report) (course_to halted.carried.course halted.asked cause new.state) (told_of new after) ended
+pub halt_told : (plan : List Planned) (old new : Stage) (report after : Option (List ℕ)) (cause : Halt) (ended : Status) (halted : IsHalted Any plan old cause new) → TellsHalt cause report after ended → Halts plan (told_of old report) (course_to halted.carried.course halted.asked cause new.state) (told_of new after) ended
 halt_told plan old new report after (halt.Refused named cause) ended halted tells =
     AtRefusal (record {
       before = halted.carried.course;
@@ -44,7 +44,7 @@ halt_told plan old new report after (halt.Refused named cause) ended halted tell
       answered = refl;
       step = halted.halts.1;
       after = refl;
-      prints = subst (λ (r : Request). Prints report (stopped_text r cause) status.SomeRefused after ended) halted.halts.0 tells;
+      prints = subst (λ (r : Request). Prints (stopped_text r cause) status.SomeRefused report after ended) halted.halts.0 tells;
     })
 halt_told plan old new report after (halt.Stopped cause) ended halted tells =
     AtStop (record {
@@ -53,9 +53,9 @@ halt_told plan old new report after (halt.Stopped cause) ended halted tells =
       files = halted.mid.files;
       cause = cause;
       begun = record { done = halted.done; later = halted.later; parts = halted.parts; run = halted.carried.run; asked = halted.carried.asked [] tt; fine = halted.carried.fine };
-      stops = subst (λ (r : Request). StopsAt halted.mid.state halted.mid.files r cause new.state new.files) (sym (halted.asks [] tt)) halted.halts;
+      stops = subst (λ (r : Request). StopsAt r halted.mid.state halted.mid.files cause new.state new.files) (sym (halted.asks [] tt)) halted.halts;
       prints = tells;
     })
 
-pub halt_performs : (plan : List Planned) (line : List ℕ) (old new : Stage) (report after : Option (List ℕ)) (cause : Halt) (ended : Status) (halted : IsHalted Any plan old cause new) → TellsHalt report cause after ended → Performs plan line (told_of old report) (course_to halted.carried.course halted.asked cause new.state) (told_of new after) ended
+pub halt_performs : (plan : List Planned) (line : List ℕ) (old new : Stage) (report after : Option (List ℕ)) (cause : Halt) (ended : Status) (halted : IsHalted Any plan old cause new) → TellsHalt cause report after ended → Performs plan line (told_of old report) (course_to halted.carried.course halted.asked cause new.state) (told_of new after) ended
 halt_performs plan line old new report after cause ended halted tells = Halted (halt_told plan old new report after cause ended halted tells)

@@ -67,7 +67,7 @@ module _ (count : ℕ) (marks : List Bool) (c h i r : ℕ) (asked : Request) (ol
       let size = asked_length earlier _ one.course (one.asked earlier fits) ∙ length-each 1 i (λ n. WritesBack count (key_of c h n) (record_address n)) in
       write_leads count marks i (key_of c h r) (record_address r) earlier one.course size within fits ∙ sym is
 
-  pub write_more : (answer : Reply) (new : Stage) (k : ℕ) → k ≡ i + 1 → IsTaken asked answer mid new → Carries (HasMarks count marks) (each 1 k (λ n. WritesBack count (key_of c h n) (record_address n) ∷ [])) old new
+  pub write_more : (answer : Reply) (new : Stage) (k : ℕ) → k ≡ i + 1 → IsTaken asked mid answer new → Carries (HasMarks count marks) (each 1 k (λ n. WritesBack count (key_of c h n) (record_address n) ∷ [])) old new
   write_more answer new k next taken =
       more_fits (HasMarks count marks) (λ earlier. asked_after earlier (WritesBack count (key_of c h r) (record_address r)) ≡ asked) 1 i r k (λ (n : ℕ). WritesBack count (key_of c h n) (record_address n) ∷ []) old mid new at next one
       (taken_carried (λ earlier. asked_after earlier (WritesBack count (key_of c h r) (record_address r)) ≡ asked) (WritesBack count (key_of c h r) (record_address r)) asked answer mid new (λ earlier fits. fits) taken)
@@ -80,9 +80,9 @@ module _ (count : ℕ) (marks : List Bool) (c h i r : ℕ) (asked : Request) (ol
       leads
 
 -- no read yet
-pub no_reads : (plan : List Planned) (marks : List Bool) (stage : Stage) → plan ≡ [] → ReadsMarks 0 plan marks stage stage
+pub no_reads : (plan : List Planned) (marks : List Bool) (stage : Stage) → plan ≡ [] → ReadsMarks 0 plan stage marks stage
 no_reads plan marks stage none =
-    subst (λ (p : List Planned). ReadsMarks 0 p marks stage stage) (sym none)
+    subst (λ (p : List Planned). ReadsMarks 0 p stage marks stage) (sym none)
     (record {
       carried = record { course = []; run = (refl, refl); asked = λ earlier fits. tt; fine = refl };
       tells = record { all = refl; told = λ i within. absurd (omega (arith, within)) };
@@ -112,7 +112,7 @@ tells_more i marks later course taken tells inside puts = record {
   ];
 }
 
-pub read_more : (i r k : ℕ) (plan : ℕ → List Planned) (asked : Request) (answer : Reply) (marks later : List Bool) (old mid new : Stage) → r ≡ 1 + i → k ≡ i + 1 → plan r ≡ Asks asked ∷ [] → i < length marks → later ≡ set marks i (tells_deleted answer) → ReadsMarks i (each 1 i plan) marks old mid → IsTaken asked answer mid new → ReadsMarks k (each 1 k plan) later old new
+pub read_more : (i r k : ℕ) (plan : ℕ → List Planned) (asked : Request) (answer : Reply) (marks later : List Bool) (old mid new : Stage) → r ≡ 1 + i → k ≡ i + 1 → plan r ≡ Asks asked ∷ [] → i < length marks → later ≡ set marks i (tells_deleted answer) → ReadsMarks i (each 1 i plan) old marks mid → IsTaken asked mid answer new → ReadsMarks k (each 1 k plan) old later new
 read_more i r k plan asked answer marks later old mid new at next is inside puts so_far taken =
     let step : Taken = record { asked = asked; answer = answer; after = new.state } in
     let all : each 1 k plan ≡ each 1 i plan ++ Asks asked ∷ [] = next_number 1 i r k plan at next ∙ ap (λ (p : List Planned). each 1 i plan ++ p) is in
@@ -127,7 +127,7 @@ read_more i r k plan asked answer marks later old mid new at next is inside puts
     }
 
 -- a track: its reads, and its writes with the marks that were told
-pub copied_goes : (count : ℕ) (reads writes : List Planned) (marks : List Bool) (old mid new : Stage) (result : Result (Unit {0}) Halt) → ReadsMarks count reads marks old mid → Goes (HasMarks count marks) writes mid result new → Goes Any (reads ++ writes) old result new
+pub copied_goes : (count : ℕ) (reads writes : List Planned) (marks : List Bool) (old mid new : Stage) (result : Result (Unit {0}) Halt) → ReadsMarks count reads old marks mid → Goes (HasMarks count marks) writes mid result new → Goes Any (reads ++ writes) old result new
 copied_goes count reads writes marks old mid new (Ok u) read written =
     carries_then Any (HasMarks count marks) reads writes old mid new read.carried written (λ earlier fits. has_marks count marks earlier read.carried.course read.tells)
 copied_goes count reads writes marks old mid new (Err cause) read halted =

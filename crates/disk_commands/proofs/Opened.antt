@@ -37,14 +37,14 @@ not_refused : (answer : Reply) (cause : Reason) → is_refusal answer ≡ false 
 not_refused answer cause fine refused = true≢false (sym (ap is_refusal refused) ∙ fine)
 
 -- a disk that was put in is there
-pub put_in : (name : List ℕ) (answer : Reply) (old new : Stage) → IsTaken (request.Insert 0 name) answer old new → (disk : Disk) × ((bay_of new.state.station 0).medium ≡ Some disk)
+pub put_in : (name : List ℕ) (answer : Reply) (old new : Stage) → IsTaken (request.Insert 0 name) old answer new → (disk : Disk) × ((bay_of new.state.station 0).medium ≡ Some disk)
 put_in name answer old new taken =
     by_refusal (refusal_of old.state (request.Insert 0 name)) taken.1
     (λ does. (does.2.0, ap (λ (s : StationState). (bay_of s 0).medium) does.2.2.exchanged.becomes))
     (λ cause refused. absurd (not_refused answer cause taken.0 refused.answered))
 
 -- there is a shape where there is a disk
-pub there_is : (name : List ℕ) (answer : Reply) (old new : Stage) → IsTaken (request.Insert 0 name) answer old new → shape_in (bay_of new.state.station 0) ≡ None → ⊥
+pub there_is : (name : List ℕ) (answer : Reply) (old new : Stage) → IsTaken (request.Insert 0 name) old answer new → shape_in (bay_of new.state.station 0) ≡ None → ⊥
 there_is name answer old new taken none =
     let disk = put_in name answer old new taken in
     let some : shape_in (bay_of new.state.station 0) ≡ Some (shape_of disk.0) = ap (λ (medium : Option Disk). Rattle.std.specs.Option.option_map shape_of medium) disk.1 in
@@ -90,19 +90,19 @@ halted_first next old new cause shape halted =
 
 -- ---- A copy.
 
-pub whole_copies : (from to : List ℕ) (shape : Shape) (old mid new : Stage) (report after : Option (List ℕ)) (ended : Status) → Opens from shape old mid → Carries Any (copy_rest to shape) mid new → Prints report (copy_text (sectors_of shape)) status.AllOk after ended → (course : List Taken) × Copies from to (told_of old report) course (told_of new after) ended
+pub whole_copies : (from to : List ℕ) (shape : Shape) (old mid new : Stage) (report after : Option (List ℕ)) (ended : Status) → Opens from shape old mid → Carries Any (copy_rest to shape) mid new → Prints (copy_text (sectors_of shape)) status.AllOk report after ended → (course : List Taken) × Copies from to (told_of old report) course (told_of new after) ended
 unfolding then_any carries_then
 whole_copies from to shape old mid new report after ended opens rest prints =
     let all = then_any (Asks (request.Insert 0 from) ∷ []) (copy_rest to shape) old mid new opens.carried rest in
     (all.course, (shape, opened_first from shape old mid rest.course opens, whole_performs (copy_plan from to shape) (copy_text (sectors_of shape)) old new report after ended all prints))
 
-pub halt_copies : (from to : List ℕ) (shape : Shape) (old mid new : Stage) (report after : Option (List ℕ)) (cause : Halt) (ended : Status) → Opens from shape old mid → IsHalted Any (copy_rest to shape) mid cause new → TellsHalt report cause after ended → (course : List Taken) × Copies from to (told_of old report) course (told_of new after) ended
+pub halt_copies : (from to : List ℕ) (shape : Shape) (old mid new : Stage) (report after : Option (List ℕ)) (cause : Halt) (ended : Status) → Opens from shape old mid → IsHalted Any (copy_rest to shape) mid cause new → TellsHalt cause report after ended → (course : List Taken) × Copies from to (told_of old report) course (told_of new after) ended
 unfolding then_halts halts_then carries_then
 halt_copies from to shape old mid new report after cause ended opens rest tells =
     let all = then_halts (Asks (request.Insert 0 from) ∷ []) (copy_rest to shape) old mid new cause opens.carried rest in
     (course_to all.carried.course all.asked cause new.state, (shape, opened_to from shape old mid rest.carried.course rest.asked cause new.state opens, halt_performs (copy_plan from to shape) (copy_text (sectors_of shape)) old new report after cause ended all tells))
 
-pub open_halt_copies : (from to : List ℕ) (old new : Stage) (report after : Option (List ℕ)) (cause : Halt) (ended : Status) → IsHalted Any (Asks (request.Insert 0 from) ∷ []) old cause new → TellsHalt report cause after ended → (course : List Taken) × Copies from to (told_of old report) course (told_of new after) ended
+pub open_halt_copies : (from to : List ℕ) (old new : Stage) (report after : Option (List ℕ)) (cause : Halt) (ended : Status) → IsHalted Any (Asks (request.Insert 0 from) ∷ []) old cause new → TellsHalt cause report after ended → (course : List Taken) × Copies from to (told_of old report) course (told_of new after) ended
 unfolding halts_first
 open_halt_copies from to old new report after cause ended halted tells =
     let all = halts_first Any (Asks (request.Insert 0 from) ∷ []) (copy_rest to no_shape) old new cause halted in

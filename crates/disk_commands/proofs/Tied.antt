@@ -33,7 +33,7 @@ performs_ties plan line old course new ended (Whole p) = ran_ties old.state new.
 performs_ties plan line old course new ended (Halted p) = halts_ties plan old course new ended p
 
 -- reads that broke off
-broken_ties : (old : World) (mid : World) (opening reads last : List Taken) (new : World) (asked : Request) (ended : Status) → Run old.state old.files (opening ++ reads) mid.state mid.files → Breaks mid asked last new ended → Ties old (opening ++ (reads ++ last)) new
+broken_ties : (old : World) (mid : World) (opening reads last : List Taken) (new : World) (asked : Request) (ended : Status) → Run old.state old.files (opening ++ reads) mid.state mid.files → Breaks asked mid last new ended → Ties old (opening ++ (reads ++ last)) new
 broken_ties old mid opening reads last new asked ended run (ReadStops cause none stops prints) =
     subst (λ (steps : List Taken). Ties old (opening ++ (reads ++ steps)) new) (sym none)
     (subst (λ (steps : List Taken). Ties old (opening ++ steps) new) (sym (append-nil reads))

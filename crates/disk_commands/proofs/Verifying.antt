@@ -58,7 +58,7 @@ verified_none world tally well refused = record {
   refused = refused;
 }
 
-pub verified_one : (asked : Request) (answer : Reply) (old new : World) (tally : Tally) → Step old.state old.files asked answer new.state new.files → new.report ≡ grown old.report (failure_text asked answer) → tally.well ≡ (if is_refusal answer then 0 else 1) → tally.refused ≡ is_refusal answer → Verified (Asks asked ∷ []) old tally new
+pub verified_one : (asked : Request) (answer : Reply) (old new : World) (tally : Tally) → Step asked old.state old.files answer new.state new.files → new.report ≡ grown old.report (failure_text asked answer) → tally.well ≡ (if is_refusal answer then 0 else 1) → tally.refused ≡ is_refusal answer → Verified (Asks asked ∷ []) old tally new
 verified_one asked answer old new tally step report well refused =
     let taken : Taken = record { asked = asked; answer = answer; after = new.state } in
     record {
@@ -83,7 +83,7 @@ verified_then plan next old mid new first second both one two well refused = rec
 no_tally : Tally
 no_tally = record { well = 0; refused = false }
 
-pub broken_one : (asked : Request) (old new : World) (ended : Status) (last : List Taken) → Breaks old asked last new ended → IsBroken (Asks asked ∷ []) old new ended
+pub broken_one : (asked : Request) (old new : World) (ended : Status) (last : List Taken) → Breaks asked old last new ended → IsBroken (Asks asked ∷ []) old new ended
 broken_one asked old new ended last breaks = record {
   done = [];
   next = Asks asked;
@@ -166,9 +166,9 @@ shape_verifies name shape old mid acked report new ended opens ack (ReadAll tall
           run = same_world acked.state new.state last.state acked.files new.files last.files verified.course state files verified.run;
           asked = verified.asked opening;
           prints =
-              subst (λ (r : Option (List ℕ)). Prints r (verify_text (well_read verified.course) (sectors_of shape)) (whole_status (has_refusal verified.course)) new.report ended) verified.report
-              (subst (λ (n : ℕ). Prints last.report (verify_text n (sectors_of shape)) (whole_status (has_refusal verified.course)) new.report ended) verified.well
-              (subst (λ (b : Bool). Prints last.report (verify_text tally.well (sectors_of shape)) (whole_status b) new.report ended) verified.refused prints));
+              subst (λ (r : Option (List ℕ)). Prints (verify_text (well_read verified.course) (sectors_of shape)) (whole_status (has_refusal verified.course)) r new.report ended) verified.report
+              (subst (λ (n : ℕ). Prints (verify_text n (sectors_of shape)) (whole_status (has_refusal verified.course)) last.report new.report ended) verified.well
+              (subst (λ (b : Bool). Prints (verify_text tally.well (sectors_of shape)) (whole_status b) last.report new.report ended) verified.refused prints));
         }),
       ),
     )
@@ -194,19 +194,19 @@ shape_verifies name shape old mid acked report new ended opens ack (BrokeOff bro
           asked = broken.verified.asked opening;
           report = broken.verified.report;
           last = broken.last;
-          breaks = subst (λ (r : Request). Breaks broken.mid r broken.last new ended) (sym (broken.asks opening)) broken.breaks;
+          breaks = subst (λ (r : Request). Breaks r broken.mid broken.last new ended) (sym (broken.asks opening)) broken.breaks;
           course_is = refl;
         }),
       ),
     )
 
-pub ack_halt_verifies : (name : List ℕ) (shape : Shape) (old mid new : Stage) (report after : Option (List ℕ)) (cause : Halt) (ended : Status) → Opens name shape old mid → IsHalted Any (ack_plan 0 shape.rate) mid cause new → TellsHalt report cause after ended → (course : List Taken) × Verifies name (told_of old report) course (told_of new after) ended
+pub ack_halt_verifies : (name : List ℕ) (shape : Shape) (old mid new : Stage) (report after : Option (List ℕ)) (cause : Halt) (ended : Status) → Opens name shape old mid → IsHalted Any (ack_plan 0 shape.rate) mid cause new → TellsHalt cause report after ended → (course : List Taken) × Verifies name (told_of old report) course (told_of new after) ended
 unfolding then_halts halts_then carries_then
 ack_halt_verifies name shape old mid new report after cause ended opens rest tells =
     let all = then_halts (Asks (request.Insert 0 name) ∷ []) (ack_plan 0 shape.rate) old mid new cause opens.carried rest in
     (course_to all.carried.course all.asked cause new.state, (shape, opened_to name shape old mid rest.carried.course rest.asked cause new.state opens, NotOpened (halt_told (open_plan name shape) old new report after cause ended all tells)))
 
-pub open_halt_verifies : (name : List ℕ) (old new : Stage) (report after : Option (List ℕ)) (cause : Halt) (ended : Status) → IsHalted Any (Asks (request.Insert 0 name) ∷ []) old cause new → TellsHalt report cause after ended → (course : List Taken) × Verifies name (told_of old report) course (told_of new after) ended
+pub open_halt_verifies : (name : List ℕ) (old new : Stage) (report after : Option (List ℕ)) (cause : Halt) (ended : Status) → IsHalted Any (Asks (request.Insert 0 name) ∷ []) old cause new → TellsHalt cause report after ended → (course : List Taken) × Verifies name (told_of old report) course (told_of new after) ended
 unfolding halts_first no_shape
 open_halt_verifies name old new report after cause ended halted tells =
     let all = halts_first Any (Asks (request.Insert 0 name) ∷ []) (ack_plan 0 no_shape.rate) old new cause halted in

@@ -25,14 +25,14 @@ abbrev pub stage_of : {D S : Type 0} → (D → StationState) → (S → Option 
 stage_of shown told session shelf = record { state = state_of shown session; files = told shelf }
 
 -- a request was answered, and not refused
-abbrev pub IsTaken : Request → Reply → Stage → Stage → Type 0
-IsTaken asked answer old new = (is_refusal answer ≡ false) × Step old.state old.files asked answer new.state new.files
+abbrev pub IsTaken : Request → Stage → Reply → Stage → Type 0
+IsTaken asked old answer new = (is_refusal answer ≡ false) × Step asked old.state old.files answer new.state new.files
 
 -- a request was refused, or stopped the run
 abbrev pub HaltsAt : Request → Stage → Halt → Stage → Type 0
 HaltsAt asked old (halt.Refused named cause) new =
-    (named ≡ asked) × Step old.state old.files asked (reply.Refused cause) new.state new.files
-HaltsAt asked old (halt.Stopped cause) new = StopsAt old.state old.files asked cause new.state new.files
+    (named ≡ asked) × Step asked old.state old.files (reply.Refused cause) new.state new.files
+HaltsAt asked old (halt.Stopped cause) new = StopsAt asked old.state old.files cause new.state new.files
 
 -- an answer that is no refusal is given on, and a refusal halts
 abbrev pub Judges : Request → Reply → Result Reply Halt → Type 0

@@ -26,7 +26,7 @@ pub record IsWhole (plan : List Planned) (line : List ℕ) (old : World) (course
   pub run : Run old.state old.files course new.state new.files
   pub asked : Asked [] plan course
   pub fine : has_refusal course ≡ false
-  pub prints : Prints old.report line status.AllOk new.report ended
+  pub prints : Prints line status.AllOk old.report new.report ended
 
 -- a part of the plan was asked, and nothing of it was refused
 pub record IsBegun (plan : List Planned) (old : World) (course : List Taken) (next : Planned) (mid : State) (files : Option Files) : Type 0 where
@@ -49,9 +49,9 @@ pub record IsRefusedAt (plan : List Planned) (old : World) (course : List Taken)
   pub course_is : course ≡ before ++ last ∷ []
   pub asked : last.asked ≡ asked_after before next
   pub answered : last.answer ≡ reply.Refused cause
-  pub step : Step mid files last.asked last.answer last.after new.files
+  pub step : Step last.asked mid files last.answer last.after new.files
   pub after : new.state ≡ last.after
-  pub prints : Prints old.report (stopped_text last.asked cause) status.SomeRefused new.report ended
+  pub prints : Prints (stopped_text last.asked cause) status.SomeRefused old.report new.report ended
 
 -- the request after the course stopped the run
 pub record IsStoppedAt (plan : List Planned) (old : World) (course : List Taken) (new : World) (ended : Status) : Type 0 where
@@ -60,8 +60,8 @@ pub record IsStoppedAt (plan : List Planned) (old : World) (course : List Taken)
   pub files : Option Files
   pub cause : Stop
   pub begun : IsBegun plan old course next mid files
-  pub stops : StopsAt mid files (asked_after course next) cause new.state new.files
-  pub prints : Prints old.report (stop_text cause) (stop_status cause) new.report ended
+  pub stops : StopsAt (asked_after course next) mid files cause new.state new.files
+  pub prints : Prints (stop_text cause) (stop_status cause) old.report new.report ended
 
 -- a command ends at the first request that is refused or stops the run
 pub data Halts (plan : List Planned) (old : World) (course : List Taken) (new : World) (ended : Status) : Type 0 where

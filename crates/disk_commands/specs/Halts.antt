@@ -9,6 +9,6 @@ use Rattle.disk_commands.specs.declared.ask.Halt.{Halt}
 use Rattle.disk_commands.specs.declared.ask.Halt.TheVariants as halt
 
 -- the last line names the refused request, or what stopped the run
-abbrev pub TellsHalt : Option (List ℕ) → Halt → Option (List ℕ) → Status → Type 0
-TellsHalt old (halt.Refused named cause) new ended = Prints old (stopped_text named cause) status.SomeRefused new ended
-TellsHalt old (halt.Stopped cause) new ended = Prints old (stop_text cause) (stop_status cause) new ended
+abbrev pub TellsHalt : Halt → Option (List ℕ) → Option (List ℕ) → Status → Type 0
+TellsHalt (halt.Refused named cause) old new ended = Prints (stopped_text named cause) status.SomeRefused old new ended
+TellsHalt (halt.Stopped cause) old new ended = Prints (stop_text cause) (stop_status cause) old new ended

@@ -16,7 +16,7 @@ pub record TellsMarks (count : ℕ) (marks : List Bool) (course : List Taken) : 
       → tells_deleted (get_or (map (λ taken. taken.answer) course) i reply.Done) ≡ get_or marks i false
 
 -- a plan was asked through, and its answers told these marks
-pub record ReadsMarks (count : ℕ) (plan : List Planned) (marks : List Bool) (old new : Stage) : Type 0 where
+pub record ReadsMarks (count : ℕ) (plan : List Planned) (old : Stage) (marks : List Bool) (new : Stage) : Type 0 where
   pub carried : Carries Any plan old new
   pub tells : TellsMarks count marks carried.course
 

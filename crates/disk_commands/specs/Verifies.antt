@@ -51,12 +51,12 @@ pub record Verified (plan : List Planned) (old : World) (tally : Tally) (new : W
   pub refused : tally.refused ≡ has_refusal course
 
 -- a read stopped the run, or the line of a failure couldn't be put whole; `last` is the read that was answered then, if any
-pub data Breaks (old : World) (asked : Request) (last : List Taken) (new : World) (ended : Status) : Type 0 where
-  ReadStops : (cause : Stop) → last ≡ [] → StopsAt old.state old.files asked cause new.state new.files
-      → Prints old.report (stop_text cause) (stop_status cause) new.report ended → Breaks old asked last new ended
+pub data Breaks (asked : Request) (old : World) (last : List Taken) (new : World) (ended : Status) : Type 0 where
+  ReadStops : (cause : Stop) → last ≡ [] → StopsAt asked old.state old.files cause new.state new.files
+      → Prints (stop_text cause) (stop_status cause) old.report new.report ended → Breaks asked old last new ended
   LineIsCut : (answer : Reply) → last ≡ (record { asked = asked; answer = answer; after = new.state }) ∷ []
-      → Step old.state old.files asked answer new.state new.files
-      → GrowsByPart old.report (failure_text asked answer) new.report → IsPutFault ended → Breaks old asked last new ended
+      → Step asked old.state old.files answer new.state new.files
+      → GrowsByPart old.report (failure_text asked answer) new.report → IsPutFault ended → Breaks asked old last new ended
 
 -- a part of the reads was asked, and the next broke off
 pub record IsBroken (plan : List Planned) (old new : World) (ended : Status) : Type 0 where
@@ -70,7 +70,7 @@ pub record IsBroken (plan : List Planned) (old new : World) (ended : Status) : T
   pub asked : Request
   pub asks : (earlier : List Taken) → asked_after (earlier ++ verified.course) next ≡ asked
   pub last : List Taken
-  pub breaks : Breaks mid asked last new ended
+  pub breaks : Breaks asked mid last new ended
 
 -- reads were asked through, or broke off
 abbrev pub VerifyGoes : List Planned → World → Result Tally Status → World → Type 0
@@ -84,7 +84,7 @@ verify_text well all = codes "verify " ++ (decimal well ++ (codes " of " ++ (dec
 -- a disk was verified: all was read, and the last line tells how many sectors were read well; or the reads broke off
 pub data VerifiesShape (shape : Shape) (old new : World) (ended : Status) : Type 0 where
   ReadAll : (tally : Tally) (mid : World) → Verified (verify_plan shape) old tally mid → new.state ≡ mid.state → new.files ≡ mid.files
-      → Prints mid.report (verify_text tally.well (sectors_of shape)) (whole_status tally.refused) new.report ended
+      → Prints (verify_text tally.well (sectors_of shape)) (whole_status tally.refused) mid.report new.report ended
       → VerifiesShape shape old new ended
   BrokeOff : IsBroken (verify_plan shape) old new ended → VerifiesShape shape old new ended
 
@@ -104,8 +104,8 @@ pub record IsReadThrough (name : List ℕ) (shape : Shape) (old : World) (course
   pub opened : IsOpened name shape old opening mid files
   pub run : Run mid files reads new.state new.files
   pub asked : Asked opening (verify_plan shape) reads
-  pub prints : Prints (grown old.report (failures_text reads)) (verify_text (well_read reads) (sectors_of shape))
-      (whole_status (has_refusal reads)) new.report ended
+  pub prints : Prints (verify_text (well_read reads) (sectors_of shape)) (whole_status (has_refusal reads))
+      (grown old.report (failures_text reads)) new.report ended
 
 -- the reads broke off, after those before were run and told
 pub record IsCutShort (name : List ℕ) (shape : Shape) (old : World) (course : List Taken) (new : World) (ended : Status) : Type 0 where
@@ -123,7 +123,7 @@ pub record IsCutShort (name : List ℕ) (shape : Shape) (old : World) (course : 
   pub asked : Asked opening done reads
   pub report : broken.report ≡ grown old.report (failures_text reads)
   pub last : List Taken
-  pub breaks : Breaks broken (asked_after (opening ++ reads) next) last new ended
+  pub breaks : Breaks (asked_after (opening ++ reads) next) broken last new ended
   pub course_is : course ≡ opening ++ (reads ++ last)
 
 -- how a verify ends

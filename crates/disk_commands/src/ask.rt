@@ -32,8 +32,8 @@ pub(crate) fn ask<S: Shelf, D: Station>(
 ) -> Result<Reply, Halt>
     requires running { IsRunning D.shown D.is_ready session.old }
     requires tries { HasTries request }
-    ensures taken { IfOk result (λ reply. IsTaken request reply
-        (stage_of D.shown S.told session.old shelf.old) (stage_of D.shown S.told session.new shelf.new)) }
+    ensures taken { IfOk result (λ reply. IsTaken request (stage_of D.shown S.told session.old shelf.old)
+        reply (stage_of D.shown S.told session.new shelf.new)) }
     ensures halts { IfErr result (λ halt. HaltsAt request
         (stage_of D.shown S.told session.old shelf.old) halt (stage_of D.shown S.told session.new shelf.new)) }
     ensures running { IsRunning D.shown D.is_ready session.new }
@@ -118,7 +118,7 @@ fn set_rate<S: Shelf, D: Station>(
 
 /// Puts the last line of a command that was halted, and gives the status.
 pub(crate) fn tell_halt<K: Sink>(alloc: Global, out: &mut K, halt: &Halt) -> Status
-    ensures tells { TellsHalt (K.told out.old) halt.now (K.told out.new) result }
+    ensures tells { TellsHalt halt.now (K.told out.old) (K.told out.new) result }
     ensures is_form { result ≢ Status.BadWords }
     ensures shelf_fault { result ≡ Status.FileFault → halt.now ≡ Halt.Stopped Stop.FileFault }
     ensures sink_faults { Blames (result ≡ Status.SinkFault) (K.fault_count out.old) (K.fault_count out.new) }

@@ -91,8 +91,8 @@ fn read_records<S: Shelf, D: Station>(
 ) -> Result<[bool; MOST_RECORDS], Halt>
     requires running { IsRunning D.shown D.is_ready session.old }
     requires most { sectors ≤ 18 }
-    ensures reads { IfOk result (λ marks. ReadsMarks sectors (read_track sectors c h) marks
-        (stage_of D.shown S.told session.old shelf.old) (stage_of D.shown S.told session.new shelf.new)) }
+    ensures reads { IfOk result (λ marks. ReadsMarks sectors (read_track sectors c h) (stage_of D.shown S.told session.old shelf.old)
+        marks (stage_of D.shown S.told session.new shelf.new)) }
     ensures halted { IfErr result (λ halt. IsHalted Any (read_track sectors c h)
         (stage_of D.shown S.told session.old shelf.old) halt (stage_of D.shown S.told session.new shelf.new)) }
     ensures running { IsRunning D.shown D.is_ready session.new }

@@ -27,7 +27,7 @@ use Rattle.disk_completeness.proofs.Going.{IsDone, GoesWell, goes_asked}
 use Rattle.disk_completeness.proofs.Bays.{HoldsBlank, IsReadyFor, IsAckedWith, ChangesBay, ack_taken, rate_taken, both_true}
 
 -- a request that puts no file in is stopped by the outside alone
-pub stops_outside : (asked : Request) (old new : State) (told after : Option Files) (cause : Stop) → ((bay : ℕ) (name : List ℕ) → asked ≡ request.Insert bay name → ⊥) → StopsAt old told asked cause new after → IsEndStop cause
+pub stops_outside : (asked : Request) (old new : State) (told after : Option Files) (cause : Stop) → ((bay : ℕ) (name : List ℕ) → asked ≡ request.Insert bay name → ⊥) → StopsAt asked old told cause new after → IsEndStop cause
 stops_outside asked old new told after stop.FileFault other stops = tt
 stops_outside asked old new told after stop.NoMemory other stops = tt
 stops_outside asked old new told after (stop.BadImage name error) other stops = let is = stops.cause.0 in absurd (other is.0 name is.1)
@@ -49,7 +49,7 @@ blank_free bay rate name count state is_one least most empty = go rate
     go R500 = blank_order (is_blank_request bay count) (is_loaded state bay) good empty
     go R250 = blank_order (is_blank_request bay count) (is_loaded state bay) good empty
 
-blank_answered : (bay : ℕ) (rate : Rate) (name : List ℕ) (count : ℕ) (old new : State) (told after : Option Files) (answer : Reply) → refusal_of old (blank_request bay name count rate) ≡ None → Step old told (blank_request bay name count rate) answer new after → is_refusal answer ≡ false
+blank_answered : (bay : ℕ) (rate : Rate) (name : List ℕ) (count : ℕ) (old new : State) (told after : Option Files) (answer : Reply) → refusal_of old (blank_request bay name count rate) ≡ None → Step (blank_request bay name count rate) old told answer new after → is_refusal answer ≡ false
 blank_answered bay R500 name count old new told after answer free step = ap is_refusal (reaches _ (refusal_of old (request.Blank bay name count)) free step).0
 blank_answered bay R250 name count old new told after answer free step = ap is_refusal (reaches _ (refusal_of old (request.BlankDd bay name count)) free step).0
 

@@ -96,10 +96,10 @@ pub record Formats (bay : ℕ) (rate : Rate) (count c h : ℕ) (disk : Disk) (ol
   pub track : track_of next c h ≡ standard_track rate c h
   pub becomes : Becomes (set_bay old bay (record (bay_of old bay) { medium = (bay_of new bay).medium })) new
 
-formats : (bay c h : ℕ) (rate : Rate) (count : ℕ) (disk : Disk) (old new : StationState) (called : Result (Unit {0}) Code) → c < count → h < 2 → HoldsBlank bay rate count disk old → IsUndisturbed bay old.counters new.counters → old.counters.stalls ≤ new.counters.stalls → FormatsDrive (format_at c h (bay_of old bay).rate (gap_at (bay_of old bay).rate) standard_fill) bay called old new → IsOk called × Formats bay rate count c h disk old new
+formats : (bay c h : ℕ) (rate : Rate) (count : ℕ) (disk : Disk) (old new : StationState) (called : Result (Unit {0}) Code) → c < count → h < 2 → HoldsBlank bay rate count disk old → IsUndisturbed bay old.counters new.counters → old.counters.stalls ≤ new.counters.stalls → FormatsDrive (format_at c h (bay_of old bay).rate (gap_at (bay_of old bay).rate) standard_fill) bay old called new → IsOk called × Formats bay rate count c h disk old new
 formats bay c h rate count disk old new called cylinder head holds calm stalls drive =
     let format = format_at c h rate (gap_at rate) standard_fill in
-    let on = subst (λ (r : Rate). FormatsDrive (format_at c h r (gap_at r) standard_fill) bay called old new) holds.bay_rate drive in
+    let on = subst (λ (r : Rate). FormatsDrive (format_at c h r (gap_at r) standard_fill) bay old called new) holds.bay_rate drive in
     let alike = holds.alike in
     let track : HasTrack disk c h = (omega (arith, cylinder, alike.cylinders), omega (arith, head, alike.heads)) in
     let formattable : IsFormattable format (bay_of old bay).medium = (disk, holds.medium, record { track = track; rate = alike.rate; fits = standard_fits rate c h disk.words_per_track alike.words_per_track }) in
@@ -121,7 +121,7 @@ formats bay c h rate count disk old new called cylinder head holds calm stalls d
       },
     )
 
-pub format_taken : (bay c h : ℕ) (rate : Rate) (count : ℕ) (disk : Disk) (old new : State) (told after : Option Files) (answer : Reply) → is_bay bay ≡ true → c < count → h < 2 → HoldsBlank bay rate count disk old.station → IsUndisturbed bay old.station.counters new.station.counters → Step old told (request.Format bay c h) answer new after → (is_refusal answer ≡ false) × Formats bay rate count c h disk old.station new.station
+pub format_taken : (bay c h : ℕ) (rate : Rate) (count : ℕ) (disk : Disk) (old new : State) (told after : Option Files) (answer : Reply) → is_bay bay ≡ true → c < count → h < 2 → HoldsBlank bay rate count disk old.station → IsUndisturbed bay old.station.counters new.station.counters → Step (request.Format bay c h) old told answer new after → (is_refusal answer ≡ false) × Formats bay rate count c h disk old.station new.station
 format_taken bay c h rate count disk old new told after answer is_one cylinder head holds calm step =
     let called = step.1.0 in
     let free = format_free bay c h rate count disk old.station is_one cylinder head holds in
@@ -143,7 +143,7 @@ pub record IsAckedWith (bay : ℕ) (disk : Disk) (station : StationState) : Type
   pub high : disk.rate ≡ R500 → (bay_of station bay).rate ≡ R500
   pub kept : is_acknowledged station bay ≡ true
 
-ack_ok : (bay : ℕ) (disk : Disk) (old new : StationState) (called : Result (Unit {0}) Code) → (bay_of old bay).medium ≡ Some disk → IsUndisturbed bay old.counters new.counters → old.counters.stalls ≤ new.counters.stalls → AcksDrive old bay called new → IsOk called
+ack_ok : (bay : ℕ) (disk : Disk) (old new : StationState) (called : Result (Unit {0}) Code) → (bay_of old bay).medium ≡ Some disk → IsUndisturbed bay old.counters new.counters → old.counters.stalls ≤ new.counters.stalls → AcksDrive bay old called new → IsOk called
 ack_ok bay disk old new (Ok u) medium calm stalls drive = refl
 ack_ok bay disk old new (Err code) medium calm stalls drive = elim drive.refused.cause [
   | inl none ↦ absurd (cc (none, medium))
@@ -155,7 +155,7 @@ pub record ChangesBay (bay : ℕ) (old new : StationState) : Type 0 where
   pub value : Bay
   pub becomes : Becomes (set_bay old bay value) new
 
-pub ack_taken : (bay : ℕ) (disk : Disk) (old new : State) (told after : Option Files) (answer : Reply) → is_bay bay ≡ true → (bay_of old.station bay).medium ≡ Some disk → IsUndisturbed bay old.station.counters new.station.counters → Step old told (request.Ack bay) answer new after → (is_refusal answer ≡ false) × IsAckedWith bay disk new.station × ChangesBay bay old.station new.station
+pub ack_taken : (bay : ℕ) (disk : Disk) (old new : State) (told after : Option Files) (answer : Reply) → is_bay bay ≡ true → (bay_of old.station bay).medium ≡ Some disk → IsUndisturbed bay old.station.counters new.station.counters → Step (request.Ack bay) old told answer new after → (is_refusal answer ≡ false) × IsAckedWith bay disk new.station × ChangesBay bay old.station new.station
 ack_taken bay disk old new told after answer is_one medium calm step =
     let drive = truly _ (is_bay bay) is_one step.1.2 in
     let fine = ok_taken step.1.0 answer step.1.1 (ack_ok bay disk old.station new.station step.1.0 medium calm step.0.counts.stalls drive) in
@@ -168,7 +168,7 @@ ack_taken bay disk old new told after answer is_one medium calm step =
 rate_order : (one acknowledged : Bool) → one ≡ true → acknowledged ≡ true → (if not one then Some BadRequest else (if not acknowledged then Some Changed else None)) ≡ None
 rate_order one acknowledged e f = rw (e, f) refl
 
-pub rate_taken : (bay : ℕ) (disk : Disk) (old new : State) (told after : Option Files) (answer : Reply) → is_bay bay ≡ true → disk.rate ≡ R250 → IsAckedWith bay disk old.station → Step old told (request.SetRate bay R250) answer new after → (is_refusal answer ≡ false) × IsReadyFor bay disk new.station × ChangesBay bay old.station new.station
+pub rate_taken : (bay : ℕ) (disk : Disk) (old new : State) (told after : Option Files) (answer : Reply) → is_bay bay ≡ true → disk.rate ≡ R250 → IsAckedWith bay disk old.station → Step (request.SetRate bay R250) old told answer new after → (is_refusal answer ≡ false) × IsReadyFor bay disk new.station × ChangesBay bay old.station new.station
 rate_taken bay disk old new told after answer is_one low acked step =
     let free = rate_order (is_bay bay) (is_acknowledged old.station bay) is_one acked.kept in
     let sets = reaches _ (rate_refusal old.station bay) free step.1.2 in

@@ -29,8 +29,8 @@ pub record IsCalm (asked : Request) (answer : Reply) (old new : Counters) : Type
 
 -- only the outside can stop the request; where nothing disturbs it, it isn't refused, and then this holds
 pub record IsDone (Then : Stage → Type 0) (asked : Request) (old : Stage) : Type 0 where
-  pub stops : (cause : Stop) (new : Stage) → StopsAt old.state old.files asked cause new.state new.files → IsEndStop cause
-  pub answers : (answer : Reply) (new : Stage) → Step old.state old.files asked answer new.state new.files
+  pub stops : (cause : Stop) (new : Stage) → StopsAt asked old.state old.files cause new.state new.files → IsEndStop cause
+  pub answers : (answer : Reply) (new : Stage) → Step asked old.state old.files answer new.state new.files
       → IsCalm asked answer old.state.station.counters new.state.station.counters → (is_refusal answer ≡ false) × Then new
 
 -- so it is with each request of a plan, one after the other, and at the end this holds

@@ -137,7 +137,7 @@ verify_none : (shape : Shape) → plan_accesses (verify_plan shape) ≡ 0
 verify_none shape = tracks_accesses shape.cylinders shape.heads (verify_track (sectors_at shape.rate))
     (λ c h. each_accesses (λ r. Asks (request.Read 0 (key_of c h r) track_address) ∷ []) 1 (sectors_at shape.rate) (λ r. refl))
 
-breaks_rise : (old : World) (asked : Request) (last : List Taken) (new : World) (ended : Status) → Breaks old asked last new ended → RisesBy (accesses_of asked) old.state new.state
+breaks_rise : (old : World) (asked : Request) (last : List Taken) (new : World) (ended : Status) → Breaks asked old last new ended → RisesBy (accesses_of asked) old.state new.state
 breaks_rise old asked last new ended (ReadStops cause none stops prints) = stop_rises old.state new.state old.files new.files asked cause stops
 breaks_rise old asked last new ended (LineIsCut answer is step part fault) = step_rises old.state new.state old.files new.files asked answer step
 

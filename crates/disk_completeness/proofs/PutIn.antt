@@ -33,7 +33,7 @@ pub record IsPutIn (disk : Disk) (stage : Stage) : Type 0 where
   pub empty : is_loaded stage.state 1 ≡ false
 
 -- no stop but one of the outside comes, as the file is there and is the image of a disk
-insert_stops : (from : List ℕ) (files : Files) (disk : Disk) (old new : State) (after : Option Files) (cause : Stop) → IsImageOf (Some files) from disk → StopsAt old (Some files) (request.Insert 0 from) cause new after → IsEndStop cause
+insert_stops : (from : List ℕ) (files : Files) (disk : Disk) (old new : State) (after : Option Files) (cause : Stop) → IsImageOf (Some files) from disk → StopsAt (request.Insert 0 from) old (Some files) cause new after → IsEndStop cause
 insert_stops from files disk old new after stop.FileFault image stops = tt
 insert_stops from files disk old new after stop.NoMemory image stops = tt
 insert_stops from files disk old new after (stop.BadImage name error) image stops =

@@ -90,18 +90,18 @@ module _ (disk : Disk) (regular : IsRegularDisk disk) (key : Chrn) (has : HasTra
 -- ---- the read
 
 module _ (source : Disk) (readable : IsReadable source) (c h r : ℕ) (has : HasTrack source c h) (old new : StationState) (ready : IsReadyFor 0 source old) (calm : IsUndisturbed 0 old.counters new.counters) (standard : HasData (track_of source c h) (key_of c h r)) where
-  never : (code : Code) → IsReadCause (met (bay_of old 0) c h) (key_of c h r) old.tries 0 code old new → ⊥
+  never : (code : Code) → IsReadCause (met (bay_of old 0) c h) (key_of c h r) old.tries 0 old code new → ⊥
   never code cause =
       let is = met_track (bay_of old 0).medium (bay_of old 0).rate c h source (record { is_in = ready.medium; has = has; same_rate = sym ready.bay_rate }) in
-      let on = subst (λ (track : List ℕ). IsReadCause track (key_of c h r) old.tries 0 code old new) is cause in
+      let on = subst (λ (track : List ℕ). IsReadCause track (key_of c h r) old.tries 0 old code new) is cause in
       on.never (clear source readable.regular (key_of c h r) has standard) (all_found source readable.regular (key_of c h r) has standard) (disturbed_less old.tries 0 old.counters new.counters calm)
 
-  called_taken : (address : ℕ) (called : Result Bool Code) → ReadsDrive old 0 (key_of c h r) address called new → (is_refusal (read_reply called) ≡ false) × (new.bays ≡ old.bays)
+  called_taken : (address : ℕ) (called : Result Bool Code) → ReadsDrive 0 (key_of c h r) address old called new → (is_refusal (read_reply called) ≡ false) × (new.bays ≡ old.bays)
   called_taken address (Ok true) drive = (refl, ap (λ (s : StationState). s.bays) drive.found.becomes)
   called_taken address (Ok false) drive = (refl, ap (λ (s : StationState). s.bays) drive.found.becomes)
   called_taken address (Err code) drive = absurd (never code drive.refused.cause)
 
-pub read_taken : (source : Disk) (c h r : ℕ) (old new : State) (told after : Option Files) (answer : Reply) → IsReadable source → source.cylinders ≤ 80 → source.heads ≤ 2 → HasTrack source c h → 1 ≤ r → r ≤ sectors_at source.rate → IsReadyFor 0 source old.station → IsUndisturbed 0 old.station.counters new.station.counters → Step old told (request.Read 0 (key_of c h r) (record_address r)) answer new after → (is_refusal answer ≡ false) × (new.station.bays ≡ old.station.bays)
+pub read_taken : (source : Disk) (c h r : ℕ) (old new : State) (told after : Option Files) (answer : Reply) → IsReadable source → source.cylinders ≤ 80 → source.heads ≤ 2 → HasTrack source c h → 1 ≤ r → r ≤ sectors_at source.rate → IsReadyFor 0 source old.station → IsUndisturbed 0 old.station.counters new.station.counters → Step (request.Read 0 (key_of c h r) (record_address r)) old told answer new after → (is_refusal answer ≡ false) × (new.station.bays ≡ old.station.bays)
 read_taken source c h r old new told after answer readable few_cylinders few_heads has least most ready calm step =
     let key = key_of c h r in
     let address = record_address r in

@@ -23,15 +23,15 @@ driven : (most : ℕ) (old new : StationState) → IsDriven most old.counters ne
 driven most old new is = omega (arith, is.past_driver)
 
 -- a call of the driver, also one that is refused at once
-called : {A P : Type 0} (refusal : Option Code) (answer : Result A Code) (most : ℕ) (old new : StationState) → MatchOption refusal P (λ code. IsRefusedAtOnce old code answer new) → (P → IsDriven most old.counters new.counters) → new.counters.direct ≤ old.counters.direct + 0
+called : {A P : Type 0} (refusal : Option Code) (answer : Result A Code) (most : ℕ) (old new : StationState) → MatchOption refusal P (λ code. IsRefusedAtOnce code old answer new) → (P → IsDriven most old.counters new.counters) → new.counters.direct ≤ old.counters.direct + 0
 called refusal answer most old new holds reached =
     either refusal holds (λ p. driven most old new (reached p)) (λ code refused. driven 0 old new refused.idle)
 
-acknowledged : {P : Type 0} (good : Bool) (code : Code) (answer : Result (Unit {0}) Code) (old new : StationState) → MatchBool good P (IsRefusedAtOnce old code answer new) → (P → IsDriven 6 old.counters new.counters) → new.counters.direct ≤ old.counters.direct + 0
+acknowledged : {P : Type 0} (good : Bool) (code : Code) (answer : Result (Unit {0}) Code) (old new : StationState) → MatchBool good P (IsRefusedAtOnce code old answer new) → (P → IsDriven 6 old.counters new.counters) → new.counters.direct ≤ old.counters.direct + 0
 acknowledged true code answer old new holds reached = driven 6 old new (reached holds)
 acknowledged false code answer old new holds reached = driven 0 old new holds.idle
 
-does_rise : (old new : State) (told after : Option Files) (asked : Request) (answer : Reply) → Does old told asked answer new after → RisesBy (accesses_of asked) old new
+does_rise : (old new : State) (told after : Option Files) (asked : Request) (answer : Reply) → Does asked old told answer new after → RisesBy (accesses_of asked) old new
 does_rise old new told after (request.Insert bay name) answer does = does.2.2.exchanged.access.accesses
 does_rise old new told after (request.Blank bay name cylinders) answer does = does.2.exchanged.access.accesses
 does_rise old new told after (request.BlankDd bay name cylinders) answer does = does.2.exchanged.access.accesses
@@ -51,11 +51,11 @@ same_rises : (most : ℕ) (old new : State) → IsSame old new → RisesBy most 
 same_rises most old new same = omega (arith, same.idle.accesses)
 
 -- a step
-pub step_rises : (old new : State) (told after : Option Files) (asked : Request) (answer : Reply) → Step old told asked answer new after → RisesBy (accesses_of asked) old new
+pub step_rises : (old new : State) (told after : Option Files) (asked : Request) (answer : Reply) → Step asked old told answer new after → RisesBy (accesses_of asked) old new
 step_rises old new told after asked answer step =
     either (refusal_of old asked) step (λ does. does_rise old new told after asked answer does) (λ cause refused. same_rises (accesses_of asked) old new refused.same)
 
-stopped_rises : (old new : State) (asked : Request) → AfterStop old asked new → RisesBy (accesses_of asked) old new
+stopped_rises : (old new : State) (asked : Request) → AfterStop asked old new → RisesBy (accesses_of asked) old new
 stopped_rises old new (request.Eject bay) stopped = stopped.exchanged.access.accesses
 stopped_rises old new (request.Insert bay name) stopped = same_rises 1 old new stopped
 stopped_rises old new (request.Blank bay name cylinders) stopped = same_rises 1 old new stopped
@@ -72,5 +72,5 @@ stopped_rises old new (request.SetRate bay rate) stopped = same_rises 0 old new 
 stopped_rises old new (request.Tries tries) stopped = same_rises 0 old new stopped
 
 -- a request that stopped the run
-pub stop_rises : (old new : State) (told after : Option Files) (asked : Request) (cause : Stop) → StopsAt old told asked cause new after → RisesBy (accesses_of asked) old new
+pub stop_rises : (old new : State) (told after : Option Files) (asked : Request) (cause : Stop) → StopsAt asked old told cause new after → RisesBy (accesses_of asked) old new
 stop_rises old new told after asked cause stops = stopped_rises old new asked stops.after

@@ -57,7 +57,7 @@ next_read [] (one ∷ done) next later parts = absurd (cc parts)
 next_read (key ∷ keys) [] next later parts = (key, cc parts)
 next_read (key ∷ keys) (one ∷ done) next later parts = let rest : asks_all (read_each 0 keys) ≡ done ++ next ∷ later = cc parts in next_read keys done next later rest
 
-breaks_outside : (Holds : Type 0) (old : World) (asked : Request) (key : Chrn) (last : List Taken) (new : World) (ended : Status) → request.Read 0 key 0x10000 ≡ asked → Breaks old asked last new ended → EndsWellOrOutside Holds ended
+breaks_outside : (Holds : Type 0) (old : World) (asked : Request) (key : Chrn) (last : List Taken) (new : World) (ended : Status) → request.Read 0 key 0x10000 ≡ asked → Breaks asked old last new ended → EndsWellOrOutside Holds ended
 breaks_outside Holds old asked key last new ended is (ReadStops cause none stops prints) =
     let only = stops_outside asked old.state new.state old.files new.files cause (λ bay name same. cc (is, same)) stops in
     prints_outside Holds _ _ (stop_status cause) ended _ (stop_outside Holds cause only) prints
@@ -101,7 +101,7 @@ module _ (name : List ℕ) (shape : Shape) (old : World) (course : List Taken) (
   read_ends : IsReadThrough name shape old course new ended → EndsWellOrOutside (TellsFailing disk [] old new status.AllOk) ended
   read_ends p = go p.prints
     where
-      go : {report : Option (List ℕ)} {line : List ℕ} {after : Option (List ℕ)} → Prints report line (whole_status (has_refusal p.reads)) after ended → EndsWellOrOutside (TellsFailing disk [] old new status.AllOk) ended
+      go : {report : Option (List ℕ)} {line : List ℕ} {after : Option (List ℕ)} → Prints line (whole_status (has_refusal p.reads)) report after ended → EndsWellOrOutside (TellsFailing disk [] old new status.AllOk) ended
       go (plays.Whole printed same) =
           let all = tells (subst IsEndStatus (sym same) (whole_end (has_refusal p.reads))) p in
           let well : ended ≡ status.AllOk = all.status in

@@ -37,10 +37,10 @@ use Rattle.disk_completeness.proofs.ReadDone.{sector_asked, within_page, disturb
 -- what a write from a bay calls, at this mark
 abbrev Calls : ℕ → Chrn → ℕ → Bool → State → Option Files → Reply → State → Option Files → Type 0
 Calls bay key address deleted old told answer new after =
-    IsDriverCall old told new after × ((called : Result (Unit {0}) Code) × (answer ≡ reply_of called) × WritesTo old.station bay key address deleted called new.station)
+    IsDriverCall old told new after × ((called : Result (Unit {0}) Code) × (answer ≡ reply_of called) × WritesTo bay key address deleted old.station called new.station)
 
 -- both writes to bay 1 are the driver's, with their marks
-write_called : (key : Chrn) (address : ℕ) (deleted : Bool) (old new : State) (told after : Option Files) (answer : Reply) → Step old told (write_request deleted key address) answer new after → Calls 1 key address deleted old told answer new after
+write_called : (key : Chrn) (address : ℕ) (deleted : Bool) (old new : State) (told after : Option Files) (answer : Reply) → Step (write_request deleted key address) old told answer new after → Calls 1 key address deleted old told answer new after
 write_called key address true old new told after answer step = step
 write_called key address false old new told after answer step = step
 
@@ -62,7 +62,7 @@ pub record Writes (bay : ℕ) (rate : Rate) (count sectors c h : ℕ) (old new :
   pub has : HasRecords sectors c h next
   pub first : (bay == 0) ≡ false → bay_of new 0 ≡ bay_of old 0
 
-module _ (bay : ℕ) (rate : Rate) (count sectors c h r : ℕ) (deleted : Bool) (disk : Disk) (track : HasTrack disk c h) (regular : IsRegularDisk disk) (has : HasRecords sectors c h disk) (least : 1 ≤ r) (most : r ≤ sectors) (old new : StationState) (holds : HoldsBlank bay rate count disk old) (calm : IsUndisturbed bay old.counters new.counters) (stalls : old.counters.stalls ≤ new.counters.stalls) (called : Result (Unit {0}) Code) (drive : WritesDrive (written_from old (key_of c h r) (record_address r) deleted) bay called old new) where
+module _ (bay : ℕ) (rate : Rate) (count sectors c h r : ℕ) (deleted : Bool) (disk : Disk) (track : HasTrack disk c h) (regular : IsRegularDisk disk) (has : HasRecords sectors c h disk) (least : 1 ≤ r) (most : r ≤ sectors) (old new : StationState) (holds : HoldsBlank bay rate count disk old) (calm : IsUndisturbed bay old.counters new.counters) (stalls : old.counters.stalls ≤ new.counters.stalls) (called : Result (Unit {0}) Code) (drive : WritesDrive (written_from old (key_of c h r) (record_address r) deleted) bay old called new) where
   abbrev written : Written
   written = written_from old (key_of c h r) (record_address r) deleted
 
@@ -75,7 +75,7 @@ module _ (bay : ℕ) (rate : Rate) (count sectors c h r : ℕ) (deleted : Bool) 
   address : IsAddressAt (met (bay_of old bay) c h) place (key_of c h r)
   address = subst (λ (t : List ℕ). IsAddressAt t place (key_of c h r)) (sym met_is) (has r least most).3.address
 
-  never : (code : Code) → IsWriteCause written (met (bay_of old bay) c h) (met (bay_of new bay) c h) drive.changes bay code old new → ⊥
+  never : (code : Code) → IsWriteCause written (met (bay_of old bay) c h) (met (bay_of new bay) c h) drive.changes bay old code new → ⊥
   never code cause =
       let on = subst (λ (t : List ℕ). IsRegular t c h) (sym met_is) (regular c h track) in
       cause.never on place address (inr calm) (disturbed_less old.tries bay old.counters new.counters calm)
@@ -83,11 +83,11 @@ module _ (bay : ℕ) (rate : Rate) (count sectors c h r : ℕ) (deleted : Bool) 
   ok : IsOk called
   ok = go called drive.refused
     where
-      go : (answer : Result (Unit {0}) Code) → IfErr answer (λ code. IsWriteCause written (met (bay_of old bay) c h) (met (bay_of new bay) c h) drive.changes bay code old new) → IsOk answer
+      go : (answer : Result (Unit {0}) Code) → IfErr answer (λ code. IsWriteCause written (met (bay_of old bay) c h) (met (bay_of new bay) c h) drive.changes bay old code new) → IsOk answer
       go (Ok u) cause = refl
       go (Err code) cause = absurd (never code cause)
 
-  alone : ChangesAlone written bay place disk called old new
+  alone : ChangesAlone written bay place disk old called new
   alone = (drive.regular disk holds.medium regular).one place address (inr calm)
 
   few_faults : FaultsRoseLess 2 bay old.counters new.counters
@@ -135,12 +135,12 @@ called_taken bay rate count c h r deleted disk old new told after answer is_one 
     )
 
 -- a write to bay 1, with its mark
-pub write_taken : (rate : Rate) (count c h r : ℕ) (deleted : Bool) (disk : Disk) (old new : State) (told after : Option Files) (answer : Reply) → HasTrack disk c h → IsRegularDisk disk → HasRecords (sectors_at rate) c h disk → 1 ≤ r → r ≤ sectors_at rate → HoldsBlank 1 rate count disk old.station → IsUndisturbed 1 old.station.counters new.station.counters → Step old told (write_request deleted (key_of c h r) (record_address r)) answer new after → (is_refusal answer ≡ false) × Writes 1 rate count (sectors_at rate) c h old.station new.station
+pub write_taken : (rate : Rate) (count c h r : ℕ) (deleted : Bool) (disk : Disk) (old new : State) (told after : Option Files) (answer : Reply) → HasTrack disk c h → IsRegularDisk disk → HasRecords (sectors_at rate) c h disk → 1 ≤ r → r ≤ sectors_at rate → HoldsBlank 1 rate count disk old.station → IsUndisturbed 1 old.station.counters new.station.counters → Step (write_request deleted (key_of c h r) (record_address r)) old told answer new after → (is_refusal answer ≡ false) × Writes 1 rate count (sectors_at rate) c h old.station new.station
 write_taken rate count c h r deleted disk old new told after answer track regular has least most holds calm step =
     called_taken 1 rate count c h r deleted disk old new told after answer refl track regular has least most holds calm
     (write_called (key_of c h r) (record_address r) deleted old new told after answer step)
 
 -- a write to bay 0 that marks nothing deleted
-pub first_write_taken : (rate : Rate) (count c h r : ℕ) (disk : Disk) (old new : State) (told after : Option Files) (answer : Reply) → HasTrack disk c h → IsRegularDisk disk → HasRecords (sectors_at rate) c h disk → 1 ≤ r → r ≤ sectors_at rate → HoldsBlank 0 rate count disk old.station → IsUndisturbed 0 old.station.counters new.station.counters → Step old told (request.Write 0 (key_of c h r) (record_address r)) answer new after → (is_refusal answer ≡ false) × Writes 0 rate count (sectors_at rate) c h old.station new.station
+pub first_write_taken : (rate : Rate) (count c h r : ℕ) (disk : Disk) (old new : State) (told after : Option Files) (answer : Reply) → HasTrack disk c h → IsRegularDisk disk → HasRecords (sectors_at rate) c h disk → 1 ≤ r → r ≤ sectors_at rate → HoldsBlank 0 rate count disk old.station → IsUndisturbed 0 old.station.counters new.station.counters → Step (request.Write 0 (key_of c h r) (record_address r)) old told answer new after → (is_refusal answer ≡ false) × Writes 0 rate count (sectors_at rate) c h old.station new.station
 first_write_taken rate count c h r disk old new told after answer track regular has least most holds calm step =
     called_taken 0 rate count c h r false disk old new told after answer refl track regular has least most holds calm step

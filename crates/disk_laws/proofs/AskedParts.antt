@@ -60,9 +60,9 @@ called_mark bay key address (Ok true) done = refl
 called_mark bay key address (Ok false) done = refl
 called_mark bay key address (Err code) done = absurd (true≢false done)
 
-step_tells : (old : State) (told after : Option Files) (taken : Taken) → Step old told taken.asked taken.answer taken.after after → is_refusal taken.answer ≡ false → TellsMark taken
+step_tells : (old : State) (told after : Option Files) (taken : Taken) → Step taken.asked old told taken.answer taken.after after → is_refusal taken.answer ≡ false → TellsMark taken
 step_tells old told after taken step done bay key address is =
-    let read = subst (λ (q : Request). Step old told q taken.answer taken.after after) is step in
+    let read = subst (λ (q : Request). Step q old told taken.answer taken.after after) is step in
     let fine = subst (λ (r : Reply). is_refusal r ≡ false) read.1.1 done in
     ap (λ (q : Request). mark_of q taken.answer) is
     ∙ subst (λ (r : Reply). mark_of (request.Read bay key address) r ≡ tells_deleted r ∷ []) (sym read.1.1) (called_mark bay key address read.1.0 fine)

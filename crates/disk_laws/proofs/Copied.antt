@@ -89,7 +89,7 @@ module _ (rate : Rate) (b g : ℕ) (later : List Track) (disk next : Disk) (keep
     | inr other ↦ inr (given_elsewhere sure source whole disk b g next c h r keeps (λ e _. other e) given)
   ]
 
-pub copies_each : (tidy : AllTidy) (sure : Type 0) (source : Disk) (rate : Rate) (tracks : List Track) (marks : List Bool) (whole : List Taken) (disk : Disk) (old new : State) (told after : Option Files) (course : List Taken) → DoesAll old told (copy_each rate tracks marks) course new after → marks ≡ marks_read course → IsPart course whole → ((c h : ℕ) → Among tracks c h → HasTrack disk c h) → IsReady rate source disk old → IsFaultless 1 old.station.counters new.station.counters → (sure → IsSure source old.station.counters new.station.counters) → CopiesTracks sure source rate tracks whole disk old told new after
+pub copies_each : (tidy : AllTidy) (sure : Type 0) (source : Disk) (rate : Rate) (tracks : List Track) (marks : List Bool) (whole : List Taken) (disk : Disk) (old new : State) (told after : Option Files) (course : List Taken) → DoesAll (copy_each rate tracks marks) old told course new after → marks ≡ marks_read course → IsPart course whole → ((c h : ℕ) → Among tracks c h → HasTrack disk c h) → IsReady rate source disk old → IsFaultless 1 old.station.counters new.station.counters → (sure → IsSure source old.station.counters new.station.counters) → CopiesTracks sure source rate tracks whole disk old told new after
 copies_each tidy sure source rate [] marks whole disk old new told after course all asked part has ready faultless calm =
     let same = ends_there old new told after course all in
     record {

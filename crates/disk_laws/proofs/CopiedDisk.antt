@@ -25,7 +25,7 @@ use Rattle.disk_laws.proofs.Verified.{image_ranges}
 use Rattle.disk_laws.proofs.Written.{AllTidy}
 use Rattle.disk_laws.proofs.CopyOpened.{opens_copy, opening_keeps, opening_reads_none}
 
-pub copies_disk : (tidy : AllTidy) (from to : List ℕ) (disk : Disk) (files : Files) (old new : State) (after : Option Files) (course : List Taken) → CopiesDisk old files from to disk course new after → length old.station.memory ≡ user_bytes → IsFaultless 1 old.station.counters new.station.counters → StoresCopy old.station.counters new.station.counters course disk to (Some files) after
+pub copies_disk : (tidy : AllTidy) (from to : List ℕ) (disk : Disk) (files : Files) (old new : State) (after : Option Files) (course : List Taken) → CopiesDisk from to disk old files course new after → length old.station.memory ≡ user_bytes → IsFaultless 1 old.station.counters new.station.counters → StoresCopy disk to old.station.counters (Some files) course new.station.counters after
 copies_disk tidy from to disk files old new after course all size faultless =
     let rate = disk.rate in
     let tracks = tracks_of disk.cylinders disk.heads in

@@ -70,7 +70,7 @@ pub record FormatsIt (at : Rate) (source : Disk) (c h : ℕ) (disk : Disk) (old 
 pub small : (disk : Disk) (c h : ℕ) → IsDisk disk → HasTrack disk c h → (c < 256) × (h < 256)
 small disk c h valid has = (omega (arith, has.0, valid.cylinders.1), omega (arith, has.1, valid.heads.1))
 
-pub formats_it : (rate : Rate) (source : Disk) (c h : ℕ) (disk : Disk) (old new : State) (told after : Option Files) (course : List Taken) → DoesAll old told (request.Format 1 c h ∷ []) course new after → IsReady rate source disk old → HasTrack disk c h → IsFaultless 1 old.station.counters new.station.counters → FormatsIt rate source c h disk old told new after
+pub formats_it : (rate : Rate) (source : Disk) (c h : ℕ) (disk : Disk) (old new : State) (told after : Option Files) (course : List Taken) → DoesAll (request.Format 1 c h ∷ []) old told course new after → IsReady rate source disk old → HasTrack disk c h → IsFaultless 1 old.station.counters new.station.counters → FormatsIt rate source c h disk old told new after
 formats_it rate source c h disk old new told after course all ready has faultless =
     let first = begins old new told after (request.Format 1 c h) [] course all in
     let end = ends_there first.mid new first.files after first.later first.behind in
@@ -78,7 +78,7 @@ formats_it rate source c h disk old new told after course all ready has faultles
     let called = does.1.0 in
     let ok = ok_called called first.answer does.1.1 first.done in
     let drive = reached (format_refusal old.station 1 c h (gap_at (bay_of old.station 1).rate)) called old.station first.mid.station does.1.2 ok in
-    let at = subst (λ (r : Rate). FormatsDrive (format_at c h r (gap_at r) standard_fill) 1 called old.station first.mid.station) ready.bay_rate drive in
+    let at = subst (λ (r : Rate). FormatsDrive (format_at c h r (gap_at r) standard_fill) 1 old.station called first.mid.station) ready.bay_rate drive in
     let calm = subst (λ (s : State). IsFaultless 1 old.station.counters s.station.counters) end.0 faultless in
     let formats = drive_formats 1 rate c h disk old.station first.mid.station called at ok calm ready.medium ready.valid in
     let keeps = formats.2 in
@@ -131,7 +131,7 @@ both_fell old mid new one two = record {
   stalls = omega (arith, one.stalls, two.stalls);
 }
 
-pub copies_track : (tidy : AllTidy) (sure : Type 0) (source : Disk) (rate : Rate) (c h : ℕ) (marks more : List Bool) (disk : Disk) (old new : State) (told after : Option Files) (course : List Taken) → DoesAll old told (copy_track rate (c, h) marks) course new after → marks ≡ take (sectors_at rate) (marks_read course ++ more) → IsReady rate source disk old → HasTrack disk c h → IsFaultless 1 old.station.counters new.station.counters → (sure → IsSure source old.station.counters new.station.counters) → CopiesTrack sure source rate c h disk old told course new after
+pub copies_track : (tidy : AllTidy) (sure : Type 0) (source : Disk) (rate : Rate) (c h : ℕ) (marks more : List Bool) (disk : Disk) (old new : State) (told after : Option Files) (course : List Taken) → DoesAll (copy_track rate (c, h) marks) old told course new after → marks ≡ take (sectors_at rate) (marks_read course ++ more) → IsReady rate source disk old → HasTrack disk c h → IsFaultless 1 old.station.counters new.station.counters → (sure → IsSure source old.station.counters new.station.counters) → CopiesTrack sure source rate c h disk old told course new after
 copies_track tidy sure source rate c h marks more disk old new told after course all asked ready has faultless calm =
     let sectors = sectors_at rate in
     let keys = track_keys sectors c h in
@@ -143,7 +143,7 @@ copies_track tidy sure source rate c h marks more disk old new told after course
     let fell_writes = never_fell two.mid new two.files after (write_records 1 keys marks) two.two two.behind (writes_keep 1 keys marks) in
     let formats = formats_it rate source c h disk old one.mid told one.files one.one one.before ready has (omega (arith, fell_reads.second, fell_writes.second, faultless.0), omega (arith, fell_reads.second, fell_writes.second, faultless.1)) in
     let from = track_keys_from sectors c h in
-    let asked_reads = subst (λ (row : List Chrn). DoesAll one.mid one.files (read_records 0 row) two.one two.mid two.files) from two.before in
+    let asked_reads = subst (λ (row : List Chrn). DoesAll (read_records 0 row) one.mid one.files two.one two.mid two.files) from two.before in
     let fell_behind = both_fell one.mid.station.counters two.mid.station.counters new.station.counters fell_reads fell_writes in
     let calm_reads = λ (s : sure).
     (sure_parts source one.mid.station.counters two.mid.station.counters new.station.counters fell_reads fell_writes
@@ -157,7 +157,7 @@ copies_track tidy sure source rate c h marks more disk old new told after course
     ∙ append-nil (marks_read two.one) ∙ reads.marks_are in
     let count : length (marks_read course) ≡ sectors = ap length told_marks ∙ reads.count in
     let same_marks : marks ≡ reads.marks = asked ∙ take_at (marks_read course) more sectors count ∙ told_marks in
-    let asked_writes = subst (λ (row : List Chrn). DoesAll two.mid two.files (write_records 1 row reads.marks) two.two new after) from (subst (λ (row : List Bool). DoesAll two.mid two.files (write_records 1 keys row) two.two new after) same_marks two.behind) in
+    let asked_writes = subst (λ (row : List Chrn). DoesAll (write_records 1 row reads.marks) two.mid two.files two.two new after) from (subst (λ (row : List Bool). DoesAll (write_records 1 keys row) two.mid two.files two.two new after) same_marks two.behind) in
     let tiny = small disk c h ready.valid has in
     let has_next = (alike_tracks disk formats.next c h formats.keeps.alike).0 has in
     let laid = subst IsLaid (sym formats.track) (track_laid rate c h tiny.0 tiny.1) in

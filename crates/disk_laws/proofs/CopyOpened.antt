@@ -33,9 +33,9 @@ record AreIn (disk : Disk) (to : List ℕ) (files : Files) (rest : List Request)
   pub size : length mid.station.memory ≡ user_bytes
   pub named : in_bay mid.names 1 ≡ Some to
   pub same_files : mid_files ≡ Some files
-  pub behind : DoesAll mid mid_files rest course new after
+  pub behind : DoesAll rest mid mid_files course new after
 
-are_in : (from to : List ℕ) (disk : Disk) (files : Files) (rest : List Request) (old new : State) (after : Option Files) (course : List Taken) → IsImageOf (Some files) from disk → DoesAll old (Some files) (request.Insert 0 from ∷ blank_request 1 to disk.cylinders disk.rate ∷ rest) course new after → length old.station.memory ≡ user_bytes → AreIn disk to files rest new after
+are_in : (from to : List ℕ) (disk : Disk) (files : Files) (rest : List Request) (old new : State) (after : Option Files) (course : List Taken) → IsImageOf (Some files) from disk → DoesAll (request.Insert 0 from ∷ blank_request 1 to disk.cylinders disk.rate ∷ rest) old (Some files) course new after → length old.station.memory ≡ user_bytes → AreIn disk to files rest new after
 are_in from to disk files rest old new after course image all size =
     let rate = disk.rate in
     let one = begins old new (Some files) after (request.Insert 0 from) (blank_request 1 to disk.cylinders rate ∷ rest) course all in
@@ -67,9 +67,9 @@ record IsFirstReady (disk : Disk) (old : State) (told : Option Files) (rest : Li
   pub memory : mid.station.memory ≡ old.station.memory
   pub names : mid.names ≡ old.names
   pub same_files : files ≡ told
-  pub behind : DoesAll mid files rest course new after
+  pub behind : DoesAll rest mid files course new after
 
-first_ready : (disk : Disk) (rest : List Request) (old new : State) (told after : Option Files) (course : List Taken) → DoesAll old told (request.Ack 0 ∷ (rate_requests disk.rate 0 ++ rest)) course new after → (bay_of old.station 0).medium ≡ Some disk → IsFirstReady disk old told rest new after
+first_ready : (disk : Disk) (rest : List Request) (old new : State) (told after : Option Files) (course : List Taken) → DoesAll (request.Ack 0 ∷ (rate_requests disk.rate 0 ++ rest)) old told course new after → (bay_of old.station 0).medium ≡ Some disk → IsFirstReady disk old told rest new after
 first_ready disk rest old new told after course all medium =
     let one = begins old new told after (request.Ack 0) (rate_requests disk.rate 0 ++ rest) course all in
     let acked = acks 0 disk old one.mid told one.files one.answer one.does one.done medium in
@@ -95,11 +95,11 @@ record IsSecondReady (disk : Disk) (old : State) (told : Option Files) (new : St
   pub names : new.names ≡ old.names
   pub files : after ≡ told
 
-second_ready : (disk : Disk) (old new : State) (told after : Option Files) (course : List Taken) → DoesAll old told (request.Ack 1 ∷ rate_requests disk.rate 1) course new after → (bay_of old.station 1).medium ≡ Some disk → IsSecondReady disk old told new after
+second_ready : (disk : Disk) (old new : State) (told after : Option Files) (course : List Taken) → DoesAll (request.Ack 1 ∷ rate_requests disk.rate 1) old told course new after → (bay_of old.station 1).medium ≡ Some disk → IsSecondReady disk old told new after
 second_ready disk old new told after course all medium =
     let one = begins old new told after (request.Ack 1) (rate_requests disk.rate 1) course all in
     let acked = acks 1 disk old one.mid told one.files one.answer one.does one.done medium in
-    let whole = subst (λ (requests : List Request). DoesAll one.mid one.files requests one.later new after) (sym (append-nil (rate_requests disk.rate 1))) one.behind in
+    let whole = subst (λ (requests : List Request). DoesAll requests one.mid one.files one.later new after) (sym (append-nil (rate_requests disk.rate 1))) one.behind in
     let rated = rates 1 disk.rate disk [] one.mid new one.files after one.later whole refl acked.medium acked.high in
     let end = ends_there rated.mid new rated.files after rated.course rated.behind in
     record {
@@ -121,7 +121,7 @@ pub record IsCopyOpened (disk : Disk) (to : List ℕ) (files : Files) (new : Sta
   pub named : in_bay new.names 1 ≡ Some to
   pub same_files : after ≡ Some files
 
-pub opens_copy : (from to : List ℕ) (disk : Disk) (files : Files) (old new : State) (after : Option Files) (course : List Taken) → IsImageOf (Some files) from disk → DoesAll old (Some files) (copy_opening from to disk) course new after → length old.station.memory ≡ user_bytes → IsCopyOpened disk to files new after
+pub opens_copy : (from to : List ℕ) (disk : Disk) (files : Files) (old new : State) (after : Option Files) (course : List Taken) → IsImageOf (Some files) from disk → DoesAll (copy_opening from to disk) old (Some files) course new after → length old.station.memory ≡ user_bytes → IsCopyOpened disk to files new after
 opens_copy from to disk files old new after course image all size =
     let second = request.Ack 1 ∷ rate_requests disk.rate 1 in
     let put = are_in from to disk files (request.Ack 0 ∷ (rate_requests disk.rate 0 ++ second)) old new after course image all size in

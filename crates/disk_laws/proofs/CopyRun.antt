@@ -58,14 +58,14 @@ copy_asks from to disk course asked tell =
     ∙ ap (λ (row : List Request). opening ++ row) behind
 
 -- a copy that succeeds stores a copy
-pub copy_stores : (from to : List ℕ) (old new : World) (course : List Taken) (files : Files) (disk : Disk) → Copies from to old course new status.AllOk → old.files ≡ Some files → IsImageOf (Some files) from disk → length old.state.station.memory ≡ user_bytes → IsFaultless 1 old.state.station.counters new.state.station.counters → StoresCopy old.state.station.counters new.state.station.counters course disk to (Some files) new.files
+pub copy_stores : (from to : List ℕ) (old new : World) (course : List Taken) (files : Files) (disk : Disk) → Copies from to old course new status.AllOk → old.files ≡ Some files → IsImageOf (Some files) from disk → length old.state.station.memory ≡ user_bytes → IsFaultless 1 old.state.station.counters new.state.station.counters → StoresCopy disk to old.state.station.counters (Some files) course new.state.station.counters new.files
 copy_stores from to old new course files disk copies there image size faultless =
     let shape : Shape = copies.0 in
     let whole = ok_is_whole (copy_plan from to shape) _ old course new copies.2 in
     let run = subst (λ (f : Option Files). Run old.state f course new.state new.files) there whole.run in
     let same = course_shape from disk files (copy_rest to shape) old.state new.state new.files course shape image run whole.asked whole.fine copies.1 in
     let asked = subst (λ (s : Shape). Asked [] (copy_plan from to s) course) same whole.asked in
-    let all : CopiesDisk old.state files from to disk course new.state new.files = record {
+    let all : CopiesDisk from to disk old.state files course new.state new.files = record {
       image = image;
       all = record {
         run = run;

@@ -13,7 +13,7 @@ use Rattle.disk_commands.specs.Plans.{Planned}
 use Rattle.disk_commands.specs.Commands.{Halts, AtRefusal, AtStop, Performs, Whole, Halted, IsWhole}
 
 -- a line that was printed whole, with its status
-pub prints_status : (report : Option (List ℕ)) (line : List ℕ) (wanted ended : Status) (after : Option (List ℕ)) → (IsPutFault ended → ⊥) → Prints report line wanted after ended → (after ≡ grown report line) × (ended ≡ wanted)
+pub prints_status : (report : Option (List ℕ)) (line : List ℕ) (wanted ended : Status) (after : Option (List ℕ)) → (IsPutFault ended → ⊥) → Prints line wanted report after ended → (after ≡ grown report line) × (ended ≡ wanted)
 prints_status report line wanted ended after sound (plays.Whole told same) = (told, same)
 prints_status report line wanted ended after sound (plays.Part grows fault) = absurd (sound fault)
 

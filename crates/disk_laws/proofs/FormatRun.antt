@@ -51,7 +51,7 @@ format_asks name cylinders rate =
 pub format_stores : (rate : Rate) (name : List ℕ) (cylinders : ℕ) (old new : World) (course : List Taken) → Formats name cylinders rate old course new status.AllOk → IsFaultless 0 old.state.station.counters new.state.station.counters → StoresFormatted rate name cylinders old.files new.files
 format_stores rate name cylinders old new course formats faultless =
     let whole = ok_is_whole (format_plan name cylinders rate) _ old course new formats in
-    let all : DoesAll old.state old.files (format_requests rate name cylinders) course new.state new.files = record {
+    let all : DoesAll (format_requests rate name cylinders) old.state old.files course new.state new.files = record {
       run = whole.run;
       all = asks_plan (format_plan name cylinders rate) (format_requests rate name cylinders) course [] (format_asks name cylinders rate) whole.asked;
       done = whole.fine;

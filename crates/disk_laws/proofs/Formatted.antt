@@ -46,7 +46,7 @@ is_formatted rate cylinders old new told after formats =
       },
     )
 
-pub formats_disk : (rate : Rate) (name : List ℕ) (cylinders : ℕ) (old new : State) (told after : Option Files) (course : List Taken) → DoesAll old told (formatting rate name cylinders) course new after → IsFaultless 0 old.station.counters new.station.counters → LeavesFormatted rate name cylinders told new after
+pub formats_disk : (rate : Rate) (name : List ℕ) (cylinders : ℕ) (old new : State) (told after : Option Files) (course : List Taken) → DoesAll (formatting rate name cylinders) old told course new after → IsFaultless 0 old.station.counters new.station.counters → LeavesFormatted rate name cylinders told new after
 formats_disk rate name cylinders old new told after course all faultless =
     let blank = blank_of cylinders rate in
     let tracks = tracks_of cylinders 2 in
@@ -72,7 +72,7 @@ formats_disk rate name cylinders old new told after course all faultless =
     }
 
 -- and stored
-pub stores_disk : (rate : Rate) (name : List ℕ) (cylinders : ℕ) (old new : State) (told after : Option Files) (course : List Taken) → DoesAll old told (format_requests rate name cylinders) course new after → IsFaultless 0 old.station.counters new.station.counters → StoresFormatted rate name cylinders told after
+pub stores_disk : (rate : Rate) (name : List ℕ) (cylinders : ℕ) (old new : State) (told after : Option Files) (course : List Taken) → DoesAll (format_requests rate name cylinders) old told course new after → IsFaultless 0 old.station.counters new.station.counters → StoresFormatted rate name cylinders told after
 stores_disk rate name cylinders old new told after course all faultless =
     let parts = splits old new told after (formatting rate name cylinders) (request.Eject 0 ∷ []) course all in
     let fell = never_fell parts.mid new parts.files after (request.Eject 0 ∷ []) parts.two parts.behind refl in

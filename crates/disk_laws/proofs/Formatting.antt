@@ -61,7 +61,7 @@ lays_in format before after disk next layings e f lays =
     let here = subst (λ (o : Option Disk). Lays format o layings after) e lays in
     subst (λ (o : Option Disk). Lays format (Some disk) layings o) f here
 
-pub drive_formats : (bay : ℕ) (rate : Rate) (c h : ℕ) (disk : Disk) (old new : StationState) (called : Result (Unit {0}) Code) → FormatsDrive (format_at c h rate (gap_at rate) standard_fill) bay called old new → IsOk called → IsFaultless bay old.counters new.counters → (bay_of old bay).medium ≡ Some disk → IsDisk disk
+pub drive_formats : (bay : ℕ) (rate : Rate) (c h : ℕ) (disk : Disk) (old new : StationState) (called : Result (Unit {0}) Code) → FormatsDrive (format_at c h rate (gap_at rate) standard_fill) bay old called new → IsOk called → IsFaultless bay old.counters new.counters → (bay_of old bay).medium ≡ Some disk → IsDisk disk
     → (next : Disk) × ((bay_of new bay).medium ≡ Some next) × KeepsTracks disk c h next
     × (track_of next c h ≡ formatted (format_at c h rate (gap_at rate) standard_fill) disk.words_per_track)
 drive_formats bay rate c h disk old new called drive ok faultless medium valid =
@@ -74,12 +74,12 @@ drive_formats bay rate c h disk old new called drive ok faultless medium valid =
     let keeps = lays_keep _ disk drive.layings laid.0 valid (drive.only faultless) (lays_in _ _ _ disk laid.0 drive.layings medium laid.1 drive.lays) in
     (laid.0, laid.1, keeps, laid.2)
 
-pub one_format : (rate : Rate) (c h : ℕ) (disk : Disk) (old new : State) (told after : Option Files) (answer : Reply) → Does old told (request.Format 0 c h) answer new after → is_refusal answer ≡ false → IsFaultless 0 old.station.counters new.station.counters → (bay_of old.station 0).medium ≡ Some disk → (bay_of old.station 0).rate ≡ rate → IsDisk disk → FormatsOne rate c h disk old told new after
+pub one_format : (rate : Rate) (c h : ℕ) (disk : Disk) (old new : State) (told after : Option Files) (answer : Reply) → Does (request.Format 0 c h) old told answer new after → is_refusal answer ≡ false → IsFaultless 0 old.station.counters new.station.counters → (bay_of old.station 0).medium ≡ Some disk → (bay_of old.station 0).rate ≡ rate → IsDisk disk → FormatsOne rate c h disk old told new after
 one_format rate c h disk old new told after answer does done faultless medium bay_rate valid =
     let called = does.1.0 in
     let ok = ok_called called answer does.1.1 done in
     let drive = reached (format_refusal old.station 0 c h (gap_at (bay_of old.station 0).rate)) called old.station new.station does.1.2 ok in
-    let at = subst (λ (r : Rate). FormatsDrive (format_at c h r (gap_at r) standard_fill) 0 called old.station new.station) bay_rate drive in
+    let at = subst (λ (r : Rate). FormatsDrive (format_at c h r (gap_at r) standard_fill) 0 old.station called new.station) bay_rate drive in
     let formats = drive_formats 0 rate c h disk old.station new.station called at ok faultless medium valid in
     record {
       next = formats.0;
@@ -138,7 +138,7 @@ pub formats_keep : (tracks : List Track) → list_all keeps_drives (format_each 
 formats_keep [] = refl
 formats_keep (track ∷ later) = formats_keep later
 
-pub each_format : (rate : Rate) (tracks : List Track) (disk : Disk) (old new : State) (told after : Option Files) (course : List Taken) → DoesAll old told (format_each 0 tracks) course new after → IsFaultless 0 old.station.counters new.station.counters → (bay_of old.station 0).medium ≡ Some disk → (bay_of old.station 0).rate ≡ rate → IsDisk disk → FormatsTracks rate tracks disk old told new after
+pub each_format : (rate : Rate) (tracks : List Track) (disk : Disk) (old new : State) (told after : Option Files) (course : List Taken) → DoesAll (format_each 0 tracks) old told course new after → IsFaultless 0 old.station.counters new.station.counters → (bay_of old.station 0).medium ≡ Some disk → (bay_of old.station 0).rate ≡ rate → IsDisk disk → FormatsTracks rate tracks disk old told new after
 each_format rate [] disk old new told after course all faultless medium bay_rate valid =
     let same = ends_there old new told after course all in
     record {

@@ -25,17 +25,17 @@ use Rattle.disk_laws.proofs.Reading.{reaches, quiet_parts}
 use Rattle.disk_laws.proofs.Steps.{done_does, or_false, step_never_fell, NeverFell}
 
 -- a disk is put into an empty bay
-insert_taken : (name : List ℕ) (old new : State) (told after : Option Files) (answer : Reply) → (bay_of old.station 0).medium ≡ None → Step old told (request.Insert 0 name) answer new after → is_refusal answer ≡ false
+insert_taken : (name : List ℕ) (old new : State) (told after : Option Files) (answer : Reply) → (bay_of old.station 0).medium ≡ None → Step (request.Insert 0 name) old told answer new after → is_refusal answer ≡ false
 insert_taken name old new told after answer empty step =
     let free : refusal_of old (request.Insert 0 name) ≡ None = rw empty refl in
     let does = reaches _ (refusal_of old (request.Insert 0 name)) free step in
     ap is_refusal does.0
 
 -- a bay with a medium is acknowledged
-ack_taken : (disk : Disk) (old new : State) (told after : Option Files) (answer : Reply) → (bay_of old.station 0).medium ≡ Some disk → IsUndisturbed 0 old.station.counters new.station.counters → NeverFell old.station.counters new.station.counters → Step old told (request.Ack 0) answer new after → is_refusal answer ≡ false
+ack_taken : (disk : Disk) (old new : State) (told after : Option Files) (answer : Reply) → (bay_of old.station 0).medium ≡ Some disk → IsUndisturbed 0 old.station.counters new.station.counters → NeverFell old.station.counters new.station.counters → Step (request.Ack 0) old told answer new after → is_refusal answer ≡ false
 ack_taken disk old new told after answer medium quiet fell step = ap is_refusal step.1.1 ∙ go step.1.0 step.1.2
   where
-    go : (called : Result (Unit {0}) Code) → AcksDrive old.station 0 called new.station → is_refusal (reply_of called) ≡ false
+    go : (called : Result (Unit {0}) Code) → AcksDrive 0 old.station called new.station → is_refusal (reply_of called) ≡ false
     go (Ok u) drive = refl
     go (Err code) drive = elim drive.refused.cause [
       | inl none ↦ absurd (cc (none, medium))
@@ -43,13 +43,13 @@ ack_taken disk old new told after answer medium quiet fell step = ap is_refusal 
     ]
 
 -- an acknowledged bay gets a rate
-rate_taken : (count : ℕ) (old new : State) (told after : Option Files) (answer : Reply) → (bay_of old.station 0).acknowledged ≡ Some count → Step old told (request.SetRate 0 R250) answer new after → is_refusal answer ≡ false
+rate_taken : (count : ℕ) (old new : State) (told after : Option Files) (answer : Reply) → (bay_of old.station 0).acknowledged ≡ Some count → Step (request.SetRate 0 R250) old told answer new after → is_refusal answer ≡ false
 rate_taken count old new told after answer acknowledged step =
     let free : rate_refusal old.station 0 ≡ None = rw acknowledged refl in
     let sets = reaches _ (rate_refusal old.station 0) free step.1.2 in
     ap is_refusal step.1.1 ∙ go step.1.0 sets
   where
-    go : (called : Result (Unit {0}) Code) → SetsRate old.station 0 R250 called new.station → is_refusal (reply_of called) ≡ false
+    go : (called : Result (Unit {0}) Code) → SetsRate 0 R250 old.station called new.station → is_refusal (reply_of called) ≡ false
     go (Ok u) drive = refl
     go (Err code) drive = absurd (cc drive.done)
 
@@ -59,7 +59,7 @@ record IsTried (old : State) (told : Option Files) (before : List Taken) (asked 
   pub files : Option Files
   pub run : Run old told before mid files
   pub fine : has_refusal before ≡ false
-  pub step : Step mid files asked answer new after
+  pub step : Step asked mid files answer new after
 
 abbrev opening_plan : List ℕ → Rate → List Planned
 opening_plan name rate = Asks (request.Insert 0 name) ∷ Asks (request.Ack 0) ∷ rate_plan 0 rate
@@ -67,15 +67,15 @@ opening_plan name rate = Asks (request.Insert 0 name) ∷ Asks (request.Ack 0) �
 -- the first request
 first_taken : (name : List ℕ) (old new : State) (told after : Option Files) (before : List Taken) (asked : Request) (answer : Reply) → (bay_of old.station 0).medium ≡ None → IsTried old told before asked answer new after → Asked [] [] before → asked ≡ request.Insert 0 name → is_refusal answer ≡ false
 first_taken name old new told after [] asked answer empty tried behind is =
-    let step = subst (λ (q : Request). Step tried.mid tried.files q answer new after) is tried.step in
+    let step = subst (λ (q : Request). Step q tried.mid tried.files answer new after) is tried.step in
     let there : (bay_of tried.mid.station 0).medium ≡ None = ap (λ (s : State). (bay_of s.station 0).medium) tried.run.0 ∙ empty in
     insert_taken name tried.mid new tried.files after answer there step
 first_taken name old new told after (taken ∷ later) asked answer empty tried behind is = absurd behind
 
 -- the disk is in
-inserted : (name : List ℕ) (old new : State) (told after : Option Files) (taken : Taken) → Step old told taken.asked taken.answer taken.after after → is_refusal taken.answer ≡ false → taken.asked ≡ request.Insert 0 name → (disk : Disk) × ((bay_of taken.after.station 0).medium ≡ Some disk) × NeverFell old.station.counters taken.after.station.counters
+inserted : (name : List ℕ) (old new : State) (told after : Option Files) (taken : Taken) → Step taken.asked old told taken.answer taken.after after → is_refusal taken.answer ≡ false → taken.asked ≡ request.Insert 0 name → (disk : Disk) × ((bay_of taken.after.station 0).medium ≡ Some disk) × NeverFell old.station.counters taken.after.station.counters
 inserted name old new told after taken step done is =
-    let here = subst (λ (q : Request). Step old told q taken.answer taken.after after) is step in
+    let here = subst (λ (q : Request). Step q old told taken.answer taken.after after) is step in
     let put = (done_does old taken.after told after (request.Insert 0 name) taken.answer here done).2 in
     (put.0, ap (λ (s : StationState). (bay_of s 0).medium) put.2.exchanged.becomes, step_never_fell old taken.after told after (request.Insert 0 name) taken.answer here refl)
 
@@ -89,7 +89,7 @@ second_taken name old new told after (taken ∷ []) asked answer quiet tried beh
     let same = tried.run.2.0 in
     let medium = ap (λ (s : State). (bay_of s.station 0).medium) same ∙ there.1 in
     let fell = subst (λ (s : State). NeverFell old.station.counters s.station.counters) (sym same) there.2 in
-    let step = subst (λ (q : Request). Step tried.mid tried.files q answer new after) is tried.step in
+    let step = subst (λ (q : Request). Step q tried.mid tried.files answer new after) is tried.step in
     let last = step_never_fell tried.mid new tried.files after (request.Ack 0) answer step refl in
     let calm = (quiet_parts old.station.counters tried.mid.station.counters new.station.counters fell last quiet).1 in
     ack_taken there.0 tried.mid new tried.files after answer medium calm last step
@@ -104,10 +104,10 @@ third_taken name old new told after (taken ∷ second ∷ []) asked answer tried
     let done = (or_false (is_refusal second.answer) false parts.1).0 in
     let there = inserted name old taken.after told tried.run.0 taken tried.run.1 parts.0 behind.0 in
     let run = tried.run.2 in
-    let does = subst (λ (q : Request). Step taken.after tried.run.0 q second.answer second.after run.0) behind.1.0 run.1 in
+    let does = subst (λ (q : Request). Step q taken.after tried.run.0 second.answer second.after run.0) behind.1.0 run.1 in
     let acked = acks 0 there.0 taken.after second.after tried.run.0 run.0 second.answer does done there.1 in
     let kept = ap (λ (s : State). (bay_of s.station 0).acknowledged) run.2.0 ∙ acked.kept in
-    let step = subst (λ (q : Request). Step tried.mid tried.files q answer new after) is tried.step in
+    let step = subst (λ (q : Request). Step q tried.mid tried.files answer new after) is tried.step in
     rate_taken (faults_of second.after.station.counters 0) tried.mid new tried.files after answer kept step
 
 -- none of them is refused
@@ -143,7 +143,7 @@ opening_taken name rate old new told after before answer (one ∷ two ∷ three 
 
 pub opening_not_refused : (name : List ℕ) (rate : Rate) (old : World) (course : List Taken) (new : World) (ended : Status) → (bay_of old.state.station 0).medium ≡ None → IsUndisturbed 0 old.state.station.counters new.state.station.counters → IsRefusedAt (opening_plan name rate) old course new ended → ⊥
 opening_not_refused name rate old course new ended empty quiet p =
-    let step = subst (λ (q : Request). Step p.mid p.files q p.last.answer p.last.after new.files) p.asked p.step in
+    let step = subst (λ (q : Request). Step q p.mid p.files p.last.answer p.last.after new.files) p.asked p.step in
     let tried : IsTried old.state old.files p.before (asked_after p.before p.next) p.last.answer p.last.after new.files = record {
       mid = p.mid;
       files = p.files;

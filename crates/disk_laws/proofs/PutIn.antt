@@ -19,7 +19,7 @@ use Rattle.disk_laws.proofs.Steps.{done_does, or_false}
 use Rattle.disk_laws.proofs.Verified.{one_image}
 
 -- a disk that was put in has the shape of its image
-pub put_shape : (name : List ℕ) (disk : Disk) (files : Files) (old new : State) (after : Option Files) (answer : Reply) (shape : Shape) → IsImageOf (Some files) name disk → Step old (Some files) (request.Insert 0 name) answer new after → is_refusal answer ≡ false → shape_in (bay_of new.station 0) ≡ Some shape → shape ≡ shape_of disk
+pub put_shape : (name : List ℕ) (disk : Disk) (files : Files) (old new : State) (after : Option Files) (answer : Reply) (shape : Shape) → IsImageOf (Some files) name disk → Step (request.Insert 0 name) old (Some files) answer new after → is_refusal answer ≡ false → shape_in (bay_of new.station 0) ≡ Some shape → shape ≡ shape_of disk
 put_shape name disk files old new after answer shape image step done there =
     let put = (done_does old new (Some files) after (request.Insert 0 name) answer step done).2 in
     let same : put.0 ≡ disk = one_image files name put.0 disk put.1 image in
@@ -32,7 +32,7 @@ pub course_shape : (name : List ℕ) (disk : Disk) (files : Files) (plan : List 
 course_shape name disk files plan old new after [] shape image run asked fine put = absurd asked
 course_shape name disk files plan old new after (taken ∷ later) shape image run asked fine put =
     let done = (or_false (is_refusal taken.answer) (has_refusal later) fine).0 in
-    let step = subst (λ (q : Request). Step old (Some files) q taken.answer taken.after run.0) asked.0 run.1 in
+    let step = subst (λ (q : Request). Step q old (Some files) taken.answer taken.after run.0) asked.0 run.1 in
     put_shape name disk files old taken.after run.0 taken.answer shape image step done (put done)
 
 -- and in its first part

@@ -80,7 +80,7 @@ module _ (disk : Disk) (unmistaken : IsUnmistaken disk) (count : ℕ) (key : Chr
   same_faults : faults_of new.counters 0 ≡ count
   same_faults = let first = fell.first in let stalls = fell.stalls in let together = quiet.together in let was = holds.faults in omega arith
 
-  read_tells : (deleted : Bool) → IsRead old 0 key 0x10000 deleted new → (place : ℕ) × LookFor (track_of disk key.c key.h) key (Found deleted place)
+  read_tells : (deleted : Bool) → IsRead 0 key 0x10000 old deleted new → (place : ℕ) × LookFor (track_of disk key.c key.h) key (Found deleted place)
   read_tells deleted is =
       let same : is.disk ≡ disk = cc (is.medium, holds.medium) in
       let steady = is.steady (record { kept = count; acknowledged = holds.acknowledged; count = same_faults; below = omega (arith, same_faults, quiet.faults) }) in
@@ -89,11 +89,11 @@ module _ (disk : Disk) (unmistaken : IsUnmistaken disk) (count : ℕ) (key : Chr
       let on = subst (λ (d : Disk). IsSector (track_of d key.c key.h) key deleted is.content) same here in
       found_look (track_of disk key.c key.h) key plain single deleted is.content on
 
-  cause_tells : (tries : ℕ) (cause : Code) → IsReadCause (track_of disk key.c key.h) key tries 0 cause old new → (look : Look) × LookFor (track_of disk key.c key.h) key look × (told_of key look ≡ (key, cause) ∷ [])
+  cause_tells : (tries : ℕ) (cause : Code) → IsReadCause (track_of disk key.c key.h) key tries 0 old cause new → (look : Look) × LookFor (track_of disk key.c key.h) key look × (told_of key look ≡ (key, cause) ∷ [])
   cause_tells tries cause is = cause_look (track_of disk key.c key.h) key plain single tries 0 cause old new is quiet fell.stalls fell.first
 
   -- what the driver answered
-  drive_tells : (called : Result Bool Code) → ReadsDrive old 0 key 0x10000 called new → Tells disk count key (read_reply called) new
+  drive_tells : (called : Result Bool Code) → ReadsDrive 0 key 0x10000 old called new → Tells disk count key (read_reply called) new
   drive_tells (Ok deleted) drive =
       let found = read_tells deleted drive.found in
       record {
@@ -108,7 +108,7 @@ module _ (disk : Disk) (unmistaken : IsUnmistaken disk) (count : ℕ) (key : Chr
       none_told false = refl
   drive_tells (Err cause) drive =
       let met = met_track (bay_of old 0).medium (bay_of old 0).rate key.c key.h disk (record { is_in = holds.medium; has = standard.track; same_rate = sym holds.rate }) in
-      let is = subst (λ track. IsReadCause track key old.tries 0 cause old new) met drive.refused.cause in
+      let is = subst (λ track. IsReadCause track key old.tries 0 old cause new) met drive.refused.cause in
       let told = cause_tells old.tries cause is in
       record {
         look = told.0;
@@ -121,7 +121,7 @@ pub key_is : (key : Chrn) → key.n ≡ standard_code → key ≡ key_of key.c k
 key_is key size = ap (λ (n : ℕ). record { c = key.c; h = key.h; r = key.r; n = n }) size
 
 -- a read of a standard key
-pub one_read : (disk : Disk) (count : ℕ) (key : Chrn) (old new : State) (told after : Option Files) (answer : Reply) → disk.cylinders ≤ 80 → disk.heads ≤ 2 → IsUnmistaken disk → IsStandardKey disk key → Does old told (request.Read 0 key 0x10000) answer new after → Holds disk count old.station → IsUndisturbed 0 old.station.counters new.station.counters → NeverFell old.station.counters new.station.counters → Tells disk count key answer new.station
+pub one_read : (disk : Disk) (count : ℕ) (key : Chrn) (old new : State) (told after : Option Files) (answer : Reply) → disk.cylinders ≤ 80 → disk.heads ≤ 2 → IsUnmistaken disk → IsStandardKey disk key → Does (request.Read 0 key 0x10000) old told answer new after → Holds disk count old.station → IsUndisturbed 0 old.station.counters new.station.counters → NeverFell old.station.counters new.station.counters → Tells disk count key answer new.station
 one_read disk count key old new told after answer few_cylinders few_heads unmistaken standard does holds quiet fell =
     let cylinder : key.c ≤ 79 = omega (arith, standard.track.0, few_cylinders) in
     let head : key.h ≤ 1 = omega (arith, standard.track.1, few_heads) in
@@ -170,7 +170,7 @@ reads_tell disk count (key ∷ keys) failed old new told after (taken ∷ later)
     let asked : taken.asked ≡ request.Read 0 key 0x10000 = cc all in
     let others : requests_of later ≡ read_each 0 keys = cc all in
     let is_standard : IsStandardKey disk key = standard 0 key (omega arith) in
-    let does = subst (λ (q : Request). Step old told q taken.answer taken.after run.0) asked run.1 in
+    let does = subst (λ (q : Request). Step q old told taken.answer taken.after run.0) asked run.1 in
     let here = step_never_fell old taken.after told run.0 (request.Read 0 key 0x10000) taken.answer does refl in
     let keep = subst (λ (requests : List Request). list_all keeps_drives requests ≡ true) (sym others) (reads_keep keys) in
     let there = run_never_fell taken.after new run.0 after later run.2 keep in

@@ -56,7 +56,7 @@ pub record ReadsOne (c h r : ℕ) (source : Disk) (old : State) (told : Option F
   pub sector : IsSure source old.station.counters new.station.counters → IsSector (track_of source c h) (key_of c h r) deleted content
 
 -- a field that was read of a regular disk is a sector of the track of its key
-read_sector : (c h r address : ℕ) (deleted : Bool) (source : Disk) (old new : StationState) (found : IsRead old 0 (key_of c h r) address deleted new) → (bay_of old 0).medium ≡ Some source → IsSure source old.counters new.counters → IsSector (track_of source c h) (key_of c h r) deleted found.content
+read_sector : (c h r address : ℕ) (deleted : Bool) (source : Disk) (old new : StationState) (found : IsRead 0 (key_of c h r) address old deleted new) → (bay_of old 0).medium ≡ Some source → IsSure source old.counters new.counters → IsSector (track_of source c h) (key_of c h r) deleted found.content
 read_sector c h r address deleted source old new found medium sure =
     let key = key_of c h r in
     let same : found.disk ≡ source = cc (found.medium, medium) in
@@ -74,14 +74,14 @@ told_mark : (key : Chrn) (address : ℕ) (deleted : Bool) → mark_of (request.R
 told_mark key address true = refl
 told_mark key address false = refl
 
-pub one_record : (c h r : ℕ) (source : Disk) (old new : State) (told after : Option Files) (answer : Reply) → Does old told (request.Read 0 (key_of c h r) (record_address r)) answer new after → is_refusal answer ≡ false → (bay_of old.station 0).medium ≡ Some source → ReadsOne c h r source old told answer new after
+pub one_record : (c h r : ℕ) (source : Disk) (old new : State) (told after : Option Files) (answer : Reply) → Does (request.Read 0 (key_of c h r) (record_address r)) old told answer new after → is_refusal answer ≡ false → (bay_of old.station 0).medium ≡ Some source → ReadsOne c h r source old told answer new after
 one_record c h r source old new told after answer does done medium =
     let key = key_of c h r in
     let address = record_address r in
     let ok = ok_read does.1.0 answer does.1.1 done in
     let is_ok : IsOk does.1.0 = rw ok.1 refl in
     let drive = reached (read_refusal old.station 0 key address) does.1.0 old.station new.station does.1.2 is_ok in
-    let there = subst (λ (r : Result Bool Code). ReadsDrive old.station 0 key address r new.station) ok.1 drive in
+    let there = subst (λ (r : Result Bool Code). ReadsDrive 0 key address old.station r new.station) ok.1 drive in
     let found = there.found in
     let same : found.disk ≡ source = cc (found.medium, medium) in
     record {
@@ -144,7 +144,7 @@ pub reads_keep : (keys : List Chrn) → list_all keeps_drives (read_records 0 ke
 reads_keep [] = refl
 reads_keep (key ∷ later) = reads_keep later
 
-pub all_records : (sure : Type 0) (source : Disk) (c h a n : ℕ) (old new : State) (told after : Option Files) (course : List Taken) → DoesAll old told (read_records 0 (keys_from c h a n)) course new after → length old.station.memory ≡ user_bytes → 1 ≤ a → a + n ≤ 19 → (bay_of old.station 0).medium ≡ Some source → (sure → IsSure source old.station.counters new.station.counters) → ReadsAll sure source c h a n old told course new after
+pub all_records : (sure : Type 0) (source : Disk) (c h a n : ℕ) (old new : State) (told after : Option Files) (course : List Taken) → DoesAll (read_records 0 (keys_from c h a n)) old told course new after → length old.station.memory ≡ user_bytes → 1 ≤ a → a + n ≤ 19 → (bay_of old.station 0).medium ≡ Some source → (sure → IsSure source old.station.counters new.station.counters) → ReadsAll sure source c h a n old told course new after
 all_records sure source c h a zero old new told after [] all size least most medium calm = record {
   marks = [];
   marks_are = refl;
@@ -165,13 +165,13 @@ all_records sure source c h a (suc n) old new told after (taken ∷ later) all s
     let asked : taken.asked ≡ request.Read 0 key address = cc e in
     let others : requests_of later ≡ read_records 0 (keys_from c h (a + 1) n) = cc e in
     let parts = or_false (is_refusal taken.answer) (has_refusal later) all.done in
-    let step = subst (λ (q : Request). Step old told q taken.answer taken.after all.run.0) asked all.run.1 in
+    let step = subst (λ (q : Request). Step q old told taken.answer taken.after all.run.0) asked all.run.1 in
     let does = done_does old taken.after told all.run.0 (request.Read 0 key address) taken.answer step parts.0 in
     let one = one_record c h a source old taken.after told all.run.0 taken.answer does parts.0 medium in
     let sized = one.sized in
     let fits : address + length one.content ≤ length old.station.memory = omega arith in
     let same_size : length taken.after.station.memory ≡ user_bytes = ap length one.memory ∙ length-with_items old.station.memory address one.content fits ∙ size in
-    let behind : DoesAll taken.after all.run.0 (read_records 0 (keys_from c h (a + 1) n)) later new after = record { run = all.run.2; all = others; done = parts.1 } in
+    let behind : DoesAll (read_records 0 (keys_from c h (a + 1) n)) taken.after all.run.0 later new after = record { run = all.run.2; all = others; done = parts.1 } in
     let fell = step_never_fell old taken.after told all.run.0 (request.Read 0 key address) taken.answer step refl in
     let fell_later = never_fell taken.after new all.run.0 after (read_records 0 (keys_from c h (a + 1) n)) later behind (reads_keep (keys_from c h (a + 1) n)) in
     let still = ap (λ (bays : Two Bay). (in_bay bays 0).medium) one.bays ∙ medium in

@@ -26,7 +26,7 @@ or_false true b e = absurd (true≢false e)
 or_false false b e = (refl, e)
 
 -- a request that wasn't refused was done
-pub done_does : (old new : State) (told after : Option Files) (asked : Request) (answer : Reply) → Step old told asked answer new after → is_refusal answer ≡ false → Does old told asked answer new after
+pub done_does : (old new : State) (told after : Option Files) (asked : Request) (answer : Reply) → Step asked old told answer new after → is_refusal answer ≡ false → Does asked old told answer new after
 done_does old new told after asked answer step done =
     either (refusal_of old asked) step (λ does. does)
     (λ cause refused. absurd (true≢false (subst (λ (r : Reply). is_refusal r ≡ false) refused.answered done)))
@@ -37,19 +37,19 @@ pub record Begins (old : State) (told : Option Files) (asked : Request) (rest : 
   pub files : Option Files
   pub answer : Reply
   pub later : List Taken
-  pub step : Step old told asked answer mid files
+  pub step : Step asked old told answer mid files
   pub done : is_refusal answer ≡ false
-  pub does : Does old told asked answer mid files
-  pub behind : DoesAll mid files rest later new after
+  pub does : Does asked old told answer mid files
+  pub behind : DoesAll rest mid files later new after
 
-pub begins : (old new : State) (told after : Option Files) (asked : Request) (rest : List Request) (course : List Taken) → DoesAll old told (asked ∷ rest) course new after → Begins old told asked rest new after
+pub begins : (old new : State) (told after : Option Files) (asked : Request) (rest : List Request) (course : List Taken) → DoesAll (asked ∷ rest) old told course new after → Begins old told asked rest new after
 begins old new told after asked rest [] all = let e = all.all in absurd (cc e)
 begins old new told after asked rest (taken ∷ later) all =
     let e = all.all in
     let here : taken.asked ≡ asked = cc e in
     let there : requests_of later ≡ rest = cc e in
     let parts = or_false (is_refusal taken.answer) (has_refusal later) all.done in
-    let step = subst (λ (q : Request). Step old told q taken.answer taken.after all.run.0) here all.run.1 in
+    let step = subst (λ (q : Request). Step q old told taken.answer taken.after all.run.0) here all.run.1 in
     record {
       mid = taken.after;
       files = all.run.0;
@@ -62,7 +62,7 @@ begins old new told after asked rest (taken ∷ later) all =
     }
 
 -- a run of no requests
-pub ends_there : (old new : State) (told after : Option Files) (course : List Taken) → DoesAll old told [] course new after → (new ≡ old) × (after ≡ told)
+pub ends_there : (old new : State) (told after : Option Files) (course : List Taken) → DoesAll [] old told course new after → (new ≡ old) × (after ≡ told)
 ends_there old new told after [] all = all.run
 ends_there old new told after (taken ∷ later) all = let e = all.all in absurd (cc e)
 
@@ -73,7 +73,7 @@ ok_called (Ok u) answer e done = refl
 ok_called (Err code) answer e done = absurd (true≢false (subst (λ (r : Reply). is_refusal r ≡ false) e done))
 
 -- a call that was Ok wasn't refused at once
-pub reached : {A P : Type 0} (refusal : Option Code) (called : Result A Code) (old new : StationState) → MatchOption refusal P (λ code. IsRefusedAtOnce old code called new) → IsOk called → P
+pub reached : {A P : Type 0} (refusal : Option Code) (called : Result A Code) (old new : StationState) → MatchOption refusal P (λ code. IsRefusedAtOnce code old called new) → IsOk called → P
 reached {A} {P} refusal called old new holds ok =
     either {R = P} refusal holds (λ p. p) (λ code refused. absurd (true≢false (sym (subst IsOk refused.refused ok))))
 
@@ -84,7 +84,7 @@ abbrev pub keeps_drives : Request → Bool
 keeps_drives (request.Unit bay) = false
 keeps_drives _ = true
 
-does_goes : (old new : State) (told after : Option Files) (asked : Request) (answer : Reply) → Does old told asked answer new after → keeps_drives asked ≡ true → GoesOn old.station.counters new.station.counters
+does_goes : (old new : State) (told after : Option Files) (asked : Request) (answer : Reply) → Does asked old told answer new after → keeps_drives asked ≡ true → GoesOn old.station.counters new.station.counters
 does_goes old new told after (request.Insert bay name) answer does keeps = does.2.2.counts
 does_goes old new told after (request.Blank bay name cylinders) answer does keeps = does.2.counts
 does_goes old new told after (request.BlankDd bay name cylinders) answer does keeps = does.2.counts
@@ -106,7 +106,7 @@ pub record NeverFell (old new : Counters) : Type 0 where
   pub second : old.drives.second.faults ≤ new.drives.second.faults
   pub stalls : old.stalls ≤ new.stalls
 
-pub step_never_fell : (old new : State) (told after : Option Files) (asked : Request) (answer : Reply) → Step old told asked answer new after → keeps_drives asked ≡ true → NeverFell old.station.counters new.station.counters
+pub step_never_fell : (old new : State) (told after : Option Files) (asked : Request) (answer : Reply) → Step asked old told answer new after → keeps_drives asked ≡ true → NeverFell old.station.counters new.station.counters
 step_never_fell old new told after asked answer step keeps =
     let goes : GoesOn old.station.counters new.station.counters =
     either (refusal_of old asked) step (λ does. does_goes old new told after asked answer does keeps) (λ cause refused. refused.same.counts) in
@@ -116,7 +116,7 @@ pub and_both : (a b : Bool) → (a && b) ≡ true → (a ≡ true) × (b ≡ tru
 and_both true b e = (refl, e)
 and_both false b e = absurd (true≢false (sym e))
 
-pub never_fell : (old new : State) (told after : Option Files) (requests : List Request) (course : List Taken) → DoesAll old told requests course new after → list_all keeps_drives requests ≡ true → NeverFell old.station.counters new.station.counters
+pub never_fell : (old new : State) (told after : Option Files) (requests : List Request) (course : List Taken) → DoesAll requests old told course new after → list_all keeps_drives requests ≡ true → NeverFell old.station.counters new.station.counters
 never_fell old new told after [] course all keeps =
     let same = (ends_there old new told after course all).0 in
     subst (λ (s : State). NeverFell old.station.counters s.station.counters) (sym same) (record { first = omega arith; second = omega arith; stalls = omega arith })
@@ -190,8 +190,8 @@ pub record Splits (old : State) (told : Option Files) (first second : List Reque
   pub one : List Taken
   pub two : List Taken
   pub is : course ≡ one ++ two
-  pub before : DoesAll old told first one mid files
-  pub behind : DoesAll mid files second two new after
+  pub before : DoesAll first old told one mid files
+  pub behind : DoesAll second mid files two new after
 
 refusals_apart : (one two : List Taken) → has_refusal (one ++ two) ≡ false → (has_refusal one ≡ false) × (has_refusal two ≡ false)
 refusals_apart [] two done = (refl, done)
@@ -201,7 +201,7 @@ refusals_apart (taken ∷ one) two done =
     let first = parts.0 in
     (rw first rest.0, rest.1)
 
-pub splits : (old new : State) (told after : Option Files) (first second : List Request) (course : List Taken) → DoesAll old told (first ++ second) course new after → Splits old told first second course new after
+pub splits : (old new : State) (told after : Option Files) (first second : List Request) (course : List Taken) → DoesAll (first ++ second) old told course new after → Splits old told first second course new after
 splits old new told after first second course all =
     let parts = splits_run old new told after first second course all.run all.all in
     let done = refusals_apart parts.one parts.two (subst (λ (row : List Taken). has_refusal row ≡ false) parts.is all.done) in

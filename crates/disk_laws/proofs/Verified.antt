@@ -76,7 +76,7 @@ record IsOpened (disk : Disk) (new : State) (end : Counters) : Type 0 where
   pub holds : Holds disk count new.station
   pub quiet : IsUndisturbed 0 new.station.counters end
 
-opens : (name : List ℕ) (disk : Disk) (files : Files) (old new : State) (after : Option Files) (course : List Taken) (end : Counters) → IsImageOf (Some files) name disk → DoesAll old (Some files) (verify_opening name disk) course new after → NeverFell new.station.counters end → IsUndisturbed 0 old.station.counters end → IsOpened disk new end
+opens : (name : List ℕ) (disk : Disk) (files : Files) (old new : State) (after : Option Files) (course : List Taken) (end : Counters) → IsImageOf (Some files) name disk → DoesAll (verify_opening name disk) old (Some files) course new after → NeverFell new.station.counters end → IsUndisturbed 0 old.station.counters end → IsOpened disk new end
 opens name disk files old new after course end image all last quiet =
     let one = begins old new (Some files) after (request.Insert 0 name) (request.Ack 0 ∷ rate_requests disk.rate 0) course all in
     let put = one.does.2 in
@@ -84,7 +84,7 @@ opens name disk files old new after course end image all last quiet =
     let medium : (bay_of one.mid.station 0).medium ≡ Some disk = ap (λ (s : StationState). (bay_of s 0).medium) put.2.exchanged.becomes ∙ ap (λ (d : Disk). Some d) same in
     let two = begins one.mid new one.files after (request.Ack 0) (rate_requests disk.rate 0) one.later one.behind in
     let acked = acks 0 disk one.mid two.mid one.files two.files two.answer two.does two.done medium in
-    let whole = subst (λ (requests : List Request). DoesAll two.mid two.files requests two.later new after) (sym (append-nil (rate_requests disk.rate 0))) two.behind in
+    let whole = subst (λ (requests : List Request). DoesAll requests two.mid two.files two.later new after) (sym (append-nil (rate_requests disk.rate 0))) two.behind in
     let rated = rates 0 disk.rate disk [] two.mid new two.files after two.later whole refl acked.medium acked.high in
     let there = (ends_there rated.mid new rated.files after rated.course rated.behind).0 in
     let first = step_never_fell old one.mid (Some files) one.files (request.Insert 0 name) one.answer one.step refl in
@@ -131,7 +131,7 @@ opening_tells name disk (one ∷ two ∷ later) all =
     go R250 (taken ∷ next ∷ later) all = absurd (cc all)
 
 -- the reads of a whole disk tell of its standard keys that aren't found
-pub disk_tells : (old new : State) (files : Files) (name : List ℕ) (disk : Disk) (course : List Taken) (after : Option Files) (failed : List (Chrn × Look)) → ReadsDisk old files name disk course new after → IsUndisturbed 0 old.station.counters new.station.counters → IsUnmistaken disk → AreFailing disk (standard_keys disk) failed → refused_reads course ≡ all_told_of failed
+pub disk_tells : (old new : State) (files : Files) (name : List ℕ) (disk : Disk) (course : List Taken) (after : Option Files) (failed : List (Chrn × Look)) → ReadsDisk name disk old files course new after → IsUndisturbed 0 old.station.counters new.station.counters → IsUnmistaken disk → AreFailing disk (standard_keys disk) failed → refused_reads course ≡ all_told_of failed
 disk_tells old new files name disk course after failed all quiet unmistaken failing =
     let parts = splits_run old new (Some files) after (verify_opening name disk) (read_each 0 (standard_keys disk)) course all.run all.all in
     let done = subst (λ (row : List Taken). has_refusal row ≡ false) parts.begun all.opened in

@@ -64,7 +64,7 @@ halts_refused name shape old course new ended whole empty quiet (AtStop p) =
     let told = prints_status _ _ (stop_status p.cause) ended _ (not_put ended whole) p.prints in
     not_stop p.cause (subst IsEndStatus told.1 whole)
 
-breaks_off : (old : World) (asked : Request) (last : List Taken) (new : World) (ended : Status) → IsEndStatus ended → Breaks old asked last new ended → ⊥
+breaks_off : (old : World) (asked : Request) (last : List Taken) (new : World) (ended : Status) → IsEndStatus ended → Breaks asked old last new ended → ⊥
 breaks_off old asked last new ended whole (ReadStops cause none stops prints) =
     let told = prints_status _ _ (stop_status cause) ended _ (not_put ended whole) prints in
     not_stop cause (subst IsEndStatus told.1 whole)
@@ -87,7 +87,7 @@ module _ (name : List ℕ) (disk : Disk) (failed : List (Chrn × Look)) (files :
       let run = subst (λ (f : Option Files). Run old.state f opening p.mid p.files) there p.opened.run in
       let same_length : length opening ≡ length (verify_opening name disk) = sym (length-map opening (λ (taken : Taken). taken.asked)) ∙ ap (λ (l : List Request). length l) first in
       let taken = take_at opening reads (length (verify_opening name disk)) same_length in
-      let all : ReadsDisk old.state files name disk (opening ++ reads) new.state new.files = record {
+      let all : ReadsDisk name disk old.state files (opening ++ reads) new.state new.files = record {
         image = image;
         run = run_both old.state p.mid new.state (Some files) p.files new.files opening reads run p.run;
         all = map-append (λ (taken : Taken). taken.asked) opening reads ∙ ap (λ (l : List Request). l ++ requests_of reads) first ∙ ap (λ (l : List Request). verify_opening name disk ++ l) second;

@@ -43,7 +43,7 @@ pub record WritesHere (bay : ℕ) (disk : Disk) (key : Chrn) (p address : ℕ) (
   pub entry : IsOnMap next (entry_of (written_from old key address deleted) p)
   pub window : track_of next key.c key.h ≡ with_window (track_of disk key.c key.h) p deleted (bytes_from old.memory address (content_size key.n))
 
-module _ (bay : ℕ) (key : Chrn) (address : ℕ) (deleted : Bool) (disk : Disk) (regular : IsRegularDisk disk) (has : HasTrack disk key.c key.h) (p : ℕ) (field : IsAddressAt (track_of disk key.c key.h) p key) (old new : StationState) (neat : IsTidy (track_of disk key.c key.h) p deleted (bytes_from old.memory address (content_size key.n))) (called : Result (Unit {0}) Code) (drive : WritesDrive (written_from old key address deleted) bay called old new) (ok : IsOk called) (faultless : IsFaultless bay old.counters new.counters) (medium : (bay_of old bay).medium ≡ Some disk) (rate : (bay_of old bay).rate ≡ disk.rate) where
+module _ (bay : ℕ) (key : Chrn) (address : ℕ) (deleted : Bool) (disk : Disk) (regular : IsRegularDisk disk) (has : HasTrack disk key.c key.h) (p : ℕ) (field : IsAddressAt (track_of disk key.c key.h) p key) (old new : StationState) (neat : IsTidy (track_of disk key.c key.h) p deleted (bytes_from old.memory address (content_size key.n))) (called : Result (Unit {0}) Code) (drive : WritesDrive (written_from old key address deleted) bay old called new) (ok : IsOk called) (faultless : IsFaultless bay old.counters new.counters) (medium : (bay_of old bay).medium ≡ Some disk) (rate : (bay_of old bay).rate ≡ disk.rate) where
   abbrev content : List ℕ
   content = bytes_from old.memory address (content_size key.n)
 
@@ -53,7 +53,7 @@ module _ (bay : ℕ) (key : Chrn) (address : ℕ) (deleted : Bool) (disk : Disk)
   met_is : met (bay_of old bay) key.c key.h ≡ track_of disk key.c key.h
   met_is = met_track (bay_of old bay).medium (bay_of old bay).rate key.c key.h disk (record { is_in = medium; has = has; same_rate = sym rate })
 
-  alone : ChangesAlone written bay p disk called old new
+  alone : ChangesAlone written bay p disk old called new
   alone =
       let here = subst (λ track. IsAddressAt track p key) (sym met_is) field in
       let tidy = subst (λ track. IsTidy track p deleted content) (sym met_is) neat in

@@ -61,7 +61,7 @@ HasAsGiven sure course source copied c h r =
 -- the copy of a disk was stored under this name, and no other file changed: a regular disk of the same cylinders and rate,
 -- with two heads, that has each standard key of the other disk with the mark and the content that the read gave; its tracks
 -- are Laid
-pub record StoresCopy (old new : Counters) (course : List Taken) (disk : Disk) (to : List ℕ) (told after : Option Files) : Type 0 where
+pub record StoresCopy (disk : Disk) (to : List ℕ) (old : Counters) (told : Option Files) (course : List Taken) (new : Counters) (after : Option Files) : Type 0 where
   pub copied : Disk
   pub valid : IsDisk copied
   pub protected : copied.protected ≡ false
@@ -76,6 +76,6 @@ pub record StoresCopy (old new : Counters) (course : List Taken) (disk : Disk) (
   pub files : after ≡ stored told to (file_of copied)
 
 -- the command that copies was run on the disk of a name, with these answers, and none was a refusal
-pub record CopiesDisk (old : State) (files : Files) (from to : List ℕ) (disk : Disk) (course : List Taken) (new : State) (after : Option Files) : Type 0 where
+pub record CopiesDisk (from to : List ℕ) (disk : Disk) (old : State) (files : Files) (course : List Taken) (new : State) (after : Option Files) : Type 0 where
   pub image : IsImageOf (Some files) from disk
-  pub all : DoesAll old (Some files) (copy_requests from to disk (marks_read course)) course new after
+  pub all : DoesAll (copy_requests from to disk (marks_read course)) old (Some files) course new after

@@ -6,7 +6,7 @@ use Rattle.sector_model.specs.States.{State}
 use Rattle.sector_model.specs.Runs.{Taken, Run, requests_of, has_refusal}
 
 -- the requests were run, with this course, and none was refused
-pub record DoesAll (old : State) (told : Option Files) (requests : List Request) (course : List Taken) (new : State) (told_after : Option Files) : Type 0 where
+pub record DoesAll (requests : List Request) (old : State) (told : Option Files) (course : List Taken) (new : State) (told_after : Option Files) : Type 0 where
   pub run : Run old told course new told_after
   pub all : requests_of course ≡ requests
   pub done : has_refusal course ≡ false

@@ -55,7 +55,7 @@ abbrev pub refused_reads : List Taken → List (Chrn × Code)
 refused_reads course = flat_map (λ taken. refused_read taken.asked taken.answer) course
 
 -- the command that reads every sector was run on the disk of this name: its opening was done, and the reads had any answers
-pub record ReadsDisk (old : State) (files : Files) (name : List ℕ) (disk : Disk) (course : List Taken) (new : State) (after : Option Files) : Type 0 where
+pub record ReadsDisk (name : List ℕ) (disk : Disk) (old : State) (files : Files) (course : List Taken) (new : State) (after : Option Files) : Type 0 where
   pub image : IsImageOf (Some files) name disk
   pub run : Run old (Some files) course new after
   pub all : requests_of course ≡ verify_requests name disk

@@ -15,8 +15,8 @@ ghost use Rattle.disk_laws.specs.Copied.{CopiesDisk, StoresCopy};
 pub fn copies_disk(_from: &str, _to: &str)
     ensures { (old new : State) (files : Files) (disk : Disk) (course : List Taken)
         (after : Option Files)
-        → CopiesDisk old files _from.now _to.now disk course new after
+        → CopiesDisk _from.now _to.now disk old files course new after
         → length old.station.memory ≡ user_bytes
         → IsFaultless 1 old.station.counters new.station.counters
-        → StoresCopy old.station.counters new.station.counters course disk _to.now (Some files) after }
+        → StoresCopy disk _to.now old.station.counters (Some files) course new.station.counters after }
 {}

@@ -21,6 +21,6 @@ pub fn copy_stores_a_copy(_from: &str, _to: &str)
         → old.files ≡ Some files → IsImageOf (Some files) _from.now disk
         → length old.state.station.memory ≡ user_bytes
         → IsFaultless 1 old.state.station.counters new.state.station.counters
-        → StoresCopy old.state.station.counters new.state.station.counters course disk _to.now
-        (Some files) new.files }
+        → StoresCopy disk _to.now old.state.station.counters (Some files) course
+        new.state.station.counters new.files }
 {}

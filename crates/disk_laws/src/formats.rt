@@ -18,11 +18,11 @@ use flop_base::Rate;
 /// other bay. It is what the command's last request stores.
 pub fn formats_disk(_rate: Rate, _name: &str, _cylinders: u8)
     ensures leaves { (old new : State) (told after : Option Files) (course : List Taken)
-        → DoesAll old told (formatting _rate _name.now _cylinders) course new after
+        → DoesAll (formatting _rate _name.now _cylinders) old told course new after
         → IsFaultless 0 old.station.counters new.station.counters
         → LeavesFormatted _rate _name.now _cylinders told new after }
     ensures stores { (old new : State) (told after : Option Files) (course : List Taken)
-        → DoesAll old told (format_requests _rate _name.now _cylinders) course new after
+        → DoesAll (format_requests _rate _name.now _cylinders) old told course new after
         → IsFaultless 0 old.station.counters new.station.counters
         → StoresFormatted _rate _name.now _cylinders told after }
 {}

@@ -18,7 +18,7 @@ ghost use Rattle.disk_laws.specs.Verified.{ReadsDisk, IsUnmistaken, refused_read
 pub fn reads_tell_of_disk(_name: &str)
     ensures { (old new : State) (files : Files) (disk : Disk) (course : List Taken)
         (after : Option Files) (failed : List (Chrn × Look))
-        → ReadsDisk old files _name.now disk course new after
+        → ReadsDisk _name.now disk old files course new after
         → IsUndisturbed 0 old.station.counters new.station.counters
         → IsUnmistaken disk → AreFailing disk (standard_keys disk) failed
         → refused_reads course ≡ all_told_of failed }

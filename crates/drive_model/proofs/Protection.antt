@@ -10,7 +10,7 @@ rewritten-protected (Some d) c h place word covered =
     let stays : (not d.protected && has_track (Some d) c h) ≡ false = rw covered refl in
     cond-false _ _ _ stays
 
-pub protected-stays : (old new : DriveState) (head word : ℕ) → is_protected old.medium ≡ true → Writes old head word new → new.medium ≡ old.medium
+pub protected-stays : (old new : DriveState) (head word : ℕ) → is_protected old.medium ≡ true → Writes head word old new → new.medium ≡ old.medium
 protected-stays old new head word covered (inl wrote) =
     ap (λ (s : DriveState). s.medium) wrote.becomes
     ∙ cond_both (can_write old) _ _ (λ (m : Option Disk). m ≡ old.medium) (λ e. rewritten-protected old.medium old.cylinder head old.place word covered) (λ e. refl)

@@ -115,24 +115,24 @@ abbrev pub cut_off : DriveState → DriveState
 cut_off s = record (passed s) { cut = true }
 
 -- the drive is then as this, but for its count of faults, which doesn't fall and rises by no more than what was left of it
-pub record Becomes (old target new : DriveState) : Type 0 where
+pub record Becomes (target old new : DriveState) : Type 0 where
   pub becomes : new ≡ record target { faults = new.faults; left = new.left }
   pub never_falls : old.faults ≤ new.faults
   pub spends : Spends old.faults old.left new.faults new.left
 
 -- a pulse moves the heads, or is lost and counted
-abbrev pub Pulses : DriveState → Bool → DriveState → Type 0
-Pulses old inward new = Becomes old (moved inward old) new ⊎ (Becomes old old new × Rose old.faults new.faults)
+abbrev pub Pulses : Bool → DriveState → DriveState → Type 0
+Pulses inward old new = Becomes (moved inward old) old new ⊎ (Becomes old old new × Rose old.faults new.faults)
 
 -- the word that passed is read, or 0000 in its place, and that is counted
-abbrev pub Reads : DriveState → ℕ → ℕ → DriveState → Type 0
-Reads old head word new = (word ≡ word_under old head) ⊎ ((word ≡ 0) × Rose old.faults new.faults)
+abbrev pub Reads : ℕ → DriveState → ℕ → DriveState → Type 0
+Reads head old word new = (word ≡ word_under old head) ⊎ ((word ≡ 0) × Rose old.faults new.faults)
 
 -- the word is written where it can be, or its open gate is cut and counted
-abbrev pub Writes : DriveState → ℕ → ℕ → DriveState → Type 0
-Writes old head word new =
-    Becomes old (written head word old) new
-    ⊎ (IsTrue (can_write old) × Becomes old (cut_off old) new × Rose old.faults new.faults)
+abbrev pub Writes : ℕ → ℕ → DriveState → DriveState → Type 0
+Writes head word old new =
+    Becomes (written head word old) old new
+    ⊎ (IsTrue (can_write old) × Becomes (cut_off old) old new × Rose old.faults new.faults)
 
 -- the ranges of a drive; it tells what is left of its faults only where their count can't reach its last value by it
 pub record InRange (s : DriveState) : Type 0 where

@@ -28,22 +28,22 @@ pub trait Drive: Drop {
     fn insert(&mut self, medium: Medium) -> Result<(), Medium>
         ensures refused { IsErr result ↔ IsSome (state self.old).medium }
         ensures ok { OnOk result
-            (Becomes (state self.old) (loaded medium (state self.old)) (state self.new)) }
+            (Becomes (loaded medium (state self.old)) (state self.old) (state self.new)) }
         ensures err { IfErr result (λ back. (back ≡ medium)
             × Becomes (state self.old) (state self.old) (state self.new)) };
 
     /// Takes the medium out; nothing where none is in.
     fn eject(&mut self) -> Option<Medium>
         ensures medium { result ≡ (state self.old).medium }
-        ensures becomes { Becomes (state self.old) (unloaded (state self.old)) (state self.new) };
+        ensures becomes { Becomes (unloaded (state self.old)) (state self.old) (state self.new) };
 
     /// Turns the motor on or off. With it on, a medium is at speed after 6,250 word times.
     fn motor(&mut self, on: bool)
-        ensures becomes { Becomes (state self.old) (with_motor on (state self.old)) (state self.new) };
+        ensures becomes { Becomes (with_motor on (state self.old)) (state self.old) (state self.new) };
 
     /// A step pulse, to a higher cylinder where `inward`. The heads stay within cylinders 0 to 82.
     fn pulse(&mut self, inward: bool)
-        ensures moves { Pulses (state self.old) inward (state self.new) };
+        ensures moves { Pulses inward (state self.old) (state self.new) };
 
     /// The heads stand over cylinder 0.
     fn track0(&self) -> bool
@@ -64,11 +64,11 @@ pub trait Drive: Drop {
 
     /// Opens or closes the write gate. A gate that opens isn't cut any more.
     fn gate(&mut self, on: bool)
-        ensures becomes { Becomes (state self.old) (with_gate on (state self.old)) (state self.new) };
+        ensures becomes { Becomes (with_gate on (state self.old)) (state self.old) (state self.new) };
 
     /// Lets one word time pass, and tells whether the index came at its end.
     fn pass(&mut self) -> bool
-        ensures becomes { Becomes (state self.old) (passed (state self.old)) (state self.new) }
+        ensures becomes { Becomes (passed (state self.old)) (state self.old) (state self.new) }
         ensures index { result ≡ at_index (state self.old) }
         ensures range_before { InRange (state self.old) }
         ensures range { InRange (state self.new) };
@@ -76,8 +76,8 @@ pub trait Drive: Drop {
     /// Lets one word time pass, and reads the word under a head, 0 or 1. Without a medium at speed, or without such a
     /// track, it is 0000.
     fn read_word(&mut self, head: u8) -> Turn
-        ensures becomes { Becomes (state self.old) (passed (state self.old)) (state self.new) }
-        ensures word { Reads (state self.old) head result.word (state self.new) }
+        ensures becomes { Becomes (passed (state self.old)) (state self.old) (state self.new) }
+        ensures word { Reads head (state self.old) result.word (state self.new) }
         ensures index { result.index ≡ at_index (state self.old) }
         ensures range_before { InRange (state self.old) }
         ensures range { InRange (state self.new) };
@@ -85,7 +85,7 @@ pub trait Drive: Drop {
     /// Lets one word time pass, writes the word under a head where the gate is open and not cut, and tells whether the
     /// index came at its end. A protected medium stays as it is.
     fn write_word(&mut self, head: u8, word: u16) -> bool
-        ensures writes { Writes (state self.old) head word (state self.new) }
+        ensures writes { Writes head word (state self.old) (state self.new) }
         ensures index { result ≡ at_index (state self.old) }
         ensures range_before { InRange (state self.old) }
         ensures range { InRange (state self.new) };

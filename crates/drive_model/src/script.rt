@@ -115,8 +115,8 @@ impl Drive for ScriptDrive {
     fn insert(&mut self, medium: Medium) -> Result<(), Medium>
         ensures refused { IsErr result ↔ IsSome (script_state self.old).medium }
         ensures ok { OnOk result
-            (Becomes (script_state self.old)
-            (loaded medium (script_state self.old)) (script_state self.new)) }
+            (Becomes (loaded medium (script_state self.old))
+            (script_state self.old) (script_state self.new)) }
         ensures err { IfErr result (λ back. (back ≡ medium)
             × Becomes (script_state self.old) (script_state self.old) (script_state self.new)) }
         ensures no_fault { NoFault self.old self.new }
@@ -126,29 +126,29 @@ impl Drive for ScriptDrive {
 
     fn eject(&mut self) -> Option<Medium>
         ensures medium { result ≡ (script_state self.old).medium }
-        ensures becomes { Becomes (script_state self.old)
-            (unloaded (script_state self.old)) (script_state self.new) }
+        ensures becomes { Becomes (unloaded (script_state self.old))
+            (script_state self.old) (script_state self.new) }
         ensures no_fault { NoFault self.old self.new }
     {
         self.mechanics.eject()
     }
 
     fn motor(&mut self, on: bool)
-        ensures becomes { Becomes (script_state self.old)
-            (with_motor on (script_state self.old)) (script_state self.new) }
+        ensures becomes { Becomes (with_motor on (script_state self.old))
+            (script_state self.old) (script_state self.new) }
         ensures no_fault { NoFault self.old self.new }
     {
         self.mechanics.motor(on);
     }
 
     fn pulse(&mut self, inward: bool)
-        ensures moves { Pulses (script_state self.old) inward (script_state self.new) }
+        ensures moves { Pulses inward (script_state self.old) (script_state self.new) }
 
         ensures lost { OnTrue (loses self.old inward)
             (Becomes (script_state self.old) (script_state self.old) (script_state self.new)) }
         ensures moved { OnFalse (loses self.old inward)
-            (Becomes (script_state self.old)
-            (moved inward (script_state self.old)) (script_state self.new)) }
+            (Becomes (moved inward (script_state self.old))
+            (script_state self.old) (script_state self.new)) }
         ensures accounts { Accounts (loses self.old inward)
             (pulse_of (script_state self.old) inward) self.old self.new }
     {
@@ -175,16 +175,16 @@ impl Drive for ScriptDrive {
     }
 
     fn gate(&mut self, on: bool)
-        ensures becomes { Becomes (script_state self.old)
-            (with_gate on (script_state self.old)) (script_state self.new) }
+        ensures becomes { Becomes (with_gate on (script_state self.old))
+            (script_state self.old) (script_state self.new) }
         ensures no_fault { NoFault self.old self.new }
     {
         self.mechanics.gate(on);
     }
 
     fn pass(&mut self) -> bool
-        ensures becomes { Becomes (script_state self.old)
-            (passed (script_state self.old)) (script_state self.new) }
+        ensures becomes { Becomes (passed (script_state self.old))
+            (script_state self.old) (script_state self.new) }
         ensures index { result ≡ at_index (script_state self.old) }
         ensures range_before { InRange (script_state self.old) }
         ensures range { InRange (script_state self.new) }
@@ -194,9 +194,9 @@ impl Drive for ScriptDrive {
     }
 
     fn read_word(&mut self, head: u8) -> Turn
-        ensures becomes { Becomes (script_state self.old)
-            (passed (script_state self.old)) (script_state self.new) }
-        ensures word { Reads (script_state self.old) head result.word (script_state self.new) }
+        ensures becomes { Becomes (passed (script_state self.old))
+            (script_state self.old) (script_state self.new) }
+        ensures word { Reads head (script_state self.old) result.word (script_state self.new) }
         ensures index { result.index ≡ at_index (script_state self.old) }
         ensures range_before { InRange (script_state self.old) }
         ensures range { InRange (script_state self.new) }
@@ -217,17 +217,17 @@ impl Drive for ScriptDrive {
     }
 
     fn write_word(&mut self, head: u8, word: u16) -> bool
-        ensures writes { Writes (script_state self.old) head word (script_state self.new) }
+        ensures writes { Writes head word (script_state self.old) (script_state self.new) }
         ensures index { result ≡ at_index (script_state self.old) }
         ensures range_before { InRange (script_state self.old) }
         ensures range { InRange (script_state self.new) }
 
         ensures cut { OnTrue (cuts self.old head)
-            (Becomes (script_state self.old)
-            (cut_off (script_state self.old)) (script_state self.new)) }
+            (Becomes (cut_off (script_state self.old))
+            (script_state self.old) (script_state self.new)) }
         ensures written { OnFalse (cuts self.old head)
-            (Becomes (script_state self.old)
-            (written head word (script_state self.old)) (script_state self.new)) }
+            (Becomes (written head word (script_state self.old))
+            (script_state self.old) (script_state self.new)) }
         ensures accounts { Accounts (cuts self.old head)
             (write_of (script_state self.old) head) self.old self.new }
     {

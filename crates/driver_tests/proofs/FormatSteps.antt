@@ -28,7 +28,7 @@ use Rattle.driver_tests.proofs.WriteSteps.{written_on}
 
 -- ---- no such track
 
-pub formatted_none : (medium : Option Disk) (c : ℕ) (format : Format) → (HasTrackOn medium format.rate c format.h → ⊥) → FormatsOn medium c format None (Err NoMark) medium
+pub formatted_none : (medium : Option Disk) (c : ℕ) (format : Format) → (HasTrackOn medium format.rate c format.h → ⊥) → FormatsOn c format None medium (Err NoMark) medium
 formatted_none medium c format none = record {
   does = refl;
   turn = λ disk meets. absurd (none (disk, meets));
@@ -77,7 +77,7 @@ module _ (format : Format) (sectors c : ℕ) (count : sectors ≡ sectors_at for
   refusal (Ok unit) fits no_mark = tt
   refusal (Err code) fits no_mark = (no_mark, λ can. false≢true (fits.1 (fits_exactly.1 can)))
 
-  pub formatted_laid : (answer : Result (Unit {0}) Code) → (IsOk answer ↔ laid_words sectors 2 format.gap3 ≤ k) → IfErr answer (λ code. code ≡ NoMark) → FormatsOn medium c format (Some laying) answer (Some after)
+  pub formatted_laid : (answer : Result (Unit {0}) Code) → (IsOk answer ↔ laid_words sectors 2 format.gap3 ≤ k) → IfErr answer (λ code. code ≡ NoMark) → FormatsOn c format (Some laying) medium answer (Some after)
   formatted_laid answer fits no_mark = record {
     does = record {
       disk = d;
@@ -95,8 +95,8 @@ module _ (format : Format) (sectors c : ℕ) (count : sectors ≡ sectors_at for
 
 -- ---- the step of the rig
 
-module _ (old new : Rig) (bay : ℕ) (format : Format) (before : Option Disk) (c : ℕ) (after : Option Disk) (sends : SendsWrite old bay new) (was : in_bay old.media bay ≡ before) (at : in_bay old.cylinders bay ≡ c) (is : in_bay new.media bay ≡ after) (kept : after ≡ before → new.media ≡ old.media) where
-  does : (laying : Option Laying) → MatchOption laying (after ≡ before) (λ one. LaidOn before c format one after) → MatchOption laying (new.media ≡ old.media) (λ one. LaysMedium old bay format one new)
+module _ (old new : Rig) (bay : ℕ) (format : Format) (before : Option Disk) (c : ℕ) (after : Option Disk) (sends : SendsWrite bay old new) (was : in_bay old.media bay ≡ before) (at : in_bay old.cylinders bay ≡ c) (is : in_bay new.media bay ≡ after) (kept : after ≡ before → new.media ≡ old.media) where
+  does : (laying : Option Laying) → MatchOption laying (after ≡ before) (λ one. LaidOn c format one before after) → MatchOption laying (new.media ≡ old.media) (λ one. LaysMedium bay format one old new)
   does None same = kept same
   does (Some one) made = record {
     before = made.disk;
@@ -115,16 +115,16 @@ module _ (old new : Rig) (bay : ℕ) (format : Format) (before : Option Disk) (c
     same_rate = has.same_rate;
   }
 
-  refused : (answer : Result (Unit {0}) Code) → IfErr answer (λ code. (code ≡ NoMark) × (CanFormatOn before c format → ⊥)) → IfErr answer (λ code. IsFormatMiss old bay format code new)
+  refused : (answer : Result (Unit {0}) Code) → IfErr answer (λ code. (code ≡ NoMark) × (CanFormatOn before c format → ⊥)) → IfErr answer (λ code. IsFormatMiss bay format old code new)
   refused (Ok unit) miss = tt
   refused (Err code) miss =
-      subst (λ answer. IsFormatMiss old bay format answer new) (sym miss.0) (record {
+      subst (λ answer. IsFormatMiss bay format old answer new) (sym miss.0) (record {
         coded = tt;
         reason = λ quiet. (refl, λ can. miss.1 (can.0, meets_there can.0 can.1, can.2));
         overrun = λ e. absurd (cc e);
       })
 
-  pub formats : (laying : Option Laying) (answer : Result (Unit {0}) Code) → FormatsOn before c format laying answer after → FormatsTrack old bay format laying answer new
+  pub formats : (laying : Option Laying) (answer : Result (Unit {0}) Code) → FormatsOn c format laying before answer after → FormatsTrack bay format laying old answer new
   formats laying answer on = record {
     sends = sends;
     does = does laying on.does;
@@ -137,11 +137,11 @@ module _ (old new : Rig) (bay : ℕ) (format : Format) (before : Option Disk) (c
   }
 
 -- the format of the bench
-pub bench_formats : (drives taken done : Drives) (memory page : List ℕ) (counts next : Counts) (bay : ℕ) (format : Format) (before after : Drive) (answer : Result (Unit {0}) Code) → bay ≤ 1 → HasSent counts next → before ≡ drive_of drives bay → ((drive : Drive) → with_drive taken bay drive ≡ with_drive drives bay drive) → done ≡ with_drive taken bay after → SameDrive before after → ((laying : Option Laying) × FormatsOn before.medium before.cylinder format laying answer after.medium) → (laying : Option Laying) × FormatsTrack (rig_of drives memory page counts) bay format laying answer (rig_of done memory page next)
+pub bench_formats : (drives taken done : Drives) (memory page : List ℕ) (counts next : Counts) (bay : ℕ) (format : Format) (before after : Drive) (answer : Result (Unit {0}) Code) → bay ≤ 1 → HasSent counts next → before ≡ drive_of drives bay → ((drive : Drive) → with_drive taken bay drive ≡ with_drive drives bay drive) → done ≡ with_drive taken bay after → SameDrive before after → ((laying : Option Laying) × FormatsOn before.cylinder format laying before.medium answer after.medium) → (laying : Option Laying) × FormatsTrack bay format laying (rig_of drives memory page counts) answer (rig_of done memory page next)
 bench_formats drives taken done memory page counts next bay format before after answer le sent was left put same (laying, on) =
     let on_drive = written_on drives memory page counts next after sent bay le (subst (λ (d : Drive). SameDrive d after) was same) in
     let old = rig_of drives memory page counts in
     let new = rig_of (with_drive drives bay after) memory page next in
-    let there = subst (λ (d : Drive). FormatsOn d.medium d.cylinder format laying answer after.medium) was on in
+    let there = subst (λ (d : Drive). FormatsOn d.cylinder format laying d.medium answer after.medium) was on in
     let step = formats old new bay format (drive_of drives bay).medium (drive_of drives bay).cylinder after.medium on_drive.sends on_drive.was on_drive.at on_drive.is on_drive.kept laying answer there in
-    (laying, subst (λ all. FormatsTrack old bay format laying answer (rig_of all memory page next)) (sym (put ∙ left after)) step)
+    (laying, subst (λ all. FormatsTrack bay format laying old answer (rig_of all memory page next)) (sym (put ∙ left after)) step)

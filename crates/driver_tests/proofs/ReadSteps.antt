@@ -48,7 +48,7 @@ module _ (memory : List ℕ) (a : ℕ) (bytes : List ℕ) (fits : a + length byt
   length-with_items =
       omega (arith, front, length-append (take a memory) (bytes ++ drop (a + length bytes) memory), length-append bytes (drop (a + length bytes) memory), length-drop (a + length bytes) memory)
 
-  pub same_outside : SameOutside memory a (length bytes) (with_items memory a bytes)
+  pub same_outside : SameOutside a (length bytes) memory (with_items memory a bytes)
   unfolding with_items
   same_outside = record {
     length = length-with_items;
@@ -98,7 +98,7 @@ reason_of track key look.NoSector code is refused = subst (IsReadReason track ke
 reason_of track key look.BadCrc code is refused = subst (IsReadReason track key) (sym refused) (is.0, is.1.address, is.2)
 reason_of track key (look.Found deleted place) code is refused = absurd refused
 
-missed : (track : List ℕ) (key : Chrn) (bay : ℕ) (code : Code) (old new : Counters) → IsMissedOn track key code → IsReadMiss track key bay code old new
+missed : (track : List ℕ) (key : Chrn) (bay : ℕ) (code : Code) (old new : Counters) → IsMissedOn track key code → IsReadMiss track key bay old code new
 missed track key bay code old new miss =
     let of_code = refused_code miss.looked code miss.by_code in
     record {
@@ -109,7 +109,7 @@ missed track key bay code old new miss =
 
 -- ---- fields
 
-field_found : (old : Rig) (bay : ℕ) (key : Chrn) (rate : Rate) (deleted : Bool) (content : List ℕ) (new : Rig) → length content ≡ content_size key.n → FindsOn (in_bay old.media bay) rate (in_bay old.cylinders bay) key deleted content → FindsField old bay key rate deleted content new
+field_found : (old : Rig) (bay : ℕ) (key : Chrn) (rate : Rate) (deleted : Bool) (content : List ℕ) (new : Rig) → length content ≡ content_size key.n → FindsOn (in_bay old.media bay) rate (in_bay old.cylinders bay) key deleted content → FindsField bay key rate old deleted content new
 field_found old bay key rate deleted content new size field =
     let under = field.under in
     let track = track_of under.disk (in_bay old.cylinders bay) key.h in
@@ -166,35 +166,35 @@ module _ (drives : Drives) (memory page memory_after page_after : List ℕ) (cou
       }
 
   module _ (bay : ℕ) (key : Chrn) (rate : Rate) (drive : Drive) (content : List ℕ) (at : drive ≡ drive_of drives bay) (size : length content ≡ content_size key.n) where
-    done : (deleted : Bool) → FindsOn drive.medium rate drive.cylinder key deleted content → FindsField old bay key rate deleted content new
+    done : (deleted : Bool) → FindsOn drive.medium rate drive.cylinder key deleted content → FindsField bay key rate old deleted content new
     done deleted found =
         field_found old bay key rate deleted content new size (at_bay drives bay drive (λ m c. FindsOn m rate c key deleted content) at found)
 
-    refused : (code : Code) → IsMissedOn (met_in drive.medium rate drive.cylinder key.h) key code → IsReadMiss (track_under old bay rate key.h) key bay code old.counters new.counters
+    refused : (code : Code) → IsMissedOn (met_in drive.medium rate drive.cylinder key.h) key code → IsReadMiss (track_under old bay rate key.h) key bay old.counters code new.counters
     refused code miss =
         missed (track_under old bay rate key.h) key bay code old.counters new.counters (at_bay drives bay drive (λ m c. IsMissedOn (met_in m rate c key.h) key code) at miss)
 
-    pub reads_data : (answer : Result Bool Code) (address : ℕ) → memory_after ≡ with_items memory address content → address + content_size key.n ≤ length memory → page_after ≡ page → IfOk answer (λ deleted. FindsOn drive.medium rate drive.cylinder key deleted content) → IfErr answer (λ code. IsMissedOn (met_in drive.medium rate drive.cylinder key.h) key code) → ReadsData old bay key rate address answer new
+    pub reads_data : (answer : Result Bool Code) (address : ℕ) → memory_after ≡ with_items memory address content → address + content_size key.n ≤ length memory → page_after ≡ page → IfOk answer (λ deleted. FindsOn drive.medium rate drive.cylinder key deleted content) → IfErr answer (λ code. IsMissedOn (met_in drive.medium rate drive.cylinder key.h) key code) → ReadsData bay key rate address old answer new
     reads_data answer address is fits same_page found miss = record {
       sends = sends;
       found = found_as answer found;
       refused = refused_as answer miss;
       outside =
           let room : address + length content ≤ length memory = omega arith in
-          subst (λ m. SameOutside memory address (content_size key.n) m) (sym is)
-          (subst (λ k. SameOutside memory address k (with_items memory address content)) size (same_outside memory address content room));
+          subst (λ m. SameOutside address (content_size key.n) memory m) (sym is)
+          (subst (λ k. SameOutside address k memory (with_items memory address content)) size (same_outside memory address content room));
       page = same_page;
     }
       where
-        found_as : (a : Result Bool Code) → IfOk a (λ deleted. FindsOn drive.medium rate drive.cylinder key deleted content) → IfOk a (λ deleted. (bytes : List ℕ) × FindsField old bay key rate deleted bytes new × (memory_after ≡ with_items memory address bytes))
+        found_as : (a : Result Bool Code) → IfOk a (λ deleted. FindsOn drive.medium rate drive.cylinder key deleted content) → IfOk a (λ deleted. (bytes : List ℕ) × FindsField bay key rate old deleted bytes new × (memory_after ≡ with_items memory address bytes))
         found_as (Ok deleted) f = (content, done deleted f, is)
         found_as (Err code) f = tt
 
-        refused_as : (a : Result Bool Code) → IfErr a (λ code. IsMissedOn (met_in drive.medium rate drive.cylinder key.h) key code) → IfErr a (λ code. IsReadMiss (track_under old bay rate key.h) key bay code old.counters new.counters)
+        refused_as : (a : Result Bool Code) → IfErr a (λ code. IsMissedOn (met_in drive.medium rate drive.cylinder key.h) key code) → IfErr a (λ code. IsReadMiss (track_under old bay rate key.h) key bay old.counters code new.counters)
         refused_as (Ok deleted) f = tt
         refused_as (Err code) f = refused code f
 
-    pub reads_back : (answer : Result Bool Code) → page_after ≡ with_items page 0 content → memory_after ≡ memory → IfOk answer (λ deleted. FindsOn drive.medium rate drive.cylinder key deleted content) → IfErr answer (λ code. IsMissedOn (met_in drive.medium rate drive.cylinder key.h) key code) → ReadsBack old bay key rate answer new
+    pub reads_back : (answer : Result Bool Code) → page_after ≡ with_items page 0 content → memory_after ≡ memory → IfOk answer (λ deleted. FindsOn drive.medium rate drive.cylinder key deleted content) → IfErr answer (λ code. IsMissedOn (met_in drive.medium rate drive.cylinder key.h) key code) → ReadsBack bay key rate old answer new
     reads_back answer is same_memory found miss = record {
       sends = sends;
       found = found_as answer found;
@@ -202,16 +202,16 @@ module _ (drives : Drives) (memory page memory_after page_after : List ℕ) (cou
       memory = same_memory;
     }
       where
-        found_as : (a : Result Bool Code) → IfOk a (λ deleted. FindsOn drive.medium rate drive.cylinder key deleted content) → IfOk a (λ deleted. (bytes : List ℕ) × FindsField old bay key rate deleted bytes new × (page_after ≡ with_items page 0 bytes))
+        found_as : (a : Result Bool Code) → IfOk a (λ deleted. FindsOn drive.medium rate drive.cylinder key deleted content) → IfOk a (λ deleted. (bytes : List ℕ) × FindsField bay key rate old deleted bytes new × (page_after ≡ with_items page 0 bytes))
         found_as (Ok deleted) f = (content, done deleted f, is)
         found_as (Err code) f = tt
 
-        refused_as : (a : Result Bool Code) → IfErr a (λ code. IsMissedOn (met_in drive.medium rate drive.cylinder key.h) key code) → IfErr a (λ code. IsReadMiss (track_under old bay rate key.h) key bay code old.counters new.counters)
+        refused_as : (a : Result Bool Code) → IfErr a (λ code. IsMissedOn (met_in drive.medium rate drive.cylinder key.h) key code) → IfErr a (λ code. IsReadMiss (track_under old bay rate key.h) key bay old.counters code new.counters)
         refused_as (Ok deleted) f = tt
         refused_as (Err code) f = refused code f
 
 -- no address field is found
-pub no_id : (drives : Drives) (memory page : List ℕ) (counts next : Counts) (bay head : ℕ) (rate : Rate) (drive : Drive) (first : Option Chrn) (Is : Chrn → Type 0) → HasSent counts next → drive ≡ drive_of drives bay → first ≡ None → MatchOption first ((p : ℕ) (key : Chrn) → IsAddressAt (met_in drive.medium rate drive.cylinder head) p key → ⊥) Is → ReadsId (rig_of drives memory page counts) bay head rate (Err NoMark) (rig_of drives memory page next)
+pub no_id : (drives : Drives) (memory page : List ℕ) (counts next : Counts) (bay head : ℕ) (rate : Rate) (drive : Drive) (first : Option Chrn) (Is : Chrn → Type 0) → HasSent counts next → drive ≡ drive_of drives bay → first ≡ None → MatchOption first ((p : ℕ) (key : Chrn) → IsAddressAt (met_in drive.medium rate drive.cylinder head) p key → ⊥) Is → ReadsId bay head rate (rig_of drives memory page counts) (Err NoMark) (rig_of drives memory page next)
 no_id drives memory page counts next bay head rate drive first Is sent at is found =
     let None_at : Type 0 = (p : ℕ) (key : Chrn) → IsAddressAt (met_in drive.medium rate drive.cylinder head) p key → ⊥ in
     let none : None_at = subst (λ o. MatchOption o None_at Is) is found in

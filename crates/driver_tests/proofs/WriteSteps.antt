@@ -33,7 +33,7 @@ use Rattle.driver_tests.specs.Shown.{rig_of, drive_of, with_drive}
 
 -- ---- no address field of the key
 
-pub wrote_absent : (medium : Option Disk) (rate : Rate) (c : ℕ) (written : Written) (code : Code) → IsAbsent (met_in medium rate c written.key.h) written.key code → WritesOn medium rate c written None (Err code) medium
+pub wrote_absent : (medium : Option Disk) (rate : Rate) (c : ℕ) (written : Written) (code : Code) → IsAbsent (met_in medium rate c written.key.h) written.key code → WritesOn rate c written None medium (Err code) medium
 wrote_absent medium rate c written code absent = record {
   does = refl;
   done = λ ok. absurd (false≢true ok);
@@ -75,7 +75,7 @@ module _ (written : Written) (fits : FitsKey written) (rate : Rate) (c p : ℕ) 
   long : length track ≡ d.words_per_track
   long = length-track_of d c key.h valid here.meets.has
 
-  module _ (k : ℕ) (put : IsCutTo d c key.h p k (window_of written) after) where
+  module _ (k : ℕ) (put : IsCutTo c key.h p k (window_of written) d after) where
     abbrev change : Change
     change = change_at c p k
 
@@ -85,7 +85,7 @@ module _ (written : Written) (fits : FitsKey written) (rate : Rate) (c p : ℕ) 
     keeps : KeepsTracks d c key.h after
     keeps = change_keeps_tracks written d change after is_change
 
-    changes : (window_word p + window_words key.n ≤ d.words_per_track → k ≡ length (window_of written)) → ChangesOn medium rate c written change (Some after)
+    changes : (window_word p + window_words key.n ≤ d.words_per_track → k ≡ length (window_of written)) → ChangesOn rate c written change medium (Some after)
     changes whole = record {
       disk = d;
       made = after;
@@ -106,7 +106,7 @@ module _ (written : Written) (fits : FitsKey written) (rate : Rate) (c p : ℕ) 
   refused_out : (now : Option Disk) → HasWindowOut (met_in now rate c key.h) key → IsWriteRefusal (met_in now rate c key.h) key NoMark
   refused_out now out = record { coded = tt; reason = inr out; no_overrun = λ is. cc is }
 
-  pub wrote_cut : (words : List ℕ) → words ≡ window_of written → PutsWindow d c key.h p words false after → (one : Option Change) × WritesOn medium rate c written one (Err NoMark) (Some after)
+  pub wrote_cut : (words : List ℕ) → words ≡ window_of written → PutsWindow c key.h p words d false after → (one : Option Change) × WritesOn rate c written one medium (Err NoMark) (Some after)
   wrote_cut words is put =
       let outside : window_word p + window_words key.n ≤ length track → ⊥ = λ inside. put.0 (omega (arith, ap length is, length-window_of written fits)) in
       elim put.1 [
@@ -122,7 +122,7 @@ module _ (written : Written) (fits : FitsKey written) (rate : Rate) (c p : ℕ) 
               },
             )
         | inr (k, cut) ↦
-            let done = subst (λ row. IsCutTo d c key.h p k row after) is cut in (
+            let done = subst (λ row. IsCutTo c key.h p k row d after) is cut in (
               Some (change k done),
               record {
                 does = changes k done (λ inside. absurd (outside (omega (arith, long))));
@@ -132,9 +132,9 @@ module _ (written : Written) (fits : FitsKey written) (rate : Rate) (c p : ℕ) 
             )
       ]
 
-  pub wrote_whole : (words : List ℕ) → words ≡ window_of written → PutsWindow d c key.h p words true after → (one : Option Change) × WritesOn medium rate c written one (Ok tt) (Some after)
+  pub wrote_whole : (words : List ℕ) → words ≡ window_of written → PutsWindow c key.h p words d true after → (one : Option Change) × WritesOn rate c written one medium (Ok tt) (Some after)
   wrote_whole words is put =
-      let Put : List ℕ → Type 0 = λ row. IsCutTo d c key.h p (length row) row after in
+      let Put : List ℕ → Type 0 = λ row. IsCutTo c key.h p (length row) row d after in
       let done = subst Put is put in (
         Some (change (length (window_of written)) done),
         record { does = changes (length (window_of written)) done (λ inside. refl); done = λ ok. refl; refused = tt },
@@ -195,7 +195,7 @@ module _ (drives : Drives) (memory page : List ℕ) (counts next : Counts) (afte
         record { most_commands = omega arith; interrupts = omega arith; past_driver = refl },
       )
 
-  pub sends_first : SameDrive drives.first after → SendsWrite old 0 (new 0)
+  pub sends_first : SameDrive drives.first after → SendsWrite 0 old (new 0)
   sends_first same = record {
     heads = record {
       cylinders = ap (λ n. record { first = n; second = drives.second.cylinder }) same.cylinder;
@@ -210,7 +210,7 @@ module _ (drives : Drives) (memory page : List ℕ) (counts next : Counts) (afte
     command = sent.commands.rose;
   }
 
-  pub sends_second : SameDrive drives.second after → SendsWrite old 1 (new 1)
+  pub sends_second : SameDrive drives.second after → SendsWrite 1 old (new 1)
   sends_second same = record {
     heads = record {
       cylinders = ap (λ n. record { first = drives.first.cylinder; second = n }) same.cylinder;
@@ -227,7 +227,7 @@ module _ (drives : Drives) (memory page : List ℕ) (counts next : Counts) (afte
 
   -- the drive of the bay was written on, and nothing else
   pub record IsWrittenOn (bay : ℕ) : Type 0 where
-    pub sends : SendsWrite old bay (new bay)
+    pub sends : SendsWrite bay old (new bay)
     pub was : in_bay old.media bay ≡ (drive_of drives bay).medium
     pub at : in_bay old.cylinders bay ≡ (drive_of drives bay).cylinder
     pub is : in_bay (new bay).media bay ≡ after.medium
@@ -240,8 +240,8 @@ module _ (drives : Drives) (memory page : List ℕ) (counts next : Counts) (afte
       (λ same. record { sends = sends_second same; was = refl; at = refl; is = refl; kept = λ e. ap (λ m. record { first = drives.first.medium; second = m }) e })
 
 -- a write on the drive is one of the rig
-module _ (old new : Rig) (bay : ℕ) (rate : Rate) (written : Written) (before : Option Disk) (c : ℕ) (after : Option Disk) (sends : SendsWrite old bay new) (same_page : new.page ≡ old.page) (was : in_bay old.media bay ≡ before) (at : in_bay old.cylinders bay ≡ c) (is : in_bay new.media bay ≡ after) (kept : after ≡ before → new.media ≡ old.media) where
-  does : (change : Option Change) → MatchOption change (after ≡ before) (λ one. ChangesOn before rate c written one after) → MatchOption change (new.media ≡ old.media) (λ one. ChangesMedium old bay rate written one new)
+module _ (old new : Rig) (bay : ℕ) (rate : Rate) (written : Written) (before : Option Disk) (c : ℕ) (after : Option Disk) (sends : SendsWrite bay old new) (same_page : new.page ≡ old.page) (was : in_bay old.media bay ≡ before) (at : in_bay old.cylinders bay ≡ c) (is : in_bay new.media bay ≡ after) (kept : after ≡ before → new.media ≡ old.media) where
+  does : (change : Option Change) → MatchOption change (after ≡ before) (λ one. ChangesOn rate c written one before after) → MatchOption change (new.media ≡ old.media) (λ one. ChangesMedium bay rate written one old new)
   does None same = kept same
   does (Some one) made = record {
     before = made.disk;
@@ -259,13 +259,13 @@ module _ (old new : Rig) (bay : ℕ) (rate : Rate) (written : Written) (before :
       let cylinder : c ≡ in_bay new.cylinders bay = sym at ∙ ap (λ two. in_bay two bay) (sym sends.heads.cylinders) in
       ap (λ m. met_in m rate c written.key.h) (sym is) ∙ ap (λ n. met_in (in_bay new.media bay) rate n written.key.h) cylinder
 
-  refused : (answer : Result (Unit {0}) Code) → IfErr answer (λ refusal. IsWriteRefusal (met_in after rate c written.key.h) written.key refusal) → IfErr answer (λ code. IsWriteMiss (track_under new bay rate written.key.h) written.key bay code old.counters new.counters)
+  refused : (answer : Result (Unit {0}) Code) → IfErr answer (λ refusal. IsWriteRefusal (met_in after rate c written.key.h) written.key refusal) → IfErr answer (λ code. IsWriteMiss (track_under new bay rate written.key.h) written.key bay old.counters code new.counters)
   refused (Ok unit) miss = tt
   refused (Err code) miss =
       let here = subst (λ row. IsWriteRefusal row written.key code) met_now miss in
       record { coded = here.coded; reason = λ quiet. here.reason; overrun = λ e. absurd (here.no_overrun e) }
 
-  pub writes : (change : Option Change) (answer : Result (Unit {0}) Code) → WritesOn before rate c written change answer after → WritesData old bay rate written change answer new
+  pub writes : (change : Option Change) (answer : Result (Unit {0}) Code) → WritesOn rate c written change before answer after → WritesData bay rate written change old answer new
   writes change answer on = record {
     sends = sends;
     does = does change on.does;
@@ -275,14 +275,14 @@ module _ (old new : Rig) (bay : ℕ) (rate : Rate) (written : Written) (before :
   }
 
 -- the write of the bench
-pub bench_writes : (drives taken done : Drives) (memory page : List ℕ) (counts next : Counts) (bay : ℕ) (rate : Rate) (written target : Written) (before after : Drive) (answer : Result (Unit {0}) Code) → bay ≤ 1 → HasSent counts next → before ≡ drive_of drives bay → ((drive : Drive) → with_drive taken bay drive ≡ with_drive drives bay drive) → done ≡ with_drive taken bay after → SameDrive before after → written ≡ target → ((change : Option Change) × WritesOn before.medium rate before.cylinder written change answer after.medium) → (change : Option Change) × WritesData (rig_of drives memory page counts) bay rate target change answer (rig_of done memory page next)
+pub bench_writes : (drives taken done : Drives) (memory page : List ℕ) (counts next : Counts) (bay : ℕ) (rate : Rate) (written target : Written) (before after : Drive) (answer : Result (Unit {0}) Code) → bay ≤ 1 → HasSent counts next → before ≡ drive_of drives bay → ((drive : Drive) → with_drive taken bay drive ≡ with_drive drives bay drive) → done ≡ with_drive taken bay after → SameDrive before after → written ≡ target → ((change : Option Change) × WritesOn rate before.cylinder written change before.medium answer after.medium) → (change : Option Change) × WritesData bay rate target change (rig_of drives memory page counts) answer (rig_of done memory page next)
 bench_writes drives taken done memory page counts next bay rate written target before after answer le sent was left put same is (change, on) =
     let on_drive = written_on drives memory page counts next after sent bay le (subst (λ (d : Drive). SameDrive d after) was same) in
     let old = rig_of drives memory page counts in
     let new = rig_of (with_drive drives bay after) memory page next in
-    let there = subst (λ (d : Drive). WritesOn d.medium rate d.cylinder written change answer after.medium) was on in
+    let there = subst (λ (d : Drive). WritesOn rate d.cylinder written change d.medium answer after.medium) was on in
     let step = writes old new bay rate written (drive_of drives bay).medium (drive_of drives bay).cylinder after.medium on_drive.sends refl on_drive.was on_drive.at on_drive.is on_drive.kept change answer there in
-    (change, subst (λ all. WritesData old bay rate target change answer (rig_of all memory page next)) (sym (put ∙ left after)) (subst (λ w. WritesData old bay rate w change answer new) is step))
+    (change, subst (λ all. WritesData bay rate target change old answer (rig_of all memory page next)) (sym (put ∙ left after)) (subst (λ w. WritesData bay rate w change old answer new) is step))
 
 -- the bytes of a part of memory
 pub bytes_part : (memory list : List ℕ) (start size count : ℕ) → list ≡ memory → size ≡ count → take (start + size - start) (drop start list) ≡ bytes_from memory start count

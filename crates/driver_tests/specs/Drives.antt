@@ -20,7 +20,7 @@ pub record RecalibratesDrive (old : Drive) (reached : Bool) (new : Drive) : Type
   pub lost : reached ≡ false → RoseBy (new.cylinder + 79 - old.cylinder) old.faults new.faults
 
 -- by the controller's number
-pub record SeeksDrive (old : Drive) (target : ℕ) (new : Drive) : Type 0 where
+pub record SeeksDrive (target : ℕ) (old new : Drive) : Type 0 where
   pub moved : Moved old new
   pub number : new.number ≡ target
   pub arrives : old.cylinder ≡ old.number → RoseLess 1 old.faults new.faults → new.cylinder ≡ target

@@ -20,7 +20,7 @@ CanFormatOn medium cylinder format =
     × Fits (format_keys format) standard_code format.gap3 disk.words_per_track
 
 -- the track under the head was laid
-pub record LaidOn (before : Option Disk) (cylinder : ℕ) (format : Format) (laying : Laying) (after : Option Disk) : Type 0 where
+pub record LaidOn (cylinder : ℕ) (format : Format) (laying : Laying) (before after : Option Disk) : Type 0 where
   pub disk : Disk
   pub made : Disk
   pub was : before ≡ Some disk
@@ -30,8 +30,8 @@ pub record LaidOn (before : Option Disk) (cylinder : ℕ) (format : Format) (lay
   pub makes : IsLaying format disk laying made
 
 -- the track was laid so, or the medium is as it was
-pub record FormatsOn (before : Option Disk) (cylinder : ℕ) (format : Format) (laying : Option Laying) (answer : Result (Unit {0}) Code) (after : Option Disk) : Type 0 where
-  pub does : MatchOption laying (after ≡ before) (λ one. LaidOn before cylinder format one after)
+pub record FormatsOn (cylinder : ℕ) (format : Format) (laying : Option Laying) (before : Option Disk) (answer : Result (Unit {0}) Code) (after : Option Disk) : Type 0 where
+  pub does : MatchOption laying (after ≡ before) (λ one. LaidOn cylinder format one before after)
   pub turn : (disk : Disk) → MeetsTrack before format.rate cylinder format.h disk
       → MatchOption laying ⊥ (λ one. one.words ≡ disk.words_per_track)
   pub fits : IsOk answer → CanFormatOn before cylinder format

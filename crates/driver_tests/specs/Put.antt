@@ -14,16 +14,16 @@ use Rattle.single_commands.specs.Writing.{IsWriteCode, IsWriteReason}
 use Rattle.driver_tests.specs.Found.{IsUnderHead}
 
 -- the medium has the first k of these words at the window's place of the address field at p
-pub record IsCutTo (before : Disk) (c h p k : ℕ) (words : List ℕ) (after : Disk) : Type 0 where
+pub record IsCutTo (c h p k : ℕ) (words : List ℕ) (before after : Disk) : Type 0 where
   pub cuttable : IsCuttable (track_of before c h) p k words
   pub cut : IsWithTrack before c h (cut_of (track_of before c h) p k words) after
 
 -- as many of the words as are inside the track were put there; the answer says whether all are
-abbrev pub PutsWindow : Disk → ℕ → ℕ → ℕ → List ℕ → Bool → Disk → Type 0
-PutsWindow before c h p words whole after =
-    MatchBool whole (IsCutTo before c h p (length words) words after)
+abbrev pub PutsWindow : ℕ → ℕ → ℕ → List ℕ → Disk → Bool → Disk → Type 0
+PutsWindow c h p words before whole after =
+    MatchBool whole (IsCutTo c h p (length words) words before after)
     ((window_word p + length words ≤ length (track_of before c h) → ⊥)
-    × ((after ≡ before) ⊎ ((k : ℕ) × IsCutTo before c h p k words after)))
+    × ((after ≡ before) ⊎ ((k : ℕ) × IsCutTo c h p k words before after)))
 
 -- the track under the head has an address field of the key at a place
 pub record HasFieldOn (medium : Option Disk) (rate : Rate) (cylinder : ℕ) (key : Chrn) (p : ℕ) : Type 0 where
@@ -37,7 +37,7 @@ pub record IsAbsent (track : List ℕ) (key : Chrn) (answer : Code) : Type 0 whe
   pub by_code : ((answer ≡ code.NoMark) × (HasAddressMark track → ⊥)) ⊎ ((answer ≡ code.NotFound) × HasAddressMark track)
 
 -- the medium was changed behind an address field of the key, on the track under the head
-pub record ChangesOn (before : Option Disk) (rate : Rate) (cylinder : ℕ) (written : Written) (change : Change) (after : Option Disk) : Type 0 where
+pub record ChangesOn (rate : Rate) (cylinder : ℕ) (written : Written) (change : Change) (before after : Option Disk) : Type 0 where
   pub disk : Disk
   pub made : Disk
   pub was : before ≡ Some disk
@@ -55,7 +55,7 @@ pub record IsWriteRefusal (track : List ℕ) (key : Chrn) (answer : Code) : Type
   pub no_overrun : answer ≡ code.Overrun → ⊥
 
 -- the medium was changed so, or not at all
-pub record WritesOn (before : Option Disk) (rate : Rate) (cylinder : ℕ) (written : Written) (change : Option Change) (answer : Result (Unit {0}) Code) (after : Option Disk) : Type 0 where
-  pub does : MatchOption change (after ≡ before) (λ one. ChangesOn before rate cylinder written one after)
+pub record WritesOn (rate : Rate) (cylinder : ℕ) (written : Written) (change : Option Change) (before : Option Disk) (answer : Result (Unit {0}) Code) (after : Option Disk) : Type 0 where
+  pub does : MatchOption change (after ≡ before) (λ one. ChangesOn rate cylinder written one before after)
   pub done : IsOk answer → MatchOption change ⊥ (λ one. one.words ≡ length (window_of written))
   pub refused : IfErr answer (λ refusal. IsWriteRefusal (met_in after rate cylinder written.key.h) written.key refusal)

@@ -14,12 +14,12 @@ pub record Fails (old new : Rig) : Type 0 where
   pub page : new.page ≡ old.page
 
 -- it had a fault of the drive
-pub record HasFault (old : Rig) (bay : ℕ) (new : Rig) : Type 0 where
+pub record HasFault (bay : ℕ) (old new : Rig) : Type 0 where
   pub fails : Fails old new
   pub fault : FaultsRoseBy 1 bay old.counters new.counters
 
 -- it was disturbed, and is refused so
-pub record IsDisturbed (IsCode : Code → Type 0) (old : Rig) (bay : ℕ) (code : Code) (new : Rig) : Type 0 where
+pub record IsDisturbed (IsCode : Code → Type 0) (bay : ℕ) (old : Rig) (code : Code) (new : Rig) : Type 0 where
   pub fails : Fails old new
   pub coded : IsCode code
   pub disturbed : IsUndisturbed bay old.counters new.counters → ⊥

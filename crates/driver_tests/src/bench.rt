@@ -137,7 +137,7 @@ impl Bench {
     /// A data command that a fault of the drive ends.
     pub(crate) fn fault(&mut self, bay: u8)
         requires { bay ≤ 1 }
-        ensures { HasFault (rig_shown self.old) bay (rig_shown self.new) }
+        ensures { HasFault bay (rig_shown self.old) (rig_shown self.new) }
     {
         let mut drive = self.drives.take(bay);
         drive.fail(1);
@@ -148,8 +148,8 @@ impl Bench {
     /// A write or a format that fails so.
     pub(crate) fn refuse_write(&mut self, bay: u8, trouble: Trouble) -> Code
         requires { bay ≤ 1 }
-        ensures write { IsDisturbed IsWriteCode (rig_shown self.old) bay result (rig_shown self.new) }
-        ensures format { IsDisturbed IsFormatCode (rig_shown self.old) bay result (rig_shown self.new) }
+        ensures write { IsDisturbed IsWriteCode bay (rig_shown self.old) result (rig_shown self.new) }
+        ensures format { IsDisturbed IsFormatCode bay (rig_shown self.old) result (rig_shown self.new) }
     {
         match trouble {
             Trouble::Stalled => {
@@ -167,7 +167,7 @@ impl Bench {
     /// A read that fails so.
     pub(crate) fn refuse_read(&mut self, bay: u8, trouble: Trouble) -> Code
         requires { bay ≤ 1 }
-        ensures { IsDisturbed IsReadCode (rig_shown self.old) bay result (rig_shown self.new) }
+        ensures { IsDisturbed IsReadCode bay (rig_shown self.old) result (rig_shown self.new) }
     {
         match trouble {
             Trouble::Stalled => {

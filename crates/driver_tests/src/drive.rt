@@ -108,7 +108,7 @@ impl Drive {
     /// The pulses to a cylinder, all of which are lost where some are.
     pub fn seek(&mut self, target: u8, lost: u8)
         requires { target ≤ 79 }
-        ensures { SeeksDrive self.old target self.new }
+        ensures { SeeksDrive target self.old self.new }
     {
         let from = self.number;
         self.number = target;

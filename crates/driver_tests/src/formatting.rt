@@ -63,8 +63,8 @@ impl Drive {
         words: &mut [u16],
     ) -> Result<(), Code>
         requires { length words.old ≡ 16384 }
-        ensures formats { (laying : Option Laying) × FormatsOn self.old.medium self.old.cylinder
-            (record { c = c; h = h; rate = rate; gap3 = gap3; fill = fill }) laying result self.new.medium }
+        ensures formats { (laying : Option Laying) × FormatsOn self.old.cylinder (record { c = c; h = h; rate = rate; gap3 = gap3; fill = fill })
+            laying self.old.medium result self.new.medium }
         ensures same { SameDrive self.old self.new }
     {
         if !self.has_track(rate, h) {
@@ -97,8 +97,8 @@ impl Bench {
         fill: u8,
     ) -> Result<(), Code>
         requires bay { bay ≤ 1 }
-        ensures { (laying : Option Laying) × FormatsTrack (rig_shown self.old) bay
-            (record { c = c; h = h; rate = rate; gap3 = gap3; fill = fill }) laying result (rig_shown self.new) }
+        ensures { (laying : Option Laying) × FormatsTrack bay (record { c = c; h = h; rate = rate; gap3 = gap3; fill = fill })
+            laying (rig_shown self.old) result (rig_shown self.new) }
     {
         let trouble = self.script.trouble();
         if trouble != Trouble::Calm {

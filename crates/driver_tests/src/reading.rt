@@ -14,7 +14,7 @@ impl Bench {
     /// Finds the key of the first address field on the track under a head.
     pub(crate) fn find_id(&mut self, bay: u8, head: u8, rate: Rate) -> Result<Chrn, Code>
         requires { bay ≤ 1 }
-        ensures { ReadsId (rig_shown self.old) bay head rate result (rig_shown self.new) }
+        ensures { ReadsId bay head rate (rig_shown self.old) result (rig_shown self.new) }
     {
         if self.script.trouble() != Trouble::Calm {
             self.fault(bay);
@@ -47,7 +47,7 @@ impl Bench {
         requires bay { bay ≤ 1 }
         requires coded { IsSizeCode key.n }
         requires range { address + content_size key.n ≤ user_bytes }
-        ensures { ReadsData (rig_shown self.old) bay key rate address result (rig_shown self.new) }
+        ensures { ReadsData bay key rate address (rig_shown self.old) result (rig_shown self.new) }
     {
         let trouble = self.script.trouble();
         if trouble != Trouble::Calm {
@@ -63,7 +63,7 @@ impl Bench {
     pub(crate) fn read_to_page(&mut self, bay: u8, key: Chrn, rate: Rate) -> Result<bool, Code>
         requires bay { bay ≤ 1 }
         requires coded { IsSizeCode key.n }
-        ensures { ReadsBack (rig_shown self.old) bay key rate result (rig_shown self.new) }
+        ensures { ReadsBack bay key rate (rig_shown self.old) result (rig_shown self.new) }
     {
         let trouble = self.script.trouble();
         if trouble != Trouble::Calm {

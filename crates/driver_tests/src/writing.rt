@@ -24,7 +24,7 @@ fn put_window(medium: &mut Medium, c: u8, key: Chrn, place: usize, words: &[u16]
     requires track { HasTrack medium.old c key.h }
     requires address { IsAddressAt (track_of medium.old c key.h) place key }
     requires short { length words.now ≤ 16384 }
-    ensures puts { PutsWindow medium.old c key.h place words.now result medium.new }
+    ensures puts { PutsWindow c key.h place words.now medium.old result medium.new }
     ensures valid { IsDisk medium.new }
 {
     let length = usize::from(medium.words());
@@ -68,8 +68,8 @@ impl Drive {
         requires coded { IsSizeCode key.n }
         requires content { length content.now ≡ content_size key.n }
         requires room { length words.old ≡ 18 + content_size key.n }
-        ensures writes { (change : Option Change) × WritesOn self.old.medium rate self.old.cylinder
-            (record { key = key; deleted = deleted; content = content.now }) change result self.new.medium }
+        ensures writes { (change : Option Change) × WritesOn rate self.old.cylinder (record { key = key; deleted = deleted; content = content.now })
+            change self.old.medium result self.new.medium }
         ensures same { SameDrive self.old self.new }
     {
         let place = match self.find_field(key, rate) {
@@ -104,9 +104,9 @@ impl Bench {
         requires bay { bay ≤ 1 }
         requires coded { IsSizeCode key.n }
         requires range { address + content_size key.n ≤ user_bytes }
-        ensures { (change : Option Change) × WritesData (rig_shown self.old) bay rate
-            (record { key = key; deleted = deleted; content = bytes_from (rig_shown self.old).memory address (content_size key.n) })
-            change result (rig_shown self.new) }
+        ensures { (change : Option Change) × WritesData bay rate (record { key = key; deleted = deleted; content = bytes_from (rig_shown self.old).memory address (content_size key.n) })
+            change
+            (rig_shown self.old) result (rig_shown self.new) }
     {
         let trouble = self.script.trouble();
         if trouble != Trouble::Calm {

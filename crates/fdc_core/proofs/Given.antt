@@ -13,7 +13,7 @@ is_less m less = grind (arith, nat_tests)
 is_most : (m : ℕ) → 6 ≤ m → nat_le 6 m ≡ true
 is_most m most = grind (arith, nat_tests)
 
-pub gives_next : (port : ℕ) (lines : Lines) (fdc : Fdc) → Gives port (value_read port lines fdc) fdc (after_read port fdc)
+pub gives_next : (port : ℕ) (lines : Lines) (fdc : Fdc) → Gives port fdc (value_read port lines fdc) (after_read port fdc)
 gives_next port lines fdc at ending results read is =
     subst (λ p. GivesNext ending results read (value_read p lines fdc) (after_read p fdc)) (sym at) (record {
       byte_is = ap result_byte is;

@@ -112,7 +112,7 @@ late_overruns index word (Format formatting) old new is = tt
 
 -- READ ID and READ DATA
 listen_follows : (index : Bool) (word head_drive steps : ℕ) (task : Task) (old new : Fdc) → is_listening task ≡ true → StepsOn head_drive steps task index word old new
-    → Follows (Execute (record { head_drive = head_drive; steps = steps; task = task })) old old index word new
+    → Follows (Execute (record { head_drive = head_drive; steps = steps; task = task })) old index word old new
 listen_follows index word head_drive steps task old new listens (inl (last, is)) = record {
   executes = subst (λ b. ExecutesTask b head_drive steps task index word old new) (sym listens) (inl (last, is));
   overruns = late_overruns index word task old new (subst (λ fdc. is_overrun fdc.phase ≡ false) (sym is) refl);
@@ -127,16 +127,16 @@ listen_follows index word head_drive steps task old new listens (inr (few, hears
 }
 
 -- of the commands that write nothing is said here
-write_follows : (index : Bool) (word head_drive steps : ℕ) (writing : Writing) (old new : Fdc) → Follows (Execute (record { head_drive = head_drive; steps = steps; task = Write writing })) old old index word new
+write_follows : (index : Bool) (word head_drive steps : ℕ) (writing : Writing) (old new : Fdc) → Follows (Execute (record { head_drive = head_drive; steps = steps; task = Write writing })) old index word old new
 write_follows index word head_drive steps writing old new =
     record { executes = tt; overruns = tt; reads = λ past sent was. absurd was; identifies = λ past sent was. absurd was }
 
-format_follows : (index : Bool) (word head_drive steps : ℕ) (formatting : Formatting) (old new : Fdc) → Follows (Execute (record { head_drive = head_drive; steps = steps; task = Format formatting })) old old index word new
+format_follows : (index : Bool) (word head_drive steps : ℕ) (formatting : Formatting) (old new : Fdc) → Follows (Execute (record { head_drive = head_drive; steps = steps; task = Format formatting })) old index word old new
 format_follows index word head_drive steps formatting old new =
     record { executes = tt; overruns = tt; reads = λ past sent was. absurd was; identifies = λ past sent was. absurd was }
 
 task_hears : (task : Task) (head_drive steps : ℕ) (old new : Fdc) (before after : DriveState) → TaskSteps task head_drive steps old before after new
-    → StepHears (Execute (record { head_drive = head_drive; steps = steps; task = task })) old old (at_index before) before after new
+    → StepHears (Execute (record { head_drive = head_drive; steps = steps; task = task })) old (at_index before) old before after new
 task_hears (ReadId search) head_drive steps old new before after is =
     record { word = is.word; sees = is.sees; follows = listen_follows (at_index before) is.word head_drive steps (ReadId search) old new refl is.does }
 task_hears (Read reading) head_drive steps old new before after is =
@@ -146,12 +146,12 @@ task_hears (Write writing) head_drive steps old new before after is =
 task_hears (Format formatting) head_drive steps old new before after is =
     record { word = 0; sees = tt; follows = format_follows (at_index before) 0 head_drive steps formatting old new }
 
-pub executes_hears : (old new : Fdc) (before after : DriveState) (execution : Execution) → old.phase ≡ Execute execution → TaskSteps execution.task execution.head_drive execution.steps old before after new → Listens old old (at_index before) before after new
+pub executes_hears : (old new : Fdc) (before after : DriveState) (execution : Execution) → old.phase ≡ Execute execution → TaskSteps execution.task execution.head_drive execution.steps old before after new → Listens old (at_index before) old before after new
 executes_hears old new before after execution is steps =
-    subst (λ phase. StepHears phase old old (at_index before) before after new) (sym is) (task_hears execution.task execution.head_drive execution.steps old new before after steps)
+    subst (λ phase. StepHears phase old (at_index before) old before after new) (sym is) (task_hears execution.task execution.head_drive execution.steps old new before after steps)
 
 task_hears_none : (task : Task) (head_drive steps : ℕ) (old new : Fdc) → TaskStepsNowhere task head_drive steps old new
-    → Follows (Execute (record { head_drive = head_drive; steps = steps; task = task })) old old false 0 new
+    → Follows (Execute (record { head_drive = head_drive; steps = steps; task = task })) old false 0 old new
 task_hears_none (ReadId search) head_drive steps old new is = listen_follows false 0 head_drive steps (ReadId search) old new refl is
 task_hears_none (Read reading) head_drive steps old new is = listen_follows false 0 head_drive steps (Read reading) old new refl is
 task_hears_none (Write writing) head_drive steps old new is = write_follows false 0 head_drive steps writing old new
@@ -159,7 +159,7 @@ task_hears_none (Format formatting) head_drive steps old new is = format_follows
 
 pub executes_hears_none : (old new : Fdc) (execution : Execution) → old.phase ≡ Execute execution → TaskStepsNowhere execution.task execution.head_drive execution.steps old new → ListensToNone old old new
 executes_hears_none old new execution is steps =
-    subst (λ phase. Follows phase old old false 0 new) (sym is) (task_hears_none execution.task execution.head_drive execution.steps old new steps)
+    subst (λ phase. Follows phase old false 0 old new) (sym is) (task_hears_none execution.task execution.head_drive execution.steps old new steps)
 
 -- ---- outside execution
 
@@ -173,36 +173,36 @@ rests_overruns Command other index polls new = tt
 rests_overruns (Result answer) other index polls new = tt
 rests_overruns (Execute execution) other index polls new = absurd (other execution refl)
 
-pub rests_follows : (track0 index : Bool) (old new : Fdc) → new ≡ seek_stepped track0 old → ((execution : Execution) → old.phase ≡ Execute execution → ⊥) → Follows old.phase old old index 0 new
-rests_follows track0 index old new is other = subst (λ fdc. Follows old.phase old old index 0 fdc) (sym is) (record {
+pub rests_follows : (track0 index : Bool) (old new : Fdc) → new ≡ seek_stepped track0 old → ((execution : Execution) → old.phase ≡ Execute execution → ⊥) → Follows old.phase old index 0 old new
+rests_follows track0 index old new is other = subst (λ fdc. Follows old.phase old index 0 old fdc) (sym is) (record {
   executes = rests_executes old.phase other index old (seek_stepped track0 old);
   overruns = rests_overruns old.phase other index old (seek_stepped track0 old);
   reads = rests_reads old.phase other index old.asking old.fifo.bytes;
   identifies = rests_identifies old.phase other index;
 })
 
-pub rests_hears : (track0 index : Bool) (old new : Fdc) (before after : DriveState) → new ≡ seek_stepped track0 old → ((execution : Execution) → old.phase ≡ Execute execution → ⊥) → Listens old old index before after new
+pub rests_hears : (track0 index : Bool) (old new : Fdc) (before after : DriveState) → new ≡ seek_stepped track0 old → ((execution : Execution) → old.phase ≡ Execute execution → ⊥) → Listens old index old before after new
 rests_hears track0 index old new before after is other =
     record { word = 0; sees = rests_sees old.phase other old.rate before after; follows = rests_follows track0 index old new is other }
 
 -- ---- the poll moves nothing of this
 
-if_follows : (b index : Bool) (word : ℕ) (old new : Fdc) → (let polls : Fdc = (if b then record old { poll_due = false; interrupt = true; seeks = with_polls old.seeks } else old) in Follows polls.phase polls polls index word new → Follows old.phase old polls index word new)
+if_follows : (b index : Bool) (word : ℕ) (old new : Fdc) → (let polls : Fdc = (if b then record old { poll_due = false; interrupt = true; seeks = with_polls old.seeks } else old) in Follows polls.phase polls index word polls new → Follows old.phase polls index word old new)
 if_follows true index word old new was =
     record { executes = was.executes; overruns = was.overruns; reads = was.reads; identifies = was.identifies }
 if_follows false index word old new was = was
 
-pub polled_follows : (index : Bool) (word : ℕ) (old polls new : Fdc) → polls ≡ polled old → Follows polls.phase polls polls index word new → Follows old.phase old polls index word new
+pub polled_follows : (index : Bool) (word : ℕ) (old polls new : Fdc) → polls ≡ polled old → Follows polls.phase polls index word polls new → Follows old.phase polls index word old new
 polled_follows index word old polls new is was =
-    subst (λ p. Follows old.phase old p index word new) (sym is) (if_follows (old.poll_due && not (is_held old)) index word old new (subst (λ p. Follows p.phase p p index word new) is was))
+    subst (λ p. Follows old.phase p index word old new) (sym is) (if_follows (old.poll_due && not (is_held old)) index word old new (subst (λ p. Follows p.phase p index word p new) is was))
 
 if_sees : (b : Bool) (word : ℕ) (old : Fdc) (before after : DriveState) → (let polls : Fdc = (if b then record old { poll_due = false; interrupt = true; seeks = with_polls old.seeks } else old) in SeesWord polls.phase polls.rate before word after → SeesWord old.phase old.rate before word after)
 if_sees true word old before after was = was
 if_sees false word old before after was = was
 
-pub polled_hears : (index : Bool) (old polls new : Fdc) (before after : DriveState) → polls ≡ polled old → Listens polls polls index before after new → Listens old (polled old) index before after new
+pub polled_hears : (index : Bool) (old polls new : Fdc) (before after : DriveState) → polls ≡ polled old → Listens polls index polls before after new → Listens (polled old) index old before after new
 polled_hears index old polls new before after is was = record {
   word = was.word;
   sees = if_sees (old.poll_due && not (is_held old)) was.word old before after (subst (λ p. SeesWord p.phase p.rate before was.word after) is was.sees);
-  follows = subst (λ p. Follows old.phase old p index was.word new) is (polled_follows index was.word old polls new is was.follows);
+  follows = subst (λ p. Follows old.phase p index was.word old new) is (polled_follows index was.word old polls new is was.follows);
 }

@@ -32,18 +32,18 @@ use Rattle.fdc_core.specs.declared.transfers.Writing.{Writing}
 rose_before : (before mid after : ℕ) → before ≤ mid → Rose mid after → Rose before after
 rose_before before mid after rises rose = omega arith
 
-pub reads_shut : (head raw : ℕ) (before mid after : DriveState) → Becomes before (with_gate false before) mid → Reads mid head raw after → Reads before head raw after
+pub reads_shut : (head raw : ℕ) (before mid after : DriveState) → Becomes (with_gate false before) before mid → Reads head mid raw after → Reads head before raw after
 reads_shut head raw before mid after shut (inl is) = inl (is ∙ ap (λ s. word_under s head) shut.becomes)
 reads_shut head raw before mid after shut (inr (none, rose)) = inr (none, rose_before before.faults mid.faults after.faults shut.never_falls rose)
 
-pub rate_kept : (on : Bool) (before mid : DriveState) → Becomes before (with_gate on before) mid → rate_of mid.medium ≡ rate_of before.medium
+pub rate_kept : (on : Bool) (before mid : DriveState) → Becomes (with_gate on before) before mid → rate_of mid.medium ≡ rate_of before.medium
 rate_kept on before mid shut = ap (λ s. rate_of s.medium) shut.becomes
 
-pub index_kept : (on : Bool) (before mid : DriveState) → Becomes before (with_gate on before) mid → at_index mid ≡ at_index before
+pub index_kept : (on : Bool) (before mid : DriveState) → Becomes (with_gate on before) before mid → at_index mid ≡ at_index before
 index_kept on before mid shut = ap at_index shut.becomes
 
 -- at another rate 0000 is seen
-pub kept_from : (rate : DataRate) (head raw : ℕ) (before mid after : DriveState) → Becomes before (with_gate false before) mid → rate_fits rate (rate_of mid.medium) ≡ false → Reads mid head raw after → SeesUnder rate head before 0 after
+pub kept_from : (rate : DataRate) (head raw : ℕ) (before mid after : DriveState) → Becomes (with_gate false before) before mid → rate_fits rate (rate_of mid.medium) ≡ false → Reads head mid raw after → SeesUnder rate head before 0 after
 kept_from rate head raw before mid after shut unfit reads = (
   raw,
   reads_shut head raw before mid after shut reads,
@@ -52,7 +52,7 @@ kept_from rate head raw before mid after shut unfit reads = (
 
 -- ---- the last step of a command that listens
 
-pub last_listens : (head_drive steps : ℕ) (task : Task) (old : Fdc) (before after : DriveState) (new : Fdc) → Becomes before (let_pass before) after
+pub last_listens : (head_drive steps : ℕ) (task : Task) (old : Fdc) (before after : DriveState) (new : Fdc) → Becomes (let_pass before) before after
     → ((word : ℕ) → StepsOn head_drive steps task (at_index before) word old new) → IsListenStep head_drive steps task old before after new
 last_listens head_drive steps task old before after new passes does =
     let raw = word_under before (head_of head_drive) in

@@ -37,10 +37,10 @@ rests_writes track0 old new before after is other =
     rests_in old.phase other old.asking old.fifo old new before after (subst (λ fdc. RestsWritten old.phase old.asking old.fifo fdc) (sym is) (record { writes = λ past sent deleted was. was; formats = λ past sent numbers was. was }))
 
 -- the poll moves nothing of this
-if_writes : (b : Bool) (old new : Fdc) (before after : DriveState) → (let polls : Fdc = (if b then record old { poll_due = false; interrupt = true; seeks = with_polls old.seeks } else old) in WritesOn polls polls before after new → WritesOn old polls before after new)
+if_writes : (b : Bool) (old new : Fdc) (before after : DriveState) → (let polls : Fdc = (if b then record old { poll_due = false; interrupt = true; seeks = with_polls old.seeks } else old) in WritesOn polls polls before after new → WritesOn polls old before after new)
 if_writes true old new before after was = was
 if_writes false old new before after was = was
 
-pub polled_writes : (old polls new : Fdc) (before after : DriveState) → polls ≡ polled old → WritesOn polls polls before after new → WritesOn old (polled old) before after new
+pub polled_writes : (old polls new : Fdc) (before after : DriveState) → polls ≡ polled old → WritesOn polls polls before after new → WritesOn (polled old) old before after new
 polled_writes old polls new before after is was =
     if_writes (old.poll_due && not (is_held old)) old new before after (subst (λ p. WritesOn p p before after new) is was)

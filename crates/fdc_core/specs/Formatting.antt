@@ -115,7 +115,7 @@ pub record LaysByte (head_drive steps : ℕ) (formatting : Formatting) (takes : 
   pub next : FormatNext
   pub lays : StageLaysWord formatting takes byte (at_index before) given next
   pub opens_it : Opens (opens formatting.stage) before from
-  pub puts : Writes from (head_of head_drive) given.word mid
+  pub puts : Writes (head_of head_drive) given.word from mid
   pub range_from : InRange from
   pub range_mid : InRange mid
   pub closes : Closes (is_ended next) mid after

@@ -29,7 +29,7 @@ use Rattle.fdc_core.specs.declared.rates.DataRate.{DataRate}
 -- the word is what the controller sees of the drive's under this head, as its rate is
 abbrev pub SeesUnder : DataRate → ℕ → DriveState → ℕ → DriveState → Type 0
 SeesUnder rate head drive word after =
-    (raw : ℕ) × Reads drive head raw after × (word ≡ seen_of (rate_fits rate (rate_of drive.medium)) raw)
+    (raw : ℕ) × Reads head drive raw after × (word ≡ seen_of (rate_fits rate (rate_of drive.medium)) raw)
 
 abbrev pub SeesTask : Bool → ℕ → DataRate → DriveState → ℕ → DriveState → Type 0
 SeesTask true head rate drive word after = SeesUnder rate head drive word after
@@ -117,21 +117,21 @@ OverrunsIn _ index word old new = Unit {0}
 
 -- a word time in this phase, once the poll is done: what the controller does, and what is then known of a READ DATA and of a
 -- READ ID
-pub record Follows (phase : Phase) (old polls : Fdc) (index : Bool) (word : ℕ) (new : Fdc) : Type 0 where
+pub record Follows (phase : Phase) (polls : Fdc) (index : Bool) (word : ℕ) (old new : Fdc) : Type 0 where
   pub executes : ExecutesIn phase index word polls new
   pub overruns : OverrunsIn phase index word polls new
   pub reads : (past : Past) (sent : Sent) → MayReadIn past sent phase old.asking old.fifo.bytes → MayRead (after_step (is_executing phase) index word past) sent new
   pub identifies : (past : Past) (sent : ℕ) → MayReadIdIn past sent phase → MayReadId (after_step (is_executing phase) index word past) sent new
 
 -- a device step: one word is seen of the drive and followed
-pub record StepHears (phase : Phase) (old polls : Fdc) (index : Bool) (before after : DriveState) (new : Fdc) : Type 0 where
+pub record StepHears (phase : Phase) (polls : Fdc) (index : Bool) (old : Fdc) (before after : DriveState) (new : Fdc) : Type 0 where
   pub word : ℕ
   pub sees : SeesWord phase old.rate before word after
-  pub follows : Follows phase old polls index word new
+  pub follows : Follows phase polls index word old new
 
-abbrev pub Listens : Fdc → Fdc → Bool → DriveState → DriveState → Fdc → Type 0
-Listens old polls index before after new = StepHears old.phase old polls index before after new
+abbrev pub Listens : Fdc → Bool → Fdc → DriveState → DriveState → Fdc → Type 0
+Listens polls index old before after new = StepHears old.phase polls index old before after new
 
 -- a device step where no drive is selected: words 0000, and no index
 abbrev pub ListensToNone : Fdc → Fdc → Fdc → Type 0
-ListensToNone old polls new = Follows old.phase old polls false 0 new
+ListensToNone polls old new = Follows old.phase polls false 0 old new

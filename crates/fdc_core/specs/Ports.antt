@@ -110,6 +110,6 @@ pub record GivesNext (ending : Ending) (results : Results) (read byte : ℕ) (ne
   pub goes_on : read < 6 → IsGiving ending results (read + 1) new
   pub over : 6 ≤ read → new.phase ≡ Command
 
-abbrev pub Gives : ℕ → ℕ → Fdc → Fdc → Type 0
-Gives port byte old new =
+abbrev pub Gives : ℕ → Fdc → ℕ → Fdc → Type 0
+Gives port old byte new =
     port ≡ 0x3F5 → (ending : Ending) (results : Results) (read : ℕ) → IsGiving ending results read old → GivesNext ending results read byte new

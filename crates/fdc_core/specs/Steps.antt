@@ -24,13 +24,13 @@ seek_stepped track0 old = record old {
   interrupt = old.interrupt || (is_seeking old.seeks && not (is_seeking (stepped old.seeks track0)));
 }
 
-abbrev pub RestsIn : Phase → Fdc → Bool → Fdc → Type 0
-RestsIn (Execute _) old track0 new = Unit {0}
-RestsIn _ old track0 new = new ≡ seek_stepped track0 old
+abbrev pub RestsIn : Phase → Bool → Fdc → Fdc → Type 0
+RestsIn (Execute _) track0 old new = Unit {0}
+RestsIn _ track0 old new = new ≡ seek_stepped track0 old
 
 -- outside execution a device step moves a seek alone
-abbrev pub Rests : Fdc → Bool → Fdc → Type 0
-Rests old track0 new = RestsIn old.phase old track0 new
+abbrev pub Rests : Bool → Fdc → Fdc → Type 0
+Rests track0 old new = RestsIn old.phase track0 old new
 
 -- the command took too many steps: it ends with MA
 abbrev pub late : Execution → Fdc → Fdc
@@ -42,9 +42,9 @@ let_pass drive = passed (with_gate false drive)
 
 -- one word time passes at the drive, behind the pulse of a seek
 abbrev pub Moves : Option Bool → DriveState → DriveState → Type 0
-Moves None before after = Becomes before (let_pass before) after
+Moves None before after = Becomes (let_pass before) before after
 Moves (Some inward) before after =
-    (between : DriveState) × Pulses before inward between × Becomes between (let_pass between) after
+    (between : DriveState) × Pulses inward before between × Becomes (let_pass between) between after
 
 -- READ ID and READ DATA let it pass
 abbrev pub MovesTask : Bool → DriveState → DriveState → Type 0

@@ -21,19 +21,19 @@ pub data WordTime : Type 0 where
 
 -- the gate is opened, or stays as it is
 abbrev pub Opens : Bool → DriveState → DriveState → Type 0
-Opens true old new = Becomes old (with_gate true old) new
+Opens true old new = Becomes (with_gate true old) old new
 Opens false old new = new ≡ old
 
 -- the gate is closed, or stays as it is
 abbrev pub Closes : Bool → DriveState → DriveState → Type 0
-Closes true old new = Becomes old (with_gate false old) new
+Closes true old new = Becomes (with_gate false old) old new
 Closes false old new = new ≡ old
 
 -- a word is seen under this head, with the gate closed
 pub record IsHeardTime (index : Bool) (word : ℕ) (rate : DataRate) (head : ℕ) (before after : DriveState) : Type 0 where
   pub index_is : index ≡ at_index before
   pub sees : SeesUnder rate head before word after
-  pub passes : Becomes before (let_pass before) after
+  pub passes : Becomes (let_pass before) before after
 
 -- a word is given to the drive under this head; the gate opens at the rate of the medium alone
 pub record IsWroteTime (opened closed index : Bool) (word : ℕ) (rate : DataRate) (head : ℕ) (before after : DriveState) : Type 0 where
@@ -42,7 +42,7 @@ pub record IsWroteTime (opened closed index : Bool) (word : ℕ) (rate : DataRat
   pub index_is : index ≡ at_index before
   pub fits : opened ≡ true → rate_fits rate (rate_of before.medium) ≡ true
   pub opens : Opens opened before from
-  pub writes : Writes from head word mid
+  pub writes : Writes head word from mid
   pub closes : Closes closed mid after
   pub range_from : InRange from
   pub range_mid : InRange mid
@@ -54,7 +54,7 @@ IsTime (KeptOut index word) rate head before after =
     (rate_fits rate (rate_of before.medium) ≡ false) × IsHeardTime index word rate head before after
 IsTime (Wrote opened closed index word) rate head before after =
     IsWroteTime opened closed index word rate head before after
-IsTime Stopped rate head before after = Becomes before (let_pass before) after
+IsTime Stopped rate head before after = Becomes (let_pass before) before after
 
 -- what has passed then
 abbrev pub after_time : WordTime → Past → Past

@@ -46,4 +46,4 @@ WritesIn (Execute execution) asking fifo polls before after new =
 WritesIn phase asking fifo polls before after new = RestsWritten phase asking fifo new
 
 abbrev pub WritesOn : Fdc → Fdc → DriveState → DriveState → Fdc → Type 0
-WritesOn old polls before after new = WritesIn old.phase old.asking old.fifo polls before after new
+WritesOn polls old before after new = WritesIn old.phase old.asking old.fifo polls before after new

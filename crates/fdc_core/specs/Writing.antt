@@ -166,7 +166,7 @@ pub record PutsByte (head_drive steps : ℕ) (writing : Writing) (byte : ℕ) (o
   pub next : WriteNext
   pub writes : StageWritesWord writing byte (at_index before) given next
   pub opens_it : Opens (opens writing.stage) before from
-  pub puts : Writes from (head_of head_drive) given.word mid
+  pub puts : Writes (head_of head_drive) given.word from mid
   pub range_from : InRange from
   pub range_mid : InRange mid
   pub closes : Closes (is_ended next) mid after

@@ -62,5 +62,5 @@ pub fn quiet_request_waits()
 
 /// A read of the data port in the result phase gives the results byte by byte.
 pub fn results_are_given_in_order()
-    ensures { (port : ℕ) (lines : Lines) (fdc : Fdc) → Gives port (value_read port lines fdc) fdc (after_read port fdc) }
+    ensures { (port : ℕ) (lines : Lines) (fdc : Fdc) → Gives port fdc (value_read port lines fdc) (after_read port fdc) }
 {}

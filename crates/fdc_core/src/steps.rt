@@ -23,9 +23,9 @@ const NOTHING: Turn = Turn {
 impl Fdc {
     /// One device step with the selected drive: the pulse of a seek, where one is due, and then one word time.
     pub fn step<D: Drive>(&mut self, drive: &mut D)
-        ensures rests { Rests (polled self.old) ((D.state drive.old).cylinder == 0) self.new }
-        ensures reads { Listens self.old (polled self.old) (at_index (D.state drive.old)) (D.state drive.old) (D.state drive.new) self.new }
-        ensures writes { WritesOn self.old (polled self.old) (D.state drive.old) (D.state drive.new) self.new }
+        ensures rests { Rests ((D.state drive.old).cylinder == 0) (polled self.old) self.new }
+        ensures reads { Listens (polled self.old) (at_index (D.state drive.old)) self.old (D.state drive.old) (D.state drive.new) self.new }
+        ensures writes { WritesOn (polled self.old) self.old (D.state drive.old) (D.state drive.new) self.new }
         ensures drive { MovesDrive (polled self.old) (D.state drive.old) (D.state drive.new) }
         ensures ends { Ends self.old self.new }
         ensures stays { Stays self.old self.new }
@@ -39,8 +39,8 @@ impl Fdc {
 
     /// A device step once the poll is done.
     fn advance<D: Drive>(&mut self, drive: &mut D)
-        ensures rests { Rests self.old ((D.state drive.old).cylinder == 0) self.new }
-        ensures reads { Listens self.old self.old (at_index (D.state drive.old)) (D.state drive.old) (D.state drive.new) self.new }
+        ensures rests { Rests ((D.state drive.old).cylinder == 0) self.old self.new }
+        ensures reads { Listens self.old (at_index (D.state drive.old)) self.old (D.state drive.old) (D.state drive.new) self.new }
         ensures writes { WritesOn self.old self.old (D.state drive.old) (D.state drive.new) self.new }
         ensures drive { MovesDrive self.old (D.state drive.old) (D.state drive.new) }
         ensures ends { Ends self.old self.new }
@@ -57,8 +57,8 @@ impl Fdc {
 
     /// One device step where no drive is selected.
     pub fn step_empty(&mut self)
-        ensures rests { Rests (polled self.old) false self.new }
-        ensures reads { ListensToNone self.old (polled self.old) self.new }
+        ensures rests { Rests false (polled self.old) self.new }
+        ensures reads { ListensToNone (polled self.old) self.old self.new }
         ensures ends { Ends self.old self.new }
         ensures stays { Stays self.old self.new }
         ensures flows { Flows self.old self.new }
@@ -69,7 +69,7 @@ impl Fdc {
 
     /// A device step where no drive is selected, once the poll is done.
     fn advance_empty(&mut self)
-        ensures rests { Rests self.old false self.new }
+        ensures rests { Rests false self.old self.new }
         ensures reads { ListensToNone self.old self.old self.new }
         ensures ends { Ends self.old self.new }
         ensures stays { Stays self.old self.new }
@@ -260,7 +260,7 @@ impl Fdc {
     pub(crate) fn listen<D: Drive>(&self, head: u8, drive: &mut D) -> Turn
         ensures word { SeesUnder self.now.rate head (D.state drive.old) result.word (D.state drive.new) }
         ensures index { result.index ≡ at_index (D.state drive.old) }
-        ensures drive { Becomes (D.state drive.old) (let_pass (D.state drive.old)) (D.state drive.new) }
+        ensures drive { Becomes (let_pass (D.state drive.old)) (D.state drive.old) (D.state drive.new) }
     {
         drive.gate(false);
         let fits = self.rate.fits(drive.rate());

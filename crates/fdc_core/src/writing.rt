@@ -197,7 +197,7 @@ impl Fdc {
         drive: &mut D,
     )
         ensures state { self.new ≡ finished ending head_drive key self.old }
-        ensures drive { Becomes (D.state drive.old) (let_pass (D.state drive.old)) (D.state drive.new) }
+        ensures drive { Becomes (let_pass (D.state drive.old)) (D.state drive.old) (D.state drive.new) }
     {
         let_pass(drive);
         self.finish(ending, head_drive, key);
@@ -231,7 +231,7 @@ pub(crate) fn close_behind<D: Drive>(last: bool, drive: &mut D)
 
 /// A word time in which no word is read or written, with the gate closed.
 pub(crate) fn let_pass<D: Drive>(drive: &mut D)
-    ensures { Becomes (D.state drive.old) (let_pass (D.state drive.old)) (D.state drive.new) }
+    ensures { Becomes (let_pass (D.state drive.old)) (D.state drive.old) (D.state drive.new) }
 {
     drive.gate(false);
     drive.pass();

@@ -39,7 +39,7 @@ requests_join (taken ∷ later) second = ap (λ (rest : List Request). taken.ask
 pub none_carried : (stage : Stage) → Carries [] stage stage
 none_carried stage = record { course = []; run = (refl, refl); all = refl; fine = refl }
 
-pub one_carried : (asked : Request) (answer : Reply) (old new : Stage) → IsTaken asked answer old new → Carries (asked ∷ []) old new
+pub one_carried : (asked : Request) (answer : Reply) (old new : Stage) → IsTaken asked old answer new → Carries (asked ∷ []) old new
 one_carried asked answer old new taken =
     let step : Taken = record { asked = asked; answer = answer; after = new.state } in
     record {

@@ -54,7 +54,7 @@ begun_is requests done coming old mid report carried parts = record {
   fine = carried.fine;
 }
 
-pub halt_told : (requests : List Request) (old new : Stage) (report after : Option (List ℕ)) (cause : Halt) (ended : Status) (halted : IsHalted requests old cause new) → TellsHalt report cause after ended → Halts requests (told_of old report) (course_to halted.carried.course cause new.state) (told_of new after) ended
+pub halt_told : (requests : List Request) (old new : Stage) (report after : Option (List ℕ)) (cause : Halt) (ended : Status) (halted : IsHalted requests old cause new) → TellsHalt cause report after ended → Halts requests (told_of old report) (course_to halted.carried.course cause new.state) (told_of new after) ended
 halt_told requests old new report after (halt.Refused named cause) ended halted tells =
     AtRefusal (record {
       before = halted.carried.course;
@@ -99,14 +99,14 @@ by_refusal (Some cause) holds none some = some cause holds
 not_refused : (answer : Reply) (cause : Reason) → is_refusal answer ≡ false → answer ≡ reply.Refused cause → ⊥
 not_refused answer cause fine refused = true≢false (sym (ap is_refusal refused) ∙ fine)
 
-put_in : (name : List ℕ) (answer : Reply) (old new : Stage) → IsTaken (request.Insert 0 name) answer old new → (disk : Disk) × ((bay_of new.state.station 0).medium ≡ Some disk)
+put_in : (name : List ℕ) (answer : Reply) (old new : Stage) → IsTaken (request.Insert 0 name) old answer new → (disk : Disk) × ((bay_of new.state.station 0).medium ≡ Some disk)
 put_in name answer old new taken =
     by_refusal (refusal_of old.state (request.Insert 0 name)) taken.1
     (λ does. (does.2.0, ap (λ (s : StationState). (bay_of s 0).medium) does.2.2.exchanged.becomes))
     (λ cause refused. absurd (not_refused answer cause taken.0 refused.answered))
 
 -- there is a shape where there is a disk
-pub there_is : (name : List ℕ) (answer : Reply) (old new : Stage) → IsTaken (request.Insert 0 name) answer old new → shape_in (bay_of new.state.station 0) ≡ None → ⊥
+pub there_is : (name : List ℕ) (answer : Reply) (old new : Stage) → IsTaken (request.Insert 0 name) old answer new → shape_in (bay_of new.state.station 0) ≡ None → ⊥
 there_is name answer old new taken none =
     let disk = put_in name answer old new taken in
     let some : shape_in (bay_of new.state.station 0) ≡ Some (shape_of disk.0) = ap (λ (medium : Option Disk). Rattle.std.specs.Option.option_map shape_of medium) disk.1 in
@@ -160,13 +160,13 @@ exported_disk name flat bytes shape old mid read report after told ended opens g
       ),
     )
 
-pub export_halts : (name flat : List ℕ) (shape : Shape) (old mid new : Stage) (report after : Option (List ℕ)) (cause : Halt) (ended : Status) → Opens name shape old mid → IsHalted (read_disk shape.rate) mid cause new → TellsHalt report cause after ended → (course : List Taken) × Exports name flat (told_of old report) course (told_of new after) ended
+pub export_halts : (name flat : List ℕ) (shape : Shape) (old mid new : Stage) (report after : Option (List ℕ)) (cause : Halt) (ended : Status) → Opens name shape old mid → IsHalted (read_disk shape.rate) mid cause new → TellsHalt cause report after ended → (course : List Taken) × Exports name flat (told_of old report) course (told_of new after) ended
 unfolding then_halted then_carried
 export_halts name flat shape old mid new report after cause ended opens halted tells =
     let all = then_halted (request.Insert 0 name ∷ []) (read_disk shape.rate) old mid new cause opens.carried halted in
     (course_to all.carried.course cause new.state, (shape, opened_to name shape old mid halted.carried.course cause new.state opens, ExportHalts (halt_told (export_requests name shape.rate) old new report after cause ended all tells)))
 
-pub open_halts : (name flat : List ℕ) (old new : Stage) (report after : Option (List ℕ)) (cause : Halt) (ended : Status) → HaltsAt (request.Insert 0 name ∷ []) old cause new → TellsHalt report cause after ended → (course : List Taken) × Exports name flat (told_of old report) course (told_of new after) ended
+pub open_halts : (name flat : List ℕ) (old new : Stage) (report after : Option (List ℕ)) (cause : Halt) (ended : Status) → HaltsAt (request.Insert 0 name ∷ []) old cause new → TellsHalt cause report after ended → (course : List Taken) × Exports name flat (told_of old report) course (told_of new after) ended
 open_halts name flat old new report after cause ended halts tells =
     let all : IsHalted (export_requests name no_shape.rate) old cause new = record {
       done = [];
@@ -180,7 +180,7 @@ open_halts name flat old new report after cause ended halts tells =
 
 -- ---- Import.
 
-pub imported_disk : (flat name bytes : List ℕ) (rate : Rate) (state : State) (files loaded : Option Files) (new : Stage) (report after : Option (List ℕ)) (ended : Status) → loaded ≡ files → IsFlatFile files flat bytes rate → Carries (import_requests bytes name rate) (record { state = state; files = loaded }) new → Prints report (import_text (sectors_of rate)) status.AllOk after ended → (course : List Taken) × Imports flat name (record { state = state; files = files; report = report }) course (told_of new after) ended
+pub imported_disk : (flat name bytes : List ℕ) (rate : Rate) (state : State) (files loaded : Option Files) (new : Stage) (report after : Option (List ℕ)) (ended : Status) → loaded ≡ files → IsFlatFile files flat bytes rate → Carries (import_requests bytes name rate) (record { state = state; files = loaded }) new → Prints (import_text (sectors_of rate)) status.AllOk report after ended → (course : List Taken) × Imports flat name (record { state = state; files = files; report = report }) course (told_of new after) ended
 imported_disk flat name bytes rate state files loaded new report after ended same is carried prints = (
   carried.course,
   Imported bytes rate is (record {
@@ -191,18 +191,18 @@ imported_disk flat name bytes rate state files loaded new report after ended sam
   }),
 )
 
-pub import_halts : (flat name bytes : List ℕ) (rate : Rate) (state : State) (files loaded : Option Files) (new : Stage) (report after : Option (List ℕ)) (cause : Halt) (ended : Status) → loaded ≡ files → IsFlatFile files flat bytes rate → IsHalted (import_requests bytes name rate) (record { state = state; files = loaded }) cause new → TellsHalt report cause after ended → (course : List Taken) × Imports flat name (record { state = state; files = files; report = report }) course (told_of new after) ended
+pub import_halts : (flat name bytes : List ℕ) (rate : Rate) (state : State) (files loaded : Option Files) (new : Stage) (report after : Option (List ℕ)) (cause : Halt) (ended : Status) → loaded ≡ files → IsFlatFile files flat bytes rate → IsHalted (import_requests bytes name rate) (record { state = state; files = loaded }) cause new → TellsHalt cause report after ended → (course : List Taken) × Imports flat name (record { state = state; files = files; report = report }) course (told_of new after) ended
 import_halts flat name bytes rate state files loaded new report after cause ended same is halted tells =
     let all = subst (λ (f : Option Files). IsHalted (import_requests bytes name rate) (record { state = state; files = f }) cause new) same halted in
     (course_to all.carried.course cause new.state, ImportHalts bytes rate is (halt_told (import_requests bytes name rate) (record { state = state; files = files }) new report after cause ended all tells))
 
-pub not_taken : (flat name : List ℕ) (state : State) (files loaded : Option Files) (report after : Option (List ℕ)) (cause : Stop) (ended : Status) → loaded ≡ files → IsNotTaken files flat cause → Prints report (stop_text cause) (stop_status cause) after ended → (course : List Taken) × Imports flat name (record { state = state; files = files; report = report }) course (record { state = state; files = loaded; report = after }) ended
+pub not_taken : (flat name : List ℕ) (state : State) (files loaded : Option Files) (report after : Option (List ℕ)) (cause : Stop) (ended : Status) → loaded ≡ files → IsNotTaken files flat cause → Prints (stop_text cause) (stop_status cause) report after ended → (course : List Taken) × Imports flat name (record { state = state; files = files; report = report }) course (record { state = state; files = loaded; report = after }) ended
 not_taken flat name state files loaded report after cause ended same is prints =
     ([], NotTaken cause is (record { nothing = refl; tells = record { state = refl; files = same; prints = prints } }))
 
 -- ---- Exercise.
 
-pub exercised : (seed count : ℕ) (tally : Tally) (old made new : Stage) (report after : Option (List ℕ)) (ended : Status) → Carries exercise_opening old made → Works (work_requests seed count) made tally new → Prints report (exercise_text seed count tally.done tally.refused tally.sum) (whole_status (nat_lt 0 tally.refused)) after ended → (course : List Taken) × Exercises seed count (told_of old report) course (told_of new after) ended
+pub exercised : (seed count : ℕ) (tally : Tally) (old made new : Stage) (report after : Option (List ℕ)) (ended : Status) → Carries exercise_opening old made → Works (work_requests seed count) made tally new → Prints (exercise_text seed count tally.done tally.refused tally.sum) (whole_status (nat_lt 0 tally.refused)) report after ended → (course : List Taken) × Exercises seed count (told_of old report) course (told_of new after) ended
 exercised seed count tally old made new report after ended carried works prints = (
   carried.course ++ works.course,
   Exercised (record {
@@ -217,13 +217,13 @@ exercised seed count tally old made new report after ended carried works prints 
     run = works.run;
     all = works.all;
     prints =
-        subst (λ (b : Bool). Prints report (exercise_text seed count (count_done works.course) (count_refused works.course) (sum (all_given works.course))) (whole_status b) after ended) (sym works.some_refused)
-        (subst (λ (n : ℕ). Prints report (exercise_text seed count (count_done works.course) (count_refused works.course) n) (whole_status (nat_lt 0 tally.refused)) after ended) works.sum
-        (subst (λ (n : ℕ). Prints report (exercise_text seed count (count_done works.course) n tally.sum) (whole_status (nat_lt 0 tally.refused)) after ended) works.refused
-        (subst (λ (n : ℕ). Prints report (exercise_text seed count n tally.refused tally.sum) (whole_status (nat_lt 0 tally.refused)) after ended) works.done prints)));
+        subst (λ (b : Bool). Prints (exercise_text seed count (count_done works.course) (count_refused works.course) (sum (all_given works.course))) (whole_status b) report after ended) (sym works.some_refused)
+        (subst (λ (n : ℕ). Prints (exercise_text seed count (count_done works.course) (count_refused works.course) n) (whole_status (nat_lt 0 tally.refused)) report after ended) works.sum
+        (subst (λ (n : ℕ). Prints (exercise_text seed count (count_done works.course) n tally.sum) (whole_status (nat_lt 0 tally.refused)) report after ended) works.refused
+        (subst (λ (n : ℕ). Prints (exercise_text seed count n tally.refused tally.sum) (whole_status (nat_lt 0 tally.refused)) report after ended) works.done prints)));
   }),
 )
 
-pub exercise_halts : (seed count : ℕ) (old new : Stage) (report after : Option (List ℕ)) (cause : Halt) (ended : Status) → IsHalted exercise_opening old cause new → TellsHalt report cause after ended → (course : List Taken) × Exercises seed count (told_of old report) course (told_of new after) ended
+pub exercise_halts : (seed count : ℕ) (old new : Stage) (report after : Option (List ℕ)) (cause : Halt) (ended : Status) → IsHalted exercise_opening old cause new → TellsHalt cause report after ended → (course : List Taken) × Exercises seed count (told_of old report) course (told_of new after) ended
 exercise_halts seed count old new report after cause ended halted tells =
     (course_to halted.carried.course cause new.state, OpeningHalts (halt_told exercise_opening old new report after cause ended halted tells))

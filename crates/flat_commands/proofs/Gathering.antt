@@ -28,7 +28,7 @@ pub no_number_gathered : (start : ℕ) (ask : ℕ → List Request) (bytes : Lis
 unfolding each
 no_number_gathered start ask bytes stage = none_gathered bytes stage
 
-pub one_gathered : (bay : ℕ) (key : Chrn) (address : ℕ) (answer : Reply) (before bytes : List ℕ) (old new : Stage) → IsTaken (request.Read bay key address) answer old new → bytes ≡ before ++ bytes_from new.state.station.memory address 512 → Gathers (request.Read bay key address ∷ []) before old bytes new
+pub one_gathered : (bay : ℕ) (key : Chrn) (address : ℕ) (answer : Reply) (before bytes : List ℕ) (old new : Stage) → IsTaken (request.Read bay key address) old answer new → bytes ≡ before ++ bytes_from new.state.station.memory address 512 → Gathers (request.Read bay key address ∷ []) before old bytes new
 one_gathered bay key address answer before bytes old new taken is =
     let step : Taken = record { asked = request.Read bay key address; answer = answer; after = new.state } in
     let read = bytes_from new.state.station.memory address 512 in
@@ -89,5 +89,5 @@ gathers_behind asked next bytes old mid new none one two = record {
 }
 
 -- a read was done, and memory for its bytes couldn't be had
-pub starved_behind : (asked : Request) (answer : Reply) (old new : Stage) → IsTaken asked answer old new → IsHalted (asked ∷ []) old halt.Starved new
+pub starved_behind : (asked : Request) (answer : Reply) (old new : Stage) → IsTaken asked old answer new → IsHalted (asked ∷ []) old halt.Starved new
 starved_behind asked answer old new taken = record { done = asked ∷ []; coming = []; parts = refl; mid = new; carried = one_carried asked answer old new taken; halts = refl }

@@ -61,7 +61,7 @@ none_worked stage tally done refused total = record {
   some_refused = ap (nat_lt 0) (sym refused);
 }
 
-pub one_worked : (asked : Request) (answer : Reply) (old new : Stage) (tally : Tally) → Step old.state old.files asked answer new.state new.files → tally.done ≡ (if is_counted asked && not (is_refusal answer) then 1 else 0) → tally.refused ≡ (if is_counted asked && is_refusal answer then 1 else 0) → tally.sum ≡ sum (bytes_given (record { asked = asked; answer = answer; after = new.state })) → is_refusal answer ≡ nat_lt 0 tally.refused → Works (asked ∷ []) old tally new
+pub one_worked : (asked : Request) (answer : Reply) (old new : Stage) (tally : Tally) → Step asked old.state old.files answer new.state new.files → tally.done ≡ (if is_counted asked && not (is_refusal answer) then 1 else 0) → tally.refused ≡ (if is_counted asked && is_refusal answer then 1 else 0) → tally.sum ≡ sum (bytes_given (record { asked = asked; answer = answer; after = new.state })) → is_refusal answer ≡ nat_lt 0 tally.refused → Works (asked ∷ []) old tally new
 one_worked asked answer old new tally step done refused total some =
     let taken : Taken = record { asked = asked; answer = answer; after = new.state } in
     record {
@@ -100,18 +100,18 @@ unfolding each
 no_number_worked start ask stage tally done refused total = none_worked stage tally done refused total
 
 -- a fill of user memory is done
-pub fill_done : (old new : State) (told after : Option Files) (byte : ℕ) (answer : Reply) → Step old told (request.Fill 0x20000 512 byte) answer new after → is_refusal answer ≡ false
+pub fill_done : (old new : State) (told after : Option Files) (byte : ℕ) (answer : Reply) → Step (request.Fill 0x20000 512 byte) old told answer new after → is_refusal answer ≡ false
 fill_done old new told after byte answer step = ap is_refusal step.0
 
 -- ---- One request.
 
 -- a read or a write that was refused
-pub refused_worked : (asked : Request) (answer : Reply) (old new : Stage) (tally : Tally) → Step old.state old.files asked answer new.state new.files → is_counted asked ≡ true → is_refusal answer ≡ true → tally.done ≡ 0 → tally.refused ≡ 1 → tally.sum ≡ 0 → Works (asked ∷ []) old tally new
+pub refused_worked : (asked : Request) (answer : Reply) (old new : Stage) (tally : Tally) → Step asked old.state old.files answer new.state new.files → is_counted asked ≡ true → is_refusal answer ≡ true → tally.done ≡ 0 → tally.refused ≡ 1 → tally.sum ≡ 0 → Works (asked ∷ []) old tally new
 refused_worked asked answer old new tally step counted refusal done refused total =
     one_worked asked answer old new tally step (done ∙ sym (rw (counted, refusal) refl)) (refused ∙ sym (rw (counted, refusal) refl)) (total ∙ sym (rw refusal refl)) (refusal ∙ ap (nat_lt 0) (sym refused))
 
 -- one that was done, and gave these bytes
-pub done_worked : (asked : Request) (answer : Reply) (old new : Stage) (tally : Tally) → Step old.state old.files asked answer new.state new.files → is_counted asked ≡ true → is_refusal answer ≡ false → tally.done ≡ 1 → tally.refused ≡ 0 → tally.sum ≡ sum (bytes_read asked new.state) → Works (asked ∷ []) old tally new
+pub done_worked : (asked : Request) (answer : Reply) (old new : Stage) (tally : Tally) → Step asked old.state old.files answer new.state new.files → is_counted asked ≡ true → is_refusal answer ≡ false → tally.done ≡ 1 → tally.refused ≡ 0 → tally.sum ≡ sum (bytes_read asked new.state) → Works (asked ∷ []) old tally new
 done_worked asked answer old new tally step counted refusal done refused total =
     one_worked asked answer old new tally step (done ∙ sym (rw (counted, refusal) refl)) (refused ∙ sym (rw (counted, refusal) refl)) (total ∙ sym (rw refusal refl)) (refusal ∙ ap (nat_lt 0) (sym refused))
 
@@ -121,7 +121,7 @@ write_counted true key asked is = let same : asked ≡ request.WriteDeleted 0 ke
 write_counted false key asked is = let same : asked ≡ request.Write 0 key 0x20000 = cc is in (ap is_counted same, λ after. ap (λ (q : Request). bytes_read q after) same)
 
 -- a fill of user memory, and the write behind it
-pub write_worked : (deleted : Bool) (key : Chrn) (byte : ℕ) (asked : Request) (filled : Reply) (old mid new : Stage) (tally : Tally) → (asked ∷ []) ≡ write_requests deleted key → Step old.state old.files (request.Fill 0x20000 512 byte) filled mid.state mid.files → Works (asked ∷ []) mid tally new → Works (request.Fill 0x20000 512 byte ∷ write_requests deleted key) old tally new
+pub write_worked : (deleted : Bool) (key : Chrn) (byte : ℕ) (asked : Request) (filled : Reply) (old mid new : Stage) (tally : Tally) → (asked ∷ []) ≡ write_requests deleted key → Step (request.Fill 0x20000 512 byte) old.state old.files filled mid.state mid.files → Works (asked ∷ []) mid tally new → Works (request.Fill 0x20000 512 byte ∷ write_requests deleted key) old tally new
 write_worked deleted key byte asked filled old mid new tally is step works =
     let fine = fill_done old.state mid.state old.files mid.files byte filled step in
     let nothing : Tally = record { done = 0; refused = 0; sum = 0 } in

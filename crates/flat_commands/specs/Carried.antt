@@ -22,8 +22,8 @@ use Rattle.flat_commands.specs.declared.ask.Halt.{Halt}
 use Rattle.flat_commands.specs.declared.ask.Halt.TheVariants as halt
 
 -- a request was answered, and not refused
-abbrev pub IsTaken : Request → Reply → Stage → Stage → Type 0
-IsTaken asked answer old new = (is_refusal answer ≡ false) × Step old.state old.files asked answer new.state new.files
+abbrev pub IsTaken : Request → Stage → Reply → Stage → Type 0
+IsTaken asked old answer new = (is_refusal answer ≡ false) × Step asked old.state old.files answer new.state new.files
 
 -- an answer that is no refusal is given on, and a refusal halts
 abbrev pub Judges : Request → Reply → Result Reply Halt → Type 0
@@ -43,10 +43,10 @@ pub record Carries (asked : List Request) (old new : Stage) : Type 0 where
 abbrev pub HaltsAt : List Request → Stage → Halt → Stage → Type 0
 HaltsAt coming old (halt.Refused named cause) new =
     (later : List Request) × (coming ≡ named ∷ later)
-    × Step old.state old.files named (reply.Refused cause) new.state new.files
+    × Step named old.state old.files (reply.Refused cause) new.state new.files
 HaltsAt coming old (halt.Stopped cause) new =
     (asked : Request) × (later : List Request) × (coming ≡ asked ∷ later)
-    × StopsAt old.state old.files asked cause new.state new.files
+    × StopsAt asked old.state old.files cause new.state new.files
 HaltsAt coming old halt.Starved new = new ≡ old
 
 -- a part of the requests was asked and done, and then it halted
@@ -69,10 +69,10 @@ pub record Opens (name : List ℕ) (shape : Shape) (old new : Stage) : Type 0 wh
   pub there : shape_in (bay_of new.state.station 0) ≡ Some shape
 
 -- what is told of a halt
-abbrev pub TellsHalt : Option (List ℕ) → Halt → Option (List ℕ) → Status → Type 0
-TellsHalt old (halt.Refused named cause) new ended = Prints old (stopped_text named cause) status.SomeRefused new ended
-TellsHalt old (halt.Stopped cause) new ended = Prints old (stop_text cause) (stop_status cause) new ended
-TellsHalt old halt.Starved new ended = (new ≡ old) × (ended ≡ status.NoMemory)
+abbrev pub TellsHalt : Halt → Option (List ℕ) → Option (List ℕ) → Status → Type 0
+TellsHalt (halt.Refused named cause) old new ended = Prints (stopped_text named cause) status.SomeRefused old new ended
+TellsHalt (halt.Stopped cause) old new ended = Prints (stop_text cause) (stop_status cause) old new ended
+TellsHalt halt.Starved old new ended = (new ≡ old) × (ended ≡ status.NoMemory)
 
 -- ---- What reads gave.
 

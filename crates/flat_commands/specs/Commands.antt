@@ -39,9 +39,9 @@ pub record IsRefusedAt (requests : List Request) (old : World) (course : List Ta
   pub begun : IsBegun requests old before (last.asked ∷ later) mid files
   pub course_is : course ≡ before ++ last ∷ []
   pub answered : last.answer ≡ reply.Refused cause
-  pub step : Step mid files last.asked last.answer last.after new.files
+  pub step : Step last.asked mid files last.answer last.after new.files
   pub after : new.state ≡ last.after
-  pub prints : Prints old.report (stopped_text last.asked cause) status.SomeRefused new.report ended
+  pub prints : Prints (stopped_text last.asked cause) status.SomeRefused old.report new.report ended
 
 -- the request after the course stopped the run
 pub record IsStoppedAt (requests : List Request) (old : World) (course : List Taken) (new : World) (ended : Status) : Type 0 where
@@ -51,8 +51,8 @@ pub record IsStoppedAt (requests : List Request) (old : World) (course : List Ta
   pub files : Option Files
   pub cause : Stop
   pub begun : IsBegun requests old course (asked ∷ later) mid files
-  pub stops : StopsAt mid files asked cause new.state new.files
-  pub prints : Prints old.report (stop_text cause) (stop_status cause) new.report ended
+  pub stops : StopsAt asked mid files cause new.state new.files
+  pub prints : Prints (stop_text cause) (stop_status cause) old.report new.report ended
 
 -- memory couldn't be had behind the course
 pub record IsStarvedAt (requests : List Request) (old : World) (course : List Taken) (new : World) (ended : Status) : Type 0 where
@@ -82,14 +82,14 @@ pub record IsImported (bytes name : List ℕ) (rate : Rate) (old : World) (cours
   pub run : Run old.state old.files course new.state new.files
   pub all : requests_of course ≡ import_requests bytes name rate
   pub fine : has_refusal course ≡ false
-  pub prints : Prints old.report (import_text (sectors_of rate)) status.AllOk new.report ended
+  pub prints : Prints (import_text (sectors_of rate)) status.AllOk old.report new.report ended
 
 -- the flat file becomes a disk that is stored under the name; it isn't taken; or the requests halt
 pub data Imports (flat name : List ℕ) (old : World) (course : List Taken) (new : World) (ended : Status) : Type 0 where
   Imported : (bytes : List ℕ) (rate : Rate) → IsFlatFile old.files flat bytes rate
       → IsImported bytes name rate old course new ended → Imports flat name old course new ended
   NotTaken : (cause : Stop) → IsNotTaken old.files flat cause
-      → TellsAlone old (stop_text cause) (stop_status cause) course new ended → Imports flat name old course new ended
+      → TellsAlone (stop_text cause) (stop_status cause) old course new ended → Imports flat name old course new ended
   ImportHalts : (bytes : List ℕ) (rate : Rate) → IsFlatFile old.files flat bytes rate
       → Halts (import_requests bytes name rate) old course new ended → Imports flat name old course new ended
 
@@ -107,7 +107,7 @@ IsStoreFault _ = ⊥
 
 -- bytes were stored under a name, and the last line tells how many sectors they are; or they couldn't be stored
 pub data StoresFlat (flat bytes : List ℕ) (rate : Rate) (files : Option Files) (report : Option (List ℕ)) (after : Option Files) (told : Option (List ℕ)) (ended : Status) : Type 0 where
-  IsStored : after ≡ stored files flat bytes → Prints report (export_text (sectors_of rate)) status.AllOk told ended
+  IsStored : after ≡ stored files flat bytes → Prints (export_text (sectors_of rate)) status.AllOk report told ended
       → StoresFlat flat bytes rate files report after told ended
   NotStored : after ≡ files → told ≡ report → IsStoreFault ended → StoresFlat flat bytes rate files report after told ended
 

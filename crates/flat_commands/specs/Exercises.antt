@@ -67,8 +67,8 @@ pub record IsExercised (seed count : ℕ) (old : World) (course : List Taken) (n
   pub fine : has_refusal opening ≡ false
   pub run : Run mid files work new.state new.files
   pub all : requests_of work ≡ work_requests seed count
-  pub prints : Prints old.report (exercise_text seed count (count_done work) (count_refused work) (sum (all_given work)))
-      (whole_status (has_refusal work)) new.report ended
+  pub prints : Prints (exercise_text seed count (count_done work) (count_refused work) (sum (all_given work))) (whole_status (has_refusal work))
+      old.report new.report ended
 
 -- the workload is run; its disk can't be made; or memory can't be had before the first request
 pub data Exercises (seed count : ℕ) (old : World) (course : List Taken) (new : World) (ended : Status) : Type 0 where

@@ -27,7 +27,7 @@ fn answer<S: Shelf, D: Station>(session: &mut Session<D>, shelf: &mut S, request
     requires running { IsRunning D.shown D.is_ready session.old }
     requires tries { HasTries request }
     requires runs_on { RunsOn request }
-    ensures step { Step (state_of D.shown session.old) (S.told shelf.old) request result
+    ensures step { Step request (state_of D.shown session.old) (S.told shelf.old) result
         (state_of D.shown session.new) (S.told shelf.new) }
     ensures running { IsRunning D.shown D.is_ready session.new }
     ensures faults { S.fault_count shelf.old ≤ S.fault_count shelf.new }

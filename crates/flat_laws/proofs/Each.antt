@@ -19,7 +19,7 @@ use Rattle.disk_completeness.proofs.Going.{at}
 
 -- requests were asked between two stages, and all were done
 abbrev pub AllDone : List Request → Stage → List Taken → Stage → Type 0
-AllDone requests old course new = DoesAll old.state old.files requests course new.state new.files
+AllDone requests old course new = DoesAll requests old.state old.files course new.state new.files
 
 -- the counters of a stage
 abbrev pub counts : Stage → Counters

@@ -140,7 +140,7 @@ export_faultless name flat rate old new course begins calm (Exported p) = run_fa
 export_faultless name flat rate old new course begins calm (ExportHalts p) = absurd (halts_not_ok (export_requests name rate) old course new p)
 
 -- the flat file of what the reads gave is that of the disk
-same_flat : (disk : Disk) (files : Files) (name flat : List ℕ) (old new : Counters) (course : List Taken) (after : Option Files) → IsWholeDisk disk → IsImageOf (Some files) name disk → IsFaultless 0 old new → StoresExported old new course name flat (Some files) after → StoresFlatOf disk flat (Some files) after
+same_flat : (disk : Disk) (files : Files) (name flat : List ℕ) (old new : Counters) (course : List Taken) (after : Option Files) → IsWholeDisk disk → IsImageOf (Some files) name disk → IsFaultless 0 old new → StoresExported name flat old (Some files) course new after → StoresFlatOf disk flat (Some files) after
 same_flat disk files name flat old new course after whole image faultless stores =
     subst (λ (d : Disk). IsWholeDisk d → StoresFlatOf d flat (Some files) after) (one_image files name stores.disk disk stores.image image)
     (λ there. record {
@@ -155,7 +155,7 @@ stores name flat old new ended files disk begins told image whole runs well =
     let exports = subst (λ (s : Status). Exports name flat old runs.course new s) (sym well) runs.does in
     let faultless = export_faultless name flat _ old new runs.course begins (runs.ties.undisturbed begins.sound) exports.2 in
     let made = export_stores name flat old new runs.course exports (fresh_memory old.state.station begins.fresh) in
-    let there = subst (λ (f : Option Files). StoresExported old.state.station.counters new.state.station.counters runs.course name flat f new.files) told made in
+    let there = subst (λ (f : Option Files). StoresExported name flat old.state.station.counters f runs.course new.state.station.counters new.files) told made in
     same_flat disk files name flat old.state.station.counters new.state.station.counters runs.course new.files whole image faultless there
 
 -- where nothing is left to go wrong, an export of such a disk goes to its end, or the outside failed

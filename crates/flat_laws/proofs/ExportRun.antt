@@ -114,17 +114,17 @@ opens_export name shape old new (taken ∷ later) all put =
     let others : requests_of later ≡ ack_requests shape.rate = cc e in
     let parts = or_false (is_refusal taken.answer) (has_refusal later) all.done in
     let files = all.run.0 in
-    let here = subst (λ (q : Request). Step old.state old.files q taken.answer taken.after files) asked all.run.1 in
+    let here = subst (λ (q : Request). Step q old.state old.files taken.answer taken.after files) asked all.run.1 in
     let does = done_does old.state taken.after old.files files (request.Insert 0 name) taken.answer here parts.0 in
     let into = does.2 in
     let disk = into.0 in
     let medium : (bay_of taken.after.station 0).medium ≡ Some disk = ap (λ (s : StationState). (bay_of s 0).medium) into.2.exchanged.becomes in
     let told : shape_in (bay_of taken.after.station 0) ≡ Some (shape_of disk) = ap (λ (m : Option Disk). option_map shape_of m) medium in
     let rate : disk.rate ≡ shape.rate = ap (λ (s : Shape). s.rate) (same_shape _ (shape_of disk) shape told (put parts.0)) in
-    let behind : DoesAll taken.after files (request.Ack 0 ∷ rate_requests shape.rate) later new.state new.files = record { run = all.run.2; all = others; done = parts.1 } in
+    let behind : DoesAll (request.Ack 0 ∷ rate_requests shape.rate) taken.after files later new.state new.files = record { run = all.run.2; all = others; done = parts.1 } in
     let two = begins taken.after new.state files new.files (request.Ack 0) (rate_requests shape.rate) later behind in
     let acked = acks 0 disk taken.after two.mid files two.files two.answer two.does two.done medium in
-    let known = subst (λ (row : List Request). DoesAll two.mid two.files row two.later new.state new.files) (same_rates shape.rate ∙ sym (append-nil _)) two.behind in
+    let known = subst (λ (row : List Request). DoesAll row two.mid two.files two.later new.state new.files) (same_rates shape.rate ∙ sym (append-nil _)) two.behind in
     let rated = rates 0 shape.rate disk [] two.mid new.state two.files new.files two.later known rate acked.medium acked.high in
     let end = ends_there rated.mid new.state rated.files new.files rated.course rated.behind in
     record {
@@ -178,7 +178,7 @@ stored_well : (flat bytes : List ℕ) (rate : Rate) (files : Option Files) (repo
 stored_well flat bytes rate files report after told (IsStored is prints) = is
 stored_well flat bytes rate files report after told (NotStored same silent fault) = absurd fault
 
-exports_disk : (name flat : List ℕ) (shape : Shape) (old new : World) (course : List Taken) → IsShapePutIn course shape → ExportsDisk name flat shape.rate old course new status.AllOk → length old.state.station.memory ≡ user_bytes → StoresExported old.state.station.counters new.state.station.counters course name flat old.files new.files
+exports_disk : (name flat : List ℕ) (shape : Shape) (old new : World) (course : List Taken) → IsShapePutIn course shape → ExportsDisk name flat shape.rate old course new status.AllOk → length old.state.station.memory ≡ user_bytes → StoresExported name flat old.state.station.counters old.files course new.state.station.counters new.files
 exports_disk name flat shape old new course put (ExportHalts p) size = absurd (halts_not_ok (export_requests name shape.rate) old course new p)
 exports_disk name flat shape old new course put (Exported p) size =
     let all : AllDone (export_requests name shape.rate) (at old.state old.files) course (at new.state p.files) = record { run = p.run; all = p.all; done = p.fine } in
@@ -196,5 +196,5 @@ exports_disk name flat shape old new course put (Exported p) size =
     }
 
 -- an export that succeeds stores what its reads gave
-pub export_stores : (name flat : List ℕ) (old new : World) (course : List Taken) → Exports name flat old course new status.AllOk → length old.state.station.memory ≡ user_bytes → StoresExported old.state.station.counters new.state.station.counters course name flat old.files new.files
+pub export_stores : (name flat : List ℕ) (old new : World) (course : List Taken) → Exports name flat old course new status.AllOk → length old.state.station.memory ≡ user_bytes → StoresExported name flat old.state.station.counters old.files course new.state.station.counters new.files
 export_stores name flat old new course exports size = exports_disk name flat exports.0 old new course exports.1 exports.2 size

@@ -11,7 +11,7 @@ use Rattle.flat_commands.specs.Commands.{Halts, AtRefusal, AtStop, ForMemory}
 use Rattle.disk_laws.proofs.Ended.{prints_status, no_stop_is_ok}
 
 -- a line of a stop isn't that of success
-pub stop_not_ok : (report : Option (List ℕ)) (cause : Stop) (after : Option (List ℕ)) → Prints report (stop_text cause) (stop_status cause) after status.AllOk → ⊥
+pub stop_not_ok : (report : Option (List ℕ)) (cause : Stop) (after : Option (List ℕ)) → Prints (stop_text cause) (stop_status cause) report after status.AllOk → ⊥
 stop_not_ok report cause after prints = no_stop_is_ok cause (prints_status report (stop_text cause) (stop_status cause) status.AllOk after (λ fault. fault) prints).1
 
 pub halts_not_ok : (requests : List Request) (old : World) (course : List Taken) (new : World) → Halts requests old course new status.AllOk → ⊥

@@ -137,7 +137,7 @@ imports_track start final bytes rate name told c h faultless whole cylinder head
     let medium : (bay_of parts.mid.station 0).medium ≡ Some next = ap (λ (b : Bay). b.medium) bay ∙ formats.medium in
     let bay_rate : (bay_of parts.mid.station 0).rate ≡ rate = ap (λ (b : Bay). b.rate) bay ∙ formats.bay_rate in
     let next_rate : next.rate ≡ rate = formats.keeps.alike.rate ∙ holds.alike.rate in
-    let asked = subst (λ (row : List Request). DoesAll parts.mid parts.files row parts.two new.state new.files) (writes_are c h 1 sectors) parts.behind in
+    let asked = subst (λ (row : List Request). DoesAll row parts.mid parts.files parts.two new.state new.files) (writes_are c h 1 sectors) parts.behind in
     let writes = all_writes laid_tidy 0 next c h 1 sectors (replicate sectors false) parts.mid new.state parts.files new.files parts.two asked (length-replicate sectors false) (omega arith) (omega (arith, some.1)) there formats.keeps.alike.valid regular has_next laid fills.size (faultless_within start full new final in_write faultless) medium (bay_rate ∙ sym next_rate) in
     let keeps = keeps_both disk next writes.final c h formats.keeps writes.keeps in
     let own = λ (r : ℕ) (sector : IsSector sectors c h r).

@@ -28,7 +28,7 @@ pub record IsAsRead (sure : Type 0) (course : List Taken) (disk : Disk) (c h r :
 
 -- the disk under one name was stored as a flat file under another, and no other file changed: the file has at the place of
 -- each sector what the read of its key gave
-pub record StoresExported (old new : Counters) (course : List Taken) (name flat : List ℕ) (told after : Option Files) : Type 0 where
+pub record StoresExported (name flat : List ℕ) (old : Counters) (told : Option Files) (course : List Taken) (new : Counters) (after : Option Files) : Type 0 where
   pub disk : Disk
   pub image : IsImageOf told name disk
   pub bytes : List ℕ

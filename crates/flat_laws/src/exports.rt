@@ -16,6 +16,6 @@ pub fn export_stores_what_was_read(_name: &str, _flat: &str)
     ensures { (old new : World) (course : List Taken)
         → Exports _name.now _flat.now old course new Status.AllOk
         → length old.state.station.memory ≡ user_bytes
-        → StoresExported old.state.station.counters new.state.station.counters course _name.now _flat.now
-        old.files new.files }
+        → StoresExported _name.now _flat.now old.state.station.counters old.files course
+        new.state.station.counters new.files }
 {}

@@ -65,7 +65,7 @@ fn not_read<K: Sink>(alloc: Global, out: &mut K, error: PlanError) -> Status
 
 /// Puts the last line where a line of a plan isn't understood, and gives the status.
 fn put_last_bad_plan<K: Sink>(alloc: Global, out: &mut K, line: usize) -> Status
-    ensures prints { Prints (K.told out.old) (bad_plan_text line) Status.BadJob (K.told out.new) result }
+    ensures prints { Prints (bad_plan_text line) Status.BadJob (K.told out.old) (K.told out.new) result }
     ensures no_shelf_fault { result ≢ Status.FileFault }
     ensures sink_faults { Blames (result ≡ Status.SinkFault) (K.fault_count out.old) (K.fault_count out.new) }
 {

@@ -28,9 +28,9 @@ use Rattle.floppy_driver.proofs.Shows.{noted_at, bay_shown_at, held_bay, held_sh
 use Rattle.floppy_driver.proofs.Worked.{works_read, works_after, works_round, driven_round, spun_round, clear_is_full, noted_worked, worked_shown}
 
 -- an acknowledgement of a bay
-acks_bay : (old new : StationState) (bay : ℕ) (answer : Result (Unit {0}) Code) → bay ≤ 1 → AcksDrive old bay answer new → Acks old bay answer new
+acks_bay : (old new : StationState) (bay : ℕ) (answer : Result (Unit {0}) Code) → bay ≤ 1 → AcksDrive bay old answer new → Acks bay old answer new
 acks_bay old new bay answer in_range acks =
-    subst (λ (b : Bool). MatchBool b (AcksDrive old bay answer new) (IsRefusedAtOnce old BadRequest answer new)) (sym (le-leb bay 1 in_range)) acks
+    subst (λ (b : Bool). MatchBool b (AcksDrive bay old answer new) (IsRefusedAtOnce BadRequest old answer new)) (sym (le-leb bay 1 in_range)) acks
 
 sound_disk : (rig : Rig) (bay : ℕ) (disk : Disk) → IsSound rig → in_bay rig.media bay ≡ Some disk → IsDisk disk
 sound_disk rig bay disk sound is = subst (λ (m : Option Disk). IfSome m IsDisk) is (by_bay (bay == 0))
@@ -41,7 +41,7 @@ sound_disk rig bay disk sound is = subst (λ (m : Option Disk). IfSome m IsDisk)
 
 -- ---- not
 
-module _ (driver after : Driver) (old : Rig) (bay : ℕ) (new : Rig) (notes : Notes) (in_range : bay ≤ 1) (is : after ≡ with_notes driver bay notes) (gate : notes.gate ≡ false) (known : notes.known ≡ None) (attached : IsAttached driver old) (stayed : HasStayedSet old bay 3 new) where
+module _ (driver after : Driver) (old : Rig) (bay : ℕ) (new : Rig) (notes : Notes) (in_range : bay ≤ 1) (is : after ≡ with_notes driver bay notes) (gate : notes.gate ≡ false) (known : notes.known ≡ None) (attached : IsAttached driver old) (stayed : HasStayedSet bay 3 old new) where
   not_held : (line : Bool) → is_held notes line ≡ false
   not_held line = ap (λ (b : Bool). b && not line) gate
 
@@ -72,7 +72,7 @@ module _ (driver after : Driver) (old : Rig) (bay : ℕ) (new : Rig) (notes : No
     why None e = inl (ap (λ (b : Bay). b.medium) (bay_shown_at driver old spares waiting bay) ∙ e)
     why (Some disk) e = inr (stayed.lost (subst (λ (m : Option Disk). IsSome m) (sym e) refl))
 
-    pub acks_unready : Acks (shown driver old spares waiting) bay (Err NotReady) (shown after new spares waiting)
+    pub acks_unready : Acks bay (shown driver old spares waiting) (Err NotReady) (shown after new spares waiting)
     acks_unready =
         let before = shown driver old spares waiting in
         acks_bay before (shown after new spares waiting) bay (Err NotReady) in_range
@@ -119,14 +119,14 @@ clear_is_met rig bay disk sound is at clear =
     let found : HasClearAddress (track_of disk 0 0) clear.2.0 = (clear.0, record { clear = clear.1; address = clear.2.1 }) in
     subst (λ (t : List ℕ). HasClearAddress t clear.2.0) (sym track) found
 
-module _ (driver after : Driver) (start : Rig) (bay count : ℕ) (notes : Notes) (in_range : bay ≤ 1) (is : after ≡ with_notes driver bay notes) (attached : IsAttached driver start) (old : Rig) (stayed : HasStayedSet start bay count old) (reached : Bool) (mid : Rig) (clears : ClearsChange old bay reached mid) (asked : Rig) (asks : OnlyAsks mid asked) (clear : in_bay mid.changes bay ≡ false) (sound : IsSound asked) (new : Rig) (held : IsHeldSince asked bay reached notes new) where
+module _ (driver after : Driver) (start : Rig) (bay count : ℕ) (notes : Notes) (in_range : bay ≤ 1) (is : after ≡ with_notes driver bay notes) (attached : IsAttached driver start) (old : Rig) (stayed : HasStayedSet bay count start old) (reached : Bool) (mid : Rig) (clears : ClearsChange bay old reached mid) (asked : Rig) (asks : OnlyAsks mid asked) (clear : in_bay mid.changes bay ≡ false) (sound : IsSound asked) (new : Rig) (held : IsHeldSince bay asked reached notes new) where
   reads : OnlyReads 6 asked new
   reads = held.finds.reads
 
-  worked : Works start bay asked
+  worked : Works bay start asked
   worked = works_round start bay count old stayed reached mid clears asked asks
 
-  all_worked : Works start bay new
+  all_worked : Works bay start new
   all_worked = works_after start bay asked new worked (works_read 6 asked bay new reads)
 
   asked_clear : in_bay asked.changes bay ≡ false
@@ -227,7 +227,7 @@ module _ (driver after : Driver) (start : Rig) (bay count : ℕ) (notes : Notes)
 
   -- ---- the step
 
-  pub acks_done : (spares : ℕ) (waiting : List DriveCounts) → Acks (shown driver start spares waiting) bay (Ok tt) (shown after new spares waiting)
+  pub acks_done : (spares : ℕ) (waiting : List DriveCounts) → Acks bay (shown driver start spares waiting) (Ok tt) (shown after new spares waiting)
   unfolding disk
   acks_done spares waiting =
       let before = shown driver start spares waiting in

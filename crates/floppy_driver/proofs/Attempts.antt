@@ -84,7 +84,7 @@ can_try_read driver old new bay can sends sound = record {
 
 -- ---- an attempt is prepared
 
-module _ (driver after : Driver) (old new : Rig) (bay target : ℕ) (way : Prepare) (ready : Bool) (can : CanTry driver old bay) (is : after ≡ with_notes driver bay (notes_of after bay)) (prepared : IsPrepared old (notes_of driver bay) bay target way ready new (notes_of after bay)) where
+module _ (driver after : Driver) (old new : Rig) (bay target : ℕ) (way : Prepare) (ready : Bool) (can : CanTry driver old bay) (is : after ≡ with_notes driver bay (notes_of after bay)) (prepared : IsPrepared bay target way old (notes_of driver bay) ready new (notes_of after bay)) where
   prepared_notes : after ≡ with_notes driver bay (record (notes_of driver bay) { known = (notes_of after bay).known })
   prepared_notes = is ∙ ap (λ (n : Notes). with_notes driver bay n) prepared.notes_are
 
@@ -108,7 +108,7 @@ module _ (driver after : Driver) (old new : Rig) (bay target : ℕ) (way : Prepa
   }
 
   -- in a call that ends steady, the heads stand at the target
-  pub prepared_steady : (spares : ℕ) (waiting : List DriveCounts) (later : StationState) → ready ≡ true → (way ≡ prepare.Seek → IsSome (notes_of driver bay).known) → faults_of new.counters bay ≤ faults_of later.counters bay → IsSteady (shown driver old spares waiting) bay later → in_bay new.cylinders bay ≡ target
+  pub prepared_steady : (spares : ℕ) (waiting : List DriveCounts) (later : StationState) → ready ≡ true → (way ≡ prepare.Seek → IsSome (notes_of driver bay).known) → faults_of new.counters bay ≤ faults_of later.counters bay → IsSteady bay (shown driver old spares waiting) later → in_bay new.cylinders bay ≡ target
   prepared_steady spares waiting later is_ready known goes steady =
       let was = held_bay_shown driver old spares waiting bay can.held in
       let acknowledged : Some (notes_of driver bay).kept ≡ Some steady.kept = ap (λ (b : Bay). b.acknowledged) (sym was) ∙ steady.acknowledged in
@@ -118,5 +118,5 @@ module _ (driver after : Driver) (old new : Rig) (bay target : ℕ) (way : Prepa
       let counted = steady.count in
       let below = steady.below in
       prepared_stands driver after old new bay can.in_range can.held prepared.moves can.attached target way (notes_of after bay) known
-      (subst (λ (r : Bool). IsPrepared old (notes_of driver bay) bay target way r new (notes_of after bay)) is_ready prepared)
+      (subst (λ (r : Bool). IsPrepared bay target way old (notes_of driver bay) r new (notes_of after bay)) is_ready prepared)
       (omega arith) (omega arith)

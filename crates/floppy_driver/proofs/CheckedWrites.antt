@@ -65,7 +65,7 @@ read_device BadCrc coded = tt
 read_device Overrun coded = tt
 read_device _ coded = absurd coded
 
-write_cause : (written : Written) (track : List ℕ) (change : Option Change) (bay : ℕ) (code : Code) (a b : Counters) → IsWriteMiss track written.key bay code a b → IsMissCause written track change bay code a b
+write_cause : (written : Written) (track : List ℕ) (change : Option Change) (bay : ℕ) (code : Code) (a b : Counters) → IsWriteMiss track written.key bay a code b → IsMissCause written track change bay a code b
 write_cause written track change bay code a b miss = record {
   device = write_device code miss.coded;
   no_mark = λ is quiet.
@@ -80,7 +80,7 @@ write_cause written track change bay code a b miss = record {
   lost = λ is. absurd (subst IsWriteCode is miss.coded);
 }
 
-pub write_missed : (old : Rig) (bay : ℕ) (rate : Rate) (written : Written) (change : Option Change) (code : Code) (new : Rig) → WritesData old bay rate written change (Err code) new → WritesChecked old bay rate written (Err code) new
+pub write_missed : (old : Rig) (bay : ℕ) (rate : Rate) (written : Written) (change : Option Change) (code : Code) (new : Rig) → WritesData bay rate written change old (Err code) new → WritesChecked bay rate written old (Err code) new
 write_missed old bay rate written change code new wrote = record {
   change = change;
   heads = wrote.sends.heads;
@@ -95,7 +95,7 @@ write_missed old bay rate written change code new wrote = record {
 
 -- ---- a write that was done, and its reading back
 
-does_later : (old : Rig) (bay : ℕ) (rate : Rate) (written : Written) (change : Option Change) (mid new : Rig) → GoesOn old.counters mid.counters → GoesOn mid.counters new.counters → new.media ≡ mid.media → MatchOption change (mid.media ≡ old.media) (λ one. ChangesMedium old bay rate written one mid) → MatchOption change (new.media ≡ old.media) (λ one. ChangesMedium old bay rate written one new)
+does_later : (old : Rig) (bay : ℕ) (rate : Rate) (written : Written) (change : Option Change) (mid new : Rig) → GoesOn old.counters mid.counters → GoesOn mid.counters new.counters → new.media ≡ mid.media → MatchOption change (mid.media ≡ old.media) (λ one. ChangesMedium bay rate written one old mid) → MatchOption change (new.media ≡ old.media) (λ one. ChangesMedium bay rate written one old new)
 does_later old bay rate written None mid new first second same none = same ∙ none
 does_later old bay rate written (Some one) mid new first second same changed = record {
   before = changed.before;
@@ -108,7 +108,7 @@ does_later old bay rate written (Some one) mid new first second same changed = r
   whole = λ quiet. changed.whole (disturbed_first bay old.counters mid.counters new.counters first second 1 quiet);
 }
 
-module _ (old : Rig) (bay : ℕ) (rate : Rate) (written : Written) (change : Option Change) (mid : Rig) (wrote : WritesData old bay rate written change (Ok tt) mid) (answer : Result Bool Code) (new : Rig) (back : ReadsBack mid bay written.key rate answer new) where
+module _ (old : Rig) (bay : ℕ) (rate : Rate) (written : Written) (change : Option Change) (mid : Rig) (wrote : WritesData bay rate written change old (Ok tt) mid) (answer : Result Bool Code) (new : Rig) (back : ReadsBack bay written.key rate mid answer new) where
   counts : GoesOn old.counters new.counters
   counts = goes_on_after old.counters mid.counters new.counters wrote.sends.counts back.sends.counts
 
@@ -133,7 +133,7 @@ module _ (old : Rig) (bay : ℕ) (rate : Rate) (written : Written) (change : Opt
   quiet_back : IsUndisturbed bay old.counters new.counters → IsUndisturbed bay mid.counters new.counters
   quiet_back = disturbed_later bay old.counters mid.counters new.counters wrote.sends.counts back.sends.counts 1
 
-  checked : (result : Result (Unit {0}) Code) → (IsOk result → IsReadBack written (in_bay new.media bay) rate (in_bay old.cylinders bay) change bay old.counters new.counters) → IfErr result (λ code. IsMissCause written (track_under new bay rate written.key.h) change bay code old.counters new.counters) → WritesChecked old bay rate written result new
+  checked : (result : Result (Unit {0}) Code) → (IsOk result → IsReadBack written (in_bay new.media bay) rate (in_bay old.cylinders bay) change bay old.counters new.counters) → IfErr result (λ code. IsMissCause written (track_under new bay rate written.key.h) change bay old.counters code new.counters) → WritesChecked bay rate written old result new
   checked result done refused = record {
     change = change;
     heads = record {
@@ -155,7 +155,7 @@ module _ (old : Rig) (bay : ℕ) (rate : Rate) (written : Written) (change : Opt
   }
 
   -- the reading back was refused
-  back_cause : (code : Code) → IsReadMiss (track_under mid bay rate written.key.h) written.key bay code mid.counters new.counters → IsMissCause written (track_under new bay rate written.key.h) change bay code old.counters new.counters
+  back_cause : (code : Code) → IsReadMiss (track_under mid bay rate written.key.h) written.key bay mid.counters code new.counters → IsMissCause written (track_under new bay rate written.key.h) change bay old.counters code new.counters
   back_cause code miss =
       let key = written.key in
       let under = track_under new bay rate key.h in
@@ -174,12 +174,12 @@ module _ (old : Rig) (bay : ℕ) (rate : Rate) (written : Written) (change : Opt
         lost = λ is. absurd (subst IsReadCode is miss.coded);
       }
 
-  pub back_missed : (code : Code) → answer ≡ Err code → WritesChecked old bay rate written (Err code) new
+  pub back_missed : (code : Code) → answer ≡ Err code → WritesChecked bay rate written old (Err code) new
   back_missed code is =
-      let Missed : Result Bool Code → Type 0 = λ r. IfErr r (λ code. IsReadMiss (track_under mid bay rate written.key.h) written.key bay code mid.counters new.counters) in
+      let Missed : Result Bool Code → Type 0 = λ r. IfErr r (λ code. IsReadMiss (track_under mid bay rate written.key.h) written.key bay mid.counters code new.counters) in
       checked (Err code) (λ ok. absurd (false≢true ok)) (back_cause code (subst Missed is back.refused))
 
-  module _ (deleted : Bool) (content : List ℕ) (found : FindsField mid bay written.key rate deleted content new) where
+  module _ (deleted : Bool) (content : List ℕ) (found : FindsField bay written.key rate mid deleted content new) where
     meets : MeetsTrack (in_bay mid.media bay) rate (in_bay mid.cylinders bay) written.key.h found.disk
     meets = record { is_in = found.medium; has = found.track; same_rate = found.same_rate }
 
@@ -193,7 +193,7 @@ module _ (old : Rig) (bay : ℕ) (rate : Rate) (written : Written) (change : Opt
         subst (λ track. HasOtherContent track written) (sym under_is)
         (sector.0, deleted, sector.1, sector.2, sector.3, λ same. differs same.0 (sector.4 ∙ same.1))
 
-    pub other_read : (deleted ≡ written.deleted → content ≡ written.content → ⊥) → WritesChecked old bay rate written (Err BadCrc) new
+    pub other_read : (deleted ≡ written.deleted → content ≡ written.content → ⊥) → WritesChecked bay rate written old (Err BadCrc) new
     other_read differs =
         checked (Err BadCrc) (λ ok. absurd (false≢true ok))
         (record {
@@ -237,7 +237,7 @@ module _ (old : Rig) (bay : ℕ) (rate : Rate) (written : Written) (change : Opt
         commands = let first = wrote.sends.command in let second = back.sends.command in omega arith;
       }
 
-      pub same_read : WritesChecked old bay rate written (Ok tt) new
+      pub same_read : WritesChecked bay rate written old (Ok tt) new
       same_read =
           checked (Ok tt)
           (λ ok. subst (λ c. IsReadBack written (in_bay new.media bay) rate c change bay old.counters new.counters)
@@ -247,30 +247,30 @@ module _ (old : Rig) (bay : ℕ) (rate : Rate) (written : Written) (change : Opt
 -- ---- the ends of a write that is read back
 
 module _ (old : Rig) (bay : ℕ) (rate : Rate) (written : Written) (mid new : Rig) where
-  pub ends_written : (first result : Result (Unit {0}) Code) (code other : Code) → (change : Option Change) × WritesData old bay rate written change first mid → first ≡ Err code → result ≡ Err other → other ≡ code → WritesChecked old bay rate written result mid
+  pub ends_written : (first result : Result (Unit {0}) Code) (code other : Code) → (change : Option Change) × WritesData bay rate written change old first mid → first ≡ Err code → result ≡ Err other → other ≡ code → WritesChecked bay rate written old result mid
   ends_written first result code other wrote was is same =
-      let Wrote : Result (Unit {0}) Code → Type 0 = λ r. WritesData old bay rate written wrote.0 r mid in
-      let missed : WritesChecked old bay rate written (Err code) mid = write_missed old bay rate written wrote.0 code mid (subst Wrote was wrote.1) in
-      subst (λ r. WritesChecked old bay rate written r mid) (sym (is ∙ ap (λ c. Err c) same)) missed
+      let Wrote : Result (Unit {0}) Code → Type 0 = λ r. WritesData bay rate written wrote.0 old r mid in
+      let missed : WritesChecked bay rate written old (Err code) mid = write_missed old bay rate written wrote.0 code mid (subst Wrote was wrote.1) in
+      subst (λ r. WritesChecked bay rate written old r mid) (sym (is ∙ ap (λ c. Err c) same)) missed
 
-  module _ (first : Result (Unit {0}) Code) (answer : Result Bool Code) (unit : Unit {0}) (wrote : (change : Option Change) × WritesData old bay rate written change first mid) (was : first ≡ Ok unit) (back : ReadsBack mid bay written.key rate answer new) where
-    done : WritesData old bay rate written wrote.0 (Ok tt) mid
+  module _ (first : Result (Unit {0}) Code) (answer : Result Bool Code) (unit : Unit {0}) (wrote : (change : Option Change) × WritesData bay rate written change old first mid) (was : first ≡ Ok unit) (back : ReadsBack bay written.key rate mid answer new) where
+    done : WritesData bay rate written wrote.0 old (Ok tt) mid
     done =
-        let Wrote : Result (Unit {0}) Code → Type 0 = λ r. WritesData old bay rate written wrote.0 r mid in
+        let Wrote : Result (Unit {0}) Code → Type 0 = λ r. WritesData bay rate written wrote.0 old r mid in
         subst Wrote was wrote.1
 
-    pub ends_read : (result : Result (Unit {0}) Code) (code other : Code) → answer ≡ Err code → result ≡ Err other → other ≡ code → WritesChecked old bay rate written result new
+    pub ends_read : (result : Result (Unit {0}) Code) (code other : Code) → answer ≡ Err code → result ≡ Err other → other ≡ code → WritesChecked bay rate written old result new
     ends_read result code other failed is same =
-        subst (λ r. WritesChecked old bay rate written r new) (sym (is ∙ ap (λ c. Err c) same))
+        subst (λ r. WritesChecked bay rate written old r new) (sym (is ∙ ap (λ c. Err c) same))
         (back_missed old bay rate written wrote.0 mid done answer new back code failed)
 
     module _ (marked : Bool) (read : answer ≡ Ok marked) where
-      found : (content : List ℕ) × FindsField mid bay written.key rate marked content new × (new.page ≡ with_items mid.page 0 content)
+      found : (content : List ℕ) × FindsField bay written.key rate mid marked content new × (new.page ≡ with_items mid.page 0 content)
       found =
-          let Found : Result Bool Code → Type 0 = λ r. IfOk r (λ deleted. (content : List ℕ) × FindsField mid bay written.key rate deleted content new × (new.page ≡ with_items mid.page 0 content)) in
+          let Found : Result Bool Code → Type 0 = λ r. IfOk r (λ deleted. (content : List ℕ) × FindsField bay written.key rate mid deleted content new × (new.page ≡ with_items mid.page 0 content)) in
           subst Found read back.found
 
-      pub ends_marked : (marked ≡ written.deleted → ⊥) → WritesChecked old bay rate written (Err BadCrc) new
+      pub ends_marked : (marked ≡ written.deleted → ⊥) → WritesChecked bay rate written old (Err BadCrc) new
       ends_marked differs =
           other_read old bay rate written wrote.0 mid done answer new back marked found.0 found.1 (λ same e. differs same)
 
@@ -288,11 +288,11 @@ module _ (old : Rig) (bay : ℕ) (rate : Rate) (written : Written) (mid new : Ri
             let shown : AreBytesAlike (with_items mid.page 0 found.0) old.memory address (content_size written.key.n) = content_alike mid.page old.memory found.0 address (content_size written.key.n) found.1.size sized.length within (same ∙ is) in
             subst (λ p. AreBytesAlike p new.memory address (content_size written.key.n)) (sym found.2) (subst (λ m. AreBytesAlike (with_items mid.page 0 found.0) m address (content_size written.key.n)) (sym memory_same) shown)
 
-        pub ends_other : (AreBytesAlike new.page new.memory address (content_size written.key.n) → ⊥) → WritesChecked old bay rate written (Err BadCrc) new
+        pub ends_other : (AreBytesAlike new.page new.memory address (content_size written.key.n) → ⊥) → WritesChecked bay rate written old (Err BadCrc) new
         ends_other differs =
             other_read old bay rate written wrote.0 mid done answer new back marked found.0 found.1 (λ e same. differs (alike_page same))
 
-        pub ends_same : marked ≡ written.deleted → AreBytesAlike new.page new.memory address (content_size written.key.n) → WritesChecked old bay rate written (Ok tt) new
+        pub ends_same : marked ≡ written.deleted → AreBytesAlike new.page new.memory address (content_size written.key.n) → WritesChecked bay rate written old (Ok tt) new
         ends_same same alike =
             same_read old bay rate written wrote.0 mid done answer new back marked found.0 found.1 same (page_alike alike)
 

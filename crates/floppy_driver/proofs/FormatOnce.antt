@@ -92,7 +92,7 @@ faultless_later bay a b c one two quiet =
 
 -- ---- track 0 wasn't reached
 
-pub lost_attempt : (old : Rig) (notes : Notes) (bay : ℕ) (format : Format) (new : Rig) (after : Notes) → IsPrepared old notes bay format.c prepare.RecalibrateAndSeek false new after → FormatsIn 1 format bay (Err Seek) (in_bay old.media bay) (in_bay new.media bay) old.counters new.counters
+pub lost_attempt : (old : Rig) (notes : Notes) (bay : ℕ) (format : Format) (new : Rig) (after : Notes) → IsPrepared bay format.c prepare.RecalibrateAndSeek old notes false new after → FormatsIn 1 format bay (in_bay old.media bay) (in_bay new.media bay) old.counters (Err Seek) new.counters
 lost_attempt old notes bay format new after prepared =
     let lost = prepared.lost refl in
     let same = in_same_bay old.media new.media bay prepared.moves.media in
@@ -125,7 +125,7 @@ lost_attempt old notes bay format new after prepared =
 
 -- ---- a format command from the cylinder
 
-module _ (old middle laid : Rig) (notes after : Notes) (bay : ℕ) (format : Format) (prepared : IsPrepared old notes bay format.c prepare.RecalibrateAndSeek true middle after) (sound : IsSound middle) where
+module _ (old middle laid : Rig) (notes after : Notes) (bay : ℕ) (format : Format) (prepared : IsPrepared bay format.c prepare.RecalibrateAndSeek old notes true middle after) (sound : IsSound middle) where
   abbrev was_in : Option Disk
   was_in = in_bay old.media bay
 
@@ -138,7 +138,7 @@ module _ (old middle laid : Rig) (notes after : Notes) (bay : ℕ) (format : For
   same_in : in_bay middle.media bay ≡ was_in
   same_in = in_same_bay old.media middle.media bay prepared.moves.media
 
-  may_lay : (laying : Option Laying) → MatchOption laying (laid.media ≡ middle.media) (λ one. LaysMedium middle bay format one laid) → MayLay format under was_in laying is_in
+  may_lay : (laying : Option Laying) → MatchOption laying (laid.media ≡ middle.media) (λ one. LaysMedium bay format one middle laid) → MayLay format under was_in laying is_in
   may_lay None same = in_same_bay middle.media laid.media bay same ∙ same_in
   may_lay (Some one) lays = record {
     old = lays.before;
@@ -150,7 +150,7 @@ module _ (old middle laid : Rig) (notes after : Notes) (bay : ℕ) (format : For
     makes = lays.makes;
   }
 
-  module _ (laying : Option Laying) (answer : Result (Unit {0}) Code) (formats : FormatsTrack middle bay format laying answer laid) where
+  module _ (laying : Option Laying) (answer : Result (Unit {0}) Code) (formats : FormatsTrack bay format laying middle answer laid) where
     may : MayLay format under was_in laying is_in
     may = may_lay laying formats.does
 
@@ -191,7 +191,7 @@ module _ (old middle laid : Rig) (notes after : Notes) (bay : ℕ) (format : For
         (made.new, made.is, made.track)
 
   -- the command was refused
-  module _ (laying : Option Laying) (code : Code) (formats : FormatsTrack middle bay format laying (Err code) laid) where
+  module _ (laying : Option Laying) (code : Code) (formats : FormatsTrack bay format laying middle (Err code) laid) where
     abbrev refusal : Result (Unit {0}) Code
     refusal = Err code
 
@@ -200,7 +200,7 @@ module _ (old middle laid : Rig) (notes after : Notes) (bay : ℕ) (format : For
         let place = there laying refusal formats (undisturbed_faultless bay old.counters laid.counters (counts laying refusal formats) quiet) in
         (formats.refused.reason (undisturbed_middle laying refusal formats quiet)).1 (can_to laying refusal formats place can)
 
-    pub refused_attempt : FormatsIn 1 format bay (Err code) was_in is_in old.counters laid.counters
+    pub refused_attempt : FormatsIn 1 format bay was_in is_in old.counters (Err code) laid.counters
     refused_attempt =
         let goes = counts laying refusal formats in
         let faultless = undisturbed_faultless bay old.counters laid.counters goes in
@@ -232,7 +232,7 @@ module _ (old middle laid : Rig) (notes after : Notes) (bay : ℕ) (format : For
         }
 
   -- it was done, and the records were read back
-  module _ (laying : Option Laying) (formats : FormatsTrack middle bay format laying (Ok tt) laid) (asked : IsValidFormat format) (answer : Result (Unit {0}) Code) (new : Rig) (reads : ReadsRecords laid bay (sectors_at format.rate) (IsBlankUnder laid bay format.rate format.h) (HoldsRecords (track_under laid bay format.rate format.h) format.c format.h (sectors_at format.rate) format.fill) answer new) where
+  module _ (laying : Option Laying) (formats : FormatsTrack bay format laying middle (Ok tt) laid) (asked : IsValidFormat format) (answer : Result (Unit {0}) Code) (new : Rig) (reads : ReadsRecords bay (sectors_at format.rate) (IsBlankUnder laid bay format.rate format.h) (HoldsRecords (track_under laid bay format.rate format.h) format.c format.h (sectors_at format.rate) format.fill) laid answer new) where
     abbrev done : Result (Unit {0}) Code
     done = Ok tt
 
@@ -287,14 +287,14 @@ module _ (old middle laid : Rig) (notes after : Notes) (bay : ℕ) (format : For
     was_done : IsFormattable format was_in → IsUndisturbed bay old.counters new.counters → IsOk answer
     was_done can quiet = by_answer answer reads.refused
       where
-        by_answer : (a : Result (Unit {0}) Code) → IfErr a (λ code. IsReadBackMiss bay (IsBlankUnder laid bay format.rate format.h) (HoldsRecords (track_under laid bay format.rate format.h) format.c format.h (sectors_at format.rate) format.fill) code laid.counters new.counters) → IsOk a
+        by_answer : (a : Result (Unit {0}) Code) → IfErr a (λ code. IsReadBackMiss bay (IsBlankUnder laid bay format.rate format.h) (HoldsRecords (track_under laid bay format.rate format.h) format.c format.h (sectors_at format.rate) format.fill) laid.counters code new.counters) → IsOk a
         by_answer (Ok is) missed = refl
         by_answer (Err code) missed = absurd (missed.disturbed (holds can quiet) (undisturbed_back quiet))
 
-    why : IfErr answer (λ code. IsAttemptRefusal bay code old.counters new.counters)
+    why : IfErr answer (λ code. IsAttemptRefusal bay old.counters code new.counters)
     why = by_answer answer reads.refused
       where
-        by_answer : (a : Result (Unit {0}) Code) → IfErr a (λ code. IsReadBackMiss bay (IsBlankUnder laid bay format.rate format.h) (HoldsRecords (track_under laid bay format.rate format.h) format.c format.h (sectors_at format.rate) format.fill) code laid.counters new.counters) → IfErr a (λ code. IsAttemptRefusal bay code old.counters new.counters)
+        by_answer : (a : Result (Unit {0}) Code) → IfErr a (λ code. IsReadBackMiss bay (IsBlankUnder laid bay format.rate format.h) (HoldsRecords (track_under laid bay format.rate format.h) format.c format.h (sectors_at format.rate) format.fill) laid.counters code new.counters) → IfErr a (λ code. IsAttemptRefusal bay old.counters code new.counters)
         by_answer (Ok is) missed = tt
         by_answer (Err code) missed = record {
           device = read_device code missed.coded;
@@ -310,7 +310,7 @@ module _ (old middle laid : Rig) (notes after : Notes) (bay : ℕ) (format : For
     not_both (Ok is) failed ok = false≢true failed
     not_both (Err code) failed ok = false≢true ok
 
-    read_so : FormatsIn 1 format bay answer was_in is_in old.counters new.counters
+    read_so : FormatsIn 1 format bay was_in is_in old.counters answer new.counters
     read_so =
         let made = may laying done formats in
         let placed : IsFaultless bay old.counters new.counters → under ≡ format.c = λ quiet. there laying done formats (faultless_laid quiet) in
@@ -338,7 +338,7 @@ module _ (old middle laid : Rig) (notes after : Notes) (bay : ℕ) (format : For
           };
         }
 
-    pub read_attempt : FormatsIn 1 format bay answer was_in (in_bay new.media bay) old.counters new.counters
+    pub read_attempt : FormatsIn 1 format bay was_in (in_bay new.media bay) old.counters answer new.counters
     read_attempt =
-        let In : Option Disk → Type 0 = λ m. FormatsIn 1 format bay answer was_in m old.counters new.counters in
+        let In : Option Disk → Type 0 = λ m. FormatsIn 1 format bay was_in m old.counters answer new.counters in
         subst In (sym (in_same_bay laid.media new.media bay reads.media)) read_so

@@ -25,7 +25,7 @@ same_protected : (old new : Rig) (bay : ℕ) → new.media ≡ old.media → is_
 same_protected old new bay media = ap (λ (t : Two (Option Disk)). is_protected (in_bay t bay)) media
 
 -- where the heads of its drive moved
-pub can_write_prepared : (driver after : Driver) (old new : Rig) (bay target : ℕ) (way : Prepare) (ready : Bool) → CanWrite driver old bay → after ≡ with_notes driver bay (notes_of after bay) → IsPrepared old (notes_of driver bay) bay target way ready new (notes_of after bay) → IsSound new → IsAttached after new → CanWrite after new bay
+pub can_write_prepared : (driver after : Driver) (old new : Rig) (bay target : ℕ) (way : Prepare) (ready : Bool) → CanWrite driver old bay → after ≡ with_notes driver bay (notes_of after bay) → IsPrepared bay target way old (notes_of driver bay) ready new (notes_of after bay) → IsSound new → IsAttached after new → CanWrite after new bay
 can_write_prepared driver after old new bay target way ready can is prepared sound attached = record {
   ready = prepared_ready driver after old new bay target way ready can.ready is prepared attached sound;
   unprotected = same_protected old new bay prepared.moves.media ∙ can.unprotected;
@@ -49,16 +49,16 @@ module _ (driver : Driver) (old new : Rig) (bay : ℕ) (can : CanWrite driver ol
 
   -- after a format command
   module _ (format : Format) (answer : Result (Unit {0}) Code) where
-    still_in : (laying : Option Laying) → MatchOption laying (new.media ≡ old.media) (λ one. LaysMedium old bay format one new) → in_bay new.media bay ≡ None → in_bay old.media bay ≡ None
+    still_in : (laying : Option Laying) → MatchOption laying (new.media ≡ old.media) (λ one. LaysMedium bay format one old new) → in_bay new.media bay ≡ None → in_bay old.media bay ≡ None
     still_in None same none = ap (λ (t : Two (Option Disk)). in_bay t bay) (sym same) ∙ none
     still_in (Some one) lays none = absurd (cc (lays.is, none))
 
-    same_protection : (laying : Option Laying) → MatchOption laying (new.media ≡ old.media) (λ one. LaysMedium old bay format one new) → is_protected (in_bay new.media bay) ≡ is_protected (in_bay old.media bay)
+    same_protection : (laying : Option Laying) → MatchOption laying (new.media ≡ old.media) (λ one. LaysMedium bay format one old new) → is_protected (in_bay new.media bay) ≡ is_protected (in_bay old.media bay)
     same_protection None same = same_protected old new bay same
     same_protection (Some one) lays =
         ap (λ (m : Option Disk). is_protected m) lays.is ∙ lays.makes.laid.protected ∙ sym (ap (λ (m : Option Disk). is_protected m) lays.was)
 
-    pub can_write_formatted : (laying : Option Laying) → FormatsTrack old bay format laying answer new → CanWrite driver new bay
+    pub can_write_formatted : (laying : Option Laying) → FormatsTrack bay format laying old answer new → CanWrite driver new bay
     can_write_formatted laying formats = record {
       ready =
           stays_ready formats.sends.heads
@@ -67,7 +67,7 @@ module _ (driver : Driver) (old new : Rig) (bay : ℕ) (can : CanWrite driver ol
     }
 
   -- after records were read back
-  pub can_write_read : (count : ℕ) (blank there : Type 0) (answer : Result (Unit {0}) Code) → ReadsRecords old bay count blank there answer new → CanWrite driver new bay
+  pub can_write_read : (count : ℕ) (blank there : Type 0) (answer : Result (Unit {0}) Code) → ReadsRecords bay count blank there old answer new → CanWrite driver new bay
   can_write_read count blank there answer reads = record {
     ready =
         stays_ready reads.heads

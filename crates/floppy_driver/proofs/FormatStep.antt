@@ -31,30 +31,30 @@ module _ (old : StationState) (bay c h gap3 fill : ℕ) (answer : Result (Unit {
   format = record { c = c; h = h; rate = (bay_of old bay).rate; gap3 = gap3; fill = fill }
 
   abbrev Ends : Option Code → Type 0
-  Ends refusal = MatchOption refusal (FormatsDrive format bay answer old new) (λ code. IsRefusedAtOnce old code answer new)
+  Ends refusal = MatchOption refusal (FormatsDrive format bay old answer new) (λ code. IsRefusedAtOnce code old answer new)
 
-  by_tests : (request acknowledged protected : Bool) → is_format_request old bay c h gap3 ≡ request → is_acknowledged old bay ≡ acknowledged → is_protected old bay ≡ protected → Ends (if not request then Some BadRequest else (if not acknowledged then Some Changed else (if protected then Some Protected else None))) → FormatsTo old bay c h gap3 fill answer new
+  by_tests : (request acknowledged protected : Bool) → is_format_request old bay c h gap3 ≡ request → is_acknowledged old bay ≡ acknowledged → is_protected old bay ≡ protected → Ends (if not request then Some BadRequest else (if not acknowledged then Some Changed else (if protected then Some Protected else None))) → FormatsTo bay c h gap3 fill old answer new
   by_tests request acknowledged protected first second third step =
       subst (λ (b : Bool). Ends (if not b then Some BadRequest else (if not (is_acknowledged old bay) then Some Changed else (if is_protected old bay then Some Protected else None)))) (sym first)
       (subst (λ (b : Bool). Ends (if not request then Some BadRequest else (if not b then Some Changed else (if is_protected old bay then Some Protected else None)))) (sym second)
       (subst (λ (b : Bool). Ends (if not request then Some BadRequest else (if not acknowledged then Some Changed else (if b then Some Protected else None)))) (sym third) step))
 
-  step_unasked : is_format_request old bay c h gap3 ≡ false → IsRefusedAtOnce old BadRequest answer new → FormatsTo old bay c h gap3 fill answer new
+  step_unasked : is_format_request old bay c h gap3 ≡ false → IsRefusedAtOnce BadRequest old answer new → FormatsTo bay c h gap3 fill old answer new
   step_unasked request step = by_tests false (is_acknowledged old bay) (is_protected old bay) request refl refl step
 
-  step_unheld : is_format_request old bay c h gap3 ≡ true → is_acknowledged old bay ≡ false → IsRefusedAtOnce old Changed answer new → FormatsTo old bay c h gap3 fill answer new
+  step_unheld : is_format_request old bay c h gap3 ≡ true → is_acknowledged old bay ≡ false → IsRefusedAtOnce Changed old answer new → FormatsTo bay c h gap3 fill old answer new
   step_unheld request held step = by_tests true false (is_protected old bay) request held refl step
 
-  step_protected : is_format_request old bay c h gap3 ≡ true → is_acknowledged old bay ≡ true → is_protected old bay ≡ true → IsRefusedAtOnce old Protected answer new → FormatsTo old bay c h gap3 fill answer new
+  step_protected : is_format_request old bay c h gap3 ≡ true → is_acknowledged old bay ≡ true → is_protected old bay ≡ true → IsRefusedAtOnce Protected old answer new → FormatsTo bay c h gap3 fill old answer new
   step_protected request held protected step = by_tests true true true request held protected step
 
-  step_driven : is_format_request old bay c h gap3 ≡ true → is_acknowledged old bay ≡ true → is_protected old bay ≡ false → FormatsDrive format bay answer old new → FormatsTo old bay c h gap3 fill answer new
+  step_driven : is_format_request old bay c h gap3 ≡ true → is_acknowledged old bay ≡ true → is_protected old bay ≡ false → FormatsDrive format bay old answer new → FormatsTo bay c h gap3 fill old answer new
   step_driven request held protected step = by_tests true true false request held protected step
 
 -- ---- from attempts to the step
 
 -- a call that only asked comes before, and spare drives may wait
-module _ (n : ℕ) (format : Format) (bay : ℕ) (answer : Result (Unit {0}) Code) (before after : Option Disk) (old mid new : Counters) (waiting : List DriveCounts) (one : GoesOn old mid) (two : GoesOn mid new) (idle : IsDriven 0 old mid) (formats : FormatsIn n format bay answer before after mid new) where
+module _ (n : ℕ) (format : Format) (bay : ℕ) (answer : Result (Unit {0}) Code) (before after : Option Disk) (old mid new : Counters) (waiting : List DriveCounts) (one : GoesOn old mid) (two : GoesOn mid new) (idle : IsDriven 0 old mid) (formats : FormatsIn n format bay before after mid answer new) where
   abbrev from : Counters
   from = with_waiting old waiting
 
@@ -74,7 +74,7 @@ module _ (n : ℕ) (format : Format) (bay : ℕ) (answer : Result (Unit {0}) Cod
       let less = quiet.0 in
       (omega arith, quiet.1)
 
-  same_reason : (a : Result (Unit {0}) Code) → IfErr a (λ c. IsAttemptRefusal bay c mid new) → IfErr a (λ c. IsAttemptRefusal bay c from to)
+  same_reason : (a : Result (Unit {0}) Code) → IfErr a (λ c. IsAttemptRefusal bay mid c new) → IfErr a (λ c. IsAttemptRefusal bay from c to)
   same_reason (Ok is) refused = tt
   same_reason (Err c) refused =
       let s = one.stalls in
@@ -86,7 +86,7 @@ module _ (n : ℕ) (format : Format) (bay : ℕ) (answer : Result (Unit {0}) Cod
         lost = λ e. let rose = refused.lost e in omega arith;
       }
 
-  formats_shown : FormatsIn n format bay answer before after from to
+  formats_shown : FormatsIn n format bay before after from answer to
   formats_shown =
       let all = driven_after 0 (n * (1 + sectors_at format.rate)) old mid new one two idle formats.driven in
       record {
@@ -112,7 +112,7 @@ module _ (n : ℕ) (format : Format) (bay : ℕ) (answer : Result (Unit {0}) Cod
             };
       }
 
-drive_cause : (format : Format) (bay : ℕ) (answer : Result (Unit {0}) Code) (old new : StationState) (medium : Option Disk) → (IsErr answer → IsFormattable format medium → DisturbedLess old.tries bay old.counters new.counters → ⊥) → 1 ≤ old.tries → IfErr answer (λ code. IsAttemptRefusal bay code old.counters new.counters) → IfErr answer (λ code. IsFormatCause format medium bay code old new)
+drive_cause : (format : Format) (bay : ℕ) (answer : Result (Unit {0}) Code) (old new : StationState) (medium : Option Disk) → (IsErr answer → IsFormattable format medium → DisturbedLess old.tries bay old.counters new.counters → ⊥) → 1 ≤ old.tries → IfErr answer (λ code. IsAttemptRefusal bay old.counters code new.counters) → IfErr answer (λ code. IsFormatCause format medium bay old code new)
 drive_cause format bay (Ok is) old new medium never some refused = tt
 drive_cause format bay (Err code) old new medium never some refused = record {
   device = refused.device;
@@ -123,9 +123,9 @@ drive_cause format bay (Err code) old new medium never some refused = record {
 }
 
 -- as many attempts as the station has
-formats_drive : (format : Format) (bay : ℕ) (answer : Result (Unit {0}) Code) (old new : StationState) (before after : Option Disk) → 1 ≤ old.tries → (bay_of old bay).medium ≡ before → (bay_of new bay).medium ≡ after → HasOnlyMedium old bay after new → FormatsIn old.tries format bay answer before after old.counters new.counters → FormatsDrive format bay answer old new
+formats_drive : (format : Format) (bay : ℕ) (answer : Result (Unit {0}) Code) (old new : StationState) (before after : Option Disk) → 1 ≤ old.tries → (bay_of old bay).medium ≡ before → (bay_of new bay).medium ≡ after → HasOnlyMedium bay after old new → FormatsIn old.tries format bay before after old.counters answer new.counters → FormatsDrive format bay old answer new
 formats_drive format bay answer old new before after some was is becomes attempts =
-    let In : Option Disk → Option Disk → Type 0 = λ m n. FormatsIn old.tries format bay answer m n old.counters new.counters in
+    let In : Option Disk → Option Disk → Type 0 = λ m n. FormatsIn old.tries format bay m n old.counters answer new.counters in
     let formats : In (bay_of old bay).medium (bay_of new bay).medium = subst (λ (m : Option Disk). In m (bay_of new bay).medium) (sym was) (subst (In before) (sym is) attempts) in
     let ends = formats.ends some in
     record {
@@ -133,7 +133,7 @@ formats_drive format bay answer old new before after some was is becomes attempt
       few = formats.few;
       lays = formats.lays;
       only = formats.only;
-      becomes = subst (λ (m : Option Disk). HasOnlyMedium old bay m new) (sym is) becomes;
+      becomes = subst (λ (m : Option Disk). HasOnlyMedium bay m old new) (sym is) becomes;
       exactly = ends.exactly;
       begun = ends.begun;
       untouched = formats.untouched;
@@ -193,12 +193,12 @@ module _ (driver middle : Driver) (old : Rig) (bay c h gap3 : ℕ) (held : Bool)
     has_asked : HasAsked start now
     has_asked = asks_shown driver middle old new spares waiting same asks
 
-    pub gap_refused : most_format_gap rate < gap3 → FormatsTo start bay c h gap3 fill (Err BadRequest) now
+    pub gap_refused : most_format_gap rate < gap3 → FormatsTo bay c h gap3 fill start (Err BadRequest) now
     gap_refused long =
         step_unasked start bay c h gap3 fill (Err BadRequest) now (request_is false asked (lt-leb gap3 (most_format_gap rate) long))
         (refused_asking {A = Unit {0}} start BadRequest now has_asked)
 
-    pub change_refused : gap3 ≤ most_format_gap rate → held ≡ false → FormatsTo start bay c h gap3 fill (Err Changed) now
+    pub change_refused : gap3 ≤ most_format_gap rate → held ≡ false → FormatsTo bay c h gap3 fill start (Err Changed) now
     change_refused fits unheld =
         step_unheld start bay c h gap3 fill (Err Changed) now (request_is true asked (le-leb gap3 (most_format_gap rate) fits)) (acknowledged_is ∙ unheld)
         (refused_asking {A = Unit {0}} start Changed now has_asked)
@@ -211,23 +211,23 @@ module _ (driver middle : Driver) (old : Rig) (bay c h gap3 : ℕ) (held : Bool)
 
     -- and whether its medium is protected
     module _ (fits : gap3 ≤ most_format_gap rate) (holds : held ≡ true) (last : Rig) (too : OnlyAsks new last) where
-      pub protection_refused : true ≡ protects (in_bay new.media bay) → FormatsTo start bay c h gap3 fill (Err Protected) (shown middle last spares waiting)
+      pub protection_refused : true ≡ protects (in_bay new.media bay) → FormatsTo bay c h gap3 fill start (Err Protected) (shown middle last spares waiting)
       protection_refused line =
           let after = shown middle last spares waiting in
           step_protected start bay c h gap3 fill (Err Protected) after (request_is true asked (le-leb gap3 (most_format_gap rate) fits)) (acknowledged_is ∙ holds) (protects_is true line)
           (refused_asking {A = Unit {0}} start Protected after (asks_shown driver middle old last spares waiting same (asks_after old new last asks too)))
 
       -- a format in attempts is the step
-      pub format_step : false ≡ protects (in_bay new.media bay) → (after : Driver) (answer : Result (Unit {0}) Code) (end : Rig) → 1 ≤ driver.tries → middle.tries ≡ driver.tries → GoesOn last.counters end.counters → FormatsIn middle.tries (record { c = c; h = h; rate = rate; gap3 = gap3; fill = fill }) bay answer (in_bay last.media bay) (in_bay end.media bay) last.counters end.counters → HasOnlyMedium (shown middle last spares waiting) bay (in_bay end.media bay) (shown after end spares waiting) → FormatsTo start bay c h gap3 fill answer (shown after end spares waiting)
+      pub format_step : false ≡ protects (in_bay new.media bay) → (after : Driver) (answer : Result (Unit {0}) Code) (end : Rig) → 1 ≤ driver.tries → middle.tries ≡ driver.tries → GoesOn last.counters end.counters → FormatsIn middle.tries (record { c = c; h = h; rate = rate; gap3 = gap3; fill = fill }) bay (in_bay last.media bay) (in_bay end.media bay) last.counters answer end.counters → HasOnlyMedium bay (in_bay end.media bay) (shown middle last spares waiting) (shown after end spares waiting) → FormatsTo bay c h gap3 fill start answer (shown after end spares waiting)
       format_step line after answer end some tries goes formats medium =
           let whole = asks_after old new last asks too in
           let stop = shown after end spares waiting in
           let asked_of : HasAsked start (shown middle last spares waiting) = asks_shown driver middle old last spares waiting same whole in
           let of_rate : Rate → Format = λ r. record { c = c; h = h; rate = r; gap3 = gap3; fill = fill } in
           let media : in_bay last.media bay ≡ in_bay old.media bay = ap (λ (t : Two (Option Disk)). in_bay t bay) whole.media in
-          let In : ℕ → Rate → Type 0 = λ n r. FormatsIn n (of_rate r) bay answer (in_bay last.media bay) (in_bay end.media bay) last.counters end.counters in
+          let In : ℕ → Rate → Type 0 = λ n r. FormatsIn n (of_rate r) bay (in_bay last.media bay) (in_bay end.media bay) last.counters answer end.counters in
           let attempts : In driver.tries (bay_of start bay).rate = subst (λ (n : ℕ). In n (bay_of start bay).rate) tries (subst (In middle.tries) (sym rate_shown) formats) in
-          let only : HasOnlyMedium start bay (in_bay end.media bay) stop =
+          let only : HasOnlyMedium bay (in_bay end.media bay) start stop =
           medium ∙ ap (λ (s : StationState). record (set_bay s bay (record (bay_of s bay) { medium = in_bay end.media bay })) { counters = stop.counters }) asked_of.stays in
           step_driven start bay c h gap3 fill answer stop (request_is true asked (le-leb gap3 (most_format_gap rate) fits)) (acknowledged_is ∙ holds) (protects_is false line)
           (formats_drive (of_rate (bay_of start bay).rate) bay answer start stop (in_bay last.media bay) (in_bay end.media bay) some

@@ -122,7 +122,7 @@ fewer_commands R500 few most le = omega arith
 fewer_commands R250 few most le = omega arith
 
 -- no attempt was made yet
-pub formats_none : (format : Format) (bay : ℕ) (code : Code) (medium : Option Disk) (old : Counters) → FormatsIn 0 format bay (Err code) medium medium old old
+pub formats_none : (format : Format) (bay : ℕ) (code : Code) (medium : Option Disk) (old : Counters) → FormatsIn 0 format bay medium medium old (Err code) old
 formats_none format bay code medium old = record {
   layings = [];
   few = omega arith;
@@ -134,14 +134,14 @@ formats_none format bay code medium old = record {
   ends = λ some. absurd (omega arith);
 }
 
-module _ (n : ℕ) (format : Format) (bay : ℕ) (code : Code) (answer : Result (Unit {0}) Code) (before middle after : Option Disk) (old mid new : Counters) (one : GoesOn old mid) (two : GoesOn mid new) (first : FormatsIn n format bay (Err code) before middle old mid) (second : FormatsIn 1 format bay answer middle after mid new) where
+module _ (n : ℕ) (format : Format) (bay : ℕ) (code : Code) (answer : Result (Unit {0}) Code) (before middle after : Option Disk) (old mid new : Counters) (one : GoesOn old mid) (two : GoesOn mid new) (first : FormatsIn n format bay before middle old (Err code) mid) (second : FormatsIn 1 format bay middle after mid answer new) where
   later : IsUndisturbed bay old new → IsUndisturbed bay mid new
   later = undisturbed_part bay old mid new new one two (goes_on_itself new)
 
   sooner : IsUndisturbed bay old new → IsUndisturbed bay old mid
   sooner = undisturbed_part bay old old mid new (goes_on_itself old) one two
 
-  last : EndsFormat format bay answer middle after mid new
+  last : EndsFormat format bay middle after mid answer new
   last = second.ends (omega arith)
 
   to_middle : IsFormattable format before → IsFormattable format middle
@@ -153,7 +153,7 @@ module _ (n : ℕ) (format : Format) (bay : ℕ) (code : Code) (answer : Result 
   by_now : IsFormatted format middle after → IsFormatted format before after
   by_now = formatted_later format before middle first.layings first.lays after
 
-  reason : (a : Result (Unit {0}) Code) → IfErr a (λ c. IsAttemptRefusal bay c mid new) → IfErr a (λ c. IsAttemptRefusal bay c old new)
+  reason : (a : Result (Unit {0}) Code) → IfErr a (λ c. IsAttemptRefusal bay mid c new) → IfErr a (λ c. IsAttemptRefusal bay old c new)
   reason (Ok is) refused = tt
   reason (Err c) refused =
       let s = one.stalls in
@@ -165,7 +165,7 @@ module _ (n : ℕ) (format : Format) (bay : ℕ) (code : Code) (answer : Result 
         lost = λ e. let rose = refused.lost e in omega arith;
       }
 
-  pub formats_more : FormatsIn (n + 1) format bay answer before after old new
+  pub formats_more : FormatsIn (n + 1) format bay before after old answer new
   formats_more = record {
     layings = first.layings ++ second.layings;
     few = let a = first.few in let b = second.few in omega (arith, length-append first.layings second.layings);
@@ -194,7 +194,7 @@ module _ (n : ℕ) (format : Format) (bay : ℕ) (code : Code) (answer : Result 
   }
 
 -- attempts that were left over change nothing
-pub formats_done : (count most : ℕ) (format : Format) (bay : ℕ) (before after : Option Disk) (old new : Counters) → 1 ≤ count → count ≤ most → FormatsIn count format bay (Ok tt) before after old new → FormatsIn most format bay (Ok tt) before after old new
+pub formats_done : (count most : ℕ) (format : Format) (bay : ℕ) (before after : Option Disk) (old new : Counters) → 1 ≤ count → count ≤ most → FormatsIn count format bay before after old (Ok tt) new → FormatsIn most format bay before after old (Ok tt) new
 formats_done count most format bay before after old new some within formats = record {
   layings = formats.layings;
   few = let few = formats.few in omega arith;
@@ -222,14 +222,14 @@ put_twice true bays first second = refl
 put_twice false bays first second = refl
 
 -- nothing but the medium of a bay and counters: twice
-pub medium_twice : (old middle new : StationState) (bay : ℕ) (first second : Option Disk) → HasOnlyMedium old bay first middle → HasOnlyMedium middle bay second new → HasOnlyMedium old bay second new
+pub medium_twice : (old middle new : StationState) (bay : ℕ) (first second : Option Disk) → HasOnlyMedium bay first old middle → HasOnlyMedium bay second middle new → HasOnlyMedium bay second old new
 medium_twice old middle new bay first second one two =
     two
     ∙ ap (λ (s : StationState). record s { bays = put_in (bay == 0) s.bays second; counters = new.counters }) one
     ∙ ap (λ (b : Two Bay). record old { bays = b; counters = new.counters }) (put_twice (bay == 0) old.bays first second)
 
 -- not at all
-pub medium_itself : (old : StationState) (bay : ℕ) (medium : Option Disk) → (bay_of old bay).medium ≡ medium → HasOnlyMedium old bay medium old
+pub medium_itself : (old : StationState) (bay : ℕ) (medium : Option Disk) → (bay_of old bay).medium ≡ medium → HasOnlyMedium bay medium old old
 medium_itself old bay medium is = ap (λ (b : Two Bay). record old { bays = b }) (by_bay (bay == 0) is)
   where
     by_bay : (is_first : Bool) → (if is_first then old.bays.first else old.bays.second).medium ≡ medium → old.bays ≡ put_in is_first old.bays medium

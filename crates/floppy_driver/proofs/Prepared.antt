@@ -22,7 +22,7 @@ record IsKnown (known : Option ℕ) (pcn cylinder kept faults : ℕ) : Type 0 wh
   range : (c : ℕ) → known ≡ Some c → c ≤ 79
   stands : (c : ℕ) → known ≡ Some c → faults ≡ kept → faults < last_count → cylinder ≡ c
 
-module _ (driver after : Driver) (old new : Rig) (bay : ℕ) (in_range : bay ≤ 1) (held : is_held (notes_of driver bay) (in_bay old.changes bay) ≡ true) (moves : MovesHeads old bay new) (attached : IsAttached driver old) where
+module _ (driver after : Driver) (old new : Rig) (bay : ℕ) (in_range : bay ≤ 1) (held : is_held (notes_of driver bay) (in_bay old.changes bay) ≡ true) (moves : MovesHeads bay old new) (attached : IsAttached driver old) where
   noted : IsNotedAt driver old bay
   noted = noted_at driver old bay attached
 
@@ -67,7 +67,7 @@ module _ (driver after : Driver) (old new : Rig) (bay : ℕ) (in_range : bay ≤
       at None is some counted below = absurd (cc some)
 
   -- the heads of a bay stand at the target where no fault came since it was acknowledged
-  pub prepared_stands : (target : ℕ) (way : Prepare) (shown : Notes) → (way ≡ prepare.Seek → IsSome (notes_of driver bay).known) → IsPrepared old (notes_of driver bay) bay target way true new shown → faults_of new.counters bay ≡ (notes_of driver bay).kept → faults_of new.counters bay < last_count → in_bay new.cylinders bay ≡ target
+  pub prepared_stands : (target : ℕ) (way : Prepare) (shown : Notes) → (way ≡ prepare.Seek → IsSome (notes_of driver bay).known) → IsPrepared bay target way old (notes_of driver bay) true new shown → faults_of new.counters bay ≡ (notes_of driver bay).kept → faults_of new.counters bay < last_count → in_bay new.cylinders bay ≡ target
   prepared_stands target way shown known prepared = by_way way refl
     where
       by_way : (w : Prepare) → way ≡ w → faults_of new.counters bay ≡ (notes_of driver bay).kept → faults_of new.counters bay < last_count → in_bay new.cylinders bay ≡ target
@@ -80,6 +80,6 @@ module _ (driver after : Driver) (old new : Rig) (bay : ℕ) (in_range : bay ≤
           let f = faults_go_on old.counters new.counters bay moves.counts in
           prepared.surely refl is_way (omega arith, below)
 
-  pub attached_ready : (target : ℕ) (way : Prepare) (shown : Notes) → target ≤ 79 → (way ≡ prepare.Seek → IsSome (notes_of driver bay).known) → after ≡ with_notes driver bay (record (notes_of driver bay) { known = Some target }) → IsPrepared old (notes_of driver bay) bay target way true new shown → IsAttached after new
+  pub attached_ready : (target : ℕ) (way : Prepare) (shown : Notes) → target ≤ 79 → (way ≡ prepare.Seek → IsSome (notes_of driver bay).known) → after ≡ with_notes driver bay (record (notes_of driver bay) { known = Some target }) → IsPrepared bay target way old (notes_of driver bay) true new shown → IsAttached after new
   attached_ready target way shown most known is prepared =
       attached_at target most is (prepared.number refl) (prepared_stands target way shown known prepared)

@@ -54,8 +54,8 @@ has_fault bay old new goes not =
       | inr many ↦ omega arith
     ]
 
-module _ (start : Rig) (bay round : ℕ) (before : Rig) (none : HasFoundNone start bay round before) (first : Result Chrn Code) (middle : Rig) (single : ReadsId before bay 0 R500 first middle) where
-  module _ (second : Result Chrn Code) (after : Rig) (double : ReadsId middle bay 0 R250 second after) where
+module _ (start : Rig) (bay round : ℕ) (before : Rig) (none : HasFoundNone bay round start before) (first : Result Chrn Code) (middle : Rig) (single : ReadsId bay 0 R500 before first middle) where
+  module _ (second : Result Chrn Code) (after : Rig) (double : ReadsId bay 0 R250 middle second after) where
     both_read : (most : ℕ) → 2 * round + 2 ≤ most → OnlyReads most start after
     both_read most few =
         let one = reads_more (2 * round) (2 * round + 1) start before middle (omega arith) none.reads single.sends single.memory in
@@ -66,7 +66,7 @@ module _ (start : Rig) (bay round : ℕ) (before : Rig) (none : HasFoundNone sta
         track_stays start middle bay R250 0 (single.sends.media ∙ none.reads.media) (single.sends.heads.cylinders ∙ none.reads.heads.cylinders)
 
     -- an address field was found at neither rate
-    pub found_neither : is_ok second ≡ false → HasFoundNone start bay (round + 1) after
+    pub found_neither : is_ok second ≡ false → HasFoundNone bay (round + 1) start after
     found_neither is = record {
       reads = both_read (2 * (round + 1)) (omega arith);
       spoilt = λ key clear.
@@ -80,7 +80,7 @@ module _ (start : Rig) (bay round : ℕ) (before : Rig) (none : HasFoundNone sta
     }
 
 -- none was found
-pub found_no_rate : (start : Rig) (bay : ℕ) (now : Rig) → HasFoundNone start bay 3 now → FindsRate start bay R500 now
+pub found_no_rate : (start : Rig) (bay : ℕ) (now : Rig) → HasFoundNone bay 3 start now → FindsRate bay start R500 now
 found_no_rate start bay now none = record {
   reads = none.reads;
   double = λ e. absurd (cc e);

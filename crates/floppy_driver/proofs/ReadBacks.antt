@@ -86,7 +86,7 @@ module _ (old : Rig) (bay : ℕ) (key : Chrn) (rate : Rate) (fill : ℕ) where
   Blank = IsBlankUnder old bay rate key.h
 
   module _ (code : Code) (new : Rig) where
-    pub read_back_missed : ReadsBack old bay key rate (Err code) new → ReadsRecords old bay 1 Blank Holds (Err code) new
+    pub read_back_missed : ReadsBack bay key rate old (Err code) new → ReadsRecords bay 1 Blank Holds old (Err code) new
     read_back_missed reads = record {
       heads = reads.sends.heads;
       media = reads.sends.media;
@@ -103,7 +103,7 @@ module _ (old : Rig) (bay : ℕ) (key : Chrn) (rate : Rate) (fill : ℕ) where
       };
     }
 
-  module _ (deleted : Bool) (new : Rig) (reads : ReadsBack old bay key rate (Ok deleted) new) where
+  module _ (deleted : Bool) (new : Rig) (reads : ReadsBack bay key rate old (Ok deleted) new) where
     page_filled : Holds → IsUndisturbed bay old.counters new.counters → IsFilled new.page (content_size key.n) fill
     page_filled holds quiet =
         let content = reads.found.0 in
@@ -122,7 +122,7 @@ module _ (old : Rig) (bay : ℕ) (key : Chrn) (rate : Rate) (fill : ℕ) where
         let met : track ≡ there = met_track (in_bay old.media bay) rate (in_bay old.cylinders bay) key.h field.disk (record { is_in = field.medium; has = field.track; same_rate = field.same_rate }) in
         blank.addresses field.place key (subst (λ (words : List ℕ). IsAddressAt words field.place key) (sym met) field.address_field)
 
-    pub read_back_found : ReadsRecords old bay 1 Blank Holds (Ok tt) new
+    pub read_back_found : ReadsRecords bay 1 Blank Holds old (Ok tt) new
     read_back_found = record {
       heads = reads.sends.heads;
       media = reads.sends.media;
@@ -134,7 +134,7 @@ module _ (old : Rig) (bay : ℕ) (key : Chrn) (rate : Rate) (fill : ℕ) where
       refused = tt;
     }
 
-    pub read_back_differs : (IsFilled new.page (content_size key.n) fill → ⊥) → ReadsRecords old bay 1 Blank Holds (Err BadCrc) new
+    pub read_back_differs : (IsFilled new.page (content_size key.n) fill → ⊥) → ReadsRecords bay 1 Blank Holds old (Err BadCrc) new
     read_back_differs other = record {
       heads = reads.sends.heads;
       media = reads.sends.media;
@@ -172,7 +172,7 @@ pub blank_next : (old new : Rig) (bay : ℕ) (rate : Rate) (h : ℕ) → HeadsSt
 blank_next old new bay rate h heads media blank = subst HasNothing (sym (same_under old new bay rate h heads media)) blank
 
 -- the record behind those that were read back could not be
-pub reads_failed : (old middle new : Rig) (bay so_far most : ℕ) (blank next_blank there next : Type 0) (code : Code) → so_far + 1 ≤ most → (blank → next_blank) → (there → next) → ReadsRecords old bay so_far blank there (Ok tt) middle → ReadsRecords middle bay 1 next_blank next (Err code) new → ReadsRecords old bay most blank there (Err code) new
+pub reads_failed : (old middle new : Rig) (bay so_far most : ℕ) (blank next_blank there next : Type 0) (code : Code) → so_far + 1 ≤ most → (blank → next_blank) → (there → next) → ReadsRecords bay so_far blank there old (Ok tt) middle → ReadsRecords bay 1 next_blank next middle (Err code) new → ReadsRecords bay most blank there old (Err code) new
 reads_failed old middle new bay so_far most blank next_blank there next code within goes has first second = record {
   heads = heads_stay_after old middle new first.heads second.heads;
   media = second.media ∙ first.media;

@@ -42,7 +42,7 @@ no_seek : (code : Code) → IsReadCode code → code ≡ Seek → ⊥
 no_seek code is e = subst IsReadCode e is
 
 module _ (driver after : Driver) (old mid : Rig) (bay : ℕ) (key : Chrn) (address : ℕ) (way : Prepare) (spares : ℕ) (waiting : List DriveCounts) (can : CanTry driver old bay) (notes : after ≡ with_notes driver bay (notes_of after bay)) where
-  module _ (new : Rig) (tries attempt : ℕ) (answer : Result Bool Code) (rate : Rate) (same_rate : rate ≡ (notes_of driver bay).rate) (known : Bool) (known_is : known ≡ is_some (notes_of driver bay).known) (plan : (way ≡ prepare.Seek) ↔ ((attempt ≡ 1) × IsTrue known × (2 ≤ tries))) (prepared : IsPrepared old (notes_of driver bay) bay key.c way true mid (notes_of after bay)) (reads : ReadsData mid bay key rate address answer new) where
+  module _ (new : Rig) (tries attempt : ℕ) (answer : Result Bool Code) (rate : Rate) (same_rate : rate ≡ (notes_of driver bay).rate) (known : Bool) (known_is : known ≡ is_some (notes_of driver bay).known) (plan : (way ≡ prepare.Seek) ↔ ((attempt ≡ 1) × IsTrue known × (2 ≤ tries))) (prepared : IsPrepared bay key.c way old (notes_of driver bay) true mid (notes_of after bay)) (reads : ReadsData bay key rate address mid answer new) where
     asked : HasAsked (shown driver old spares waiting) (shown after mid spares waiting)
     asked = prepared_shown driver after old mid bay key.c way true can notes prepared spares waiting
 
@@ -52,7 +52,7 @@ module _ (driver after : Driver) (old mid : Rig) (bay : ℕ) (key : Chrn) (addre
     later : GoesOn (with_waiting mid.counters waiting) (with_waiting new.counters waiting)
     later = waiting_goes_on mid.counters new.counters waiting reads.sends.counts
 
-    done_field : (deleted : Bool) (content : List ℕ) → FindsField mid bay key rate deleted content new → new.memory ≡ with_items mid.memory address content → IsReadWhole (shown driver old spares waiting) bay key address deleted (shown after new spares waiting)
+    done_field : (deleted : Bool) (content : List ℕ) → FindsField bay key rate mid deleted content new → new.memory ≡ with_items mid.memory address content → IsReadWhole bay key address (shown driver old spares waiting) deleted (shown after new spares waiting)
     done_field deleted content field memory =
         let f = faults_go_on old.counters mid.counters bay prepared.moves.counts in
         let g = faults_go_on mid.counters new.counters bay reads.sends.counts in
@@ -83,7 +83,7 @@ module _ (driver after : Driver) (old mid : Rig) (bay : ℕ) (key : Chrn) (addre
           size = field.size;
         }
 
-    failed_code : (code : Code) → IsReadMiss (track_under mid bay rate key.h) key bay code mid.counters new.counters → IsReadFailed (IsSure tries attempt) (shown driver old spares waiting) bay key code (shown after new spares waiting)
+    failed_code : (code : Code) → IsReadMiss (track_under mid bay rate key.h) key bay mid.counters code new.counters → IsReadFailed (IsSure tries attempt) bay key (shown driver old spares waiting) code (shown after new spares waiting)
     failed_code code miss =
         let s = prepared.moves.counts.stalls in
         record {
@@ -103,22 +103,22 @@ module _ (driver after : Driver) (old mid : Rig) (bay : ℕ) (key : Chrn) (addre
           lost = λ is. absurd (no_seek code miss.coded is);
         }
 
-    by_ok : (a : Result Bool Code) → IfOk a (λ deleted. (content : List ℕ) × FindsField mid bay key rate deleted content new × (new.memory ≡ with_items mid.memory address content)) → IfOk a (λ deleted. IsReadWhole (shown driver old spares waiting) bay key address deleted (shown after new spares waiting))
+    by_ok : (a : Result Bool Code) → IfOk a (λ deleted. (content : List ℕ) × FindsField bay key rate mid deleted content new × (new.memory ≡ with_items mid.memory address content)) → IfOk a (λ deleted. IsReadWhole bay key address (shown driver old spares waiting) deleted (shown after new spares waiting))
     by_ok (Ok deleted) found = done_field deleted found.0 found.1 found.2
     by_ok (Err code) found = tt
 
-    by_err : (a : Result Bool Code) → IfErr a (λ code. IsReadMiss (track_under mid bay rate key.h) key bay code mid.counters new.counters) → IfErr a (λ code. IsReadFailed (IsSure tries attempt) (shown driver old spares waiting) bay key code (shown after new spares waiting))
+    by_err : (a : Result Bool Code) → IfErr a (λ code. IsReadMiss (track_under mid bay rate key.h) key bay mid.counters code new.counters) → IfErr a (λ code. IsReadFailed (IsSure tries attempt) bay key (shown driver old spares waiting) code (shown after new spares waiting))
     by_err (Ok deleted) miss = tt
     by_err (Err code) miss = failed_code code miss
 
     -- the sector was read for, with the heads ready
-    pub tries_read : TriesRead (IsSure tries attempt) (shown driver old spares waiting) bay key address answer (shown after new spares waiting)
+    pub tries_read : TriesRead (IsSure tries attempt) bay key address (shown driver old spares waiting) answer (shown after new spares waiting)
     tries_read =
         let before = shown driver old spares waiting in
         record {
           done = by_ok answer reads.found;
           failed = by_err answer reads.refused;
-          memory = subst (λ (m : List ℕ). SameOutside m address (content_size key.n) new.memory) prepared.moves.memory reads.outside;
+          memory = subst (λ (m : List ℕ). SameOutside address (content_size key.n) m new.memory) prepared.moves.memory reads.outside;
           becomes =
               read_shown after mid new spares waiting reads.sends
               ∙ ap (λ (s : StationState). record s { memory = new.memory; counters = with_waiting new.counters waiting }) asked.stays;

@@ -25,17 +25,17 @@ use Rattle.floppy_driver.proofs.Attempts.{spoilt_none, spoilt_more, all_sure, la
 
 -- ---- memory outside the range
 
-pub same_outside_itself : (memory : List ℕ) (address count : ℕ) → SameOutside memory address count memory
+pub same_outside_itself : (memory : List ℕ) (address count : ℕ) → SameOutside address count memory memory
 same_outside_itself memory address count = record { length = refl; others = λ k is. refl }
 
-outside_after : (a b c : List ℕ) (address count : ℕ) → SameOutside a address count b → SameOutside b address count c → SameOutside a address count c
+outside_after : (a b c : List ℕ) (address count : ℕ) → SameOutside address count a b → SameOutside address count b c → SameOutside address count a c
 outside_after a b c address count one two = record {
   length = two.length ∙ one.length;
   others = λ k is. two.others k is ∙ one.others k is;
 }
 
 -- what the range held before it was written over is nothing
-with_items_outside : (old mid : List ℕ) (address : ℕ) (bytes : List ℕ) (count : ℕ) → SameOutside old address count mid → length bytes ≡ count → with_items mid address bytes ≡ with_items old address bytes
+with_items_outside : (old mid : List ℕ) (address : ℕ) (bytes : List ℕ) (count : ℕ) → SameOutside address count old mid → length bytes ≡ count → with_items mid address bytes ≡ with_items old address bytes
 unfolding with_items
 with_items_outside old mid address bytes count same long =
     let end = address + length bytes in
@@ -79,11 +79,11 @@ module _ (start : StationState) (bay : ℕ) (key : Chrn) (address : ℕ) where
   abbrev the_track : List ℕ
   the_track = met (bay_of start bay) key.c key.h
 
-  pub tried_none : (code : Code) (now : StationState) → HasAsked start now → HasTriedRead start bay key address 0 code now
+  pub tried_none : (code : Code) (now : StationState) → HasAsked start now → HasTriedRead bay key address 0 start code now
   tried_none code now asked =
       let memory : now.memory ≡ start.memory = ap (λ (s : StationState). s.memory) asked.stays in
       record {
-        memory = subst (λ (m : List ℕ). SameOutside start.memory address (content_size key.n) m) (sym memory) (same_outside_itself start.memory address (content_size key.n));
+        memory = subst (λ (m : List ℕ). SameOutside address (content_size key.n) start.memory m) (sym memory) (same_outside_itself start.memory address (content_size key.n));
         becomes = asked.stays ∙ ap (λ (m : List ℕ). record start { memory = m; counters = now.counters }) (sym memory);
         counts = asked.counts;
         driven = asked.idle;
@@ -96,7 +96,7 @@ module _ (start : StationState) (bay : ℕ) (key : Chrn) (address : ℕ) where
     abbrev between : StationState
     between = record start { memory = memory; counters = counters }
 
-    failed_since : (sure : Type 0) (code : Code) (new : StationState) → GoesOn counters new.counters → IsReadFailed sure between bay key code new → IsReadFailed sure start bay key code new
+    failed_since : (sure : Type 0) (code : Code) (new : StationState) → GoesOn counters new.counters → IsReadFailed sure bay key between code new → IsReadFailed sure bay key start code new
     failed_since sure code new more failed =
         let f = faults_go_on start.counters counters bay goes in
         let s = goes.stalls in
@@ -107,7 +107,7 @@ module _ (start : StationState) (bay : ℕ) (key : Chrn) (address : ℕ) where
           lost = λ is. let r = failed.lost is in omega arith;
         }
 
-    read_since : (deleted : Bool) (new : StationState) → SameOutside start.memory address (content_size key.n) memory → GoesOn counters new.counters → IsReadWhole between bay key address deleted new → IsRead start bay key address deleted new
+    read_since : (deleted : Bool) (new : StationState) → SameOutside address (content_size key.n) start.memory memory → GoesOn counters new.counters → IsReadWhole bay key address between deleted new → IsRead bay key address start deleted new
     read_since deleted new same more done =
         let read = done.read in
         let f = faults_go_on start.counters counters bay goes in
@@ -131,7 +131,7 @@ module _ (start : StationState) (bay : ℕ) (key : Chrn) (address : ℕ) where
           commands = let c = read.commands in omega arith;
         }
 
-    tried_after : (count : ℕ) (code failed : Code) (new : StationState) → 1 ≤ start.tries → HasTriedRead start bay key address count code between → TriesRead (IsSure start.tries (count + 1)) between bay key address (Err failed) new → HasTriedRead start bay key address (count + 1) failed new
+    tried_after : (count : ℕ) (code failed : Code) (new : StationState) → 1 ≤ start.tries → HasTriedRead bay key address count start code between → TriesRead (IsSure start.tries (count + 1)) bay key address between (Err failed) new → HasTriedRead bay key address (count + 1) start failed new
     tried_after count code failed new some tried attempt =
         let all = goes_on_after start.counters counters new.counters goes attempt.counts in
         record {
@@ -145,7 +145,7 @@ module _ (start : StationState) (bay : ℕ) (key : Chrn) (address : ℕ) where
           last = λ one. failed_since (IsSure start.tries (count + 1)) failed new attempt.counts attempt.failed;
         }
 
-    done_after : (count : ℕ) (code : Code) (sure : Type 0) (deleted : Bool) (new : StationState) → count + 1 ≤ start.tries → HasTriedRead start bay key address count code between → TriesRead sure between bay key address (Ok deleted) new → ReadsDrive start bay key address (Ok deleted) new
+    done_after : (count : ℕ) (code : Code) (sure : Type 0) (deleted : Bool) (new : StationState) → count + 1 ≤ start.tries → HasTriedRead bay key address count start code between → TriesRead sure bay key address between (Ok deleted) new → ReadsDrive bay key address start (Ok deleted) new
     done_after count code sure deleted new few tried attempt = record {
       found = read_since deleted new tried.memory attempt.counts attempt.done;
       refused = tt;
@@ -153,21 +153,21 @@ module _ (start : StationState) (bay : ℕ) (key : Chrn) (address : ℕ) where
     }
 
   -- one more attempt failed
-  tried_more : (count : ℕ) (code failed : Code) (mid new : StationState) → 1 ≤ start.tries → HasTriedRead start bay key address count code mid → TriesRead (IsSure start.tries (count + 1)) mid bay key address (Err failed) new → HasTriedRead start bay key address (count + 1) failed new
+  tried_more : (count : ℕ) (code failed : Code) (mid new : StationState) → 1 ≤ start.tries → HasTriedRead bay key address count start code mid → TriesRead (IsSure start.tries (count + 1)) bay key address mid (Err failed) new → HasTriedRead bay key address (count + 1) start failed new
   tried_more count code failed mid new some tried attempt =
       tried_after mid.memory mid.counters tried.counts count code failed new some
-      (subst (λ (s : StationState). HasTriedRead start bay key address count code s) tried.becomes tried)
-      (subst (λ (s : StationState). TriesRead (IsSure start.tries (count + 1)) s bay key address (Err failed) new) tried.becomes attempt)
+      (subst (λ (s : StationState). HasTriedRead bay key address count start code s) tried.becomes tried)
+      (subst (λ (s : StationState). TriesRead (IsSure start.tries (count + 1)) bay key address s (Err failed) new) tried.becomes attempt)
 
   -- or was done
-  read_done : (count : ℕ) (code : Code) (sure : Type 0) (deleted : Bool) (mid new : StationState) → count + 1 ≤ start.tries → HasTriedRead start bay key address count code mid → TriesRead sure mid bay key address (Ok deleted) new → ReadsDrive start bay key address (Ok deleted) new
+  read_done : (count : ℕ) (code : Code) (sure : Type 0) (deleted : Bool) (mid new : StationState) → count + 1 ≤ start.tries → HasTriedRead bay key address count start code mid → TriesRead sure bay key address mid (Ok deleted) new → ReadsDrive bay key address start (Ok deleted) new
   read_done count code sure deleted mid new few tried attempt =
       done_after mid.memory mid.counters tried.counts count code sure deleted new few
-      (subst (λ (s : StationState). HasTriedRead start bay key address count code s) tried.becomes tried)
-      (subst (λ (s : StationState). TriesRead sure s bay key address (Ok deleted) new) tried.becomes attempt)
+      (subst (λ (s : StationState). HasTriedRead bay key address count start code s) tried.becomes tried)
+      (subst (λ (s : StationState). TriesRead sure bay key address s (Ok deleted) new) tried.becomes attempt)
 
   -- all attempts failed
-  read_failed : (code : Code) (now : StationState) → 1 ≤ start.tries → HasTriedRead start bay key address start.tries code now → ReadsDrive start bay key address (Err code) now
+  read_failed : (code : Code) (now : StationState) → 1 ≤ start.tries → HasTriedRead bay key address start.tries start code now → ReadsDrive bay key address start (Err code) now
   read_failed code now some tried =
       let failed = tried.last some in
       let reason = failed.reason (last_sure start.tries some) in
@@ -191,24 +191,24 @@ module _ (start : StationState) (bay : ℕ) (key : Chrn) (address : ℕ) where
 
   -- ---- the same, by the number of the attempt
 
-  tried_at : (count attempt tries : ℕ) (code failed : Code) (mid new : StationState) → count + 1 ≡ attempt → 1 ≤ tries → tries ≡ start.tries → HasTriedRead start bay key address count code mid → TriesRead (IsSure tries attempt) mid bay key address (Err failed) new → HasTriedRead start bay key address attempt failed new
+  tried_at : (count attempt tries : ℕ) (code failed : Code) (mid new : StationState) → count + 1 ≡ attempt → 1 ≤ tries → tries ≡ start.tries → HasTriedRead bay key address count start code mid → TriesRead (IsSure tries attempt) bay key address mid (Err failed) new → HasTriedRead bay key address attempt start failed new
   tried_at count attempt tries code failed mid new next some same tried once =
-      let sure = subst (λ (t : ℕ). TriesRead (IsSure t attempt) mid bay key address (Err failed) new) same once in
-      let this = subst (λ (a : ℕ). TriesRead (IsSure start.tries a) mid bay key address (Err failed) new) (sym next) sure in
-      subst (λ (a : ℕ). HasTriedRead start bay key address a failed new) next
+      let sure = subst (λ (t : ℕ). TriesRead (IsSure t attempt) bay key address mid (Err failed) new) same once in
+      let this = subst (λ (a : ℕ). TriesRead (IsSure start.tries a) bay key address mid (Err failed) new) (sym next) sure in
+      subst (λ (a : ℕ). HasTriedRead bay key address a start failed new) next
       (tried_more count code failed mid new (omega arith) tried this)
 
-  pub tried_next : (attempt tries : ℕ) (code failed : Code) (mid new : StationState) → 1 ≤ attempt → 1 ≤ tries → tries ≡ start.tries → HasTriedRead start bay key address (attempt - 1) code mid → TriesRead (IsSure tries attempt) mid bay key address (Err failed) new → HasTriedRead start bay key address (attempt + 1 - 1) failed new
+  pub tried_next : (attempt tries : ℕ) (code failed : Code) (mid new : StationState) → 1 ≤ attempt → 1 ≤ tries → tries ≡ start.tries → HasTriedRead bay key address (attempt - 1) start code mid → TriesRead (IsSure tries attempt) bay key address mid (Err failed) new → HasTriedRead bay key address (attempt + 1 - 1) start failed new
   tried_next attempt tries code failed mid new first some same tried once =
       let back : attempt ≡ attempt + 1 - 1 = omega arith in
-      subst (λ (a : ℕ). HasTriedRead start bay key address a failed new) back
+      subst (λ (a : ℕ). HasTriedRead bay key address a start failed new) back
       (tried_at (attempt - 1) attempt tries code failed mid new (omega arith) some same tried once)
 
-  pub done_at : (attempt tries : ℕ) (code : Code) (sure : Type 0) (deleted : Bool) (mid new : StationState) → 1 ≤ attempt → attempt ≤ tries → tries ≡ start.tries → HasTriedRead start bay key address (attempt - 1) code mid → TriesRead sure mid bay key address (Ok deleted) new → ReadsDrive start bay key address (Ok deleted) new
+  pub done_at : (attempt tries : ℕ) (code : Code) (sure : Type 0) (deleted : Bool) (mid new : StationState) → 1 ≤ attempt → attempt ≤ tries → tries ≡ start.tries → HasTriedRead bay key address (attempt - 1) start code mid → TriesRead sure bay key address mid (Ok deleted) new → ReadsDrive bay key address start (Ok deleted) new
   done_at attempt tries code sure deleted mid new first last same tried once =
       read_done (attempt - 1) code sure deleted mid new (omega arith) tried once
 
-  pub failed_all : (attempt tries : ℕ) (code : Code) (now : StationState) → attempt ≡ tries + 1 → 1 ≤ tries → tries ≡ start.tries → HasTriedRead start bay key address (attempt - 1) code now → ReadsDrive start bay key address (Err code) now
+  pub failed_all : (attempt tries : ℕ) (code : Code) (now : StationState) → attempt ≡ tries + 1 → 1 ≤ tries → tries ≡ start.tries → HasTriedRead bay key address (attempt - 1) start code now → ReadsDrive bay key address start (Err code) now
   failed_all attempt tries code now past some same tried =
       let all : attempt - 1 ≡ start.tries = omega arith in
-      read_failed code now (omega arith) (subst (λ (a : ℕ). HasTriedRead start bay key address a code now) all tried)
+      read_failed code now (omega arith) (subst (λ (a : ℕ). HasTriedRead bay key address a start code now) all tried)

@@ -150,7 +150,7 @@ cleared_same bay changes clear = by_bay (bay == 0) clear
     by_bay false e = ap (λ (b : Bool). record changes { second = b }) (sym e)
 
 -- moving the heads of a held bay changes no change line
-pub held_lines_stay : (rig : Rig) (bay : ℕ) (after : Rig) (notes : Notes) → is_held notes (in_bay rig.changes bay) ≡ true → MovesHeads rig bay after → after.changes ≡ rig.changes
+pub held_lines_stay : (rig : Rig) (bay : ℕ) (after : Rig) (notes : Notes) → is_held notes (in_bay rig.changes bay) ≡ true → MovesHeads bay rig after → after.changes ≡ rig.changes
 held_lines_stay rig bay after notes held moves =
     elim moves.changes [
       | inl same ↦ same
@@ -193,7 +193,7 @@ module _ (driver : Driver) (old new : Rig) (spares : ℕ) (waiting : List DriveC
   read_shown sends = memory_shown sends.media sends.heads.changes
 
   -- of a held bay
-  pub moved_shown : (bay : ℕ) → is_held (notes_of driver bay) (in_bay old.changes bay) ≡ true → MovesHeads old bay new → Stays (shown driver old spares waiting) (shown driver new spares waiting)
+  pub moved_shown : (bay : ℕ) → is_held (notes_of driver bay) (in_bay old.changes bay) ≡ true → MovesHeads bay old new → Stays (shown driver old spares waiting) (shown driver new spares waiting)
   moved_shown bay held moves = counters_shown moves.media (held_lines_stay old bay new (notes_of driver bay) held moves) moves.memory
 
   written_at : (bay : ℕ) → bay ≤ 1 → in_bay new.media (1 - bay) ≡ in_bay old.media (1 - bay) → new.changes ≡ old.changes → new.memory ≡ old.memory → Becomes (set_bay (shown driver old spares waiting) bay (record (bay_of (shown driver old spares waiting) bay) { medium = in_bay new.media bay })) (shown driver new spares waiting)
@@ -208,7 +208,7 @@ module _ (driver : Driver) (old new : Rig) (spares : ℕ) (waiting : List DriveC
       ∙ ap (λ m. shown_parts driver (record { first = old.media.first; second = new.media.second }) old.changes m (with_waiting new.counters waiting) spares) memory
   written_at (suc (suc n)) in_range other changes memory = absurd (omega arith)
 
-  pub written_shown : (bay : ℕ) → bay ≤ 1 → SendsWrite old bay new → Becomes (set_bay (shown driver old spares waiting) bay (record (bay_of (shown driver old spares waiting) bay) { medium = in_bay new.media bay })) (shown driver new spares waiting)
+  pub written_shown : (bay : ℕ) → bay ≤ 1 → SendsWrite bay old new → Becomes (set_bay (shown driver old spares waiting) bay (record (bay_of (shown driver old spares waiting) bay) { medium = in_bay new.media bay })) (shown driver new spares waiting)
   written_shown bay in_range sends = written_at bay in_range sends.other_medium sends.heads.changes sends.memory
 
 -- a question to the machine is one to the station, by a driver that shows the same
@@ -290,7 +290,7 @@ module _ (driver : Driver) (old new : Rig) (counts : GoesOn old.counters new.cou
   }
 
   -- the other bay, where heads moved
-  pub noted_other : (bay : ℕ) → bay ≤ 1 → MovesHeads old bay new → IsNotedAt driver old (1 - bay) → IsNotedAt driver new (1 - bay)
+  pub noted_other : (bay : ℕ) → bay ≤ 1 → MovesHeads bay old new → IsNotedAt driver old (1 - bay) → IsNotedAt driver new (1 - bay)
   noted_other bay in_range moves noted =
       let other = 1 - bay in
       noted_later (notes_of driver other) (in_bay old.media other) (in_bay new.media other) (in_bay old.changes other) (in_bay new.changes other)
@@ -317,7 +317,7 @@ attached_read driver old new sends =
     (λ none. ap (λ (t : Two (Option Disk)). t.first) (sym sends.media) ∙ none) (λ none. ap (λ (t : Two (Option Disk)). t.second) (sym sends.media) ∙ none)
 
 -- where the medium of the bay stays in
-pub attached_written : (driver : Driver) (old new : Rig) (bay : ℕ) → bay ≤ 1 → SendsWrite old bay new → (in_bay new.media bay ≡ None → in_bay old.media bay ≡ None) → IsAttached driver old → IsAttached driver new
+pub attached_written : (driver : Driver) (old new : Rig) (bay : ℕ) → bay ≤ 1 → SendsWrite bay old new → (in_bay new.media bay ≡ None → in_bay old.media bay ≡ None) → IsAttached driver old → IsAttached driver new
 attached_written driver old new zero in_range sends stays = attached_stays driver old new sends.counts sends.heads stays (λ none. sym sends.other_medium ∙ none)
 attached_written driver old new (suc zero) in_range sends stays = attached_stays driver old new sends.counts sends.heads (λ none. sym sends.other_medium ∙ none) stays
 attached_written driver old new (suc (suc n)) in_range sends stays = absurd (omega arith)
@@ -347,7 +347,7 @@ attached_with driver after rig bay notes in_range is noted other =
     (subst (λ (n : Notes). NotedBy n (1 - bay)) (sym that) other)
 
 -- where the heads of no other drive moved
-pub attached_noted : (driver after : Driver) (old new : Rig) (bay : ℕ) (notes : Notes) → bay ≤ 1 → after ≡ with_notes driver bay notes → MovesHeads old bay new → IsNoted notes (in_bay new.media bay) (in_bay new.changes bay) (in_bay new.spun bay) (in_bay new.numbers bay) (in_bay new.cylinders bay) (faults_of new.counters bay) → IsAttached driver old → IsAttached after new
+pub attached_noted : (driver after : Driver) (old new : Rig) (bay : ℕ) (notes : Notes) → bay ≤ 1 → after ≡ with_notes driver bay notes → MovesHeads bay old new → IsNoted notes (in_bay new.media bay) (in_bay new.changes bay) (in_bay new.spun bay) (in_bay new.numbers bay) (in_bay new.cylinders bay) (faults_of new.counters bay) → IsAttached driver old → IsAttached after new
 attached_noted driver after old new bay notes in_range is moves noted attached =
     attached_with driver after new bay notes in_range is noted
     (noted_other driver old new moves.counts bay in_range moves (noted_at driver old (1 - bay) attached))

@@ -15,7 +15,7 @@ use Rattle.floppy_driver.specs.Acknowledged.{Works, ClearsChange, HasStayedSet, 
 use Rattle.floppy_driver.proofs.Shows.{IsNotedAt, noted_at, noted_later, spun_at, driven_after}
 use Rattle.floppy_driver.proofs.RateFound.{spun_after}
 
-pub works_asked : (old : Rig) (bay : ℕ) (new : Rig) → OnlyAsks old new → Works old bay new
+pub works_asked : (old : Rig) (bay : ℕ) (new : Rig) → OnlyAsks old new → Works bay old new
 works_asked old bay new asks = record {
   media = asks.media;
   memory = asks.memory;
@@ -27,7 +27,7 @@ works_asked old bay new asks = record {
   counts = asks.counts;
 }
 
-pub works_read : (most : ℕ) (old : Rig) (bay : ℕ) (new : Rig) → OnlyReads most old new → Works old bay new
+pub works_read : (most : ℕ) (old : Rig) (bay : ℕ) (new : Rig) → OnlyReads most old new → Works bay old new
 works_read most old bay new reads = record {
   media = reads.media;
   memory = reads.memory;
@@ -39,7 +39,7 @@ works_read most old bay new reads = record {
   counts = reads.counts;
 }
 
-pub works_after : (a : Rig) (bay : ℕ) (b c : Rig) → Works a bay b → Works b bay c → Works a bay c
+pub works_after : (a : Rig) (bay : ℕ) (b c : Rig) → Works bay a b → Works bay b c → Works bay a c
 works_after a bay b c one two = record {
   media = two.media ∙ one.media;
   memory = two.memory ∙ one.memory;
@@ -53,8 +53,8 @@ works_after a bay b c one two = record {
 
 -- ---- rounds of steps
 
-module _ (start : Rig) (bay count : ℕ) (old : Rig) (stayed : HasStayedSet start bay count old) (reached : Bool) (mid : Rig) (clears : ClearsChange old bay reached mid) (new : Rig) (asks : OnlyAsks mid new) where
-  pub works_round : Works start bay new
+module _ (start : Rig) (bay count : ℕ) (old : Rig) (stayed : HasStayedSet bay count start old) (reached : Bool) (mid : Rig) (clears : ClearsChange bay old reached mid) (new : Rig) (asks : OnlyAsks mid new) where
+  pub works_round : Works bay start new
   works_round =
       works_after start bay old new stayed.works (works_after old bay mid new clears.works (works_asked mid bay new asks))
 
@@ -71,7 +71,7 @@ module _ (start : Rig) (bay count : ℕ) (old : Rig) (stayed : HasStayedSet star
 -- ---- what is shown, and owed, of a drive that was worked with
 
 -- a clear change line shows that a medium is in
-pub clear_is_full : (driver : Driver) (old : Rig) (bay : ℕ) (new : Rig) → IsAttached driver old → Works old bay new → in_bay new.changes bay ≡ false → (disk : Disk) × (in_bay old.media bay ≡ Some disk)
+pub clear_is_full : (driver : Driver) (old : Rig) (bay : ℕ) (new : Rig) → IsAttached driver old → Works bay old new → in_bay new.changes bay ≡ false → (disk : Disk) × (in_bay old.media bay ≡ Some disk)
 clear_is_full driver old bay new attached works clear = by_medium (in_bay old.media bay) refl
   where
     by_medium : (m : Option Disk) → in_bay old.media bay ≡ m → (disk : Disk) × (in_bay old.media bay ≡ Some disk)
@@ -79,7 +79,7 @@ clear_is_full driver old bay new attached works clear = by_medium (in_bay old.me
     by_medium None is =
         absurd (false≢true (sym clear ∙ works.empty is ∙ (noted_at driver old bay attached).empty is))
 
-pub noted_worked : (driver : Driver) (old : Rig) (bay : ℕ) (new : Rig) → IsAttached driver old → Works old bay new → IsNotedAt driver new (1 - bay)
+pub noted_worked : (driver : Driver) (old : Rig) (bay : ℕ) (new : Rig) → IsAttached driver old → Works bay old new → IsNotedAt driver new (1 - bay)
 noted_worked driver old bay new attached works =
     let other = 1 - bay in
     noted_later (notes_of driver other) (in_bay old.media other) (in_bay new.media other) (in_bay old.changes other) (in_bay new.changes other)
@@ -97,7 +97,7 @@ worked_parts first second memory spares driver new waiting = record {
   counters = with_waiting new.counters waiting;
 }
 
-pub worked_shown : (driver after : Driver) (old : Rig) (bay : ℕ) (new : Rig) (notes : Notes) (spares : ℕ) (waiting : List DriveCounts) → bay ≤ 1 → after ≡ with_notes driver bay notes → Works old bay new → shown after new spares waiting ≡ record (set_bay (shown driver old spares waiting) bay (bay_shown notes (in_bay new.media bay) (in_bay new.changes bay))) { counters = with_waiting new.counters waiting }
+pub worked_shown : (driver after : Driver) (old : Rig) (bay : ℕ) (new : Rig) (notes : Notes) (spares : ℕ) (waiting : List DriveCounts) → bay ≤ 1 → after ≡ with_notes driver bay notes → Works bay old new → shown after new spares waiting ≡ record (set_bay (shown driver old spares waiting) bay (bay_shown notes (in_bay new.media bay) (in_bay new.changes bay))) { counters = with_waiting new.counters waiting }
 unfolding worked_parts
 worked_shown driver after old zero new notes spares waiting in_range is works =
     ap (λ (d : Driver). shown d new spares waiting) is

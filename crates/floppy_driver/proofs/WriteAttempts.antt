@@ -46,7 +46,7 @@ read_back_earlier written medium now rate noted cylinder change bay a b c waitin
 }
 
 -- why a write was refused, seen from earlier counts
-cause_earlier : (written : Written) (track : List ℕ) (change : Option Change) (bay : ℕ) (code : Code) (a b c : Counters) → GoesOn a b → GoesOn b c → IsMissCause written track change bay code b c → IsMissCause written track change bay code a c
+cause_earlier : (written : Written) (track : List ℕ) (change : Option Change) (bay : ℕ) (code : Code) (a b c : Counters) → GoesOn a b → GoesOn b c → IsMissCause written track change bay b code c → IsMissCause written track change bay a code c
 cause_earlier written track change bay code a b c one two cause =
     let later = disturbed_later bay a b c one two 1 in
     record {
@@ -59,7 +59,7 @@ cause_earlier written track change bay code a b c one two cause =
     }
 
 -- and whatever spare drives wait
-waiting_cause : (written : Written) (track : List ℕ) (change : Option Change) (bay : ℕ) (code : Code) (a b : Counters) (waiting : List DriveCounts) → IsMissCause written track change bay code a b → IsMissCause written track change bay code (with_waiting a waiting) (with_waiting b waiting)
+waiting_cause : (written : Written) (track : List ℕ) (change : Option Change) (bay : ℕ) (code : Code) (a b : Counters) (waiting : List DriveCounts) → IsMissCause written track change bay a code b → IsMissCause written track change bay (with_waiting a waiting) code (with_waiting b waiting)
 waiting_cause written track change bay code a b waiting cause =
     let same = waiting_undisturbed a b bay waiting in
     record {
@@ -108,12 +108,12 @@ put_after start middle new bay medium stays becomes is =
 -- ---- a bay that can be written
 
 -- the medium stays in
-medium_stays : (old : Rig) (bay : ℕ) (rate : Rate) (written : Written) (change : Option Change) (new : Rig) → MatchOption change (new.media ≡ old.media) (λ one. ChangesMedium old bay rate written one new) → in_bay new.media bay ≡ None → in_bay old.media bay ≡ None
+medium_stays : (old : Rig) (bay : ℕ) (rate : Rate) (written : Written) (change : Option Change) (new : Rig) → MatchOption change (new.media ≡ old.media) (λ one. ChangesMedium bay rate written one old new) → in_bay new.media bay ≡ None → in_bay old.media bay ≡ None
 medium_stays old bay rate written None new same none = ap (λ (t : Two (Option Disk)). in_bay t bay) (sym same) ∙ none
 medium_stays old bay rate written (Some one) new changed none = absurd (cc (changed.is, none))
 
 -- and stays unprotected
-protection_stays : (old : Rig) (bay : ℕ) (rate : Rate) (written : Written) (change : Option Change) (new : Rig) → MatchOption change (new.media ≡ old.media) (λ one. ChangesMedium old bay rate written one new) → option_map_or (λ disk. disk.protected) (in_bay new.media bay) false ≡ option_map_or (λ disk. disk.protected) (in_bay old.media bay) false
+protection_stays : (old : Rig) (bay : ℕ) (rate : Rate) (written : Written) (change : Option Change) (new : Rig) → MatchOption change (new.media ≡ old.media) (λ one. ChangesMedium bay rate written one old new) → option_map_or (λ disk. disk.protected) (in_bay new.media bay) false ≡ option_map_or (λ disk. disk.protected) (in_bay old.media bay) false
 protection_stays old bay rate written None new same = ap (λ (t : Two (Option Disk)). option_map_or (λ disk. disk.protected) (in_bay t bay) false) same
 protection_stays old bay rate written (Some one) new changed =
     let Protection : Option Disk → Bool = λ m. option_map_or (λ disk. disk.protected) m false in
@@ -124,7 +124,7 @@ attached_checked driver old new zero in_range counts heads other stays = attache
 attached_checked driver old new (suc zero) in_range counts heads other stays = attached_stays driver old new counts heads (λ none. sym other ∙ none) stays
 attached_checked driver old new (suc (suc n)) in_range counts heads other stays = absurd (omega arith)
 
-pub can_write_checked : (driver : Driver) (old : Rig) (bay : ℕ) (rate : Rate) (written : Written) (answer : Result (Unit {0}) Code) (new : Rig) → CanWrite driver old bay → WritesChecked old bay rate written answer new → IsSound new → CanWrite driver new bay
+pub can_write_checked : (driver : Driver) (old : Rig) (bay : ℕ) (rate : Rate) (written : Written) (answer : Result (Unit {0}) Code) (new : Rig) → CanWrite driver old bay → WritesChecked bay rate written old answer new → IsSound new → CanWrite driver new bay
 can_write_checked driver old bay rate written answer new can wrote sound = record {
   ready = record {
     in_range = can.ready.in_range;
@@ -137,7 +137,7 @@ can_write_checked driver old bay rate written answer new can wrote sound = recor
 
 -- ---- an attempt, from its prepared heads
 
-module _ (driver after : Driver) (old mid : Rig) (bay target : ℕ) (way : Prepare) (ready : Bool) (can : CanWrite driver old bay) (is : after ≡ with_notes driver bay (notes_of after bay)) (prepared : IsPrepared old (notes_of driver bay) bay target way ready mid (notes_of after bay)) where
+module _ (driver after : Driver) (old mid : Rig) (bay target : ℕ) (way : Prepare) (ready : Bool) (can : CanWrite driver old bay) (is : after ≡ with_notes driver bay (notes_of after bay)) (prepared : IsPrepared bay target way old (notes_of driver bay) ready mid (notes_of after bay)) where
   pub can_write_prepared : IsAttached after mid → IsSound mid → CanWrite after mid bay
   can_write_prepared attached sound = record {
     ready = prepared_ready driver after old mid bay target way ready can.ready is prepared attached sound;
@@ -157,11 +157,11 @@ module _ (driver after : Driver) (old mid : Rig) (bay target : ℕ) (way : Prepa
     asked : HasAsked (shown driver old spares waiting) (shown after mid spares waiting)
     asked = prepared_shown driver after old mid bay target way ready can.ready is prepared spares waiting
 
-    module _ (sure : Type 0) (written : Written) (answer : Result (Unit {0}) Code) (new : Rig) (wrote : WritesChecked mid bay (notes_of driver bay).rate written answer new) where
+    module _ (sure : Type 0) (written : Written) (answer : Result (Unit {0}) Code) (new : Rig) (wrote : WritesChecked bay (notes_of driver bay).rate written mid answer new) where
       medium_new : (bay_of (shown after new spares waiting) bay).medium ≡ in_bay new.media bay
       medium_new = ap (λ (b : Bay). b.medium) (bay_shown_at after new spares waiting bay)
 
-      does_bay : (change : Option Change) → MatchOption change (new.media ≡ mid.media) (λ one. ChangesMedium mid bay (notes_of driver bay).rate written one new) → MatchOption change ((bay_of (shown after new spares waiting) bay).medium ≡ (bay_of (shown driver old spares waiting) bay).medium) (λ one. ChangesBay written bay one (shown driver old spares waiting) (shown after new spares waiting))
+      does_bay : (change : Option Change) → MatchOption change (new.media ≡ mid.media) (λ one. ChangesMedium bay (notes_of driver bay).rate written one mid new) → MatchOption change ((bay_of (shown after new spares waiting) bay).medium ≡ (bay_of (shown driver old spares waiting) bay).medium) (λ one. ChangesBay written bay one (shown driver old spares waiting) (shown after new spares waiting))
       does_bay None same = medium_new ∙ ap (λ (t : Two (Option Disk)). in_bay t bay) same ∙ sym medium_old
       does_bay (Some one) changed = record {
         before = changed.before;
@@ -174,7 +174,7 @@ module _ (driver after : Driver) (old mid : Rig) (bay target : ℕ) (way : Prepa
             changed.whole (disturbed_later bay old.counters mid.counters new.counters prepared.moves.counts wrote.counts 1 (waiting_undisturbed old.counters new.counters bay waiting quiet));
       }
 
-      here_bay : (change : Option Change) → MatchOption change (new.media ≡ mid.media) (λ one. ChangesMedium mid bay (notes_of driver bay).rate written one new) → MatchOption change (Unit {0}) (λ one. one.cylinder ≡ in_bay mid.cylinders bay)
+      here_bay : (change : Option Change) → MatchOption change (new.media ≡ mid.media) (λ one. ChangesMedium bay (notes_of driver bay).rate written one mid new) → MatchOption change (Unit {0}) (λ one. one.cylinder ≡ in_bay mid.cylinders bay)
       here_bay None same = tt
       here_bay (Some one) changed = changed.here
 
@@ -197,18 +197,18 @@ module _ (driver after : Driver) (old mid : Rig) (bay target : ℕ) (way : Prepa
           ∙ ap (λ rate. met_in (in_bay new.media bay) rate (in_bay mid.cylinders bay) written.key.h) rate_after
           ∙ ap (λ (t : Two ℕ). met_in (in_bay new.media bay) (notes_of driver bay).rate (in_bay t bay) written.key.h) (sym wrote.heads.cylinders)
 
-      refused_bay : (code : Code) → IsMissCause written (track_under new bay (notes_of driver bay).rate written.key.h) wrote.change bay code mid.counters new.counters → IsMissCause written (met (bay_of (shown after new spares waiting) bay) (in_bay mid.cylinders bay) written.key.h) wrote.change bay code (with_waiting old.counters waiting) (with_waiting new.counters waiting)
+      refused_bay : (code : Code) → IsMissCause written (track_under new bay (notes_of driver bay).rate written.key.h) wrote.change bay mid.counters code new.counters → IsMissCause written (met (bay_of (shown after new spares waiting) bay) (in_bay mid.cylinders bay) written.key.h) wrote.change bay (with_waiting old.counters waiting) code (with_waiting new.counters waiting)
       refused_bay code cause =
           let track = track_under new bay (notes_of driver bay).rate written.key.h in
           let all = cause_earlier written track wrote.change bay code old.counters mid.counters new.counters prepared.moves.counts wrote.counts cause in
-          subst (λ row. IsMissCause written row wrote.change bay code (with_waiting old.counters waiting) (with_waiting new.counters waiting)) (sym met_now)
+          subst (λ row. IsMissCause written row wrote.change bay (with_waiting old.counters waiting) code (with_waiting new.counters waiting)) (sym met_now)
           (waiting_cause written track wrote.change bay code old.counters new.counters waiting all)
 
-      refused_answer : (result : Result (Unit {0}) Code) → IfErr result (λ code. IsMissCause written (track_under new bay (notes_of driver bay).rate written.key.h) wrote.change bay code mid.counters new.counters) → IfErr result (λ code. IsMissCause written (met (bay_of (shown after new spares waiting) bay) (in_bay mid.cylinders bay) written.key.h) wrote.change bay code (with_waiting old.counters waiting) (with_waiting new.counters waiting))
+      refused_answer : (result : Result (Unit {0}) Code) → IfErr result (λ code. IsMissCause written (track_under new bay (notes_of driver bay).rate written.key.h) wrote.change bay mid.counters code new.counters) → IfErr result (λ code. IsMissCause written (met (bay_of (shown after new spares waiting) bay) (in_bay mid.cylinders bay) written.key.h) wrote.change bay (with_waiting old.counters waiting) code (with_waiting new.counters waiting))
       refused_answer (Ok unit) cause = cause
       refused_answer (Err code) cause = refused_bay code cause
 
-      pub tries_checked : ready ≡ true → (way ≡ prepare.Seek → IsSome (notes_of driver bay).known) → (sure → way ≡ prepare.RecalibrateAndSeek) → written.key.c ≡ target → TriesWrite sure written bay answer (shown driver old spares waiting) (shown after new spares waiting)
+      pub tries_checked : ready ≡ true → (way ≡ prepare.Seek → IsSome (notes_of driver bay).known) → (sure → way ≡ prepare.RecalibrateAndSeek) → written.key.c ≡ target → TriesWrite sure written bay (shown driver old spares waiting) answer (shown after new spares waiting)
       tries_checked is_ready known surely same = record {
         cylinder = in_bay mid.cylinders bay;
         change = wrote.change;
@@ -232,26 +232,26 @@ module _ (driver after : Driver) (old mid : Rig) (bay target : ℕ) (way : Prepa
       }
 
 -- what is written comes from memory as it was before the heads were prepared
-pub checked_from : (mid : Rig) (bay : ℕ) (rate : Rate) (key : Chrn) (deleted : Bool) (address : ℕ) (memory was : List ℕ) (answer : Result (Unit {0}) Code) (new : Rig) → memory ≡ was → WritesChecked mid bay rate (record { key = key; deleted = deleted; content = bytes_from memory address (content_size key.n) }) answer new → WritesChecked mid bay rate (record { key = key; deleted = deleted; content = bytes_from was address (content_size key.n) }) answer new
+pub checked_from : (mid : Rig) (bay : ℕ) (rate : Rate) (key : Chrn) (deleted : Bool) (address : ℕ) (memory was : List ℕ) (answer : Result (Unit {0}) Code) (new : Rig) → memory ≡ was → WritesChecked bay rate (record { key = key; deleted = deleted; content = bytes_from memory address (content_size key.n) }) mid answer new → WritesChecked bay rate (record { key = key; deleted = deleted; content = bytes_from was address (content_size key.n) }) mid answer new
 checked_from mid bay rate key deleted address memory was answer new same wrote =
-    subst (λ m. WritesChecked mid bay rate (record { key = key; deleted = deleted; content = bytes_from m address (content_size key.n) }) answer new) same wrote
+    subst (λ m. WritesChecked bay rate (record { key = key; deleted = deleted; content = bytes_from m address (content_size key.n) }) mid answer new) same wrote
 
 -- one whole attempt
 pub tries_once : (driver after : Driver) (old mid : Rig) (bay : ℕ) (way : Prepare) (ready : Bool) (tries attempt address : ℕ) (key : Chrn) (deleted known : Bool) (notes : Notes) (answer : Result (Unit {0}) Code) (new : Rig)
     → CanWrite driver old bay → after ≡ with_notes driver bay (notes_of after bay)
-    → IsPrepared old (notes_of driver bay) bay key.c way ready mid (notes_of after bay)
+    → IsPrepared bay key.c way old (notes_of driver bay) ready mid (notes_of after bay)
     → notes ≡ notes_of driver bay → known ≡ is_some notes.known
     → (way ≡ prepare.Seek) ↔ ((attempt ≡ 1) × IsTrue known × (2 ≤ tries)) → ready ≡ true
-    → WritesChecked mid bay notes.rate (record { key = key; deleted = deleted; content = bytes_from mid.memory address (content_size key.n) }) answer new
-    → (spares : ℕ) (waiting : List DriveCounts) → TriesWrite (IsSure tries attempt) (record { key = key; deleted = deleted; content = bytes_from old.memory address (content_size key.n) }) bay answer (shown driver old spares waiting) (shown after new spares waiting)
+    → WritesChecked bay notes.rate (record { key = key; deleted = deleted; content = bytes_from mid.memory address (content_size key.n) }) mid answer new
+    → (spares : ℕ) (waiting : List DriveCounts) → TriesWrite (IsSure tries attempt) (record { key = key; deleted = deleted; content = bytes_from old.memory address (content_size key.n) }) bay (shown driver old spares waiting) answer (shown after new spares waiting)
 tries_once driver after old mid bay way ready tries attempt address key deleted known notes answer new can is prepared noted known_is plan is_ready wrote spares waiting =
     let content : List ℕ = bytes_from mid.memory address (content_size key.n) in
-    let at_rate : WritesChecked mid bay (notes_of driver bay).rate (record { key = key; deleted = deleted; content = content }) answer new = subst (λ (n : Notes). WritesChecked mid bay n.rate (record { key = key; deleted = deleted; content = content }) answer new) noted wrote in
+    let at_rate : WritesChecked bay (notes_of driver bay).rate (record { key = key; deleted = deleted; content = content }) mid answer new = subst (λ (n : Notes). WritesChecked bay n.rate (record { key = key; deleted = deleted; content = content }) mid answer new) noted wrote in
     tries_checked driver after old mid bay key.c way ready can is prepared spares waiting (IsSure tries attempt) _ answer new
     (checked_from mid bay (notes_of driver bay).rate key deleted address mid.memory old.memory answer new prepared.moves.memory at_rate)
     is_ready (λ seek. sym (ap (λ (n : Notes). is_some n.known) noted) ∙ sym known_is ∙ (plan.0 seek).1) (sure_way way tries attempt known plan) refl
 
 -- and what is ready after it
-pub can_write_once : (driver after : Driver) (old mid : Rig) (bay target : ℕ) (way : Prepare) (ready : Bool) (rate : Rate) (written : Written) (answer : Result (Unit {0}) Code) (new : Rig) → CanWrite driver old bay → after ≡ with_notes driver bay (notes_of after bay) → IsPrepared old (notes_of driver bay) bay target way ready mid (notes_of after bay) → IsAttached after mid → IsSound mid → WritesChecked mid bay rate written answer new → IsSound new → CanWrite after new bay
+pub can_write_once : (driver after : Driver) (old mid : Rig) (bay target : ℕ) (way : Prepare) (ready : Bool) (rate : Rate) (written : Written) (answer : Result (Unit {0}) Code) (new : Rig) → CanWrite driver old bay → after ≡ with_notes driver bay (notes_of after bay) → IsPrepared bay target way old (notes_of driver bay) ready mid (notes_of after bay) → IsAttached after mid → IsSound mid → WritesChecked bay rate written mid answer new → IsSound new → CanWrite after new bay
 can_write_once driver after old mid bay target way ready rate written answer new can is prepared attached sound wrote later =
     can_write_checked after mid bay rate written answer new (can_write_prepared driver after old mid bay target way ready can is prepared attached sound) wrote later

@@ -44,7 +44,7 @@ module _ (written : Written) (bay : ℕ) (start now : StationState) (asked : Has
       let own : Becomes (set_bay start bay (record (bay_of start bay) { medium = (bay_of start bay).medium })) now = asked.stays ∙ ap (λ (bays : Two Bay). record start { bays = bays; counters = now.counters }) (sym (own_medium (bay == 0) start.bays)) in
       subst (λ (m : Option Disk). Becomes (set_bay start bay (record (bay_of start bay) { medium = m })) now) (ap (λ (b : Bay). b.medium) (sym bay_same)) own
 
-  pub tried_none : (code : Code) → ((kept : ℕ) → (bay_of start bay).acknowledged ≡ Some kept → kept ≤ faults_of now.counters bay) → HasTriedWrite written bay start 0 code now
+  pub tried_none : (code : Code) → ((kept : ℕ) → (bay_of start bay).acknowledged ≡ Some kept → kept ≤ faults_of now.counters bay) → HasTriedWrite written bay 0 start code now
   tried_none code kept = record {
     so_far = record {
       changes = [];
@@ -84,7 +84,7 @@ module _ (written : Written) (bay : ℕ) (start new : StationState) (answer : Re
       → IsOnMap after (entry_of written p)
 
   module _ (disk : Disk) (is : (bay_of start bay).medium ≡ Some disk) (regular : IsRegularDisk disk) (kept : KeptSoFar written bay disk start new) where
-    keeps_regular : ((p : ℕ) → IsAddressAt (met (bay_of start bay) written.key.c written.key.h) p written.key → IsSpared written p (met (bay_of start bay) written.key.c written.key.h) bay start new → (after : Disk) → (bay_of new bay).medium ≡ Some after → IsSameOrChanged written p disk after → IsDoneOnMap p after) → KeepsRegular written bay disk answer start new
+    keeps_regular : ((p : ℕ) → IsAddressAt (met (bay_of start bay) written.key.c written.key.h) p written.key → IsSpared written p (met (bay_of start bay) written.key.c written.key.h) bay start new → (after : Disk) → (bay_of new bay).medium ≡ Some after → IsSameOrChanged written p disk after → IsDoneOnMap p after) → KeepsRegular written bay disk start answer new
     keeps_regular entry = record {
       none = kept.none;
       one = λ p here spared.
@@ -127,7 +127,7 @@ found_on_map written p disk regular here c q place has address found content =
 
 -- ---- all attempts were refused
 
-pub ends_tried : (written : Written) (bay : ℕ) (start now : StationState) (code : Code) → IsWriteStart written bay start → HasTriedWrite written bay start start.tries code now → WritesDrive written bay (Err code) start now
+pub ends_tried : (written : Written) (bay : ℕ) (start now : StationState) (code : Code) → IsWriteStart written bay start → HasTriedWrite written bay start.tries start code now → WritesDrive written bay start (Err code) now
 ends_tried written bay start now code starts tried =
     let cause = tried.last starts.some_tries (last_sure start.tries starts.some_tries) in
     record {
@@ -156,7 +156,7 @@ ends_tried written bay start now code starts tried =
 
 -- ---- an attempt was done
 
-module _ (written : Written) (bay : ℕ) (start mid new : StationState) (count : ℕ) (before : Code) (sure : Type 0) (starts : IsWriteStart written bay start) (tried : HasTriedWrite written bay start count before mid) (attempt : TriesWrite sure written bay (Ok tt) mid new) where
+module _ (written : Written) (bay : ℕ) (start mid new : StationState) (count : ℕ) (before : Code) (sure : Type 0) (starts : IsWriteStart written bay start) (tried : HasTriedWrite written bay count start before mid) (attempt : TriesWrite sure written bay mid (Ok tt) new) where
   back : IsReadBack written (bay_of new bay).medium (bay_of mid bay).rate attempt.cylinder attempt.change bay mid.counters new.counters
   back = attempt.done refl
 
@@ -233,7 +233,7 @@ module _ (written : Written) (bay : ℕ) (start mid new : StationState) (count :
     ]
     done_on_map (inr lone) = lone_on_map lone
 
-  pub ends_done : count + 1 ≤ start.tries → WritesDrive written bay (Ok tt) start new
+  pub ends_done : count + 1 ≤ start.tries → WritesDrive written bay start (Ok tt) new
   ends_done few =
       let so_far = wrote_more written bay start mid new count sure (Ok tt) starts tried.so_far attempt in
       record {

@@ -80,7 +80,7 @@ module _ (driver : Driver) (rig : Rig) (bay : ℕ) (key : Chrn) (address : ℕ) 
       let less = (noted_at driver rig bay can.ready.attached).kept can.ready.held in
       omega arith
 
-  begun : (code : Code) → HasTriedWrite (written_from start key address deleted) bay start 0 code (shown driver rig spares waiting)
+  begun : (code : Code) → HasTriedWrite (written_from start key address deleted) bay 0 start code (shown driver rig spares waiting)
   begun code = tried_none (written_from start key address deleted) bay start (shown driver rig spares waiting) asked code kept_below
 
 -- before the first attempt
@@ -95,30 +95,30 @@ between_none driver rig bay key address deleted code can asked = record {
 
 -- ---- one more
 
-module _ (first : Driver) (from : Rig) (bay : ℕ) (key : Chrn) (address : ℕ) (deleted : Bool) (count attempt : ℕ) (before : Code) (driver : Driver) (rig : Rig) (can : CanWrite first from bay) (asked : IsAsked bay key address) (between : BetweenWrites first from bay key address deleted count before driver rig) (number : attempt ≡ count + 1) (answer : Result (Unit {0}) Code) (after : Driver) (new : Rig) (tries : (spares : ℕ) (waiting : List DriveCounts) → TriesWrite (IsSure driver.tries attempt) (record { key = key; deleted = deleted; content = bytes_from rig.memory address (content_size key.n) }) bay answer (shown driver rig spares waiting) (shown after new spares waiting)) where
+module _ (first : Driver) (from : Rig) (bay : ℕ) (key : Chrn) (address : ℕ) (deleted : Bool) (count attempt : ℕ) (before : Code) (driver : Driver) (rig : Rig) (can : CanWrite first from bay) (asked : IsAsked bay key address) (between : BetweenWrites first from bay key address deleted count before driver rig) (number : attempt ≡ count + 1) (answer : Result (Unit {0}) Code) (after : Driver) (new : Rig) (tries : (spares : ℕ) (waiting : List DriveCounts) → TriesWrite (IsSure driver.tries attempt) (record { key = key; deleted = deleted; content = bytes_from rig.memory address (content_size key.n) }) bay (shown driver rig spares waiting) answer (shown after new spares waiting)) where
   module _ (start : StationState) (spares : ℕ) (waiting : List DriveCounts) (so : HasAsked start (shown first from spares waiting)) where
-    attempt_since : TriesWrite (IsSure start.tries (count + 1)) (written_from start key address deleted) bay answer (shown driver rig spares waiting) (shown after new spares waiting)
+    attempt_since : TriesWrite (IsSure start.tries (count + 1)) (written_from start key address deleted) bay (shown driver rig spares waiting) answer (shown after new spares waiting)
     attempt_since =
         let written : record { key = key; deleted = deleted; content = bytes_from rig.memory address (content_size key.n) } ≡ written_from start key address deleted = ap (λ m. let w : Written = record { key = key; deleted = deleted; content = bytes_from m address (content_size key.n) } in w) between.memory ∙ sym (same_written first from bay key address deleted can asked.within start spares waiting so) in
         let sure : IsSure driver.tries attempt ≡ IsSure start.tries (count + 1) = ap (λ n. IsSure n attempt) (between.tries ∙ same_tries first from bay key address deleted can asked.within start spares waiting so) ∙ ap (λ n. IsSure start.tries n) number in
-        subst (λ s. TriesWrite s (written_from start key address deleted) bay answer (shown driver rig spares waiting) (shown after new spares waiting)) sure
-        (subst (λ w. TriesWrite (IsSure driver.tries attempt) w bay answer (shown driver rig spares waiting) (shown after new spares waiting)) written (tries spares waiting))
+        subst (λ s. TriesWrite s (written_from start key address deleted) bay (shown driver rig spares waiting) answer (shown after new spares waiting)) sure
+        (subst (λ w. TriesWrite (IsSure driver.tries attempt) w bay (shown driver rig spares waiting) answer (shown after new spares waiting)) written (tries spares waiting))
 
-    done_since : answer ≡ Ok tt → count + 1 ≤ first.tries → WritesDrive (written_from start key address deleted) bay (Ok tt) start (shown after new spares waiting)
+    done_since : answer ≡ Ok tt → count + 1 ≤ first.tries → WritesDrive (written_from start key address deleted) bay start (Ok tt) (shown after new spares waiting)
     done_since ok few =
         let all = same_tries first from bay key address deleted can asked.within start spares waiting so in
-        let attempt_ok : TriesWrite (IsSure start.tries (count + 1)) (written_from start key address deleted) bay (Ok tt) (shown driver rig spares waiting) (shown after new spares waiting) = subst (λ (r : Result (Unit {0}) Code). TriesWrite (IsSure start.tries (count + 1)) (written_from start key address deleted) bay r (shown driver rig spares waiting) (shown after new spares waiting)) ok attempt_since in
+        let attempt_ok : TriesWrite (IsSure start.tries (count + 1)) (written_from start key address deleted) bay (shown driver rig spares waiting) (Ok tt) (shown after new spares waiting) = subst (λ (r : Result (Unit {0}) Code). TriesWrite (IsSure start.tries (count + 1)) (written_from start key address deleted) bay (shown driver rig spares waiting) r (shown after new spares waiting)) ok attempt_since in
         ends_done (written_from start key address deleted) bay start (shown driver rig spares waiting) (shown after new spares waiting) count before (IsSure start.tries (count + 1))
         (is_start first from bay key address deleted can asked.within start spares waiting so) (between.tried start spares waiting so) attempt_ok (omega arith)
 
-    refused_since : (code : Code) → answer ≡ Err code → HasTriedWrite (written_from start key address deleted) bay start (count + 1) code (shown after new spares waiting)
+    refused_since : (code : Code) → answer ≡ Err code → HasTriedWrite (written_from start key address deleted) bay (count + 1) start code (shown after new spares waiting)
     refused_since code is =
-        let attempt_err : TriesWrite (IsSure start.tries (count + 1)) (written_from start key address deleted) bay (Err code) (shown driver rig spares waiting) (shown after new spares waiting) = subst (λ (r : Result (Unit {0}) Code). TriesWrite (IsSure start.tries (count + 1)) (written_from start key address deleted) bay r (shown driver rig spares waiting) (shown after new spares waiting)) is attempt_since in
+        let attempt_err : TriesWrite (IsSure start.tries (count + 1)) (written_from start key address deleted) bay (shown driver rig spares waiting) (Err code) (shown after new spares waiting) = subst (λ (r : Result (Unit {0}) Code). TriesWrite (IsSure start.tries (count + 1)) (written_from start key address deleted) bay (shown driver rig spares waiting) r (shown after new spares waiting)) is attempt_since in
         tried_more (written_from start key address deleted) bay start (shown driver rig spares waiting) (shown after new spares waiting) count before code
         (is_start first from bay key address deleted can asked.within start spares waiting so) (between.tried start spares waiting so) attempt_err
 
   -- it was done
-  pub between_done : answer ≡ Ok tt → attempt ≤ first.tries → (start : StationState) (spares : ℕ) (waiting : List DriveCounts) → HasAsked start (shown first from spares waiting) → WritesDrive (written_from start key address deleted) bay (Ok tt) start (shown after new spares waiting)
+  pub between_done : answer ≡ Ok tt → attempt ≤ first.tries → (start : StationState) (spares : ℕ) (waiting : List DriveCounts) → HasAsked start (shown first from spares waiting) → WritesDrive (written_from start key address deleted) bay start (Ok tt) (shown after new spares waiting)
   between_done ok few start spares waiting so = done_since start spares waiting so ok (omega arith)
 
   pub between_counts : GoesOn rig.counters new.counters → GoesOn from.counters new.counters
@@ -132,15 +132,15 @@ module _ (first : Driver) (from : Rig) (bay : ℕ) (key : Chrn) (address : ℕ) 
     counts = between_counts counts;
     ready = ready;
     tried = λ start spares waiting so.
-        subst (λ (n : ℕ). HasTriedWrite (written_from start key address deleted) bay start n code (shown after new spares waiting)) (sym more)
+        subst (λ (n : ℕ). HasTriedWrite (written_from start key address deleted) bay n start code (shown after new spares waiting)) (sym more)
         (refused_since start spares waiting so code is);
   }
 
 -- all attempts were refused
-pub between_all : (first : Driver) (from : Rig) (bay : ℕ) (key : Chrn) (address : ℕ) (deleted : Bool) (count : ℕ) (code : Code) (driver : Driver) (rig : Rig) → CanWrite first from bay → IsAsked bay key address → BetweenWrites first from bay key address deleted count code driver rig → count ≡ first.tries → (start : StationState) (spares : ℕ) (waiting : List DriveCounts) → HasAsked start (shown first from spares waiting) → WritesDrive (written_from start key address deleted) bay (Err code) start (shown driver rig spares waiting)
+pub between_all : (first : Driver) (from : Rig) (bay : ℕ) (key : Chrn) (address : ℕ) (deleted : Bool) (count : ℕ) (code : Code) (driver : Driver) (rig : Rig) → CanWrite first from bay → IsAsked bay key address → BetweenWrites first from bay key address deleted count code driver rig → count ≡ first.tries → (start : StationState) (spares : ℕ) (waiting : List DriveCounts) → HasAsked start (shown first from spares waiting) → WritesDrive (written_from start key address deleted) bay start (Err code) (shown driver rig spares waiting)
 between_all first from bay key address deleted count code driver rig can asked between all start spares waiting so =
     let tried = between.tried start spares waiting so in
     let count_is : count ≡ start.tries = all ∙ same_tries first from bay key address deleted can asked.within start spares waiting so in
     ends_tried (written_from start key address deleted) bay start (shown driver rig spares waiting) code
     (is_start first from bay key address deleted can asked.within start spares waiting so)
-    (subst (λ (n : ℕ). HasTriedWrite (written_from start key address deleted) bay start n code (shown driver rig spares waiting)) count_is tried)
+    (subst (λ (n : ℕ). HasTriedWrite (written_from start key address deleted) bay n start code (shown driver rig spares waiting)) count_is tried)

@@ -48,9 +48,9 @@ can_write_asked driver rig bay later protected can asks sound is none = record {
 
 module _ (old : StationState) (bay : ℕ) (key : Chrn) (address : ℕ) (deleted : Bool) (answer : Result (Unit {0}) Code) (new : StationState) (asked : is_sector_request bay key address ≡ true) (page : crosses_page address (content_size key.n) ≡ false) where
   Step : Option Code → Type 0
-  Step refusal = MatchOption refusal (WritesDrive (written_from old key address deleted) bay answer old new) (λ code. IsRefusedAtOnce old code answer new)
+  Step refusal = MatchOption refusal (WritesDrive (written_from old key address deleted) bay old answer new) (λ code. IsRefusedAtOnce code old answer new)
 
-  writes_by : (acknowledged protected : Bool) → is_acknowledged old bay ≡ acknowledged → is_protected old bay ≡ protected → Step (if not acknowledged then Some Changed else (if protected then Some Protected else None)) → WritesTo old bay key address deleted answer new
+  writes_by : (acknowledged protected : Bool) → is_acknowledged old bay ≡ acknowledged → is_protected old bay ≡ protected → Step (if not acknowledged then Some Changed else (if protected then Some Protected else None)) → WritesTo bay key address deleted old answer new
   unfolding Step
   writes_by acknowledged protected is guarded step =
       subst (λ (b : Bool). Step (if not b then Some BadRequest else (if crosses_page address (content_size key.n) then Some Page else (if not (is_acknowledged old bay) then Some Changed else (if is_protected old bay then Some Protected else None))))) (sym asked)
@@ -58,14 +58,14 @@ module _ (old : StationState) (bay : ℕ) (key : Chrn) (address : ℕ) (deleted 
       (subst (λ (b : Bool). Step (if not b then Some Changed else (if is_protected old bay then Some Protected else None))) (sym is)
       (subst (λ (b : Bool). Step (if not acknowledged then Some Changed else (if b then Some Protected else None))) (sym guarded) step)))
 
-  pub writes_refused : is_acknowledged old bay ≡ false → IsRefusedAtOnce old Changed answer new → WritesTo old bay key address deleted answer new
+  pub writes_refused : is_acknowledged old bay ≡ false → IsRefusedAtOnce Changed old answer new → WritesTo bay key address deleted old answer new
   unfolding Step
   writes_refused is step = writes_by false (is_protected old bay) is refl step
 
-  pub writes_protected : is_acknowledged old bay ≡ true → is_protected old bay ≡ true → IsRefusedAtOnce old Protected answer new → WritesTo old bay key address deleted answer new
+  pub writes_protected : is_acknowledged old bay ≡ true → is_protected old bay ≡ true → IsRefusedAtOnce Protected old answer new → WritesTo bay key address deleted old answer new
   unfolding Step
   writes_protected is guarded step = writes_by true true is guarded step
 
-  pub writes_drive : is_acknowledged old bay ≡ true → is_protected old bay ≡ false → WritesDrive (written_from old key address deleted) bay answer old new → WritesTo old bay key address deleted answer new
+  pub writes_drive : is_acknowledged old bay ≡ true → is_protected old bay ≡ false → WritesDrive (written_from old key address deleted) bay old answer new → WritesTo bay key address deleted old answer new
   unfolding Step
   writes_drive is guarded step = writes_by true false is guarded step

@@ -40,7 +40,7 @@ spared_first : (written : Written) (place : ℕ) (track : List ℕ) (bay : ℕ) 
 spared_first written place track bay start mid new one two (inl tidy) = inl tidy
 spared_first written place track bay start mid new one two (inr quiet) = inr (disturbed_first bay start.counters mid.counters new.counters one two 1 quiet)
 
-module _ (written : Written) (bay : ℕ) (start mid new : StationState) (count : ℕ) (sure : Type 0) (answer : Result (Unit {0}) Code) (starts : IsWriteStart written bay start) (so_far : WroteSoFar written bay start count mid) (attempt : TriesWrite sure written bay answer mid new) where
+module _ (written : Written) (bay : ℕ) (start mid new : StationState) (count : ℕ) (sure : Type 0) (answer : Result (Unit {0}) Code) (starts : IsWriteStart written bay start) (so_far : WroteSoFar written bay count start mid) (attempt : TriesWrite sure written bay mid answer new) where
   -- the bay keeps its rate and its acknowledgement
   bay_mid : bay_of mid bay ≡ record (bay_of start bay) { medium = (bay_of mid bay).medium }
   bay_mid = bay_after start mid bay (bay_of mid bay).medium so_far.becomes
@@ -250,14 +250,14 @@ module _ (written : Written) (bay : ℕ) (start mid new : StationState) (count :
   all_counts : GoesOn start.counters new.counters
   all_counts = goes_on_after start.counters mid.counters new.counters so_far.counts attempt.counts
 
-  steady_mid : IsSteady start bay new → IsSteady start bay mid
+  steady_mid : IsSteady bay start new → IsSteady bay start mid
   steady_mid steady =
       let kept = so_far.kept steady.kept steady.acknowledged in
       let more = faults_go_on mid.counters new.counters bay attempt.counts in
       let counted = steady.count in
       record { kept = steady.kept; acknowledged = steady.acknowledged; count = omega arith; below = steady.below }
 
-  steady_new : IsSteady start bay new → IsSteady mid bay new
+  steady_new : IsSteady bay start new → IsSteady bay mid new
   steady_new steady = record {
     kept = steady.kept;
     acknowledged = ap (λ (b : Bay). b.acknowledged) bay_mid ∙ steady.acknowledged;
@@ -268,7 +268,7 @@ module _ (written : Written) (bay : ℕ) (start mid new : StationState) (count :
   here_at : attempt.cylinder ≡ written.key.c → MatchOption attempt.change (Unit {0}) (λ one. one.cylinder ≡ written.key.c)
   here_at on = subst (λ (c : ℕ). MatchOption attempt.change (Unit {0}) (λ one. one.cylinder ≡ c)) on attempt.here
 
-  pub wrote_more : WroteSoFar written bay start (count + 1) new
+  pub wrote_more : WroteSoFar written bay (count + 1) start new
   wrote_more = record {
     changes = with_change so_far.changes attempt.change;
     few = few_more so_far.changes attempt.change count so_far.few;
@@ -295,19 +295,19 @@ module _ (written : Written) (bay : ℕ) (start mid new : StationState) (count :
 
   -- ---- the attempt was refused
 
-  module _ (code : Code) (refused : IsMissCause written (met (bay_of new bay) attempt.cylinder written.key.h) attempt.change bay code mid.counters new.counters) where
+  module _ (code : Code) (refused : IsMissCause written (met (bay_of new bay) attempt.cylinder written.key.h) attempt.change bay mid.counters code new.counters) where
     quiet_later : IsUndisturbed bay start.counters new.counters → IsUndisturbed bay mid.counters new.counters
     quiet_later = disturbed_later bay start.counters mid.counters new.counters so_far.counts attempt.counts 1
 
     on_key : sure → IsUndisturbed bay mid.counters new.counters → attempt.cylinder ≡ written.key.c
     on_key is_sure quiet = attempt.surely is_sure (undisturbed_faultless bay mid.counters new.counters attempt.counts quiet)
 
-    refused_on : attempt.cylinder ≡ written.key.c → IsMissCause written (met (bay_of new bay) written.key.c written.key.h) attempt.change bay code mid.counters new.counters
-    refused_on on = subst (λ (c : ℕ). IsMissCause written (met (bay_of new bay) c written.key.h) attempt.change bay code mid.counters new.counters) on refused
+    refused_on : attempt.cylinder ≡ written.key.c → IsMissCause written (met (bay_of new bay) written.key.c written.key.h) attempt.change bay mid.counters code new.counters
+    refused_on on = subst (λ (c : ℕ). IsMissCause written (met (bay_of new bay) c written.key.h) attempt.change bay mid.counters code new.counters) on refused
 
-    last_cause : sure → IsLastCause written (met (bay_of new bay) written.key.c written.key.h) (with_change so_far.changes attempt.change) bay code start new
+    last_cause : sure → IsLastCause written (met (bay_of new bay) written.key.c written.key.h) (with_change so_far.changes attempt.change) bay start code new
     last_cause is_sure =
-        let at : IsUndisturbed bay start.counters new.counters → IsMissCause written (met (bay_of new bay) written.key.c written.key.h) attempt.change bay code mid.counters new.counters = λ quiet. refused_on (on_key is_sure (quiet_later quiet)) in
+        let at : IsUndisturbed bay start.counters new.counters → IsMissCause written (met (bay_of new bay) written.key.c written.key.h) attempt.change bay mid.counters code new.counters = λ quiet. refused_on (on_key is_sure (quiet_later quiet)) in
         record {
           device = refused.device;
           no_mark = λ e quiet.
@@ -334,7 +334,7 @@ module _ (written : Written) (bay : ℕ) (start mid new : StationState) (count :
 
 -- ---- one more refusal
 
-pub tried_more : (written : Written) (bay : ℕ) (start mid new : StationState) (count : ℕ) (before code : Code) → IsWriteStart written bay start → HasTriedWrite written bay start count before mid → TriesWrite (IsSure start.tries (count + 1)) written bay (Err code) mid new → HasTriedWrite written bay start (count + 1) code new
+pub tried_more : (written : Written) (bay : ℕ) (start mid new : StationState) (count : ℕ) (before code : Code) → IsWriteStart written bay start → HasTriedWrite written bay count start before mid → TriesWrite (IsSure start.tries (count + 1)) written bay mid (Err code) new → HasTriedWrite written bay (count + 1) start code new
 unfolding wrote_more
 tried_more written bay start mid new count before code starts tried attempt = record {
   so_far = wrote_more written bay start mid new count (IsSure start.tries (count + 1)) (Err code) starts tried.so_far attempt;

@@ -79,7 +79,7 @@ module _ (written : Written) (q : ℕ) (track : List ℕ) (has : HasWritten writ
       differs (mark, ap (λ r. content_at track r written.key.n) at ∙ sym has.content)
 
 -- an undisturbed write of a regular track isn't refused
-pub never_refused : (written : Written) (track : List ℕ) (c h p : ℕ) (change : Option Change) (bay : ℕ) (code : Code) (a b : Counters) → IsRegular track c h → IsAddressAt track p written.key → GoesOn a b → IsUndisturbed bay a b → (WroteWhole written change → (q : ℕ) × HasWritten written q track) → IsMissCause written track change bay code a b → ⊥
+pub never_refused : (written : Written) (track : List ℕ) (c h p : ℕ) (change : Option Change) (bay : ℕ) (code : Code) (a b : Counters) → IsRegular track c h → IsAddressAt track p written.key → GoesOn a b → IsUndisturbed bay a b → (WroteWhole written change → (q : ℕ) × HasWritten written q track) → IsMissCause written track change bay a code b → ⊥
 never_refused written track c h p change bay code a b regular here goes quiet wrote cause =
     let writable = regular_writable track c h p written.key regular here in
     by_device code cause.device

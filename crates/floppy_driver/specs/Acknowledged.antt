@@ -11,7 +11,7 @@ use Rattle.single_commands.specs.Rigs.{Rig, StaysSpun, HeadsStay, track_under}
 use Rattle.floppy_driver.specs.declared.driver.Notes.{Notes}
 
 -- a drive was worked with: neither media nor memory changed, nor the other drive
-pub record Works (old : Rig) (bay : ℕ) (new : Rig) : Type 0 where
+pub record Works (bay : ℕ) (old new : Rig) : Type 0 where
   pub media : new.media ≡ old.media
   pub memory : new.memory ≡ old.memory
   pub spun : StaysSpun old.spun new.spun
@@ -22,8 +22,8 @@ pub record Works (old : Rig) (bay : ℕ) (new : Rig) : Type 0 where
   pub counts : GoesOn old.counters new.counters
 
 -- steps in and out, to track 0 if that is reached: where a medium is in, and the change line stays set, a pulse was lost
-pub record ClearsChange (old : Rig) (bay : ℕ) (reached : Bool) (new : Rig) : Type 0 where
-  pub works : Works old bay new
+pub record ClearsChange (bay : ℕ) (old : Rig) (reached : Bool) (new : Rig) : Type 0 where
+  pub works : Works bay old new
   pub driven : IsDriven 0 old.counters new.counters
   pub number : in_bay new.numbers bay ≡ 0
   pub arrives : reached ≡ true → in_bay new.cylinders bay ≡ 0
@@ -31,8 +31,8 @@ pub record ClearsChange (old : Rig) (bay : ℕ) (reached : Bool) (new : Rig) : T
   pub clears : IsSome (in_bay old.media bay) → in_bay new.changes bay ≡ true → FaultsRoseBy 1 bay old.counters new.counters
 
 -- the change line stayed set in so many rounds of steps: with a medium in, which is at speed, a pulse of each was lost
-pub record HasStayedSet (old : Rig) (bay count : ℕ) (new : Rig) : Type 0 where
-  pub works : Works old bay new
+pub record HasStayedSet (bay count : ℕ) (old new : Rig) : Type 0 where
+  pub works : Works bay old new
   pub driven : IsDriven 0 old.counters new.counters
   pub spun : IsSome (in_bay old.media bay) → in_bay new.spun bay ≡ true
   pub lost : IsSome (in_bay old.media bay) → FaultsRoseBy count bay old.counters new.counters
@@ -50,24 +50,24 @@ abbrev pub HasStart : Rig → ℕ → Rate → Type 0
 HasStart rig bay rate = (p : ℕ) × IsAddress (track_under rig bay rate 0) p
 
 -- where it has a Clear one at R250, so many commands that looked for it had a fault
-abbrev pub IsSpoilt : Rig → ℕ → ℕ → Rig → Type 0
-IsSpoilt old bay count new =
+abbrev pub IsSpoilt : ℕ → ℕ → Rig → Rig → Type 0
+IsSpoilt bay count old new =
     (key : Chrn) → HasClearAddress (track_under old bay R250 0) key → FaultsRoseBy count bay old.counters new.counters
 
 -- no address field was found in so many rounds, each at both rates
-pub record HasFoundNone (old : Rig) (bay count : ℕ) (new : Rig) : Type 0 where
+pub record HasFoundNone (bay count : ℕ) (old new : Rig) : Type 0 where
   pub reads : OnlyReads (2 * count) old new
-  pub spoilt : IsSpoilt old bay count new
+  pub spoilt : IsSpoilt bay count old new
 
 -- a rate was looked for: R250 where an address field was found at it, and R500 where one was found at that, or none at all
-pub record FindsRate (old : Rig) (bay : ℕ) (rate : Rate) (new : Rig) : Type 0 where
+pub record FindsRate (bay : ℕ) (old : Rig) (rate : Rate) (new : Rig) : Type 0 where
   pub reads : OnlyReads 6 old new
   pub double : rate ≡ R250 → HasStart old bay R250
-  pub single : rate ≡ R500 → HasStart old bay R500 ⊎ IsSpoilt old bay 3 new
+  pub single : rate ≡ R500 → HasStart old bay R500 ⊎ IsSpoilt bay 3 old new
 
 -- a bay is held from now on: its rate was found, and its drive's count is kept
-pub record IsHeldSince (old : Rig) (bay : ℕ) (reached : Bool) (notes : Notes) (new : Rig) : Type 0 where
-  pub finds : FindsRate old bay notes.rate new
+pub record IsHeldSince (bay : ℕ) (old : Rig) (reached : Bool) (notes : Notes) (new : Rig) : Type 0 where
+  pub finds : FindsRate bay old notes.rate new
   pub gate : notes.gate ≡ true
   pub kept : notes.kept ≡ faults_of new.counters bay
   pub known : notes.known ≡ (if reached then Some 0 else None)

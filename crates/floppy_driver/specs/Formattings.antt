@@ -52,14 +52,14 @@ IsBlankUnder rig bay rate h = HasNothing (track_under rig bay rate h)
 
 -- records could not be read back, and so it goes where they are there only if something disturbs; where nothing is recorded, no
 -- mark is found
-pub record IsReadBackMiss (bay : ℕ) (blank there : Type 0) (code : Code) (old new : Counters) : Type 0 where
+pub record IsReadBackMiss (bay : ℕ) (blank there : Type 0) (old : Counters) (code : Code) (new : Counters) : Type 0 where
   pub coded : IsReadCode code
   pub overrun : code ≡ Overrun → RoseBy 1 old.stalls new.stalls
   pub disturbed : there → IsUndisturbed bay old new → ⊥
   pub unmarked : blank → IsUndisturbed bay old new → code ≡ NoMark
 
 -- records, so many, were read back: nothing changed but counters and the driver's page
-pub record ReadsRecords (old : Rig) (bay count : ℕ) (blank there : Type 0) (answer : Result (Unit {0}) Code) (new : Rig) : Type 0 where
+pub record ReadsRecords (bay count : ℕ) (blank there : Type 0) (old : Rig) (answer : Result (Unit {0}) Code) (new : Rig) : Type 0 where
   pub heads : HeadsStay old new
   pub media : new.media ≡ old.media
   pub memory : new.memory ≡ old.memory
@@ -67,28 +67,28 @@ pub record ReadsRecords (old : Rig) (bay count : ℕ) (blank there : Type 0) (an
   pub driven : IsDriven count old.counters new.counters
   pub commands : IsOk answer → RoseBy count old.counters.data_commands new.counters.data_commands
   pub found : IsOk answer → 1 ≤ count → blank → ⊥
-  pub refused : IfErr answer (λ code. IsReadBackMiss bay blank there code old.counters new.counters)
+  pub refused : IfErr answer (λ code. IsReadBackMiss bay blank there old.counters code new.counters)
 
 -- ---- attempts
 
 -- why the last attempt was refused
-pub record IsAttemptRefusal (bay : ℕ) (code : Code) (old new : Counters) : Type 0 where
+pub record IsAttemptRefusal (bay : ℕ) (old : Counters) (code : Code) (new : Counters) : Type 0 where
   pub device : IsDeviceRefusal code
   pub undisturbed : IsUndisturbed bay old new → code ≡ NoMark
   pub overrun : code ≡ Overrun → RoseBy 1 old.stalls new.stalls
   pub lost : code ≡ Seek → FaultsRoseBy 77 bay old new
 
 -- how the last attempt ended
-pub record EndsFormat (format : Format) (bay : ℕ) (answer : Result (Unit {0}) Code) (before after : Option Disk) (old new : Counters) : Type 0 where
+pub record EndsFormat (format : Format) (bay : ℕ) (before after : Option Disk) (old : Counters) (answer : Result (Unit {0}) Code) (new : Counters) : Type 0 where
   pub exactly : IsUndisturbed bay old new → IsOk answer ↔ IsFormattable format before
   pub begun : IsUndisturbed bay old new → IsFormatted format before after
   pub commands : IsOk answer → RoseBy (1 + sectors_at format.rate) old.data_commands new.data_commands
   pub formatted_track : IsOk answer → IsFaultless bay old new
       → IsFormattable format before × IsFormatted format before after
-  pub refused : IfErr answer (λ code. IsAttemptRefusal bay code old new)
+  pub refused : IfErr answer (λ code. IsAttemptRefusal bay old code new)
 
 -- a medium was formatted in so many attempts, the answer being that of the last
-pub record FormatsIn (count : ℕ) (format : Format) (bay : ℕ) (answer : Result (Unit {0}) Code) (before after : Option Disk) (old new : Counters) : Type 0 where
+pub record FormatsIn (count : ℕ) (format : Format) (bay : ℕ) (before after : Option Disk) (old : Counters) (answer : Result (Unit {0}) Code) (new : Counters) : Type 0 where
   pub layings : List Laying
   pub few : length layings ≤ count
   pub lays : Lays format before layings after
@@ -97,8 +97,8 @@ pub record FormatsIn (count : ℕ) (format : Format) (bay : ℕ) (answer : Resul
   -- each attempt that fails on a formattable medium was disturbed
   pub never : IsErr answer → IsFormattable format before → DisturbedLess count bay old new → ⊥
   pub driven : IsDriven (count * (1 + sectors_at format.rate)) old new
-  pub ends : 1 ≤ count → EndsFormat format bay answer before after old new
+  pub ends : 1 ≤ count → EndsFormat format bay before after old answer new
 
 -- nothing of the station changed but the medium in a bay, and counters
-abbrev pub HasOnlyMedium : StationState → ℕ → Option Disk → StationState → Type 0
-HasOnlyMedium old bay medium new = Becomes (set_bay old bay (record (bay_of old bay) { medium = medium })) new
+abbrev pub HasOnlyMedium : ℕ → Option Disk → StationState → StationState → Type 0
+HasOnlyMedium bay medium old new = Becomes (set_bay old bay (record (bay_of old bay) { medium = medium })) new

@@ -9,16 +9,16 @@ use Rattle.single_commands.specs.Heads.{MovesHeads}
 use Rattle.floppy_driver.specs.declared.driver.Notes.{Notes}
 
 -- steps outward to track 0, once more where the first time doesn't reach it
-pub record GoesToTrack0 (old : Rig) (bay : ℕ) (reached : Bool) (new : Rig) : Type 0 where
-  pub moves : MovesHeads old bay new
+pub record GoesToTrack0 (bay : ℕ) (old : Rig) (reached : Bool) (new : Rig) : Type 0 where
+  pub moves : MovesHeads bay old new
   pub number : in_bay new.numbers bay ≡ 0
   pub arrives : reached ≡ true → in_bay new.cylinders bay ≡ 0
   -- two recalibrations are 158 pulses, and the heads were at most 82 cylinders in: 77 were lost at least
   pub lost : reached ≡ false → FaultsRoseBy 77 bay old.counters new.counters
 
 -- the heads of a drive were prepared for a cylinder
-pub record IsPrepared (old : Rig) (notes : Notes) (bay target : ℕ) (way : Prepare) (ready : Bool) (new : Rig) (after : Notes) : Type 0 where
-  pub moves : MovesHeads old bay new
+pub record IsPrepared (bay target : ℕ) (way : Prepare) (old : Rig) (notes : Notes) (ready : Bool) (new : Rig) (after : Notes) : Type 0 where
+  pub moves : MovesHeads bay old new
   -- of the notes the known cylinder alone changed
   pub notes_are : after ≡ record notes { known = after.known }
   -- ready: the controller's number is the target, and the heads stand there too where no fault came and, if by steps alone,

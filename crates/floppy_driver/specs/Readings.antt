@@ -15,33 +15,33 @@ use Rattle.sector_model.specs.Reads.{IsRead}
 use Rattle.floppy_driver.specs.Attempts.{IsSure, sure_attempts}
 
 -- a field of the key was read, and its content fills the range of memory
-pub record IsReadWhole (old : StationState) (bay : ℕ) (key : Chrn) (address : ℕ) (deleted : Bool) (new : StationState) : Type 0 where
-  pub read : IsRead old bay key address deleted new
+pub record IsReadWhole (bay : ℕ) (key : Chrn) (address : ℕ) (old : StationState) (deleted : Bool) (new : StationState) : Type 0 where
+  pub read : IsRead bay key address old deleted new
   pub size : length read.content ≡ content_size key.n
 
 -- an attempt failed. Where it is sure to be on the track of the key's cylinder, and nothing disturbed, that track is the reason
-pub record IsReadFailed (sure : Type 0) (old : StationState) (bay : ℕ) (key : Chrn) (code : Code) (new : StationState) : Type 0 where
+pub record IsReadFailed (sure : Type 0) (bay : ℕ) (key : Chrn) (old : StationState) (code : Code) (new : StationState) : Type 0 where
   pub device : IsDeviceRefusal code
   pub reason : sure → IsUndisturbed bay old.counters new.counters → IsReadReason (met (bay_of old bay) key.c key.h) key code
   pub overrun : code ≡ Overrun → RoseBy 1 old.counters.stalls new.counters.stalls
   pub lost : code ≡ Seek → FaultsRoseBy 77 bay old.counters new.counters
 
 -- one attempt
-pub record TriesRead (sure : Type 0) (old : StationState) (bay : ℕ) (key : Chrn) (address : ℕ) (answer : Result Bool Code) (new : StationState) : Type 0 where
-  pub done : IfOk answer (λ deleted. IsReadWhole old bay key address deleted new)
-  pub failed : IfErr answer (λ code. IsReadFailed sure old bay key code new)
-  pub memory : SameOutside old.memory address (content_size key.n) new.memory
+pub record TriesRead (sure : Type 0) (bay : ℕ) (key : Chrn) (address : ℕ) (old : StationState) (answer : Result Bool Code) (new : StationState) : Type 0 where
+  pub done : IfOk answer (λ deleted. IsReadWhole bay key address old deleted new)
+  pub failed : IfErr answer (λ code. IsReadFailed sure bay key old code new)
+  pub memory : SameOutside address (content_size key.n) old.memory new.memory
   pub becomes : Becomes (record old { memory = new.memory }) new
   pub counts : GoesOn old.counters new.counters
   pub driven : IsDriven 1 old.counters new.counters
 
 -- so many attempts failed since the start of the call, the last one with this code
-pub record HasTriedRead (start : StationState) (bay : ℕ) (key : Chrn) (address count : ℕ) (code : Code) (now : StationState) : Type 0 where
-  pub memory : SameOutside start.memory address (content_size key.n) now.memory
+pub record HasTriedRead (bay : ℕ) (key : Chrn) (address count : ℕ) (start : StationState) (code : Code) (now : StationState) : Type 0 where
+  pub memory : SameOutside address (content_size key.n) start.memory now.memory
   pub becomes : Becomes (record start { memory = now.memory }) now
   pub counts : GoesOn start.counters now.counters
   pub driven : IsDriven count start.counters now.counters
   -- on a good track each attempt that goes by track 0 was disturbed
   pub spoilt : HasClearAddress (met (bay_of start bay) key.c key.h) key → AllFound (met (bay_of start bay) key.c key.h) key
       → DisturbedLess (sure_attempts start.tries count) bay start.counters now.counters → ⊥
-  pub last : 1 ≤ count → IsReadFailed (IsSure start.tries count) start bay key code now
+  pub last : 1 ≤ count → IsReadFailed (IsSure start.tries count) bay key start code now

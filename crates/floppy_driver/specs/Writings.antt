@@ -39,7 +39,7 @@ abbrev pub WroteWhole : Written → Option Change → Type 0
 WroteWhole written change = MatchOption change ⊥ (IsWholeChange written)
 
 -- why it was refused, by what is met on the track after it
-pub record IsMissCause (written : Written) (track : List ℕ) (change : Option Change) (bay : ℕ) (code : Code) (old new : Counters) : Type 0 where
+pub record IsMissCause (written : Written) (track : List ℕ) (change : Option Change) (bay : ℕ) (old : Counters) (code : Code) (new : Counters) : Type 0 where
   pub device : IsDeviceRefusal code
   pub no_mark : code ≡ NoMark → IsUndisturbed bay old new
       → (HasNoClearMark track ⊎ HasWindowCut track written.key
@@ -68,18 +68,18 @@ pub record IsReadBack (written : Written) (medium : Option Disk) (rate : Rate) (
   pub commands : RoseBy 2 old.data_commands new.data_commands
 
 -- the medium in the bay was changed so, or not at all
-pub record WritesChecked (old : Rig) (bay : ℕ) (rate : Rate) (written : Written) (answer : Result (Unit {0}) Code) (new : Rig) : Type 0 where
+pub record WritesChecked (bay : ℕ) (rate : Rate) (written : Written) (old : Rig) (answer : Result (Unit {0}) Code) (new : Rig) : Type 0 where
   pub change : Option Change
   pub heads : HeadsStay old new
   pub other_medium : in_bay new.media (1 - bay) ≡ in_bay old.media (1 - bay)
   pub memory : new.memory ≡ old.memory
   pub counts : GoesOn old.counters new.counters
   pub driven : IsDriven 2 old.counters new.counters
-  pub does : MatchOption change (new.media ≡ old.media) (λ one. ChangesMedium old bay rate written one new)
+  pub does : MatchOption change (new.media ≡ old.media) (λ one. ChangesMedium bay rate written one old new)
   pub done : IsOk answer
       → IsReadBack written (in_bay new.media bay) rate (in_bay old.cylinders bay) change bay old.counters new.counters
   pub refused : IfErr answer (λ code.
-      IsMissCause written (track_under new bay rate written.key.h) change bay code old.counters new.counters)
+      IsMissCause written (track_under new bay rate written.key.h) change bay old.counters code new.counters)
 
 -- ---- one attempt
 
@@ -101,18 +101,18 @@ pub record ChangesBay (written : Written) (bay : ℕ) (change : Change) (old new
       → IsWholeChange written change
 
 -- one attempt at a write, on this cylinder: the medium in the bay was changed so, or not at all
-pub record TriesWrite (sure : Type 0) (written : Written) (bay : ℕ) (answer : Result (Unit {0}) Code) (old new : StationState) : Type 0 where
+pub record TriesWrite (sure : Type 0) (written : Written) (bay : ℕ) (old : StationState) (answer : Result (Unit {0}) Code) (new : StationState) : Type 0 where
   pub cylinder : ℕ
   pub change : Option Change
   pub becomes : Becomes (set_bay old bay (record (bay_of old bay) { medium = (bay_of new bay).medium })) new
   pub does : MatchOption change ((bay_of new bay).medium ≡ (bay_of old bay).medium) (λ one. ChangesBay written bay one old new)
   pub here : MatchOption change (Unit {0}) (λ one. one.cylinder ≡ cylinder)
-  pub steady : IsSteady old bay new → cylinder ≡ written.key.c
+  pub steady : IsSteady bay old new → cylinder ≡ written.key.c
   pub surely : sure → IsFaultless bay old.counters new.counters → cylinder ≡ written.key.c
   pub done : IsOk answer
       → IsReadBack written (bay_of new bay).medium (bay_of old bay).rate cylinder change bay old.counters new.counters
   pub refused : IfErr answer (λ code.
-      IsMissCause written (met (bay_of new bay) cylinder written.key.h) change bay code old.counters new.counters)
+      IsMissCause written (met (bay_of new bay) cylinder written.key.h) change bay old.counters code new.counters)
   pub counts : GoesOn old.counters new.counters
   pub driven : IsDriven 2 old.counters new.counters
 
@@ -158,20 +158,20 @@ KeptTrack written bay start now =
     → IsSameOrCut written p (met (bay_of start bay) written.key.c written.key.h) (met (bay_of now bay) written.key.c written.key.h)
 
 -- so many attempts were made
-pub record WroteSoFar (written : Written) (bay : ℕ) (start : StationState) (count : ℕ) (now : StationState) : Type 0 where
+pub record WroteSoFar (written : Written) (bay count : ℕ) (start now : StationState) : Type 0 where
   pub changes : List Change
   pub few : length changes ≤ count
   pub reach : Reaches written (bay_of start bay).medium changes (bay_of now bay).medium
   pub becomes : Becomes (set_bay start bay (record (bay_of start bay) { medium = (bay_of now bay).medium })) now
   pub kept : (kept : ℕ) → (bay_of start bay).acknowledged ≡ Some kept → kept ≤ faults_of now.counters bay
-  pub steady : IsSteady start bay now → All (λ change. change.cylinder ≡ written.key.c) changes
+  pub steady : IsSteady bay start now → All (λ change. change.cylinder ≡ written.key.c) changes
   pub regular : (disk : Disk) → (bay_of start bay).medium ≡ Some disk → IsRegularDisk disk → KeptSoFar written bay disk start now
   pub track : KeptTrack written bay start now
   pub counts : GoesOn start.counters now.counters
   pub driven : IsDriven (2 * count) start.counters now.counters
 
 -- why the last of them was refused, by what is met on the track after it
-pub record IsLastCause (written : Written) (track : List ℕ) (changes : List Change) (bay : ℕ) (code : Code) (start now : StationState) : Type 0 where
+pub record IsLastCause (written : Written) (track : List ℕ) (changes : List Change) (bay : ℕ) (start : StationState) (code : Code) (now : StationState) : Type 0 where
   pub device : IsDeviceRefusal code
   pub no_mark : code ≡ NoMark → IsUndisturbed bay start.counters now.counters
       → (HasNoClearMark track ⊎ HasWindowCut track written.key
@@ -184,10 +184,10 @@ pub record IsLastCause (written : Written) (track : List ℕ) (changes : List Ch
   pub lost : code ≡ Seek → FaultsRoseBy 77 bay start.counters now.counters
 
 -- so many attempts were refused, the last of them so
-pub record HasTriedWrite (written : Written) (bay : ℕ) (start : StationState) (count : ℕ) (code : Code) (now : StationState) : Type 0 where
-  pub so_far : WroteSoFar written bay start count now
+pub record HasTriedWrite (written : Written) (bay count : ℕ) (start : StationState) (code : Code) (now : StationState) : Type 0 where
+  pub so_far : WroteSoFar written bay count start now
   pub last : 1 ≤ count → IsSure start.tries count
-      → IsLastCause written (met (bay_of now bay) written.key.c written.key.h) so_far.changes bay code start now
+      → IsLastCause written (met (bay_of now bay) written.key.c written.key.h) so_far.changes bay start code now
   pub spoilt : IsRegular (met (bay_of start bay) written.key.c written.key.h) written.key.c written.key.h
       → (p : ℕ) → IsAddressAt (met (bay_of start bay) written.key.c written.key.h) p written.key
       → IsSpared written p (met (bay_of start bay) written.key.c written.key.h) bay start now
@@ -200,4 +200,4 @@ pub record BetweenWrites (first : Driver) (from : Rig) (bay : ℕ) (key : Chrn) 
   pub counts : GoesOn from.counters rig.counters
   pub ready : CanWrite driver rig bay
   pub tried : (start : StationState) (spares : ℕ) (waiting : List DriveCounts) → HasAsked start (shown first from spares waiting)
-      → HasTriedWrite (written_from start key address deleted) bay start count code (shown driver rig spares waiting)
+      → HasTriedWrite (written_from start key address deleted) bay count start code (shown driver rig spares waiting)

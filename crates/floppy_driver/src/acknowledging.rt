@@ -19,7 +19,7 @@ fn find_rate<C: Commands>(machine: &mut C, bay: u8) -> Rate
     requires idle { C.is_idle machine.old }
     requires bay { bay ≤ 1 }
     requires spun { in_bay (C.rig machine.old).spun bay ≡ true }
-    ensures finds { FindsRate (C.rig machine.old) bay result (C.rig machine.new) }
+    ensures finds { FindsRate bay (C.rig machine.old) result (C.rig machine.new) }
     ensures idle { C.is_idle machine.new }
 {
     for _attempt in 0..ROUNDS {
@@ -45,7 +45,7 @@ impl Driver {
         requires idle { C.is_idle machine.old }
         requires attached { IsAttached self.old (C.rig machine.old) }
         ensures step { (spares : ℕ) (waiting : List DriveCounts) → Acks
-            (shown self.old (C.rig machine.old) spares waiting) bay result
+            bay (shown self.old (C.rig machine.old) spares waiting) result
             (shown self.new (C.rig machine.new) spares waiting) }
         ensures counts { GoesOn (C.rig machine.old).counters (C.rig machine.new).counters }
         ensures idle { C.is_idle machine.new }
@@ -71,7 +71,7 @@ impl Driver {
         requires idle { C.is_idle machine.old }
         requires bay { bay ≤ 1 }
         requires spun { in_bay (C.rig machine.old).spun bay ≡ true }
-        ensures held { IsHeldSince (C.rig machine.old) bay reached (notes_of self.new bay) (C.rig machine.new) }
+        ensures held { IsHeldSince bay (C.rig machine.old) reached (notes_of self.new bay) (C.rig machine.new) }
         ensures notes { self.new ≡ with_notes self.old bay (notes_of self.new bay) }
         ensures idle { C.is_idle machine.new }
     {
@@ -97,7 +97,7 @@ fn clear_change<C: Commands>(machine: &mut C, bay: u8) -> bool
     requires idle { C.is_idle machine.old }
     requires bay { bay ≤ 1 }
     requires sound { IsSound (C.rig machine.old) }
-    ensures clears { ClearsChange (C.rig machine.old) bay result (C.rig machine.new) }
+    ensures clears { ClearsChange bay (C.rig machine.old) result (C.rig machine.new) }
     ensures sound { IsSound (C.rig machine.new) }
     ensures idle { C.is_idle machine.new }
 {

@@ -112,7 +112,7 @@ impl Driver {
         requires bay { bay ≤ 1 }
         requires attached { IsAttached self.old (C.rig machine.old) }
         ensures step { (spares : ℕ) (waiting : List DriveCounts) → TellsChange
-            (shown self.old (C.rig machine.old) spares waiting) bay result
+            bay (shown self.old (C.rig machine.old) spares waiting) result
             (shown self.new (C.rig machine.new) spares waiting) }
         ensures counts { GoesOn (C.rig machine.old).counters (C.rig machine.new).counters }
         ensures idle { C.is_idle machine.new }
@@ -140,7 +140,7 @@ impl Driver {
         requires idle { C.is_idle machine.old }
         requires attached { IsAttached self.old (C.rig machine.old) }
         ensures step { (spares : ℕ) (waiting : List DriveCounts) → RatesTo
-            (shown self.old (C.rig machine.old) spares waiting) bay rate result
+            bay rate (shown self.old (C.rig machine.old) spares waiting) result
             (shown self.new (C.rig machine.new) spares waiting) }
         ensures counts { GoesOn (C.rig machine.old).counters (C.rig machine.new).counters }
         ensures idle { C.is_idle machine.new }
@@ -169,7 +169,7 @@ impl Driver {
         requires least { 1 ≤ tries }
         requires most { tries ≤ 10 }
         ensures step { (rig : Rig) (spares : ℕ) (waiting : List DriveCounts) → SetsTries
-            (shown self.old rig spares waiting) tries (shown self.new rig spares waiting) }
+            tries (shown self.old rig spares waiting) (shown self.new rig spares waiting) }
         ensures attached { (rig : Rig) → IsAttached self.old rig → IsAttached self.new rig }
     {
         self.tries = tries;

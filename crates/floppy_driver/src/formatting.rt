@@ -50,7 +50,7 @@ impl Driver {
         requires idle { C.is_idle machine.old }
         requires attached { IsAttached self.old (C.rig machine.old) }
         ensures step { (spares : ℕ) (waiting : List DriveCounts) → FormatsTo
-            (shown self.old (C.rig machine.old) spares waiting) bay c h gap3 fill result
+            bay c h gap3 fill (shown self.old (C.rig machine.old) spares waiting) result
             (shown self.new (C.rig machine.new) spares waiting) }
         ensures counts { GoesOn (C.rig machine.old).counters (C.rig machine.new).counters }
         ensures idle { C.is_idle machine.new }
@@ -101,11 +101,11 @@ impl Driver {
         requires idle { C.is_idle machine.old }
         requires asked { IsValidFormat (format_of asked) }
         requires can { CanWrite self.old (C.rig machine.old) bay }
-        ensures formats { FormatsIn self.old.tries (format_of asked) bay result
-            (in_bay (C.rig machine.old).media bay) (in_bay (C.rig machine.new).media bay)
-            (C.rig machine.old).counters (C.rig machine.new).counters }
+        ensures formats { FormatsIn self.old.tries (format_of asked) bay (in_bay (C.rig machine.old).media bay)
+            (in_bay (C.rig machine.new).media bay) (C.rig machine.old).counters
+            result (C.rig machine.new).counters }
         ensures medium { (spares : ℕ) (waiting : List DriveCounts) → HasOnlyMedium
-            (shown self.old (C.rig machine.old) spares waiting) bay (in_bay (C.rig machine.new).media bay)
+            bay (in_bay (C.rig machine.new).media bay) (shown self.old (C.rig machine.old) spares waiting)
             (shown self.new (C.rig machine.new) spares waiting) }
         ensures counts { GoesOn (C.rig machine.old).counters (C.rig machine.new).counters }
         ensures idle { C.is_idle machine.new }
@@ -131,11 +131,11 @@ impl Driver {
         requires idle { C.is_idle machine.old }
         requires asked { IsValidFormat (format_of asked) }
         requires can { CanWrite self.old (C.rig machine.old) bay }
-        ensures formats { FormatsIn 1 (format_of asked) bay result
-            (in_bay (C.rig machine.old).media bay) (in_bay (C.rig machine.new).media bay)
-            (C.rig machine.old).counters (C.rig machine.new).counters }
+        ensures formats { FormatsIn 1 (format_of asked) bay (in_bay (C.rig machine.old).media bay)
+            (in_bay (C.rig machine.new).media bay) (C.rig machine.old).counters
+            result (C.rig machine.new).counters }
         ensures medium { (spares : ℕ) (waiting : List DriveCounts) → HasOnlyMedium
-            (shown self.old (C.rig machine.old) spares waiting) bay (in_bay (C.rig machine.new).media bay)
+            bay (in_bay (C.rig machine.new).media bay) (shown self.old (C.rig machine.old) spares waiting)
             (shown self.new (C.rig machine.new) spares waiting) }
         ensures counts { GoesOn (C.rig machine.old).counters (C.rig machine.new).counters }
         ensures can { CanWrite self.new (C.rig machine.new) bay }
@@ -171,9 +171,9 @@ fn read_back_all<C: Commands>(machine: &mut C, bay: u8, asked: Asked) -> Result<
     requires asked { IsValidFormat (format_of asked) }
     requires spun { in_bay (C.rig machine.old).spun bay ≡ true }
     requires sound { IsSound (C.rig machine.old) }
-    ensures reads { ReadsRecords (C.rig machine.old) bay (sectors_at asked.rate)
-        (IsBlankUnder (C.rig machine.old) bay asked.rate asked.h)
+    ensures reads { ReadsRecords bay (sectors_at asked.rate) (IsBlankUnder (C.rig machine.old) bay asked.rate asked.h)
         (HoldsRecords (track_under (C.rig machine.old) bay asked.rate asked.h) asked.c asked.h (sectors_at asked.rate) asked.fill)
+        (C.rig machine.old)
         result (C.rig machine.new) }
     ensures sound { IsSound (C.rig machine.new) }
     ensures idle { C.is_idle machine.new }
@@ -203,9 +203,9 @@ fn read_back_filled<C: Commands>(
     requires head { key.h ≤ 1 }
     requires coded { IsSizeCode key.n }
     requires spun { in_bay (C.rig machine.old).spun bay ≡ true }
-    ensures reads { ReadsRecords (C.rig machine.old) bay 1
-        (IsBlankUnder (C.rig machine.old) bay rate key.h)
-        (HoldsRecord (track_under (C.rig machine.old) bay rate key.h) key fill) result (C.rig machine.new) }
+    ensures reads { ReadsRecords bay 1 (IsBlankUnder (C.rig machine.old) bay rate key.h)
+        (HoldsRecord (track_under (C.rig machine.old) bay rate key.h) key fill)
+        (C.rig machine.old) result (C.rig machine.new) }
     ensures sound { IsSound (C.rig machine.new) }
     ensures idle { C.is_idle machine.new }
 {

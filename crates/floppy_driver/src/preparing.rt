@@ -13,7 +13,7 @@ pub(crate) fn go_to_track_0<C: Commands>(machine: &mut C, bay: u8) -> bool
     requires idle { C.is_idle machine.old }
     requires bay { bay ≤ 1 }
     requires sound { IsSound (C.rig machine.old) }
-    ensures goes { GoesToTrack0 (C.rig machine.old) bay result (C.rig machine.new) }
+    ensures goes { GoesToTrack0 bay (C.rig machine.old) result (C.rig machine.new) }
     ensures sound { IsSound (C.rig machine.new) }
     ensures idle { C.is_idle machine.new }
 {
@@ -44,7 +44,7 @@ impl Driver {
         requires held { is_held (notes_of self.old bay) (in_bay (C.rig machine.old).changes bay) ≡ true }
         requires attached { IsAttached self.old (C.rig machine.old) }
         requires known { way ≡ Prepare.Seek → IsSome (notes_of self.old bay).known }
-        ensures prepared { IsPrepared (C.rig machine.old) (notes_of self.old bay) bay target way result
+        ensures prepared { IsPrepared bay target way (C.rig machine.old) (notes_of self.old bay) result
             (C.rig machine.new) (notes_of self.new bay) }
         ensures notes { self.new ≡ with_notes self.old bay (notes_of self.new bay) }
         ensures sound { IsSound (C.rig machine.new) }

@@ -30,7 +30,7 @@ impl Driver {
         requires idle { C.is_idle machine.old }
         requires attached { IsAttached self.old (C.rig machine.old) }
         ensures step { (spares : ℕ) (waiting : List DriveCounts) → Reads
-            (shown self.old (C.rig machine.old) spares waiting) bay key address result
+            bay key address (shown self.old (C.rig machine.old) spares waiting) result
             (shown self.new (C.rig machine.new) spares waiting) }
         ensures counts { GoesOn (C.rig machine.old).counters (C.rig machine.new).counters }
         ensures idle { C.is_idle machine.new }
@@ -62,7 +62,7 @@ impl Driver {
         requires page { address / 65536 ≡ (address + content_size key.n - 1) / 65536 }
         ensures step { (start : StationState) (spares : ℕ) (waiting : List DriveCounts)
             → HasAsked start (shown self.old (C.rig machine.old) spares waiting)
-            → ReadsDrive start bay key address result (shown self.new (C.rig machine.new) spares waiting) }
+            → ReadsDrive bay key address start result (shown self.new (C.rig machine.new) spares waiting) }
         ensures counts { GoesOn (C.rig machine.old).counters (C.rig machine.new).counters }
         ensures idle { C.is_idle machine.new }
         ensures ready { CanTry self.new (C.rig machine.new) bay }
@@ -93,7 +93,7 @@ impl Driver {
         requires from_first { 1 ≤ attempt }
         requires to_last { attempt ≤ self.old.tries }
         ensures step { (spares : ℕ) (waiting : List DriveCounts) → TriesRead (IsSure self.old.tries attempt)
-            (shown self.old (C.rig machine.old) spares waiting) bay key address result
+            bay key address (shown self.old (C.rig machine.old) spares waiting) result
             (shown self.new (C.rig machine.new) spares waiting) }
         ensures tries { self.new.tries ≡ self.old.tries }
         ensures counts { GoesOn (C.rig machine.old).counters (C.rig machine.new).counters }

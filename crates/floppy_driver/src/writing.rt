@@ -36,7 +36,7 @@ impl Driver {
         requires idle { C.is_idle machine.old }
         requires attached { IsAttached self.old (C.rig machine.old) }
         ensures step { (spares : ℕ) (waiting : List DriveCounts) → WritesTo
-            (shown self.old (C.rig machine.old) spares waiting) bay key address deleted result
+            bay key address deleted (shown self.old (C.rig machine.old) spares waiting) result
             (shown self.new (C.rig machine.new) spares waiting) }
         ensures counts { GoesOn (C.rig machine.old).counters (C.rig machine.new).counters }
         ensures idle { C.is_idle machine.new }
@@ -72,7 +72,7 @@ impl Driver {
         requires ready { CanWrite self.old (C.rig machine.old) bay }
         ensures step { (start : StationState) (spares : ℕ) (waiting : List DriveCounts)
             → HasAsked start (shown self.old (C.rig machine.old) spares waiting)
-            → WritesDrive (written_from start key address deleted) bay result start
+            → WritesDrive (written_from start key address deleted) bay start result
             (shown self.new (C.rig machine.new) spares waiting) }
         ensures counts { GoesOn (C.rig machine.old).counters (C.rig machine.new).counters }
         ensures idle { C.is_idle machine.new }
@@ -106,8 +106,8 @@ impl Driver {
         requires ready { CanWrite self.old (C.rig machine.old) bay }
         ensures attempt { (spares : ℕ) (waiting : List DriveCounts) → TriesWrite (IsSure self.old.tries attempt)
             (record { key = key; deleted = deleted; content = bytes_from (C.rig machine.old).memory address (content_size key.n) })
-            bay result
-            (shown self.old (C.rig machine.old) spares waiting) (shown self.new (C.rig machine.new) spares waiting) }
+            bay (shown self.old (C.rig machine.old) spares waiting)
+            result (shown self.new (C.rig machine.new) spares waiting) }
         ensures tries { self.new.tries ≡ self.old.tries }
         ensures memory { (C.rig machine.new).memory ≡ (C.rig machine.old).memory }
         ensures counts { GoesOn (C.rig machine.old).counters (C.rig machine.new).counters }
@@ -138,8 +138,8 @@ fn write_checked<C: Commands>(
     requires spun { in_bay (C.rig machine.old).spun bay ≡ true }
     requires sound { IsSound (C.rig machine.old) }
     requires unprotected { option_map_or (λ disk. disk.protected) (in_bay (C.rig machine.old).media bay) false ≡ false }
-    ensures checked { WritesChecked (C.rig machine.old) bay rate
-        (record { key = key; deleted = deleted; content = bytes_from (C.rig machine.old).memory address (content_size key.n) })
+    ensures checked { WritesChecked bay rate (record { key = key; deleted = deleted; content = bytes_from (C.rig machine.old).memory address (content_size key.n) })
+        (C.rig machine.old)
         result (C.rig machine.new) }
     ensures sound { IsSound (C.rig machine.new) }
     ensures idle { C.is_idle machine.new }

@@ -38,11 +38,11 @@ use Rattle.std.proofs.lemmas.Bool.{true≢false}
 use Rattle.floppy_report.proofs.DumpLines.{grown-twice, grown-nothing}
 
 -- no request was run
-pub has-run-none : (old : World) → HasRun old [] false old
+pub has-run-none : (old : World) → HasRun [] old false old
 has-run-none old = record { course = []; run = (refl, refl); all = refl; report = sym (grown-nothing old.report); is_refused = refl }
 
 -- one request more was run
-pub has-run-more : (old mid new : World) (requests : List Request) (asked : Request) (refused refusal : Bool) → HasRun old requests refused mid → IsRound mid asked refusal new → HasRun old (requests ++ asked ∷ []) (refused || refusal) new
+pub has-run-more : (old mid new : World) (requests : List Request) (asked : Request) (refused refusal : Bool) → HasRun requests old refused mid → IsRound asked mid refusal new → HasRun (requests ++ asked ∷ []) old (refused || refusal) new
 has-run-more old mid new requests asked refused refusal so_far round =
     let taken : Taken = record { asked = asked; answer = round.answer; after = new.state } in
     record {
@@ -54,10 +54,10 @@ has-run-more old mid new requests asked refused refusal so_far round =
     }
 
 -- the requests up to one more were run
-pub has-run-next : (old mid new : World) (requests : List Request) (i : ℕ) (asked : Request) (refused refusal now : Bool) → HasRun old (take i requests) refused mid → IsRound mid asked refusal new → i < length requests → asked ≡ get_or requests i asked → now ≡ (refused || refusal) → HasRun old (take (i + 1) requests) now new
+pub has-run-next : (old mid new : World) (requests : List Request) (i : ℕ) (asked : Request) (refused refusal now : Bool) → HasRun (take i requests) old refused mid → IsRound asked mid refusal new → i < length requests → asked ≡ get_or requests i asked → now ≡ (refused || refusal) → HasRun (take (i + 1) requests) old now new
 has-run-next old mid new requests i asked refused refusal now so_far round within item either =
     let one : take (i + 1) requests ≡ take i requests ++ asked ∷ [] = take_more requests i asked within ∙ ap (λ (r : Request). take i requests ++ r ∷ []) (sym item) in
-    subst (λ (b : Bool). HasRun old (take (i + 1) requests) b new) (sym either) (subst (λ (rs : List Request). HasRun old rs (refused || refusal) new) (sym one) (has-run-more old mid new (take i requests) asked refused refusal so_far round))
+    subst (λ (b : Bool). HasRun (take (i + 1) requests) old b new) (sym either) (subst (λ (rs : List Request). HasRun rs old (refused || refusal) new) (sym one) (has-run-more old mid new (take i requests) asked refused refusal so_far round))
 
 -- a request, those before it and those after it are all
 pub parted : (requests : List Request) (i : ℕ) (asked : Request) → i < length requests → asked ≡ get_or requests i asked → requests ≡ take i requests ++ asked ∷ drop (suc i) requests
@@ -65,7 +65,7 @@ parted requests i asked within item =
     sym (take-append-drop i requests) ∙ ap (λ (rest : List Request). take i requests ++ rest) (drop-cons requests i asked within ∙ ap (λ (r : Request). r ∷ drop (suc i) requests) (sym item))
 
 -- a play that a request broke off
-pub broken : (old mid new : World) (requests : List Request) (i : ℕ) (asked : Request) (refused : Bool) (ended : Status) → HasRun old (take i requests) refused mid → i < length requests → asked ≡ get_or requests i asked → Breaks mid asked new ended → HasPlayed old requests new ended
+pub broken : (old mid new : World) (requests : List Request) (i : ℕ) (asked : Request) (refused : Bool) (ended : Status) → HasRun (take i requests) old refused mid → i < length requests → asked ≡ get_or requests i asked → Breaks asked mid new ended → HasPlayed requests old new ended
 broken old mid new requests i asked refused ended so_far within item (AtStop cause stops prints) = (
   so_far.course,
   Stopped (record {
@@ -77,7 +77,7 @@ broken old mid new requests i asked refused ended so_far within item (AtStop cau
     run = so_far.run;
     all = parted requests i asked within item ∙ ap (λ (before : List Request). before ++ asked ∷ drop (suc i) requests) so_far.all;
     stops = stops;
-    prints = subst (λ (r : Option (List ℕ)). Prints r (stop_text cause) (stop_status cause) new.report ended) so_far.report prints;
+    prints = subst (λ (r : Option (List ℕ)). Prints (stop_text cause) (stop_status cause) r new.report ended) so_far.report prints;
   }),
 )
 broken old mid new requests i asked refused ended so_far within item (AtPut answer step part fault) =
@@ -100,7 +100,7 @@ broken old mid new requests i asked refused ended so_far within item (AtPut answ
     )
 
 -- all requests were run, and then the end came
-pub run-ends : (old mid new : World) (requests : List Request) (refused : Bool) (ended : Status) → HasRun old requests refused mid → new.report ≡ mid.report → EndsAs mid.state mid.files refused new.state new.files ended → HasPlayed old requests new ended
+pub run-ends : (old mid new : World) (requests : List Request) (refused : Bool) (ended : Status) → HasRun requests old refused mid → new.report ≡ mid.report → EndsAs refused mid.state mid.files new.state new.files ended → HasPlayed requests old new ended
 run-ends old mid new requests refused ended so_far report (InWhole ends whole) = (
   so_far.course,
   Played (record {
@@ -149,24 +149,24 @@ pub all_have_tries : (requests : List Request) → All IsRequest requests → Al
 all_have_tries requests valid = λ k d within. has_tries (get_or requests k d) (valid k d within)
 
 -- a text that spells requests
-pub parsed_plays : (old new : World) (text : List ℕ) (given requests : List Request) (ended : Status) → parsed_of text ≡ Ok requests → given ≡ requests → HasPlayed old given new ended → PlaysOrStarves old text new ended
+pub parsed_plays : (old new : World) (text : List ℕ) (given requests : List Request) (ended : Status) → parsed_of text ≡ Ok requests → given ≡ requests → HasPlayed given old new ended → PlaysOrStarves text old new ended
 parsed_plays old new text given requests ended spelled same played =
     AsParsed played.0
-    (subst (λ (parsed : Result (List Request) ℕ). PlaysParsed old parsed played.0 new ended) (sym spelled)
-    (subst (λ (rs : List Request). PlaysRequests old rs played.0 new ended) same played.1))
+    (subst (λ (parsed : Result (List Request) ℕ). PlaysParsed parsed old played.0 new ended) (sym spelled)
+    (subst (λ (rs : List Request). PlaysRequests rs old played.0 new ended) same played.1))
 
 -- what a reading answered that found a bad line
 pub read_bad : {A : Type 0} (items : A → List Request) (error : JobError) (said : Result (List Request) ℕ) (line : ℕ) → ReadsText items (Err error) said → error ≡ lines.BadLine line → said ≡ Err line
 read_bad items error said line reads is = subst (λ (e : JobError). ReadsText items (Err e) said) is reads
 
 -- a text with a bad line
-pub unparsed_tells : (old new : World) (text : List ℕ) (line : ℕ) (ended : Status) → parsed_of text ≡ Err line → Tells old (bad_line_text line) status.BadJob new ended → PlaysOrStarves old text new ended
+pub unparsed_tells : (old new : World) (text : List ℕ) (line : ℕ) (ended : Status) → parsed_of text ≡ Err line → Tells (bad_line_text line) status.BadJob old new ended → PlaysOrStarves text old new ended
 unparsed_tells old new text line ended spelled tells =
     AsParsed []
-    (subst (λ (parsed : Result (List Request) ℕ). PlaysParsed old parsed [] new ended) (sym spelled) (record { nothing = refl; tells = tells }))
+    (subst (λ (parsed : Result (List Request) ℕ). PlaysParsed parsed old [] new ended) (sym spelled) (record { nothing = refl; tells = tells }))
 
 -- a play whose text was read
-pub as_text : (old new : World) (job text : List ℕ) (ended : Status) → IsText old.files job text → PlaysOrStarves old text new ended → (course : List Taken) × Plays old job course new ended
+pub as_text : (old new : World) (job text : List ℕ) (ended : Status) → IsText old.files job text → PlaysOrStarves text old new ended → (course : List Taken) × Plays job old course new ended
 as_text old new job text ended told (AsParsed course plays) = (course, There (record { text = text; told = told; plays = plays }))
 as_text old new job text ended told (Starving idle) = ([], Starved refl idle)
 
@@ -176,7 +176,7 @@ loaded_text None job bytes loads = tt
 loaded_text (Some files) job bytes loads = subst (λ (found : Option (List ℕ)). IsSomeAnd found (λ b. (b ≡ bytes.items) × (length b ≤ 4194304))) (sym loads.0) (refl, loads.1)
 
 -- a play whose text wasn't had
-pub as_missed : (told : Option Files) (state : State) (report after : Option (List ℕ)) (job : List ℕ) (error : LoadError) (ended : Status) → IfSome told (λ files. Loads files job 4194304 (Err error)) → Misses error job report after ended → (course : List Taken) × Plays (world state told report) job course (world state told after) ended
+pub as_missed : (told : Option Files) (state : State) (report after : Option (List ℕ)) (job : List ℕ) (error : LoadError) (ended : Status) → IfSome told (λ files. Loads files job 4194304 (Err error)) → Misses error job report after ended → (course : List Taken) × Plays job (world state told report) course (world state told after) ended
 as_missed None state report after job load.Absent ended loads missed = ([], Missing tt (record { nothing = refl; tells = record { state = refl; files = refl; prints = missed } }))
 as_missed (Some files) state report after job load.Absent ended loads missed = ([], Missing loads (record { nothing = refl; tells = record { state = refl; files = refl; prints = missed } }))
 as_missed None state report after job load.TooLong ended loads missed = ([], TooLong tt (record { nothing = refl; tells = record { state = refl; files = refl; prints = missed } }))
@@ -185,22 +185,22 @@ as_missed told state report after job load.Failed ended loads missed = ([], Faul
 as_missed told state report after job load.NoMemory ended loads missed = ([], Starved refl (record { same = ap (world state told) missed.0; status = missed.1 }))
 
 -- a file that was loaded, and a text that was played
-pub text_plays : (state : State) (told loaded : Option Files) (report : Option (List ℕ)) (new : World) (job text : List ℕ) (bytes : Vec ℕ Global) (ended : Status) → loaded ≡ told → text ≡ bytes.items → IfSome told (λ files. Loads files job 4194304 (Ok bytes)) → PlaysOrStarves (world state loaded report) text new ended → (course : List Taken) × Plays (world state told report) job course new ended
+pub text_plays : (state : State) (told loaded : Option Files) (report : Option (List ℕ)) (new : World) (job text : List ℕ) (bytes : Vec ℕ Global) (ended : Status) → loaded ≡ told → text ≡ bytes.items → IfSome told (λ files. Loads files job 4194304 (Ok bytes)) → PlaysOrStarves text (world state loaded report) new ended → (course : List Taken) × Plays job (world state told report) course new ended
 text_plays state told loaded report new job text bytes ended stays same loads plays =
     as_text (world state told report) new job bytes.items ended (loaded_text told job bytes loads)
-    (subst (λ (files : Option Files). PlaysOrStarves (world state files report) bytes.items new ended) stays
-    (subst (λ (read : List ℕ). PlaysOrStarves (world state loaded report) read new ended) same plays))
+    (subst (λ (files : Option Files). PlaysOrStarves bytes.items (world state files report) new ended) stays
+    (subst (λ (read : List ℕ). PlaysOrStarves read (world state loaded report) new ended) same plays))
 
 -- a file that wasn't loaded
-pub missed_plays : (state : State) (told loaded : Option Files) (report after : Option (List ℕ)) (job : List ℕ) (error : LoadError) (ended : Status) → loaded ≡ told → IfSome told (λ files. Loads files job 4194304 (Err error)) → Misses error job report after ended → (course : List Taken) × Plays (world state told report) job course (world state loaded after) ended
+pub missed_plays : (state : State) (told loaded : Option Files) (report after : Option (List ℕ)) (job : List ℕ) (error : LoadError) (ended : Status) → loaded ≡ told → IfSome told (λ files. Loads files job 4194304 (Err error)) → Misses error job report after ended → (course : List Taken) × Plays job (world state told report) course (world state loaded after) ended
 missed_plays state told loaded report after job error ended stays loads missed =
-    subst (λ (files : Option Files). (course : List Taken) × Plays (world state told report) job course (world state files after) ended) (sym stays)
+    subst (λ (files : Option Files). (course : List Taken) × Plays job (world state told report) course (world state files after) ended) (sym stays)
     (as_missed told state report after job error ended loads missed)
 
 -- ---- Forms.
 
 -- a play is what its form asks for
-pub play_runs : (job : List ℕ) (old new : World) (ended : Status) → ((course : List Taken) × Plays old job course new ended) → Runs (DoesForm (form.Play job)) old new ended
+pub play_runs : (job : List ℕ) (old new : World) (ended : Status) → ((course : List Taken) × Plays job old course new ended) → Runs (DoesForm (form.Play job)) old new ended
 play_runs job old new ended p = record { course = p.0; does = p.1; ties = play_ties old new job p.0 ended p.1 }
 
 -- a form, by what it was found to be
@@ -222,9 +222,9 @@ runs_starving (Some asked) old some = record {
 }
 
 -- words that are no form
-pub runs_none : (spelled : Option Form) (old new : World) (ended : Status) → spelled ≡ None → Tells old bad_words_text status.BadWords new ended → Runs (Does spelled) old new ended
+pub runs_none : (spelled : Option Form) (old new : World) (ended : Status) → spelled ≡ None → Tells bad_words_text status.BadWords old new ended → Runs (Does spelled) old new ended
 runs_none spelled old new ended none tells =
-    let alone : TellsAlone old bad_words_text status.BadWords [] new ended = record { nothing = refl; tells = tells } in
+    let alone : TellsAlone bad_words_text status.BadWords old [] new ended = record { nothing = refl; tells = tells } in
     subst (λ (o : Option Form). Runs (Does o) old new ended) (sym none)
     (record { course = []; does = alone; ties = alone_ties old new bad_words_text status.BadWords [] ended alone })
 

@@ -29,7 +29,7 @@ pub record OnFiles (Does : Desk → Desk → Status → Type 0) (old : World) (c
 
 -- what a form asks for
 abbrev pub DoesForm : Form → World → List Taken → World → Status → Type 0
-DoesForm (form.Play job) old course new ended = Plays old job course new ended
+DoesForm (form.Play job) old course new ended = Plays job old course new ended
 DoesForm (form.Format name cylinders) old course new ended = Formats name cylinders R500 old course new ended
 DoesForm (form.FormatDd name cylinders) old course new ended = Formats name cylinders R250 old course new ended
 DoesForm (form.Copy from to) old course new ended = Copies from to old course new ended
@@ -52,4 +52,4 @@ pub data DoesOrStarves (asked : Form) (old : World) (course : List Taken) (new :
 -- what the program does with the form that its words are, or with words that are none
 abbrev pub Does : Option Form → World → List Taken → World → Status → Type 0
 Does (Some asked) old course new ended = DoesOrStarves asked old course new ended
-Does None old course new ended = TellsAlone old bad_words_text status.BadWords course new ended
+Does None old course new ended = TellsAlone bad_words_text status.BadWords old course new ended

@@ -21,21 +21,21 @@ abbrev pub world : State → Option Files → Option (List ℕ) → World
 world state files report = record { state = state; files = files; report = report }
 
 -- a request was run and told whole; `refused` says that its answer is a refusal
-pub record IsRound (old : World) (asked : Request) (refused : Bool) (new : World) : Type 0 where
+pub record IsRound (asked : Request) (old : World) (refused : Bool) (new : World) : Type 0 where
   pub answer : Reply
-  pub step : Step old.state old.files asked answer new.state new.files
+  pub step : Step asked old.state old.files answer new.state new.files
   pub report : new.report ≡ grown old.report (reply_text asked answer)
   pub is_refused : refused ≡ is_refusal answer
 
 -- a request stopped the run, or its answer couldn't be told whole
-pub data Breaks (old : World) (asked : Request) (new : World) (ended : Status) : Type 0 where
-  AtStop : (cause : Stop) → StopsAt old.state old.files asked cause new.state new.files
-      → Prints old.report (stop_text cause) (stop_status cause) new.report ended → Breaks old asked new ended
-  AtPut : (answer : Reply) → Step old.state old.files asked answer new.state new.files
-      → GrowsByPart old.report (reply_text asked answer) new.report → IsPutFault ended → Breaks old asked new ended
+pub data Breaks (asked : Request) (old new : World) (ended : Status) : Type 0 where
+  AtStop : (cause : Stop) → StopsAt asked old.state old.files cause new.state new.files
+      → Prints (stop_text cause) (stop_status cause) old.report new.report ended → Breaks asked old new ended
+  AtPut : (answer : Reply) → Step asked old.state old.files answer new.state new.files
+      → GrowsByPart old.report (reply_text asked answer) new.report → IsPutFault ended → Breaks asked old new ended
 
 -- some requests were run and told whole
-pub record HasRun (old : World) (requests : List Request) (refused : Bool) (new : World) : Type 0 where
+pub record HasRun (requests : List Request) (old : World) (refused : Bool) (new : World) : Type 0 where
   pub course : List Taken
   pub run : Run old.state old.files course new.state new.files
   pub all : requests ≡ requests_of course
@@ -43,23 +43,23 @@ pub record HasRun (old : World) (requests : List Request) (refused : Bool) (new 
   pub is_refused : refused ≡ has_refusal course
 
 -- requests of a job are played, by some course
-abbrev pub HasPlayed : World → List Request → World → Status → Type 0
-HasPlayed old requests new ended = (course : List Taken) × PlaysRequests old requests course new ended
+abbrev pub HasPlayed : List Request → World → World → Status → Type 0
+HasPlayed requests old new ended = (course : List Taken) × PlaysRequests requests old course new ended
 
 -- the end of a run: what was left in was stored, or a stop came at a store
-pub data EndsAs (old : State) (files : Option Files) (refused : Bool) (new : State) (after : Option Files) (ended : Status) : Type 0 where
-  InWhole : Ends old files new after → ended ≡ whole_status refused → EndsAs old files refused new after ended
+pub data EndsAs (refused : Bool) (old : State) (files : Option Files) (new : State) (after : Option Files) (ended : Status) : Type 0 where
+  InWhole : Ends old files new after → ended ≡ whole_status refused → EndsAs refused old files new after ended
   AtStore : (cause : Stop) → IsEndStop cause → EndStopsAt old files new after → ended ≡ stop_status cause
-      → EndsAs old files refused new after ended
+      → EndsAs refused old files new after ended
 
 -- a text is played as it is parsed, or memory for that couldn't be had
-pub data PlaysOrStarves (old : World) (text : List ℕ) (new : World) (ended : Status) : Type 0 where
-  AsParsed : (course : List Taken) → PlaysParsed old (job_of text) course new ended → PlaysOrStarves old text new ended
-  Starving : IsIdle old new status.NoMemory ended → PlaysOrStarves old text new ended
+pub data PlaysOrStarves (text : List ℕ) (old new : World) (ended : Status) : Type 0 where
+  AsParsed : (course : List Taken) → PlaysParsed (job_of text) old course new ended → PlaysOrStarves text old new ended
+  Starving : IsIdle old new status.NoMemory ended → PlaysOrStarves text old new ended
 
 -- why a job's text wasn't had, and what was printed of it
 abbrev pub Misses : LoadError → List ℕ → Option (List ℕ) → Option (List ℕ) → Status → Type 0
-Misses load.Absent job old new ended = Prints old (absent_text job) status.Absent new ended
-Misses load.TooLong job old new ended = Prints old (bad_line_text 0) status.BadJob new ended
+Misses load.Absent job old new ended = Prints (absent_text job) status.Absent old new ended
+Misses load.TooLong job old new ended = Prints (bad_line_text 0) status.BadJob old new ended
 Misses load.Failed job old new ended = (new ≡ old) × (ended ≡ status.FileFault)
 Misses load.NoMemory job old new ended = (new ≡ old) × (ended ≡ status.NoMemory)

@@ -30,10 +30,10 @@ fn run_one<S: Shelf, K: Sink, D: Station>(
     requires running { IsRunning D.shown D.is_ready session.old }
     requires tries { HasTries request.now }
     ensures round { IfOk result (λ refused. IsRound
-        (world_of D.shown S.told K.told session.old shelf.old out.old) request.now refused
+        request.now (world_of D.shown S.told K.told session.old shelf.old out.old) refused
         (world_of D.shown S.told K.told session.new shelf.new out.new)) }
     ensures breaks { IfErr result (λ ended. Breaks
-        (world_of D.shown S.told K.told session.old shelf.old out.old) request.now
+        request.now (world_of D.shown S.told K.told session.old shelf.old out.old)
         (world_of D.shown S.told K.told session.new shelf.new out.new) ended) }
     ensures running { IsRunning D.shown D.is_ready session.new }
     ensures is_form { result ≢ Err Status.BadWords }
@@ -78,10 +78,10 @@ fn run_requests<S: Shelf, K: Sink, D: Station>(
     requires running { IsRunning D.shown D.is_ready session.old }
     requires tries { All HasTries requests.now }
     ensures run { IfOk result (λ refused. HasRun
-        (world_of D.shown S.told K.told session.old shelf.old out.old) requests.now refused
+        requests.now (world_of D.shown S.told K.told session.old shelf.old out.old) refused
         (world_of D.shown S.told K.told session.new shelf.new out.new)) }
     ensures plays { IfErr result (λ ended. HasPlayed
-        (world_of D.shown S.told K.told session.old shelf.old out.old) requests.now
+        requests.now (world_of D.shown S.told K.told session.old shelf.old out.old)
         (world_of D.shown S.told K.told session.new shelf.new out.new) ended) }
     ensures running { IsRunning D.shown D.is_ready session.new }
     ensures is_form { result ≢ Err Status.BadWords }
@@ -103,7 +103,7 @@ fn run_requests<S: Shelf, K: Sink, D: Station>(
 /// Stores what is left in the bays of a session, and gives the status of a run to the end.
 fn finish<S: Shelf, D: Station>(session: &mut Session<D>, shelf: &mut S, refused: bool) -> Status
     requires running { IsRunning D.shown D.is_ready session.old }
-    ensures ends { EndsAs (state_of D.shown session.old) (S.told shelf.old) refused
+    ensures ends { EndsAs refused (state_of D.shown session.old) (S.told shelf.old)
         (state_of D.shown session.new) (S.told shelf.new) result }
     ensures running { IsRunning D.shown D.is_ready session.new }
     ensures is_form { result ≢ Status.BadWords }
@@ -138,7 +138,7 @@ fn play_requests<S: Shelf, K: Sink, D: Station>(
     requires running { IsRunning D.shown D.is_ready session.old }
     requires tries { All HasTries requests.now }
     ensures plays { HasPlayed
-        (world_of D.shown S.told K.told session.old shelf.old out.old) requests.now
+        requests.now (world_of D.shown S.told K.told session.old shelf.old out.old)
         (world_of D.shown S.told K.told session.new shelf.new out.new) result }
     ensures running { IsRunning D.shown D.is_ready session.new }
     ensures is_form { result ≢ Status.BadWords }
@@ -163,7 +163,7 @@ fn play_text<S: Shelf, K: Sink, D: Station>(
 ) -> Status
     requires running { IsRunning D.shown D.is_ready session.old }
     ensures plays { PlaysOrStarves
-        (world_of D.shown S.told K.told session.old shelf.old out.old) text.now
+        text.now (world_of D.shown S.told K.told session.old shelf.old out.old)
         (world_of D.shown S.told K.told session.new shelf.new out.new) result }
     ensures running { IsRunning D.shown D.is_ready session.new }
     ensures is_form { result ≢ Status.BadWords }
@@ -205,7 +205,7 @@ pub(crate) fn play<S: Shelf, K: Sink, D: Station>(
 ) -> Status
     requires running { IsRunning D.shown D.is_ready session.old }
     ensures plays { (course : List Taken) × Plays
-        (world_of D.shown S.told K.told session.old shelf.old out.old) job.now course
+        job.now (world_of D.shown S.told K.told session.old shelf.old out.old) course
         (world_of D.shown S.told K.told session.new shelf.new out.new) result }
     ensures running { IsRunning D.shown D.is_ready session.new }
     ensures is_form { result ≢ Status.BadWords }

@@ -242,7 +242,7 @@ pub fn stop_status(stop: &Stop) -> Status
 
 /// Puts the last line of a run that stopped, and gives its status.
 pub fn put_last<K: Sink>(alloc: Global, out: &mut K, stop: &Stop) -> Status
-    ensures prints { Prints (K.told out.old) (stop_text stop.now) (stop_status stop.now) (K.told out.new) result }
+    ensures prints { Prints (stop_text stop.now) (stop_status stop.now) (K.told out.old) (K.told out.new) result }
     ensures is_form { result ≢ Status.BadWords }
     ensures shelf_fault { result ≡ Status.FileFault → stop.now ≡ Stop.FileFault }
     ensures faults { Blames (result ≡ Status.SinkFault) (K.fault_count out.old) (K.fault_count out.new) }
@@ -252,7 +252,7 @@ pub fn put_last<K: Sink>(alloc: Global, out: &mut K, stop: &Stop) -> Status
 
 /// Puts the last line where a file isn't there, and gives the status.
 pub fn put_last_absent<K: Sink>(alloc: Global, out: &mut K, name: &str) -> Status
-    ensures prints { Prints (K.told out.old) (absent_text name.now) Status.Absent (K.told out.new) result }
+    ensures prints { Prints (absent_text name.now) Status.Absent (K.told out.old) (K.told out.new) result }
     ensures only { result ≢ Status.Absent → IsPutFault result }
     ensures faults { Blames (result ≡ Status.SinkFault) (K.fault_count out.old) (K.fault_count out.new) }
 {
@@ -261,7 +261,7 @@ pub fn put_last_absent<K: Sink>(alloc: Global, out: &mut K, name: &str) -> Statu
 
 /// Puts the last line where a job's line isn't understood, and gives the status.
 pub fn put_last_bad_line<K: Sink>(alloc: Global, out: &mut K, line: usize) -> Status
-    ensures prints { Prints (K.told out.old) (bad_line_text line) Status.BadJob (K.told out.new) result }
+    ensures prints { Prints (bad_line_text line) Status.BadJob (K.told out.old) (K.told out.new) result }
     ensures only { result ≢ Status.BadJob → IsPutFault result }
     ensures faults { Blames (result ≡ Status.SinkFault) (K.fault_count out.old) (K.fault_count out.new) }
 {
@@ -285,7 +285,7 @@ pub fn put_last_stopped<K: Sink>(
     request: &Request,
     reason: Reason,
 ) -> Status
-    ensures prints { Prints (K.told out.old) (stopped_text request.now reason) Status.SomeRefused (K.told out.new) result }
+    ensures prints { Prints (stopped_text request.now reason) Status.SomeRefused (K.told out.old) (K.told out.new) result }
     ensures only { result ≢ Status.SomeRefused → IsPutFault result }
     ensures faults { Blames (result ≡ Status.SinkFault) (K.fault_count out.old) (K.fault_count out.new) }
 {
@@ -305,7 +305,7 @@ fn unfit_line(alloc: Global, c: u8, h: u8) -> Result<String, AllocError>
 
 /// Puts the last line where the track of a cylinder and a head can't be had in another form, and gives the status.
 pub fn put_last_unfit<K: Sink>(alloc: Global, out: &mut K, c: u8, h: u8) -> Status
-    ensures prints { Prints (K.told out.old) (unfit_text c h) Status.SomeRefused (K.told out.new) result }
+    ensures prints { Prints (unfit_text c h) Status.SomeRefused (K.told out.old) (K.told out.new) result }
     ensures only { result ≢ Status.SomeRefused → IsPutFault result }
     ensures faults { Blames (result ≡ Status.SinkFault) (K.fault_count out.old) (K.fault_count out.new) }
 {
@@ -319,7 +319,7 @@ pub fn put_last_line<K: Sink>(
     status: Status,
 ) -> Status
     ensures prints { (text : List ℕ) → IfOk line (λ made. string_bytes made ≡ text)
-        → Prints (K.told out.old) text status (K.told out.new) result }
+        → Prints text status (K.told out.old) (K.told out.new) result }
     ensures only { result ≢ status → IsPutFault result }
     ensures faults { status ≢ Status.SinkFault
         → Blames (result ≡ Status.SinkFault) (K.fault_count out.old) (K.fault_count out.new) }
@@ -329,7 +329,7 @@ pub fn put_last_line<K: Sink>(
 
 /// Puts the last line where the words are no form of the program, and gives the status.
 pub fn put_last_bad_words<K: Sink>(out: &mut K) -> Status
-    ensures prints { Prints (K.told out.old) bad_words_text Status.BadWords (K.told out.new) result }
+    ensures prints { Prints bad_words_text Status.BadWords (K.told out.old) (K.told out.new) result }
     ensures only { result ≢ Status.BadWords → IsPutFault result }
     ensures faults { Blames (result ≡ Status.SinkFault) (K.fault_count out.old) (K.fault_count out.new) }
 {

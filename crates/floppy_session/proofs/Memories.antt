@@ -53,7 +53,7 @@ module _ (memory : List ℕ) (address : ℕ) where
       ∙ ap (λ bytes. with_items memory address bytes) (replicate-append-replicate i 1 byte)
 
 -- no byte is filled yet
-pub fills_none : (old : State) (address byte : ℕ) → Fills old address 0 byte old
+pub fills_none : (old : State) (address byte : ℕ) → Fills address 0 byte old old
 fills_none old address byte = record {
   names = refl;
   becomes = ap (λ (memory : List ℕ). let station : StationState = record old.station { memory = memory } in station) (sym (with_items-nil old.station.memory address));
@@ -62,7 +62,7 @@ fills_none old address byte = record {
 }
 
 -- a byte behind those that were filled
-pub fills_more : (old mid new : State) (address i byte : ℕ) → Fills old address i byte mid → new.names ≡ mid.names → SetsMemory mid.station (address + i) byte new.station → GoesOn mid.station.counters new.station.counters → length mid.station.memory ≡ user_bytes → address + i < 983040 → Fills old address (i + 1) byte new
+pub fills_more : (old mid new : State) (address i byte : ℕ) → Fills address i byte old mid → new.names ≡ mid.names → SetsMemory (address + i) byte mid.station new.station → GoesOn mid.station.counters new.station.counters → length mid.station.memory ≡ user_bytes → address + i < 983040 → Fills address (i + 1) byte old new
 fills_more old mid new address i byte filled names sets counts size inside =
     let memory : mid.station.memory ≡ with_items old.station.memory address (replicate i byte) = ap (λ (s : StationState). s.memory) filled.becomes in
     let long : length (with_items old.station.memory address (replicate i byte)) ≡ 983040 = ap length (sym memory) ∙ size in

@@ -73,12 +73,12 @@ pub by_refusal : {A C : Type 0} (o : Option A) (P : Type 0) (Q : A → Type 0) �
 by_refusal None P Q h p q = p h
 by_refusal (Some a) P Q h p q = q a h
 
-keeps_read : (old new : StationState) (bay : ℕ) (key : Chrn) (address : ℕ) (answer : Result Bool Code) → ReadsDrive old bay key address answer new → KeepsShapes old.bays new.bays
+keeps_read : (old new : StationState) (bay : ℕ) (key : Chrn) (address : ℕ) (answer : Result Bool Code) → ReadsDrive bay key address old answer new → KeepsShapes old.bays new.bays
 keeps_read old new bay key address (Ok deleted) read = keeps_same old.bays new.bays (ap (λ (s : StationState). s.bays) read.found.becomes)
 keeps_read old new bay key address (Err code) read = keeps_same old.bays new.bays (ap (λ (s : StationState). s.bays) read.refused.becomes)
 
 -- a read leaves each medium in
-pub keeps_reads : (old new : StationState) (bay : ℕ) (key : Chrn) (address : ℕ) (answer : Result Bool Code) → Reads old bay key address answer new → KeepsShapes old.bays new.bays
+pub keeps_reads : (old new : StationState) (bay : ℕ) (key : Chrn) (address : ℕ) (answer : Result Bool Code) → Reads bay key address old answer new → KeepsShapes old.bays new.bays
 keeps_reads old new bay key address answer reads =
     by_refusal (read_refusal old bay key address) _ _ reads
     (keeps_read old new bay key address answer)
@@ -103,7 +103,7 @@ keeps_reach written (Some disk) changes None reach = absurd reach
 keeps_reach written None changes after reach = ap (λ (o : Option Disk). option_map shape_of o) reach.1
 
 -- a write leaves each medium in
-pub keeps_writes : (old new : StationState) (bay : ℕ) (key : Chrn) (address : ℕ) (deleted : Bool) (answer : Result (Unit {0}) Code) → WritesTo old bay key address deleted answer new → KeepsShapes old.bays new.bays
+pub keeps_writes : (old new : StationState) (bay : ℕ) (key : Chrn) (address : ℕ) (deleted : Bool) (answer : Result (Unit {0}) Code) → WritesTo bay key address deleted old answer new → KeepsShapes old.bays new.bays
 keeps_writes old new bay key address deleted answer writes =
     by_refusal (write_refusal old bay key address) _ _ writes
     (λ written. keeps_set old new bay _ (ap (λ (s : StationState). s.bays) written.becomes) (keeps_reach _ _ _ _ written.reach))
@@ -119,14 +119,14 @@ keeps_lays format (Some disk) layings None lays = absurd lays
 keeps_lays format None layings after lays = ap (λ (o : Option Disk). option_map shape_of o) lays.1
 
 -- a format leaves each medium in
-pub keeps_formats : (old new : StationState) (bay c h gap3 fill : ℕ) (answer : Result (Unit {0}) Code) → FormatsTo old bay c h gap3 fill answer new → KeepsShapes old.bays new.bays
+pub keeps_formats : (old new : StationState) (bay c h gap3 fill : ℕ) (answer : Result (Unit {0}) Code) → FormatsTo bay c h gap3 fill old answer new → KeepsShapes old.bays new.bays
 keeps_formats old new bay c h gap3 fill answer formats =
     by_refusal (format_refusal old bay c h gap3) _ _ formats
     (λ formatted. keeps_set old new bay _ (ap (λ (s : StationState). s.bays) formatted.becomes) (keeps_lays _ _ _ _ formatted.lays))
     (λ code refused. keeps_stays old new refused.stays)
 
 -- a change of the rate leaves each medium in
-pub keeps_rates : (old new : StationState) (bay : ℕ) (rate : Rate) (answer : Result (Unit {0}) Code) → RatesTo old bay rate answer new → KeepsShapes old.bays new.bays
+pub keeps_rates : (old new : StationState) (bay : ℕ) (rate : Rate) (answer : Result (Unit {0}) Code) → RatesTo bay rate old answer new → KeepsShapes old.bays new.bays
 keeps_rates old new bay rate answer rates =
     by_refusal (rate_refusal old bay) _ _ rates
     (λ set. keeps_set old new bay _ (ap (λ (s : StationState). s.bays) set.becomes) refl)

@@ -35,8 +35,8 @@ use Rattle.floppy_session.specs.Services.{MovesRecord, MovesIn, VerifiesRecords,
 use Rattle.floppy_session.proofs.Named.{by_refusal}
 
 -- a step, by what was answered
-pub replied : (old new : State) (told : Option Files) (asked : Request) (given answer : Reply) → given ≡ answer → Step old told asked answer new told → Step old told asked given new told
-replied old new told asked given answer is step = subst (λ (r : Reply). Step old told asked r new told) (sym is) step
+pub replied : (old new : State) (told : Option Files) (asked : Request) (given answer : Reply) → given ≡ answer → Step asked old told answer new told → Step asked old told given new told
+replied old new told asked given answer is step = subst (λ (r : Reply). Step asked old told r new told) (sym is) step
 
 -- ---- Requests that are done, one after the other.
 
@@ -46,7 +46,7 @@ done_none old told = record { run = (refl, refl); asked = refl; fine = refl }
 or_no : (a b : Bool) → a ≡ false → b ≡ false → (a || b) ≡ false
 or_no a b one two = subst (λ (x : Bool). (x || b) ≡ false) (sym one) two
 
-pub done_more : (requests more : List Request) (next : Request) (answer : Reply) (old mid new : State) (told : Option Files) (course : List Taken) → more ≡ requests ++ next ∷ [] → AreDone requests old told course mid → is_refusal answer ≡ false → Step mid told next answer new told → AreDone more old told (course ++ (record { asked = next; answer = answer; after = new }) ∷ []) new
+pub done_more : (requests more : List Request) (next : Request) (answer : Reply) (old mid new : State) (told : Option Files) (course : List Taken) → more ≡ requests ++ next ∷ [] → AreDone requests old told course mid → is_refusal answer ≡ false → Step next mid told answer new told → AreDone more old told (course ++ (record { asked = next; answer = answer; after = new }) ∷ []) new
 done_more requests more next answer old mid new told course is done fine step =
     let taken : Taken = record { asked = next; answer = answer; after = new } in
     record {
@@ -95,7 +95,7 @@ module _ (memory : List ℕ) (a : ℕ) (bytes : List ℕ) (fits : a + length byt
   length-written =
       omega (arith, front, length-append (take a memory) (bytes ++ drop (a + length bytes) memory), length-append bytes (drop (a + length bytes) memory), length-drop (a + length bytes) memory)
 
-  written_outside : SameOutside memory a (length bytes) (with_items memory a bytes)
+  written_outside : SameOutside a (length bytes) memory (with_items memory a bytes)
   unfolding with_items
   written_outside = record {
     length = length-written;
@@ -137,17 +137,17 @@ module _ (memory : List ℕ) (a : ℕ) (bytes : List ℕ) (fits : a + length byt
       ∙ ap (λ r. take a memory ++ r) (sym (append_assoc bytes (byte ∷ []) (drop (here + 1) memory)))
       ∙ ap (λ n. take a memory ++ ((bytes ++ byte ∷ []) ++ drop n memory)) count
 
-pub outside_itself : (memory : List ℕ) (address count : ℕ) → SameOutside memory address count memory
+pub outside_itself : (memory : List ℕ) (address count : ℕ) → SameOutside address count memory memory
 outside_itself memory address count = record { length = refl; others = λ k is. refl }
 
-pub outside_after : (a b c : List ℕ) (address count : ℕ) → SameOutside a address count b → SameOutside b address count c → SameOutside a address count c
+pub outside_after : (a b c : List ℕ) (address count : ℕ) → SameOutside address count a b → SameOutside address count b c → SameOutside address count a c
 outside_after a b c address count one two = record {
   length = two.length ∙ one.length;
   others = λ k is. two.others k is ∙ one.others k is;
 }
 
 -- what was there is put back over whatever the range holds
-pub put_back_all : (old mid : List ℕ) (address count : ℕ) → address + count ≤ length old → SameOutside old address count mid → with_items mid address (bytes_from old address count) ≡ old
+pub put_back_all : (old mid : List ℕ) (address count : ℕ) → address + count ≤ length old → SameOutside address count old mid → with_items mid address (bytes_from old address count) ≡ old
 unfolding with_items
 put_back_all old mid address count room same =
     let bytes : List ℕ = take count (drop address old) in
@@ -172,33 +172,33 @@ put_back_all old mid address count room same =
     ∙ take-append-drop address old
 
 -- a read of 512 bytes changes no others
-read_outside : (old new : StationState) (bay : ℕ) (key : Chrn) (address : ℕ) (answer : Result Bool Code) → ReadsDrive old bay key address answer new → key.n ≡ 2 → address + 512 ≤ length old.memory → SameOutside old.memory address 512 new.memory
+read_outside : (old new : StationState) (bay : ℕ) (key : Chrn) (address : ℕ) (answer : Result Bool Code) → ReadsDrive bay key address old answer new → key.n ≡ 2 → address + 512 ≤ length old.memory → SameOutside address 512 old.memory new.memory
 read_outside old new bay key address (Ok deleted) reads size room =
     let read = reads.found in
     let track : List ℕ = track_of read.disk read.cylinder key.h in
     let long : length read.content ≡ 128 * 2 ^ key.n = ap length read.whole.content_is ∙ length-map-range_with_len _ 0 (128 * 2 ^ key.n) in
     let size : length read.content ≡ 512 = long ∙ ap (λ n. 128 * 2 ^ n) size in
-    subst (λ m. SameOutside old.memory address 512 m) (sym (ap (λ (s : StationState). s.memory) read.becomes))
-    (subst (λ k. SameOutside old.memory address k (with_items old.memory address read.content)) size
+    subst (λ m. SameOutside address 512 old.memory m) (sym (ap (λ (s : StationState). s.memory) read.becomes))
+    (subst (λ k. SameOutside address k old.memory (with_items old.memory address read.content)) size
     (written_outside old.memory address read.content (omega (arith, room, size))))
 read_outside old new bay key address (Err code) reads size room =
-    subst (λ n. SameOutside old.memory address (128 * 2 ^ n) new.memory) size reads.refused.memory
+    subst (λ n. SameOutside address (128 * 2 ^ n) old.memory new.memory) size reads.refused.memory
 
-pub reads_outside : (old new : StationState) (bay : ℕ) (key : Chrn) (address : ℕ) (answer : Result Bool Code) → Reads old bay key address answer new → key.n ≡ 2 → address + 512 ≤ length old.memory → SameOutside old.memory address 512 new.memory
+pub reads_outside : (old new : StationState) (bay : ℕ) (key : Chrn) (address : ℕ) (answer : Result Bool Code) → Reads bay key address old answer new → key.n ≡ 2 → address + 512 ≤ length old.memory → SameOutside address 512 old.memory new.memory
 reads_outside old new bay key address answer reads size room =
     by_refusal (read_refusal old bay key address) _ _ reads
     (λ read. read_outside old new bay key address answer read size room)
-    (λ code refused. subst (λ m. SameOutside old.memory address 512 m) (sym (ap (λ (s : StationState). s.memory) refused.stays)) (outside_itself old.memory address 512))
+    (λ code refused. subst (λ m. SameOutside address 512 old.memory m) (sym (ap (λ (s : StationState). s.memory) refused.stays)) (outside_itself old.memory address 512))
 
 -- ---- A record, and the records of a transfer.
 
 -- a read moved a record
-pub read_done : (bay : ℕ) (key : Chrn) (address : ℕ) (old new : State) (told : Option Files) (deleted : Bool) → Step old told (request.Read bay key address) (read_reply (Ok deleted)) new told → (answer : Reply) × (is_refusal answer ≡ false) × Step old told (request.Read bay key address) answer new told
+pub read_done : (bay : ℕ) (key : Chrn) (address : ℕ) (old new : State) (told : Option Files) (deleted : Bool) → Step (request.Read bay key address) old told (read_reply (Ok deleted)) new told → (answer : Reply) × (is_refusal answer ≡ false) × Step (request.Read bay key address) old told answer new told
 read_done bay key address old new told true step = (reply.DoneDeleted, refl, step)
 read_done bay key address old new told false step = (reply.Done, refl, step)
 
 -- a write moved a record
-pub write_moves : (bay : ℕ) (key : Chrn) (address : ℕ) (old new : State) (told : Option Files) (answer : Result (Unit {0}) Code) → Step old told (request.Write bay key address) (reply_of answer) new told → MovesRecord (request.Write bay key address) old told answer new
+pub write_moves : (bay : ℕ) (key : Chrn) (address : ℕ) (old new : State) (told : Option Files) (answer : Result (Unit {0}) Code) → Step (request.Write bay key address) old told (reply_of answer) new told → MovesRecord (request.Write bay key address) old told answer new
 write_moves bay key address old new told (Ok u) step = (reply.Done, refl, step)
 write_moves bay key address old new told (Err code) step = step
 
@@ -215,7 +215,7 @@ pub as_write : (kind : Kind) (bay : ℕ) (key : Chrn) (address : ℕ) (old new :
 as_write kind bay key address old new told answer is moves = subst (λ (k : Kind). MovesRecord (record_request k bay key address) old told answer new) (sym is) moves
 
 -- an acknowledgement for a call that moves nothing
-pub acks_done : (bay : ℕ) (old new : State) (told : Option Files) (answer : Result (Unit {0}) Code) (code : ℕ) → Step old told (request.Ack bay) (reply_of answer) new told → IfErr answer (λ c. c ≡ NotReady) → code ≡ ack_code answer → (course : List Taken) × AcksAlone bay old told course code 0 new
+pub acks_done : (bay : ℕ) (old new : State) (told : Option Files) (answer : Result (Unit {0}) Code) (code : ℕ) → Step (request.Ack bay) old told (reply_of answer) new told → IfErr answer (λ c. c ≡ NotReady) → code ≡ ack_code answer → (course : List Taken) × AcksAlone bay old told course code 0 new
 acks_done bay old new told answer code step only is = (
   record { asked = request.Ack bay; answer = reply_of answer; after = new } ∷ [],
   record { answer = answer; step = step; course_is = refl; code_is = is; codes = codes answer only is; none = refl },
@@ -271,17 +271,17 @@ moves_in Verify address requests old new told code moved is moves = elim is [
 -- ---- Bytes that are put back.
 
 -- a byte was put to memory
-pub put_step : (old new : State) (told : Option Files) (address byte : ℕ) (answer : Reply) → address + 1 ≤ 983040 → Step old told (request.Fill address 1 byte) answer new told → (answer ≡ reply.Done) × (told ≡ told) × Fills old address 1 byte new
+pub put_step : (old new : State) (told : Option Files) (address byte : ℕ) (answer : Reply) → address + 1 ≤ 983040 → Step (request.Fill address 1 byte) old told answer new told → (answer ≡ reply.Done) × (told ≡ told) × Fills address 1 byte old new
 put_step old new told address byte answer within step =
-    subst (λ (b : Bool). MatchOption (unless_bad b None) ((answer ≡ reply.Done) × (told ≡ told) × Fills old address 1 byte new) (λ cause. IsRefused old told cause answer new told)) (le-leb (address + 1) 983040 within) step
+    subst (λ (b : Bool). MatchOption (unless_bad b None) ((answer ≡ reply.Done) × (told ≡ told) × Fills address 1 byte old new) (λ cause. IsRefused cause old told answer new told)) (le-leb (address + 1) 983040 within) step
 
 -- one byte more
-pub puts_more : (address : ℕ) (bytes : List ℕ) (i : ℕ) (old mid new : State) (told : Option Files) (course : List Taken) (answer : Reply) → address + i + 1 ≤ 983040 → AreDone (map (put_request address bytes) (range_with_len 0 i)) old told course mid → Step mid told (request.Fill (address + i) 1 (slice_index bytes i)) answer new told → AreDone (map (put_request address bytes) (range_with_len 0 (i + 1))) old told (course ++ (record { asked = put_request address bytes i; answer = answer; after = new }) ∷ []) new
+pub puts_more : (address : ℕ) (bytes : List ℕ) (i : ℕ) (old mid new : State) (told : Option Files) (course : List Taken) (answer : Reply) → address + i + 1 ≤ 983040 → AreDone (map (put_request address bytes) (range_with_len 0 i)) old told course mid → Step (request.Fill (address + i) 1 (slice_index bytes i)) mid told answer new told → AreDone (map (put_request address bytes) (range_with_len 0 (i + 1))) old told (course ++ (record { asked = put_request address bytes i; answer = answer; after = new }) ∷ []) new
 puts_more address bytes i old mid new told course answer within done step =
     let put = put_step mid new told (address + i) (slice_index bytes i) answer within step in
     done_more _ _ (put_request address bytes i) answer old mid new told course (map-range_with_len_more (put_request address bytes) 0 i i (omega arith)) done (ap is_refusal put.0) step
 
-pub put_memory : (memory : List ℕ) (address : ℕ) (bytes : List ℕ) (i : ℕ) (mid new : State) (told : Option Files) (answer : Reply) → address + i + 1 ≤ 983040 → i < length bytes → address + length bytes ≤ length memory → mid.station.memory ≡ with_items memory address (take i bytes) → Step mid told (request.Fill (address + i) 1 (slice_index bytes i)) answer new told → new.station.memory ≡ with_items memory address (take (i + 1) bytes)
+pub put_memory : (memory : List ℕ) (address : ℕ) (bytes : List ℕ) (i : ℕ) (mid new : State) (told : Option Files) (answer : Reply) → address + i + 1 ≤ 983040 → i < length bytes → address + length bytes ≤ length memory → mid.station.memory ≡ with_items memory address (take i bytes) → Step (request.Fill (address + i) 1 (slice_index bytes i)) mid told answer new told → new.station.memory ≡ with_items memory address (take (i + 1) bytes)
 put_memory memory address bytes i mid new told answer within inside room so_far step =
     let put = put_step mid new told (address + i) (slice_index bytes i) answer within step in
     let long : length (take i bytes) ≡ i = omega (arith, length-take i bytes, inside) in

@@ -67,8 +67,8 @@ pub record AreDone (requests : List Request) (old : State) (told : Option Files)
 -- the request for a record was run: it was refused with a code, or not
 abbrev pub MovesRecord : Request → State → Option Files → Result (Unit {0}) Code → State → Type 0
 MovesRecord asked old told (Ok _) new =
-    (answer : Reply) × (is_refusal answer ≡ false) × Step old told asked answer new told
-MovesRecord asked old told (Err code) new = Step old told asked (reply.Refused (reason.Driver code)) new told
+    (answer : Reply) × (is_refusal answer ≡ false) × Step asked old told answer new told
+MovesRecord asked old told (Err code) new = Step asked old told (reply.Refused (reason.Driver code)) new told
 
 -- records were moved up to the first that was refused, whose code is the answer; none behind it was asked for
 pub record StopsAtRecord (asked : List Request) (old : State) (told : Option Files) (course : List Taken) (code moved : ℕ) (new : State) : Type 0 where
@@ -81,7 +81,7 @@ pub record StopsAtRecord (asked : List Request) (old : State) (told : Option Fil
   pub parts : asked ≡ done ++ next ∷ later
   pub done_well : AreDone done old told before mid
   pub many : moved ≡ length done
-  pub step : Step mid told next (reply.Refused (reason.Driver cause)) new told
+  pub step : Step next mid told (reply.Refused (reason.Driver cause)) new told
   pub course_is : course ≡ before ++ record { asked = next; answer = reply.Refused (reason.Driver cause); after = new } ∷ []
   pub code_is : code ≡ code_number cause
 
@@ -113,7 +113,7 @@ ack_code (Err code) = code_number code
 -- a bay is acknowledged, and no record is moved
 pub record AcksAlone (bay : ℕ) (old : State) (told : Option Files) (course : List Taken) (code moved : ℕ) (new : State) : Type 0 where
   pub answer : Result (Unit {0}) Code
-  pub step : Step old told (request.Ack bay) (reply_of answer) new told
+  pub step : Step (request.Ack bay) old told (reply_of answer) new told
   pub course_is : course ≡ record { asked = request.Ack bay; answer = reply_of answer; after = new } ∷ []
   pub code_is : code ≡ ack_code answer
   pub codes : (code ≡ 0x06) ⊎ (code ≡ 0x80)

@@ -17,7 +17,7 @@ impl<D: Station> Session<D> {
     pub(crate) fn ack(&mut self, bay: u8) -> Reply
         requires { IsRunning D.shown D.is_ready self.old }
         ensures step { (told : Option Files)
-            → Step (state_of D.shown self.old) told (Request.Ack bay) result (state_of D.shown self.new) told }
+            → Step (Request.Ack bay) (state_of D.shown self.old) told result (state_of D.shown self.new) told }
         ensures running { IsRunning D.shown D.is_ready self.new }
     {
         reply(self.acknowledge(bay))
@@ -27,7 +27,7 @@ impl<D: Station> Session<D> {
     pub(crate) fn acknowledge(&mut self, bay: u8) -> Result<(), Code>
         requires { IsRunning D.shown D.is_ready self.old }
         ensures step { (told : Option Files)
-            → Step (state_of D.shown self.old) told (Request.Ack bay) (reply_of result) (state_of D.shown self.new) told }
+            → Step (Request.Ack bay) (state_of D.shown self.old) told (reply_of result) (state_of D.shown self.new) told }
         ensures answers { bay ≤ 1 → IfErr result (λ code. code ≡ Code.NotReady) }
         ensures running { IsRunning D.shown D.is_ready self.new }
     {
@@ -37,7 +37,7 @@ impl<D: Station> Session<D> {
     /// Reads the record with this key to memory.
     pub(crate) fn read(&mut self, bay: u8, key: Chrn, address: u32) -> Reply
         requires { IsRunning D.shown D.is_ready self.old }
-        ensures step { (told : Option Files) → Step (state_of D.shown self.old) told (Request.Read bay key address)
+        ensures step { (told : Option Files) → Step (Request.Read bay key address) (state_of D.shown self.old) told
             result (state_of D.shown self.new) told }
         ensures running { IsRunning D.shown D.is_ready self.new }
     {
@@ -47,10 +47,10 @@ impl<D: Station> Session<D> {
     /// Reads the record with this key to memory.
     pub(crate) fn read_record(&mut self, bay: u8, key: Chrn, address: u32) -> Result<bool, Code>
         requires { IsRunning D.shown D.is_ready self.old }
-        ensures step { (told : Option Files) → Step (state_of D.shown self.old) told (Request.Read bay key address)
+        ensures step { (told : Option Files) → Step (Request.Read bay key address) (state_of D.shown self.old) told
             (read_reply result) (state_of D.shown self.new) told }
         ensures outside { key.n ≡ 2 → address + 512 ≤ length (state_of D.shown self.old).station.memory
-            → SameOutside (state_of D.shown self.old).station.memory address 512
+            → SameOutside address 512 (state_of D.shown self.old).station.memory
             (state_of D.shown self.new).station.memory }
         ensures running { IsRunning D.shown D.is_ready self.new }
     {
@@ -60,7 +60,7 @@ impl<D: Station> Session<D> {
     /// Writes memory to the record with this key.
     pub(crate) fn write(&mut self, bay: u8, key: Chrn, address: u32) -> Reply
         requires { IsRunning D.shown D.is_ready self.old }
-        ensures step { (told : Option Files) → Step (state_of D.shown self.old) told (Request.Write bay key address)
+        ensures step { (told : Option Files) → Step (Request.Write bay key address) (state_of D.shown self.old) told
             result (state_of D.shown self.new) told }
         ensures running { IsRunning D.shown D.is_ready self.new }
     {
@@ -70,7 +70,7 @@ impl<D: Station> Session<D> {
     /// Writes memory to the record with this key.
     pub(crate) fn write_record(&mut self, bay: u8, key: Chrn, address: u32) -> Result<(), Code>
         requires { IsRunning D.shown D.is_ready self.old }
-        ensures step { (told : Option Files) → Step (state_of D.shown self.old) told (Request.Write bay key address)
+        ensures step { (told : Option Files) → Step (Request.Write bay key address) (state_of D.shown self.old) told
             (reply_of result) (state_of D.shown self.new) told }
         ensures running { IsRunning D.shown D.is_ready self.new }
     {
@@ -80,8 +80,8 @@ impl<D: Station> Session<D> {
     /// Writes memory to the record with this key and marks it deleted.
     pub(crate) fn write_deleted(&mut self, bay: u8, key: Chrn, address: u32) -> Reply
         requires { IsRunning D.shown D.is_ready self.old }
-        ensures step { (told : Option Files) → Step (state_of D.shown self.old) told
-            (Request.WriteDeleted bay key address) result (state_of D.shown self.new) told }
+        ensures step { (told : Option Files) → Step (Request.WriteDeleted bay key address) (state_of D.shown self.old)
+            told result (state_of D.shown self.new) told }
         ensures running { IsRunning D.shown D.is_ready self.new }
     {
         reply(self.station.write(bay, key, address, true))
@@ -90,7 +90,7 @@ impl<D: Station> Session<D> {
     /// Formats the track of this cylinder and head in the standard layout of the bay's rate.
     pub(crate) fn format(&mut self, bay: u8, c: u8, h: u8) -> Reply
         requires { IsRunning D.shown D.is_ready self.old }
-        ensures step { (told : Option Files) → Step (state_of D.shown self.old) told (Request.Format bay c h)
+        ensures step { (told : Option Files) → Step (Request.Format bay c h) (state_of D.shown self.old) told
             result (state_of D.shown self.new) told }
         ensures running { IsRunning D.shown D.is_ready self.new }
     {
@@ -104,7 +104,7 @@ impl<D: Station> Session<D> {
     /// Sets the data rate of the bay.
     pub(crate) fn set_rate(&mut self, bay: u8, rate: Rate) -> Reply
         requires { IsRunning D.shown D.is_ready self.old }
-        ensures step { (told : Option Files) → Step (state_of D.shown self.old) told (Request.SetRate bay rate)
+        ensures step { (told : Option Files) → Step (Request.SetRate bay rate) (state_of D.shown self.old) told
             result (state_of D.shown self.new) told }
         ensures running { IsRunning D.shown D.is_ready self.new }
     {
@@ -117,7 +117,7 @@ impl<D: Station> Session<D> {
         requires least { 1 ≤ tries }
         requires most { tries ≤ 10 }
         ensures step { (told : Option Files)
-            → Step (state_of D.shown self.old) told (Request.Tries tries) result (state_of D.shown self.new) told }
+            → Step (Request.Tries tries) (state_of D.shown self.old) told result (state_of D.shown self.new) told }
         ensures running { IsRunning D.shown D.is_ready self.new }
     {
         self.station.set_tries(tries);

@@ -28,10 +28,10 @@ impl<D: Station> Session<D> {
         name: &Name,
     ) -> Result<Reply, Stop>
         requires { IsRunning D.shown D.is_ready self.old }
-        ensures step { IfOk result (λ reply. Step (state_of D.shown self.old) (S.told shelf.old)
-            (Request.Insert bay name.now) reply (state_of D.shown self.new) (S.told shelf.new)) }
-        ensures stop { IfErr result (λ stop. StopsAt (state_of D.shown self.old) (S.told shelf.old)
-            (Request.Insert bay name.now) stop (state_of D.shown self.new) (S.told shelf.new)) }
+        ensures step { IfOk result (λ reply. Step (Request.Insert bay name.now) (state_of D.shown self.old)
+            (S.told shelf.old) reply (state_of D.shown self.new) (S.told shelf.new)) }
+        ensures stop { IfErr result (λ stop. StopsAt (Request.Insert bay name.now) (state_of D.shown self.old)
+            (S.told shelf.old) stop (state_of D.shown self.new) (S.told shelf.new)) }
         ensures running { IsRunning D.shown D.is_ready self.new }
         ensures faults { Blames (IsErrOf result Stop.FileFault) (S.fault_count shelf.old)
             (S.fault_count shelf.new) }
@@ -57,10 +57,10 @@ impl<D: Station> Session<D> {
         rate: Rate,
     ) -> Result<Reply, Stop>
         requires { IsRunning D.shown D.is_ready self.old }
-        ensures step { IfOk result (λ reply. (told : Option Files) → Step (state_of D.shown self.old) told
-            (blank_request bay name.now cylinders rate) reply (state_of D.shown self.new) told) }
-        ensures stop { IfErr result (λ stop. (told : Option Files) → StopsAt (state_of D.shown self.old) told
-            (blank_request bay name.now cylinders rate) stop (state_of D.shown self.new) told) }
+        ensures step { IfOk result (λ reply. (told : Option Files) → Step (blank_request bay name.now cylinders rate) (state_of D.shown self.old)
+            told reply (state_of D.shown self.new) told) }
+        ensures stop { IfErr result (λ stop. (told : Option Files) → StopsAt (blank_request bay name.now cylinders rate) (state_of D.shown self.old)
+            told stop (state_of D.shown self.new) told) }
         ensures memory { IsOkUnless result Stop.NoMemory }
         ensures running { IsRunning D.shown D.is_ready self.new }
     {
@@ -81,7 +81,7 @@ impl<D: Station> Session<D> {
         requires running { IsRunning D.shown D.is_ready self.old }
         requires bay { bay ≤ 1 }
         requires empty { is_loaded (state_of D.shown self.old) bay ≡ false }
-        ensures changes { ChangesMedium (state_of D.shown self.old) bay (Some name) (Some medium)
+        ensures changes { ChangesMedium bay (Some name) (Some medium) (state_of D.shown self.old)
             (state_of D.shown self.new) }
         ensures running { IsRunning D.shown D.is_ready self.new }
     {
@@ -111,10 +111,10 @@ impl<D: Station> Session<D> {
     /// Takes the medium out and stores its image under its name.
     pub(crate) fn eject<S: Shelf>(&mut self, shelf: &mut S, bay: u8) -> Result<Reply, Stop>
         requires { IsRunning D.shown D.is_ready self.old }
-        ensures step { IfOk result (λ reply. Step (state_of D.shown self.old) (S.told shelf.old)
-            (Request.Eject bay) reply (state_of D.shown self.new) (S.told shelf.new)) }
-        ensures stop { IfErr result (λ stop. StopsAt (state_of D.shown self.old) (S.told shelf.old)
-            (Request.Eject bay) stop (state_of D.shown self.new) (S.told shelf.new)) }
+        ensures step { IfOk result (λ reply. Step (Request.Eject bay) (state_of D.shown self.old)
+            (S.told shelf.old) reply (state_of D.shown self.new) (S.told shelf.new)) }
+        ensures stop { IfErr result (λ stop. StopsAt (Request.Eject bay) (state_of D.shown self.old)
+            (S.told shelf.old) stop (state_of D.shown self.new) (S.told shelf.new)) }
         ensures running { IsRunning D.shown D.is_ready self.new }
         ensures faults { Blames (IsErrOf result Stop.FileFault) (S.fault_count shelf.old)
             (S.fault_count shelf.new) }
@@ -134,10 +134,10 @@ impl<D: Station> Session<D> {
         requires running { IsRunning D.shown D.is_ready self.old }
         requires bay { bay ≤ 1 }
         requires loaded { is_loaded (state_of D.shown self.old) bay ≡ true }
-        ensures ok { OnOk result (StoresMedium (state_of D.shown self.old) (S.told shelf.old) bay
+        ensures ok { OnOk result (StoresMedium bay (state_of D.shown self.old) (S.told shelf.old)
             (state_of D.shown self.new) (S.told shelf.new)) }
         ensures cause { IfErr result IsEndStop }
-        ensures dropped { OnErr result (ChangesMedium (state_of D.shown self.old) bay None None
+        ensures dropped { OnErr result (ChangesMedium bay None None (state_of D.shown self.old)
             (state_of D.shown self.new)) }
         ensures err { OnErr result (S.told shelf.new ≡ S.told shelf.old) }
         ensures ready { D.is_ready self.new.station }
@@ -171,10 +171,10 @@ impl<D: Station> Session<D> {
     pub(crate) fn end_bay<S: Shelf>(&mut self, shelf: &mut S, bay: u8) -> Result<(), Stop>
         requires running { IsRunning D.shown D.is_ready self.old }
         requires bay { bay ≤ 1 }
-        ensures ok { OnOk result (EndsBay (state_of D.shown self.old) (S.told shelf.old) bay
+        ensures ok { OnOk result (EndsBay bay (state_of D.shown self.old) (S.told shelf.old)
             (state_of D.shown self.new) (S.told shelf.new)) }
         ensures cause { IfErr result IsEndStop }
-        ensures dropped { OnErr result (DropsMedium (state_of D.shown self.old) bay (state_of D.shown self.new)) }
+        ensures dropped { OnErr result (DropsMedium bay (state_of D.shown self.old) (state_of D.shown self.new)) }
         ensures err { OnErr result (S.told shelf.new ≡ S.told shelf.old) }
         ensures running { IsRunning D.shown D.is_ready self.new }
         ensures faults { Blames (IsErrOf result Stop.FileFault) (S.fault_count shelf.old)
@@ -191,7 +191,7 @@ impl<D: Station> Session<D> {
     pub(crate) fn take_unit(&mut self, bay: u8) -> Reply
         requires { IsRunning D.shown D.is_ready self.old }
         ensures step { (told : Option Files)
-            → Step (state_of D.shown self.old) told (Request.Unit bay) result (state_of D.shown self.new) told }
+            → Step (Request.Unit bay) (state_of D.shown self.old) told result (state_of D.shown self.new) told }
         ensures running { IsRunning D.shown D.is_ready self.new }
     {
         if bay > 1 {

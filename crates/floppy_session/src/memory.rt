@@ -16,8 +16,8 @@ impl<D: Station> Session<D> {
     /// Sets bytes of memory.
     pub(crate) fn fill(&mut self, address: u32, length: u32, byte: u8) -> Reply
         requires { IsRunning D.shown D.is_ready self.old }
-        ensures step { (told : Option Files) → Step (state_of D.shown self.old) told
-            (Request.Fill address length byte) result (state_of D.shown self.new) told }
+        ensures step { (told : Option Files) → Step (Request.Fill address length byte) (state_of D.shown self.old)
+            told result (state_of D.shown self.new) told }
         ensures running { IsRunning D.shown D.is_ready self.new }
     {
         if !is_range(address, length) {
@@ -31,7 +31,7 @@ impl<D: Station> Session<D> {
     fn fill_range(&mut self, address: u32, length: u32, byte: u8)
         requires ready { D.is_ready self.old.station }
         requires range { address + length ≤ user_bytes }
-        ensures fills { Fills (state_of D.shown self.old) address length byte (state_of D.shown self.new) }
+        ensures fills { Fills address length byte (state_of D.shown self.old) (state_of D.shown self.new) }
         ensures shapes { shapes_of self.new ≡ shapes_of self.old }
         ensures ready { D.is_ready self.new.station }
     {
@@ -42,10 +42,10 @@ impl<D: Station> Session<D> {
 
     /// The bytes of memory from the address on.
     pub(crate) fn dump(&self, address: u32, length: u32) -> Result<Reply, Stop>
-        ensures step { IfOk result (λ reply. (told : Option Files) → Step (state_of D.shown self.now) told
-            (Request.Dump address length) reply (state_of D.shown self.now) told) }
-        ensures stop { IfErr result (λ stop. (told : Option Files) → StopsAt (state_of D.shown self.now) told
-            (Request.Dump address length) stop (state_of D.shown self.now) told) }
+        ensures step { IfOk result (λ reply. (told : Option Files) → Step (Request.Dump address length) (state_of D.shown self.now)
+            told reply (state_of D.shown self.now) told) }
+        ensures stop { IfErr result (λ stop. (told : Option Files) → StopsAt (Request.Dump address length) (state_of D.shown self.now)
+            told stop (state_of D.shown self.now) told) }
         ensures memory { IsOkUnless result Stop.NoMemory }
     {
         if !is_range(address, length) {

@@ -164,7 +164,7 @@ impl<D: Station> Session<D> {
         ensures moves { (told : Option Files) → MovesRecord (Request.Read bay key address) (state_of D.shown self.old) told
             result (state_of D.shown self.new) }
         ensures outside { key.n ≡ 2 → address + 512 ≤ length (state_of D.shown self.old).station.memory
-            → SameOutside (state_of D.shown self.old).station.memory address 512
+            → SameOutside address 512 (state_of D.shown self.old).station.memory
             (state_of D.shown self.new).station.memory }
         ensures running { IsRunning D.shown D.is_ready self.new }
     {
@@ -181,7 +181,7 @@ impl<D: Station> Session<D> {
             result (state_of D.shown self.new) }
         ensures outside { kind ≡ Kind.Verify → key.n ≡ 2
             → address + 512 ≤ length (state_of D.shown self.old).station.memory
-            → SameOutside (state_of D.shown self.old).station.memory address 512
+            → SameOutside address 512 (state_of D.shown self.old).station.memory
             (state_of D.shown self.new).station.memory }
         ensures running { IsRunning D.shown D.is_ready self.new }
     {
@@ -200,7 +200,7 @@ impl<D: Station> Session<D> {
         ensures moves { (told : Option Files) → (course : List Taken) × MovesRecords (record_requests kind bay first address count)
             (state_of D.shown self.old) told course result.code result.moved (state_of D.shown self.new) }
         ensures outside { kind ≡ Kind.Verify → address + 512 ≤ length (state_of D.shown self.old).station.memory
-            → SameOutside (state_of D.shown self.old).station.memory address 512
+            → SameOutside address 512 (state_of D.shown self.old).station.memory
             (state_of D.shown self.new).station.memory }
         ensures running { IsRunning D.shown D.is_ready self.new }
     {

@@ -78,9 +78,9 @@ impl<D: Station> Session<D> {
     pub fn run<S: Shelf>(&mut self, shelf: &mut S, request: &Request) -> Result<Reply, Stop>
         requires running { IsRunning D.shown D.is_ready self.old }
         requires tries { HasTries request.now }
-        ensures step { IfOk result (λ reply. Step (state_of D.shown self.old) (S.told shelf.old) request.now reply
+        ensures step { IfOk result (λ reply. Step request.now (state_of D.shown self.old) (S.told shelf.old) reply
             (state_of D.shown self.new) (S.told shelf.new)) }
-        ensures stop { IfErr result (λ stop. StopsAt (state_of D.shown self.old) (S.told shelf.old) request.now stop
+        ensures stop { IfErr result (λ stop. StopsAt request.now (state_of D.shown self.old) (S.told shelf.old) stop
             (state_of D.shown self.new) (S.told shelf.new)) }
         ensures running { IsRunning D.shown D.is_ready self.new }
         ensures faults { Blames (IsErrOf result Stop.FileFault) (S.fault_count shelf.old)

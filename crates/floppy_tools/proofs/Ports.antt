@@ -10,7 +10,7 @@ use Rattle.floppy_words.specs.Forms.{form_of, ports_file_of}
 use Rattle.floppy_words.proofs.PortsLemmas.{no_form}
 
 -- a drive that was put into a new machine empty is empty
-made : (bay drive : DriveState) → IsEmpty bay → Becomes bay (with_motor false bay) drive → drive.medium ≡ None
+made : (bay drive : DriveState) → IsEmpty bay → Becomes (with_motor false bay) bay drive → drive.medium ≡ None
 made bay drive empty becomes = ap (λ (d : DriveState). d.medium) becomes.becomes ∙ empty.medium
 
 -- a machine as it is made has no medium in

@@ -48,7 +48,7 @@ pub fn floppy<S: Shelf, K: Sink, D: Drive>(
         result.0 }
     // Port accesses run on the machine that is handed in, up to the one that comes back.
     ensures ports { (file : List ℕ) → ports_file_of (map string_bytes words.now) ≡ Some file → (names : Names)
-        × RunsPorts (world_of D.state S.told K.told machine no_names shelf.old out.old) file
+        × RunsPorts file (world_of D.state S.told K.told machine no_names shelf.old out.old)
         (world_of D.state S.told K.told result.1 names shelf.new out.new) result.0 }
     ensures accesses { (job : List ℕ) (requests : List Request)
         → form_of (map string_bytes words.now) ≡ Some (form.Play job) → IsJob (S.told shelf.old) job requests
@@ -76,7 +76,7 @@ fn at_ports<S: Shelf, K: Sink, D: Drive>(
 ) -> (Status, MachineOf<D>)
     requires { IsFreshBoard (board D.state machine) }
     ensures ports { (names : Names)
-        × RunsPorts (world_of D.state S.told K.told machine no_names shelf.old out.old) file.now
+        × RunsPorts file.now (world_of D.state S.told K.told machine no_names shelf.old out.old)
         (world_of D.state S.told K.told result.1 names shelf.new out.new) result.0 }
     ensures is_form { result.0 ≢ Status.BadWords }
     ensures shelf_faults { Blames (result.0 ≡ Status.FileFault) (S.fault_count shelf.old) (S.fault_count shelf.new) }

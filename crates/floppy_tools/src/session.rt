@@ -48,9 +48,9 @@ impl<D: Drive> Session<D> {
     pub fn run<S: Shelf>(&mut self, shelf: &mut S, request: &Request) -> Result<Reply, Stop>
         requires running { is_running D.state self.old }
         requires tries { HasTries request.now }
-        ensures step { IfOk result (λ reply. Step (session_state D.state self.old) (S.told shelf.old) request.now reply
+        ensures step { IfOk result (λ reply. Step request.now (session_state D.state self.old) (S.told shelf.old) reply
             (session_state D.state self.new) (S.told shelf.new)) }
-        ensures stop { IfErr result (λ stop. StopsAt (session_state D.state self.old) (S.told shelf.old) request.now stop
+        ensures stop { IfErr result (λ stop. StopsAt request.now (session_state D.state self.old) (S.told shelf.old) stop
             (session_state D.state self.new) (S.told shelf.new)) }
         ensures running { is_running D.state self.new }
         ensures faults { Blames (IsErrOf result Stop.FileFault) (S.fault_count shelf.old) (S.fault_count shelf.new) }

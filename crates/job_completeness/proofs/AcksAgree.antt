@@ -47,7 +47,7 @@ pub record AckedAlike (bay : ℕ) (called called_too : Result (Unit {0}) Code) (
   pub second : Becomes (set_bay two bay other) two_new
 
 module _ (bay : ℕ) (one two one_new two_new : StationState) (same : AlikeBays (bay_of one bay) (bay_of two bay)) (regular : IsRegularIn (bay_of one bay).medium) (calm : IsUndisturbed bay one.counters one_new.counters) (goes : GoesOn one.counters one_new.counters) (calm_too : IsUndisturbed bay two.counters two_new.counters) (goes_too : GoesOn two.counters two_new.counters) where
-  rates_alike : (a : IsAcknowledged one bay one_new) (b : IsAcknowledged two bay two_new) → AlikeDisks a.disk b.disk → b.rate ≡ a.rate
+  rates_alike : (a : IsAcknowledged bay one one_new) (b : IsAcknowledged bay two two_new) → AlikeDisks a.disk b.disk → b.rate ≡ a.rate
   rates_alike a b disks =
       let valid = disks.valid in
       let has : HasTrack a.disk 0 0 = (omega (arith, valid.cylinders.0), omega (arith, valid.heads.0)) in
@@ -60,7 +60,7 @@ module _ (bay : ℕ) (one two one_new two_new : StationState) (same : AlikeBays 
       (λ high low. clash a.disk b.disk is has (λ p key at. (tracks.addresses p key).1 at) (sym disks.alike.rate) a.rate b.rate high low b.double (a.told few) (b.untold few_too))
       (λ high low. clash b.disk a.disk (regular_too a.disk b.disk disks is) had (λ p key at. (tracks.addresses p key).0 at) disks.alike.rate b.rate a.rate high low a.double (b.told few_too) (a.untold few))
 
-  done_done : (called called_too : Result (Unit {0}) Code) → reply_of called_too ≡ reply_of called → (a : IsAcknowledged one bay one_new) (b : IsAcknowledged two bay two_new) → AckedAlike bay called called_too one one_new two two_new
+  done_done : (called called_too : Result (Unit {0}) Code) → reply_of called_too ≡ reply_of called → (a : IsAcknowledged bay one one_new) (b : IsAcknowledged bay two two_new) → AckedAlike bay called called_too one one_new two two_new
   done_done called called_too replies a b =
       let disks = in_both (bay_of one bay).medium (bay_of two bay).medium a.disk b.disk a.medium b.medium same.media in
       let value : Bay = record { medium = Some a.disk; acknowledged = Some (faults_of one_new.counters bay); rate = a.rate } in
@@ -74,7 +74,7 @@ module _ (bay : ℕ) (one two one_new two_new : StationState) (same : AlikeBays 
         second = b.becomes;
       }
 
-  pub acks_agree : (called called_too : Result (Unit {0}) Code) → AcksDrive one bay called one_new → AcksDrive two bay called_too two_new → AckedAlike bay called called_too one one_new two two_new
+  pub acks_agree : (called called_too : Result (Unit {0}) Code) → AcksDrive bay one called one_new → AcksDrive bay two called_too two_new → AckedAlike bay called called_too one one_new two two_new
   acks_agree (Ok u) (Ok v) drive drive_too = done_done (Ok u) (Ok v) refl (drive.done refl) (drive_too.done refl)
   acks_agree (Ok u) (Err k) drive drive_too = absurd (elim drive_too.refused.cause [
     | inl none ↦ alone (bay_of one bay).medium (bay_of two bay).medium (drive.done refl).disk (drive.done refl).medium none same.media

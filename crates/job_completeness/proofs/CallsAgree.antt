@@ -45,7 +45,7 @@ both_tests : (R P Q A B : Type 0) (test : Bool) → MatchBool test P A → Match
 both_tests R P Q A B true a b taken refused = taken a b
 both_tests R P Q A B false a b taken refused = refused a b
 
-at_once : {A : Type 0} (answers : Result A Code → Reply) (one two one_new two_new : StationState) (code : Code) (called called_too : Result A Code) → AlikeStations one two → IsRefusedAtOnce one code called one_new → IsRefusedAtOnce two code called_too two_new → CallsAgree (answers called) (answers called_too) one_new two_new
+at_once : {A : Type 0} (answers : Result A Code → Reply) (one two one_new two_new : StationState) (code : Code) (called called_too : Result A Code) → AlikeStations one two → IsRefusedAtOnce code one called one_new → IsRefusedAtOnce code two called_too two_new → CallsAgree (answers called) (answers called_too) one_new two_new
 at_once answers one two one_new two_new code called called_too same first second = record {
   replies = ap answers (second.refused ∙ sym first.refused);
   after = becomes_same one two one_new two_new same first.stays second.stays;
@@ -93,7 +93,7 @@ module _ (bay : ℕ) (one two one_new two_new : StationState) (same : AlikeStati
     read_order : read_refusal two bay key address ≡ read_refusal one bay key address
     read_order = ap (λ (b : Bool). sector_order (is_sector_request bay key address) (crosses_page address (content_size key.n)) b None) acknowledged
 
-    read_taken : read_refusal one bay key address ≡ None → ReadsDrive one bay key address called one_new → ReadsDrive two bay key address called_too two_new → CallsAgree (read_reply called) (read_reply called_too) one_new two_new
+    read_taken : read_refusal one bay key address ≡ None → ReadsDrive bay key address one called one_new → ReadsDrive bay key address two called_too two_new → CallsAgree (read_reply called) (read_reply called_too) one_new two_new
     read_taken free first second =
         let within = sector_within bay key address (good_sector (is_sector_request bay key address) (crosses_page address (content_size key.n)) (is_acknowledged one bay) None free) in
         let track = met (bay_of one bay) key.c key.h in
@@ -108,11 +108,11 @@ module _ (bay : ℕ) (one two one_new two_new : StationState) (same : AlikeStati
               (memory_same one two left.memory left_too.memory same left.size left_too.size) left.becomes left_too.becomes;
         }
 
-    pub read_call : Reads one bay key address called one_new → Reads two bay key address called_too two_new → CallsAgree (read_reply called) (read_reply called_too) one_new two_new
+    pub read_call : Reads bay key address one called one_new → Reads bay key address two called_too two_new → CallsAgree (read_reply called) (read_reply called_too) one_new two_new
     read_call first second =
         both_ways (CallsAgree (read_reply called) (read_reply called_too) one_new two_new)
-        (ReadsDrive one bay key address called one_new) (ReadsDrive two bay key address called_too two_new)
-        (λ code. IsRefusedAtOnce one code called one_new) (λ code. IsRefusedAtOnce two code called_too two_new)
+        (ReadsDrive bay key address one called one_new) (ReadsDrive bay key address two called_too two_new)
+        (λ code. IsRefusedAtOnce code one called one_new) (λ code. IsRefusedAtOnce code two called_too two_new)
         (read_refusal one bay key address) (read_refusal two bay key address) read_order first second read_taken
         (λ code a b. at_once read_reply one two one_new two_new code called called_too same a b)
 
@@ -130,7 +130,7 @@ module _ (bay : ℕ) (one two one_new two_new : StationState) (same : AlikeStati
           ap (λ (b : Bool). sector_order good crosses b (guarded (is_protected two bay))) acknowledged
           ∙ ap (λ (b : Bool). sector_order good crosses (is_acknowledged one bay) (guarded b)) protected
 
-      write_taken : write_refusal one bay key address ≡ None → WritesDrive (written_from one key address deleted) bay called one one_new → WritesDrive (written_from two key address deleted) bay called_too two two_new → Agrees
+      write_taken : write_refusal one bay key address ≡ None → WritesDrive (written_from one key address deleted) bay one called one_new → WritesDrive (written_from two key address deleted) bay two called_too two_new → Agrees
       write_taken free first second =
           let within = sector_within bay key address (good_sector (is_sector_request bay key address) (crosses_page address (content_size key.n)) (is_acknowledged one bay) (guarded (is_protected one bay)) free) in
           let size = content_size key.n in
@@ -145,11 +145,11 @@ module _ (bay : ℕ) (one two one_new two_new : StationState) (same : AlikeStati
             after = becomes_same (set_bay one bay kept) (set_bay two bay kept_too) one_new two_new (set_same one two bay kept kept_too same bays) first.becomes second.becomes;
           }
 
-      pub write_call : WritesTo one bay key address deleted called one_new → WritesTo two bay key address deleted called_too two_new → Agrees
+      pub write_call : WritesTo bay key address deleted one called one_new → WritesTo bay key address deleted two called_too two_new → Agrees
       write_call first second =
           both_ways Agrees
-          (WritesDrive (written_from one key address deleted) bay called one one_new) (WritesDrive (written_from two key address deleted) bay called_too two two_new)
-          (λ code. IsRefusedAtOnce one code called one_new) (λ code. IsRefusedAtOnce two code called_too two_new)
+          (WritesDrive (written_from one key address deleted) bay one called one_new) (WritesDrive (written_from two key address deleted) bay two called_too two_new)
+          (λ code. IsRefusedAtOnce code one called one_new) (λ code. IsRefusedAtOnce code two called_too two_new)
           (write_refusal one bay key address) (write_refusal two bay key address) write_order first second write_taken
           (λ code a b. at_once reply_of one two one_new two_new code called called_too same a b)
 
@@ -164,7 +164,7 @@ module _ (bay : ℕ) (one two one_new two_new : StationState) (same : AlikeStati
           ∙ ap (λ (b : Bool). format_order (good (bay_of one bay).rate) (is_acknowledged one bay) b) protected
 
       abbrev Formats : Rate → Result (Unit {0}) Code → StationState → StationState → Type 0
-      Formats rate answer old new = FormatsDrive (format_at c h rate (gap_at rate) standard_fill) bay answer old new
+      Formats rate answer old new = FormatsDrive (format_at c h rate (gap_at rate) standard_fill) bay old answer new
 
       format_taken : Formats (bay_of one bay).rate called one one_new → Formats (bay_of two bay).rate called_too two two_new → Agrees
       format_taken first other =
@@ -180,11 +180,11 @@ module _ (bay : ℕ) (one two one_new two_new : StationState) (same : AlikeStati
             after = becomes_same (set_bay one bay kept) (set_bay two bay kept_too) one_new two_new (set_same one two bay kept kept_too same bays) first.becomes second.becomes;
           }
 
-      pub format_call : FormatsTo one bay c h (gap_at (bay_of one bay).rate) standard_fill called one_new → FormatsTo two bay c h (gap_at (bay_of two bay).rate) standard_fill called_too two_new → Agrees
+      pub format_call : FormatsTo bay c h (gap_at (bay_of one bay).rate) standard_fill one called one_new → FormatsTo bay c h (gap_at (bay_of two bay).rate) standard_fill two called_too two_new → Agrees
       format_call first second =
           both_ways Agrees
           (Formats (bay_of one bay).rate called one one_new) (Formats (bay_of two bay).rate called_too two two_new)
-          (λ code. IsRefusedAtOnce one code called one_new) (λ code. IsRefusedAtOnce two code called_too two_new)
+          (λ code. IsRefusedAtOnce code one called one_new) (λ code. IsRefusedAtOnce code two called_too two_new)
           (format_refusal one bay c h (gap_at (bay_of one bay).rate)) (format_refusal two bay c h (gap_at (bay_of two bay).rate)) format_order_same first second
           (λ free a b. format_taken a b)
           (λ code a b. at_once reply_of one two one_new two_new code called called_too same a b)
@@ -192,7 +192,7 @@ module _ (bay : ℕ) (one two one_new two_new : StationState) (same : AlikeStati
     rate_order : rate_refusal two bay ≡ rate_refusal one bay
     rate_order = ap (λ (b : Bool). if not (is_bay bay) then Some BadRequest else (if not b then Some Changed else None)) acknowledged
 
-    rate_taken : (rate : Rate) → SetsRate one bay rate called one_new → SetsRate two bay rate called_too two_new → Agrees
+    rate_taken : (rate : Rate) → SetsRate bay rate one called one_new → SetsRate bay rate two called_too two_new → Agrees
     rate_taken rate first second =
         let set : Bay = record (bay_of one bay) { rate = rate } in
         let set_too : Bay = record (bay_of two bay) { rate = rate } in
@@ -202,15 +202,15 @@ module _ (bay : ℕ) (one two one_new two_new : StationState) (same : AlikeStati
           after = becomes_same (set_bay one bay set) (set_bay two bay set_too) one_new two_new (set_same one two bay set set_too same bays) first.becomes second.becomes;
         }
 
-    pub rate_call : (rate : Rate) → RatesTo one bay rate called one_new → RatesTo two bay rate called_too two_new → Agrees
+    pub rate_call : (rate : Rate) → RatesTo bay rate one called one_new → RatesTo bay rate two called_too two_new → Agrees
     rate_call rate first second =
-        both_ways Agrees (SetsRate one bay rate called one_new) (SetsRate two bay rate called_too two_new)
-        (λ code. IsRefusedAtOnce one code called one_new) (λ code. IsRefusedAtOnce two code called_too two_new)
+        both_ways Agrees (SetsRate bay rate one called one_new) (SetsRate bay rate two called_too two_new)
+        (λ code. IsRefusedAtOnce code one called one_new) (λ code. IsRefusedAtOnce code two called_too two_new)
         (rate_refusal one bay) (rate_refusal two bay) rate_order first second
         (λ free a b. rate_taken rate a b)
         (λ code a b. at_once reply_of one two one_new two_new code called called_too same a b)
 
-    ack_taken : AcksDrive one bay called one_new → AcksDrive two bay called_too two_new → Agrees
+    ack_taken : AcksDrive bay one called one_new → AcksDrive bay two called_too two_new → Agrees
     ack_taken first second =
         let acked = acks_agree bay one two one_new two_new here regular calm goes calm_too goes_too called called_too first second in
         record {
@@ -218,8 +218,8 @@ module _ (bay : ℕ) (one two one_new two_new : StationState) (same : AlikeStati
           after = becomes_same (set_bay one bay acked.value) (set_bay two bay acked.other) one_new two_new (set_same one two bay acked.value acked.other same acked.alike) acked.first acked.second;
         }
 
-    pub ack_call : Acks one bay called one_new → Acks two bay called_too two_new → Agrees
+    pub ack_call : Acks bay one called one_new → Acks bay two called_too two_new → Agrees
     ack_call first second =
-        both_tests Agrees (AcksDrive one bay called one_new) (AcksDrive two bay called_too two_new)
-        (IsRefusedAtOnce one BadRequest called one_new) (IsRefusedAtOnce two BadRequest called_too two_new) (is_bay bay) first second ack_taken
+        both_tests Agrees (AcksDrive bay one called one_new) (AcksDrive bay two called_too two_new)
+        (IsRefusedAtOnce BadRequest one called one_new) (IsRefusedAtOnce BadRequest two called_too two_new) (is_bay bay) first second ack_taken
         (λ a b. at_once reply_of one two one_new two_new BadRequest called called_too same a b)

@@ -91,13 +91,13 @@ formattable_back format (Some one) (Some two) same can =
     (one, refl, (can_format_alike format one two same.alike).1 (subst (CanFormat format) (sym (some_one two can.0 can.1)) can.2))
 
 module _ (format : Format) (bay : ℕ) (one two one_new two_new : StationState) (same : AlikeMedia (bay_of one bay).medium (bay_of two bay).medium) (calm : IsUndisturbed bay one.counters one_new.counters) (goes : GoesOn one.counters one_new.counters) (calm_too : IsUndisturbed bay two.counters two_new.counters) (goes_too : GoesOn two.counters two_new.counters) where
-  pub formats_media : (called called_too : Result (Unit {0}) Code) → FormatsDrive format bay called one one_new → FormatsDrive format bay called_too two two_new → AlikeMedia (bay_of one_new bay).medium (bay_of two_new bay).medium
+  pub formats_media : (called called_too : Result (Unit {0}) Code) → FormatsDrive format bay one called one_new → FormatsDrive format bay two called_too two_new → AlikeMedia (bay_of one_new bay).medium (bay_of two_new bay).medium
   formats_media called called_too drive drive_too =
       media_alike format (bay_of one bay).medium (bay_of two bay).medium (bay_of one_new bay).medium (bay_of two_new bay).medium drive.layings drive_too.layings same
       (drive.only (no_faults bay one.counters one_new.counters calm goes)) drive.lays (drive.begun calm) (drive.untouched calm)
       (drive_too.only (no_faults bay two.counters two_new.counters calm_too goes_too)) drive_too.lays (drive_too.begun calm_too) (drive_too.untouched calm_too)
 
-  pub formats_reply : (called called_too : Result (Unit {0}) Code) → FormatsDrive format bay called one one_new → FormatsDrive format bay called_too two two_new → reply_of called_too ≡ reply_of called
+  pub formats_reply : (called called_too : Result (Unit {0}) Code) → FormatsDrive format bay one called one_new → FormatsDrive format bay two called_too two_new → reply_of called_too ≡ reply_of called
   formats_reply (Ok u) (Ok v) drive drive_too = refl
   formats_reply (Ok u) (Err k) drive drive_too =
       let can = formattable_on format (bay_of one bay).medium (bay_of two bay).medium same ((drive.exactly calm).0 refl) in

@@ -93,7 +93,7 @@ put_free status.FileFault is = absurd is
 data Ending (report : Option (List ℕ)) (course : List Taken) (mid : State) (files : Option Files) (rest : List Request) (new : World) (ended : Status) : Type 0 where
   ByOutside : IsFreeEnd ended → Ending report course mid files rest new ended
   AllRun : rest ≡ [] → new.report ≡ grown report (course_text course) → ended ≡ whole_status (has_refusal course) → Ending report course mid files rest new ended
-  ByStop : (asked : Request) (later : List Request) (cause : Stop) → rest ≡ asked ∷ later → StopsAt mid files asked cause new.state new.files
+  ByStop : (asked : Request) (later : List Request) (cause : Stop) → rest ≡ asked ∷ later → StopsAt asked mid files cause new.state new.files
       → new.report ≡ grown (grown report (course_text course)) (stop_text cause) → ended ≡ stop_status cause → Ending report course mid files rest new ended
 
 record RunsTo (old : World) (requests : List Request) (course : List Taken) (new : World) (ended : Status) : Type 0 where
@@ -104,11 +104,11 @@ record RunsTo (old : World) (requests : List Request) (course : List Taken) (new
   pub all : requests ≡ requests_of course ++ rest
   pub ending : Ending old.report course mid files rest new ended
 
-stop_ending : (report : Option (List ℕ)) (course : List Taken) (mid : State) (files : Option Files) (asked : Request) (later : List Request) (cause : Stop) (new : World) (ended : Status) → StopsAt mid files asked cause new.state new.files → Prints (grown report (course_text course)) (stop_text cause) (stop_status cause) new.report ended → Ending report course mid files (asked ∷ later) new ended
+stop_ending : (report : Option (List ℕ)) (course : List Taken) (mid : State) (files : Option Files) (asked : Request) (later : List Request) (cause : Stop) (new : World) (ended : Status) → StopsAt asked mid files cause new.state new.files → Prints (stop_text cause) (stop_status cause) (grown report (course_text course)) new.report ended → Ending report course mid files (asked ∷ later) new ended
 stop_ending report course mid files asked later cause new ended stops (plays.Whole after is) = ByStop asked later cause refl stops after is
 stop_ending report course mid files asked later cause new ended stops (plays.Part grows fault) = ByOutside (put_free ended fault)
 
-runs_to : (old new : World) (requests : List Request) (course : List Taken) (ended : Status) → PlaysRequests old requests course new ended → RunsTo old requests course new ended
+runs_to : (old new : World) (requests : List Request) (course : List Taken) (ended : Status) → PlaysRequests requests old course new ended → RunsTo old requests course new ended
 runs_to old new requests course ended (plays.Played p) = record {
   mid = p.mid;
   files = p.files;
@@ -200,10 +200,10 @@ stops_both (Some f) (Some g) asked a b same one two = elim (stop_cases f asked a
 ]
 
 -- a stop where the other went on
-passed_end : (state new : State) (files after : Option Files) (rest : List Request) (asked : Request) (later : List Request) (cause : Stop) → IsPassed state files rest → rest ≡ asked ∷ later → StopsAt state files asked cause new after → IsEndStop cause
+passed_end : (state new : State) (files after : Option Files) (rest : List Request) (asked : Request) (later : List Request) (cause : Stop) → IsPassed state files rest → rest ≡ asked ∷ later → StopsAt asked state files cause new after → IsEndStop cause
 passed_end state new files after rest asked later cause passed is stops =
     let here : asked ≡ passed.asked = head_of rest asked passed.asked later passed.later is passed.rest_is in
-    let there = subst (λ (q : Request). StopsAt state files q cause new after) here stops in
+    let there = subst (λ (q : Request). StopsAt q state files cause new after) here stops in
     passed_free state passed.from new passed.next files passed.told after passed.told_next passed.asked passed.answer cause passed.same there passed.step
 
 module _ (one two one_after two_after : World) (course course_too : List Taken) (ended ended_too : Status) where
@@ -273,7 +273,7 @@ module _ (one two one_after two_after : World) (course course_too : List Taken) 
   no_text : (report : Option (List ℕ)) (c : List Taken) → c ≡ [] → grown report (course_text c) ≡ report
   no_text report c none = ap (λ (x : List Taken). grown report (course_text x)) none ∙ grown_nil report
 
-  lines_alike : (line : List ℕ) (wanted : Status) → course ≡ [] → course_too ≡ [] → Prints one.report line wanted one_after.report ended → Prints two.report line wanted two_after.report ended_too → EndsSo
+  lines_alike : (line : List ℕ) (wanted : Status) → course ≡ [] → course_too ≡ [] → Prints line wanted one.report one_after.report ended → Prints line wanted two.report two_after.report ended_too → EndsSo
   lines_alike line wanted none none_too (plays.Part grows fault) second = inl (put_free ended fault)
   lines_alike line wanted none none_too (plays.Whole after is) (plays.Part grows fault) = inr (inl (put_free ended_too fault))
   lines_alike line wanted none none_too (plays.Whole after is) (plays.Whole after_too is_too) = inr (inr (record {
@@ -284,13 +284,13 @@ module _ (one two one_after two_after : World) (course course_too : List Taken) 
     status = is_too ∙ sym is;
   }))
 
-  alone_alike : (line : List ℕ) (wanted : Status) → TellsAlone one line wanted course one_after ended → TellsAlone two line wanted course_too two_after ended_too → Alike
+  alone_alike : (line : List ℕ) (wanted : Status) → TellsAlone line wanted one course one_after ended → TellsAlone line wanted two course_too two_after ended_too → Alike
   alone_alike line wanted a b = (none_first a.nothing, λ regular. lines_alike line wanted a.nothing b.nothing a.tells.prints b.tells.prints)
 
   -- ---- two plays
 
   module _ (begin : BeginAlike one two) (calm : AreUndisturbed one.state.station.counters course) (calm_too : AreUndisturbed two.state.station.counters course_too) where
-    requests_alike : (requests : List Request) → PlaysRequests one requests course one_after ended → PlaysRequests two requests course_too two_after ended_too → Alike
+    requests_alike : (requests : List Request) → PlaysRequests requests one course one_after ended → PlaysRequests requests two course_too two_after ended_too → Alike
     requests_alike requests first second =
         let a = runs_to one one_after requests course ended first in
         let b = runs_to two two_after requests course_too ended_too second in
@@ -301,7 +301,7 @@ module _ (one two one_after two_after : World) (course course_too : List Taken) 
               ends_alike a.mid b.mid a.files b.files a.rest b.rest runs.agree runs.parted a.ending b.ending,
         )
 
-    parsed_alike : (parsed : Result (List Request) ℕ) → PlaysParsed one parsed course one_after ended → PlaysParsed two parsed course_too two_after ended_too → Alike
+    parsed_alike : (parsed : Result (List Request) ℕ) → PlaysParsed parsed one course one_after ended → PlaysParsed parsed two course_too two_after ended_too → Alike
     parsed_alike (Ok requests) first second = requests_alike requests first second
     parsed_alike (Err line) first second = alone_alike (bad_line_text line) status.BadJob first second
 
@@ -356,30 +356,30 @@ module _ (one two one_after two_after : World) (course course_too : List Taken) 
       fault_second : course_too ≡ [] → IsFreeEnd ended_too → Alike
       fault_second none free = (none_second none, λ regular. inr (inl free))
 
-      there_alike : PlaysText one job course one_after ended → Plays two job course_too two_after ended_too → Alike
+      there_alike : PlaysText job one course one_after ended → Plays job two course_too two_after ended_too → Alike
       there_alike a (plays.There b) =
           let same : b.text ≡ a.text = one_text (file job) a.text b.text (text_of a.text a.told) (text_too b.text b.told) in
-          parsed_alike (job_of a.text) a.plays (subst (λ (t : List ℕ). PlaysParsed two (job_of t) course_too two_after ended_too) same b.plays)
+          parsed_alike (job_of a.text) a.plays (subst (λ (t : List ℕ). PlaysParsed (job_of t) two course_too two_after ended_too) same b.plays)
       there_alike a (plays.Missing absent alone) = absurd (there_missing (file job) a.text (text_of a.text a.told) (absent_too absent))
       there_alike a (plays.TooLong longer alone) = absurd (there_long (file job) a.text (text_of a.text a.told) (long_too longer))
       there_alike a (plays.Faulty nothing idle) = fault_second nothing (subst IsFreeEnd (sym idle.status) tt)
       there_alike a (plays.Starved nothing idle) = fault_second nothing (subst IsFreeEnd (sym idle.status) tt)
 
-      missing_alike : IsAbsent one.files job → TellsAlone one (absent_text job) status.Absent course one_after ended → Plays two job course_too two_after ended_too → Alike
+      missing_alike : IsAbsent one.files job → TellsAlone (absent_text job) status.Absent one course one_after ended → Plays job two course_too two_after ended_too → Alike
       missing_alike absent a (plays.There b) = absurd (there_missing (file job) b.text (text_too b.text b.told) (absent_of absent))
       missing_alike absent a (plays.Missing absent_here b) = alone_alike (absent_text job) status.Absent a b
       missing_alike absent a (plays.TooLong longer b) = absurd (missing_long (file job) (absent_of absent) (long_too longer))
       missing_alike absent a (plays.Faulty nothing idle) = fault_second nothing (subst IsFreeEnd (sym idle.status) tt)
       missing_alike absent a (plays.Starved nothing idle) = fault_second nothing (subst IsFreeEnd (sym idle.status) tt)
 
-      long_alike : IsLonger one.files job most_job_bytes → TellsAlone one (bad_line_text 0) status.BadJob course one_after ended → Plays two job course_too two_after ended_too → Alike
+      long_alike : IsLonger one.files job most_job_bytes → TellsAlone (bad_line_text 0) status.BadJob one course one_after ended → Plays job two course_too two_after ended_too → Alike
       long_alike longer a (plays.There b) = absurd (there_long (file job) b.text (text_too b.text b.told) (long_of longer))
       long_alike longer a (plays.Missing absent b) = absurd (missing_long (file job) (absent_too absent) (long_of longer))
       long_alike longer a (plays.TooLong longer_here b) = alone_alike (bad_line_text 0) status.BadJob a b
       long_alike longer a (plays.Faulty nothing idle) = fault_second nothing (subst IsFreeEnd (sym idle.status) tt)
       long_alike longer a (plays.Starved nothing idle) = fault_second nothing (subst IsFreeEnd (sym idle.status) tt)
 
-      plays_alike : Plays one job course one_after ended → Plays two job course_too two_after ended_too → Alike
+      plays_alike : Plays job one course one_after ended → Plays job two course_too two_after ended_too → Alike
       plays_alike (plays.There a) second = there_alike a second
       plays_alike (plays.Missing absent a) second = missing_alike absent a second
       plays_alike (plays.TooLong longer a) second = long_alike longer a second
@@ -387,7 +387,7 @@ module _ (one two one_after two_after : World) (course course_too : List Taken) 
       plays_alike (plays.Starved nothing idle) second = fault_first nothing (subst IsFreeEnd (sym idle.status) tt)
 
 -- two plays of one job with nothing left to go wrong
-pub answers_determined : (job : List ℕ) (one one_after two two_after : World) (course other : List Taken) (ended other_ended : Status) → BeginAlike one two → Plays one job course one_after ended → Plays two job other two_after other_ended → AnswersAgree one.state course other × (AreRegularBefore one.state course → EndAlikeUnlessFree one two course other one_after two_after ended other_ended)
+pub answers_determined : (job : List ℕ) (one one_after two two_after : World) (course other : List Taken) (ended other_ended : Status) → BeginAlike one two → Plays job one course one_after ended → Plays job two other two_after other_ended → AnswersAgree one.state course other × (AreRegularBefore one.state course → EndAlikeUnlessFree one two course other one_after two_after ended other_ended)
 answers_determined job one one_after two two_after course other ended other_ended begin first second =
     let calm = (play_ties one one_after job course ended first).undisturbed begin.first.nothing_left in
     let calm_too = (play_ties two two_after job other other_ended second).undisturbed begin.second.nothing_left in

@@ -61,11 +61,11 @@ reached Q None e holds = holds
 reached Q (Some x) e holds = absurd (cc e)
 
 -- a load that stops one run isn't done by the other
-load_clash : (a b : Files) (one two next : State) (after : Option Files) (asked : Request) (answer : Reply) (cause : Stop) → AreBeside one (Some a) two (Some b) → refusal_of one asked ≡ None → IsLoadStop a asked cause → Step two (Some b) asked answer next after → ⊥
+load_clash : (a b : Files) (one two next : State) (after : Option Files) (asked : Request) (answer : Reply) (cause : Stop) → AreBeside one (Some a) two (Some b) → refusal_of one asked ≡ None → IsLoadStop a asked cause → Step asked two (Some b) answer next after → ⊥
 load_clash a b one two next after asked answer cause beside taken load step =
     let bay = load.bay in
     let name = load.name in
-    let insert = subst (λ (q : Request). Step two (Some b) q answer next after) load.asked_is step in
+    let insert = subst (λ (q : Request). Step q two (Some b) answer next after) load.asked_is step in
     let free = subst (λ (q : Request). refusal_of one q ≡ None) load.asked_is taken in
     let free_too : refusal_of two (request.Insert bay name) ≡ None = ap (λ (t : Bool). unless_bad (is_bay bay) (if t then Some reason.Busy else None)) (beside.loaded bay) ∙ free in
     let does = reached _ (refusal_of two (request.Insert bay name)) free_too insert in
@@ -77,7 +77,7 @@ load_clash a b one two next after asked answer cause beside taken load step =
     some_none x e = cc e
 
 -- so the outside made the stop
-pub passed_free : (one two new next : State) (told other after told_next : Option Files) (asked : Request) (answer : Reply) (cause : Stop) → AreBeside one told two other → StopsAt one told asked cause new after → Step two other asked answer next told_next → IsEndStop cause
+pub passed_free : (one two new next : State) (told other after told_next : Option Files) (asked : Request) (answer : Reply) (cause : Stop) → AreBeside one told two other → StopsAt asked one told cause new after → Step asked two other answer next told_next → IsEndStop cause
 passed_free one two new next None None after told_next asked answer cause beside stops step = absurd beside.stops
 passed_free one two new next None (Some b) after told_next asked answer cause beside stops step = absurd beside.stops
 passed_free one two new next (Some a) None after told_next asked answer cause beside stops step = absurd beside.stops
@@ -98,7 +98,7 @@ pub record IsPassed (state : State) (files : Option Files) (rest : List Request)
   pub answer : Reply
   pub next : State
   pub told_next : Option Files
-  pub step : Step from told asked answer next told_next
+  pub step : Step asked from told answer next told_next
   pub same : AreBeside state files from told
 
 -- two runs came to their ends together, or one of them went on
@@ -148,7 +148,7 @@ runs_agree (t ∷ later) (u ∷ more) one two mid mid_too told other files files
     let lists : u.asked ∷ (requests_of more ++ rest_too) ≡ t.asked ∷ (requests_of later ++ rest) = sym all_too ∙ all in
     let asked : u.asked ≡ t.asked = same_head u.asked t.asked (requests_of more ++ rest_too) (requests_of later ++ rest) lists in
     let behind : requests_of more ++ rest_too ≡ requests_of later ++ rest = same_tail u.asked t.asked (requests_of more ++ rest_too) (requests_of later ++ rest) lists in
-    let step_too = subst (λ (q : Request). Step two other q u.answer u.after run_too.0) asked run_too.1 in
+    let step_too = subst (λ (q : Request). Step q two other u.answer u.after run_too.0) asked run_too.1 in
     let quiet : IsCalmStep t.asked t.answer one.station.counters t.after.station.counters = record { first = calm.0; second = calm.1 } in
     let quiet_here : IsCalmStep u.asked u.answer two.station.counters u.after.station.counters = record { first = calm_too.0; second = calm_too.1 } in
     let quiet_too = subst (λ (q : Request). IsCalmStep q u.answer two.station.counters u.after.station.counters) asked quiet_here in
@@ -167,7 +167,7 @@ while_agree (t ∷ later) (u ∷ more) one two mid mid_too told other files file
     let lists : u.asked ∷ (requests_of more ++ rest_too) ≡ t.asked ∷ (requests_of later ++ rest) = sym all_too ∙ all in
     let asked : u.asked ≡ t.asked = same_head u.asked t.asked (requests_of more ++ rest_too) (requests_of later ++ rest) lists in
     let behind : requests_of more ++ rest_too ≡ requests_of later ++ rest = same_tail u.asked t.asked (requests_of more ++ rest_too) (requests_of later ++ rest) lists in
-    let step_too = subst (λ (q : Request). Step two other q u.answer u.after run_too.0) asked run_too.1 in
+    let step_too = subst (λ (q : Request). Step q two other u.answer u.after run_too.0) asked run_too.1 in
     let quiet : IsCalmStep t.asked t.answer one.station.counters t.after.station.counters = record { first = calm.0; second = calm.1 } in
     let quiet_here : IsCalmStep u.asked u.answer two.station.counters u.after.station.counters = record { first = calm_too.0; second = calm_too.1 } in
     let quiet_too = subst (λ (q : Request). IsCalmStep q u.answer two.station.counters u.after.station.counters) asked quiet_here in

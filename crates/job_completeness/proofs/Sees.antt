@@ -88,7 +88,7 @@ module _ (bay : ℕ) (key : Chrn) (address : ℕ) (old new : StationState) (regu
   is_regular : IsRegular track key.c key.h
   is_regular = regular_met (bay_of old bay).medium (bay_of old bay).rate key.c key.h regular
 
-  found_sees : (deleted : Bool) → IsRead old bay key address deleted new → Sees track key (Ok deleted)
+  found_sees : (deleted : Bool) → IsRead bay key address old deleted new → Sees track key (Ok deleted)
   found_sees deleted read =
       let place = key_cylinder read.disk read.cylinder key.h read.place key (regular read.disk read.medium) read.track read.address_field in
       let sector = read.sector (inl (no_faults bay old.counters new.counters calm goes)) in
@@ -98,7 +98,7 @@ module _ (bay : ℕ) (key : Chrn) (address : ℕ) (old new : StationState) (regu
       let there : IsSector track key deleted read.content = subst (λ (t : List ℕ). IsSector t key deleted read.content) (sym is) here in
       There there.0 (look.Found deleted there.1) there.2 (there.1, there.3) refl
 
-  cause_sees : (c : Code) → IsReadCause track key old.tries bay c old new → Sees track key (Err c)
+  cause_sees : (c : Code) → IsReadCause track key old.tries bay old c new → Sees track key (Err c)
   cause_sees code.NoMark cause = elim (cause.no_mark refl calm) [
     | inl none ↦ Bare refl (λ mark. none mark.0 (plain_clear track mark.0 is_regular.plain mark.1))
     | inr seen ↦ There seen.0 look.NoData seen.1 seen.2 refl
@@ -115,7 +115,7 @@ module _ (bay : ℕ) (key : Chrn) (address : ℕ) (old new : StationState) (regu
   cause_sees code.Page cause = absurd cause.device
   cause_sees code.NotReady cause = absurd cause.device
 
-  pub drive_sees : (called : Result Bool Code) → ReadsDrive old bay key address called new → Sees track key called
+  pub drive_sees : (called : Result Bool Code) → ReadsDrive bay key address old called new → Sees track key called
   drive_sees (Ok deleted) drive = found_sees deleted drive.found
   drive_sees (Err c) drive = cause_sees c drive.refused.cause
 
@@ -130,7 +130,7 @@ pub record Remembers (old new : StationState) : Type 0 where
 length-bytes_at : (track : List ℕ) (place count : ℕ) → length (bytes_at track place count) ≡ count
 length-bytes_at track place count = length-map-range_with_len (λ i. byte_at track (place + 16 * i)) 0 count
 
-pub read_remembers : (bay : ℕ) (key : Chrn) (address : ℕ) (old new : StationState) (called : Result Bool Code) → length old.memory ≡ user_bytes → address + content_size key.n ≤ user_bytes → ReadsDrive old bay key address called new → Remembers old new
+pub read_remembers : (bay : ℕ) (key : Chrn) (address : ℕ) (old new : StationState) (called : Result Bool Code) → length old.memory ≡ user_bytes → address + content_size key.n ≤ user_bytes → ReadsDrive bay key address old called new → Remembers old new
 read_remembers bay key address old new (Ok deleted) size within drive =
     let read = drive.found in
     let sized : length read.content ≡ content_size key.n = ap length read.whole.content_is ∙ length-bytes_at (track_of read.disk read.cylinder key.h) (read.mark + 64) (content_size key.n) in

@@ -108,7 +108,7 @@ module _ (one two one_new two_new : State) (told other told_after other_after : 
   }
 
   -- the session refused both
-  refused : (cause : Reason) → IsRefused one told cause answer one_new told_after → IsRefused two other cause answer_too two_new other_after → Agrees
+  refused : (cause : Reason) → IsRefused cause one told answer one_new told_after → IsRefused cause two other answer_too two_new other_after → Agrees
   refused cause first second =
       agree (reply.Refused cause) first.answered second.answered (second.same.names ∙ same.names ∙ sym first.same.names)
       (becomes_same one.station two.station one_new.station two_new.station same.stations first.same.stays second.same.stays)
@@ -125,7 +125,7 @@ module _ (one two one_new two_new : State) (told other told_after other_after : 
   is_loaded_too bay = loaded_same (bay_of one.station bay).medium (bay_of two.station bay).medium (bays_in one.station two.station bay same.stations).media
 
   -- media were exchanged for alike ones
-  exchanged : (bay : ℕ) (name : Option (List ℕ)) (d e : Option Disk) → AlikeMedia d e → ChangesMedium one bay name d one_new → ChangesMedium two bay name e two_new → (two_new.names ≡ one_new.names) × AlikeStations one_new.station two_new.station
+  exchanged : (bay : ℕ) (name : Option (List ℕ)) (d e : Option Disk) → AlikeMedia d e → ChangesMedium bay name d one one_new → ChangesMedium bay name e two two_new → (two_new.names ≡ one_new.names) × AlikeStations one_new.station two_new.station
   exchanged bay name d e media first second =
       let bays : AlikeBays (fresh_bay d) (fresh_bay e) = record { media = media; acknowledged = refl; rate = refl } in (
         second.names ∙ ap (λ (n : Two (Option (List ℕ))). with_bay n bay name) same.names ∙ sym first.names,
@@ -133,7 +133,7 @@ module _ (one two one_new two_new : State) (told other told_after other_after : 
             (set_same one.station two.station bay (fresh_bay d) (fresh_bay e) same.stations bays) first.exchanged.becomes second.exchanged.becomes,
       )
 
-  put_in : (bay : ℕ) (name : Option (List ℕ)) (d e : Disk) → AlikeDisks d e → answer ≡ reply.Done → answer_too ≡ reply.Done → told_after ≡ told → other_after ≡ other → ChangesMedium one bay name (Some d) one_new → ChangesMedium two bay name (Some e) two_new → Agrees
+  put_in : (bay : ℕ) (name : Option (List ℕ)) (d e : Disk) → AlikeDisks d e → answer ≡ reply.Done → answer_too ≡ reply.Done → told_after ≡ told → other_after ≡ other → ChangesMedium bay name (Some d) one one_new → ChangesMedium bay name (Some e) two two_new → Agrees
   put_in bay name d e disks is is_too files files_too first second =
       let after = exchanged bay name (Some d) (Some e) disks first second in
       agree reply.Done is is_too after.0 after.1 (files_stay files files_too)
@@ -150,7 +150,7 @@ module _ (one two one_new two_new : State) (told other told_after other_after : 
       ap (λ (b : Bool). unless_bad (is_bay bay) (if b then Some reason.Busy else spare_refusal two)) (is_loaded_too bay)
       ∙ ap (λ (n : ℕ). unless_bad (is_bay bay) (if is_loaded one bay then Some reason.Busy else (if n == 0 then Some reason.NoSpare else None))) same.stations.as_many
 
-  ejected : (bay : ℕ) → Does one told (request.Eject bay) answer one_new told_after → Does two other (request.Eject bay) answer_too two_new other_after → Agrees
+  ejected : (bay : ℕ) → Does (request.Eject bay) one told answer one_new told_after → Does (request.Eject bay) two other answer_too two_new other_after → Agrees
   ejected bay first second =
       let a = first.1 in
       let b = second.1 in
@@ -163,7 +163,7 @@ module _ (one two one_new two_new : State) (told other told_after other_after : 
       (subst (λ (o : Option Files). AlikeTold told_after o) (sym there)
       (subst (λ (o : Option Files). AlikeTold o (stored other a.1 (file_of b.0))) (sym a.5) kept))
 
-  unit_taken : (bay : ℕ) → Does one told (request.Unit bay) answer one_new told_after → Does two other (request.Unit bay) answer_too two_new other_after → Agrees
+  unit_taken : (bay : ℕ) → Does (request.Unit bay) one told answer one_new told_after → Does (request.Unit bay) two other answer_too two_new other_after → Agrees
   unit_taken bay first second =
       let bays : AlikeBays (fresh_bay None) (fresh_bay None) = record { media = tt; acknowledged = refl; rate = refl } in
       let set = set_same one.station two.station bay (fresh_bay None) (fresh_bay None) same.stations bays in
@@ -175,7 +175,7 @@ module _ (one two one_new two_new : State) (told other told_after other_after : 
 
   -- ---- memory
 
-  filled : (address count byte : ℕ) → address + count ≤ user_bytes → answer ≡ reply.Done → answer_too ≡ reply.Done → told_after ≡ told → other_after ≡ other → Fills one address count byte one_new → Fills two address count byte two_new → Agrees
+  filled : (address count byte : ℕ) → address + count ≤ user_bytes → answer ≡ reply.Done → answer_too ≡ reply.Done → told_after ≡ told → other_after ≡ other → Fills address count byte one one_new → Fills address count byte two two_new → Agrees
   filled address count byte within is is_too files files_too first second =
       let bytes = replicate count byte in
       let long : length bytes ≡ count = length-replicate count byte in
@@ -210,10 +210,10 @@ module _ (one two one_new two_new : State) (told other told_after other_after : 
   -- ---- each request
 
   -- both by one order of refusals
-  by_order : (asked : Request) → refusal_of two asked ≡ refusal_of one asked → Step one told asked answer one_new told_after → Step two other asked answer_too two_new other_after → (refusal_of one asked ≡ None → Does one told asked answer one_new told_after → Does two other asked answer_too two_new other_after → Agrees) → Agrees
+  by_order : (asked : Request) → refusal_of two asked ≡ refusal_of one asked → Step asked one told answer one_new told_after → Step asked two other answer_too two_new other_after → (refusal_of one asked ≡ None → Does asked one told answer one_new told_after → Does asked two other answer_too two_new other_after → Agrees) → Agrees
   by_order asked order first second taken =
-      both_ways Agrees (Does one told asked answer one_new told_after) (Does two other asked answer_too two_new other_after)
-      (λ cause. IsRefused one told cause answer one_new told_after) (λ cause. IsRefused two other cause answer_too two_new other_after)
+      both_ways Agrees (Does asked one told answer one_new told_after) (Does asked two other answer_too two_new other_after)
+      (λ cause. IsRefused cause one told answer one_new told_after) (λ cause. IsRefused cause two other answer_too two_new other_after)
       (refusal_of one asked) (refusal_of two asked) order first second taken refused
 
 -- nothing disturbed a step
@@ -228,7 +228,7 @@ module _ (one two one_new two_new : State) (told other told_after other_after : 
   calls : (a b : Reply) → answer ≡ a → answer_too ≡ b → IsDriverCall one told one_new told_after → IsDriverCall two other two_new other_after → CallsAgree a b one_new.station two_new.station → Goal
   calls = called one two one_new two_new told other told_after other_after same answer answer_too
 
-  ordered : (asked : Request) → refusal_of two asked ≡ refusal_of one asked → Step one told asked answer one_new told_after → Step two other asked answer_too two_new other_after → (refusal_of one asked ≡ None → Does one told asked answer one_new told_after → Does two other asked answer_too two_new other_after → Goal) → Goal
+  ordered : (asked : Request) → refusal_of two asked ≡ refusal_of one asked → Step asked one told answer one_new told_after → Step asked two other answer_too two_new other_after → (refusal_of one asked ≡ None → Does asked one told answer one_new told_after → Does asked two other answer_too two_new other_after → Goal) → Goal
   ordered = by_order one two one_new two_new told other told_after other_after same answer answer_too
 
   abbrev Calm : Request → Type 0
@@ -243,7 +243,7 @@ module _ (one two one_new two_new : State) (told other told_after other_after : 
   quiet_too : (bay : ℕ) → IsUndisturbed 0 two.station.counters two_new.station.counters → IsUndisturbed 1 two.station.counters two_new.station.counters → IsUndisturbed bay two.station.counters two_new.station.counters
   quiet_too bay a b = calm_bay bay two.station.counters two_new.station.counters a b
 
-  pub steps_agree : (asked : Request) → Calm asked → CalmToo asked → Step one told asked answer one_new told_after → Step two other asked answer_too two_new other_after → Goal
+  pub steps_agree : (asked : Request) → Calm asked → CalmToo asked → Step asked one told answer one_new told_after → Step asked two other answer_too two_new other_after → Goal
   steps_agree (request.Insert bay name) calm calm_too first second =
       ordered (request.Insert bay name) (empty_order one two one_new two_new told other told_after other_after same answer answer_too bay (is_bay bay)) first second
       (λ free a b.

@@ -44,7 +44,7 @@ pub record IsOver (written : Written) (bay : ℕ) (called : Result (Unit {0}) Co
   pub meets : MeetsTrack (bay_of old bay).medium (bay_of old bay).rate written.key.c written.key.h disk
   pub address : IsAddressAt (met (bay_of old bay) written.key.c written.key.h) p written.key
   pub ok : IsOk called
-  pub alone : ChangesAlone written bay p disk called old new
+  pub alone : ChangesAlone written bay p disk old called new
 
 -- nothing was written, as no field has the key
 pub record IsKept (written : Written) (bay : ℕ) (called : Result (Unit {0}) Code) (old new : StationState) : Type 0 where
@@ -85,7 +85,7 @@ module _ (written : Written) (bay : ℕ) (old new : StationState) (regular : IsR
         subst (λ (b : ℕ). IsAddressAt (track_of disk b h) change.place written.key) (sym place) is.address,
       )
 
-  module _ (called : Result (Unit {0}) Code) (drive : WritesDrive written bay called old new) where
+  module _ (called : Result (Unit {0}) Code) (drive : WritesDrive written bay old called new) where
     -- where the disk has the field, and its rate is that of the bay, the field was written over
     over_at : (p : ℕ) (disk : Disk) → (bay_of old bay).medium ≡ Some disk → MeetsTrack (bay_of old bay).medium (bay_of old bay).rate c h disk → IsAddressAt (track_of disk c h) p written.key → IsOk called → IsOver written bay called old new
     over_at p disk medium meets at ok =
@@ -140,7 +140,7 @@ module _ (written : Written) (bay : ℕ) (old new : StationState) (regular : IsR
           ap (λ (m : Option Disk). met_in m (bay_of new bay).rate c h) medium_stays
           ∙ ap (λ (r : Rate). met_in (bay_of old bay).medium r c h) bay_rate
 
-      refuses : (k : Code) → IsWriteCause written track track drive.changes bay k old new → Refuses track written.key k
+      refuses : (k : Code) → IsWriteCause written track track drive.changes bay old k new → Refuses track written.key k
       refuses code.NoMark cause = elim (cause.no_mark refl calm) [
         | inl bare ↦ Bare refl (λ mark. bare mark.0 (plain_clear track mark.0 is_regular.plain mark.1))
         | inr (inl cut) ↦ absurd (none cut.0 cut.1)
@@ -159,11 +159,11 @@ module _ (written : Written) (bay : ℕ) (old new : StationState) (regular : IsR
       refuses code.Page cause = absurd cause.device
       refuses code.NotReady cause = absurd cause.device
 
-  pub write_takes : (called : Result (Unit {0}) Code) → WritesDrive written bay called old new → Takes written bay called old new
+  pub write_takes : (called : Result (Unit {0}) Code) → WritesDrive written bay old called new → Takes written bay called old new
   write_takes (Ok u) drive =
       Over (done_over (Ok u) drive (bay_of old bay).medium (bay_of new bay).medium drive.changes refl refl refl refl (drive.done refl) drive.reach)
   write_takes (Err k) drive =
       let cause = drive.refused in
       let none : (p : ℕ) → IsAddressAt track p written.key → ⊥ = λ p at. cause.never is_regular p at (inr calm) (disturbed_less bay old.counters new.counters calm goes old.tries) in
-      let settled = subst (λ (t : List ℕ). IsWriteCause written track t drive.changes bay k old new) (met_stays (Err k) drive none) cause in
+      let settled = subst (λ (t : List ℕ). IsWriteCause written track t drive.changes bay old k new) (met_stays (Err k) drive none) cause in
       Kept (record { c = k; refused = refl; none = none; cause = refuses (Err k) drive none k settled; medium = medium_stays (Err k) drive none })

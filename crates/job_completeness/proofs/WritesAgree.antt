@@ -81,7 +81,7 @@ module _ (key : Chrn) (deleted : Bool) (content other : List ℕ) (bay : ℕ) (o
   ends_agree (Kept a) (Over b) = absurd (a.none b.p ((met_same.addresses b.p key).1 b.address))
   ends_agree (Kept a) (Kept b) = kept_kept a b
 
-  pub writes_agree : WritesDrive first bay called one one_new → WritesDrive second bay called_too two two_new → Agrees
+  pub writes_agree : WritesDrive first bay one called one_new → WritesDrive second bay two called_too two_new → Agrees
   writes_agree drive drive_too =
       ends_agree (write_takes first bay one one_new regular calm goes called drive)
       (write_takes second bay two two_new regular_too calm_too goes_too called_too drive_too)

@@ -13,7 +13,7 @@ ghost use Rattle.job_completeness.specs.Determined.{BeginAlike, AreRegularBefore
 pub fn job_answers_are_determined(_job: &str)
     ensures { (one one_after two two_after : World) (course other : List Taken) (ended other_ended : Status)
         → BeginAlike one two
-        → Plays one _job.now course one_after ended → Plays two _job.now other two_after other_ended
+        → Plays _job.now one course one_after ended → Plays _job.now two other two_after other_ended
         → AnswersAgree one.state course other
         × (AreRegularBefore one.state course
         → EndAlikeUnlessFree one two course other one_after two_after ended other_ended) }

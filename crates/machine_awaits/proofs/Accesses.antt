@@ -130,7 +130,7 @@ read_same old new true false port other is = ap (λ chips. chips.controller) is
 read_same old new true true port other is = absurd (false≢true (sym other))
 read_same old new false data_port port other is = ap (λ chips. chips.controller) is
 
-pub input_awaits : (begun port value : ℕ) (start old new : Board) → (port == 0x3F5) ≡ false → Inputs port value old new → IsAwaited begun start old → IsAwaited begun start new
+pub input_awaits : (begun port value : ℕ) (start old new : Board) → (port == 0x3F5) ≡ false → Inputs port old value new → IsAwaited begun start old → IsAwaited begun start new
 input_awaits begun port value start old new other access was =
     runs_await (next_entry old.bus.gaps) begun start (read_board port old) new access.gap.runs
     (same_await begun start old (read_board port old) (read_same old (read_board port old) (is_controllers port) (port == 0x3F5) port other refl) refl refl refl was)

@@ -56,7 +56,7 @@ stepped_behind before after old between idle none drive is = record {
 }
 
 rests_behind : (phase : Phase) (before after : DriveState) (old between : Fdc) → old.phase ≡ phase → is_executing phase ≡ false → old.seeks.seek ≡ None
-    → MovesIn phase old before after → RestsIn phase old (before.cylinder == 0) between → IsBehind before after old between
+    → MovesIn phase old before after → RestsIn phase (before.cylinder == 0) old between → IsBehind before after old between
 rests_behind Command before after old between at idle none moves rests =
     stepped_behind before after old between (ap is_executing at) none (as_turned before after (turned_moves _ before after (pulse_none old.seeks (before.cylinder == 0) none) moves)) rests
 rests_behind (Result answer) before after old between at idle none moves rests =
@@ -88,7 +88,7 @@ same_works before after old between none unpolled works = by_busy (is_executing 
         (subst (λ polls. WritesIn old.phase old.asking old.fifo polls before after between) same works.writes)
         (subst (λ polls. ExecutesIn old.phase (at_index before) works.reads.word polls between) same works.reads.follows.executes)
     by_busy false idle = rests_behind old.phase before after old between refl idle none
-        (subst (λ polls. MovesIn polls.phase polls before after) same works.drive) (subst (λ polls. RestsIn polls.phase polls (before.cylinder == 0) between) same works.rests)
+        (subst (λ polls. MovesIn polls.phase polls before after) same works.drive) (subst (λ polls. RestsIn polls.phase (before.cylinder == 0) polls between) same works.rests)
 
 -- ---- the latch
 

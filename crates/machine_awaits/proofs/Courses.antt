@@ -89,7 +89,7 @@ pub record HasLaws : Type 0 where
   pub unset_time : (n : ℕ) (old new : Board) → RunsUnset n old new → IsOnTime old → IsOnTime new ⊎ Stalled old new
   pub wait_counts : (n : ℕ) (old new : Board) → Runs n (stirred old) new → CountsGoOn old new
   pub waits_count : (most : ℕ) (set : Bool) (old new : Board) → Waits most old set new → CountsGoOn old new
-  pub read_counts : (port value : ℕ) (old new : Board) → Inputs port value old new → CountsGoOn old new
+  pub read_counts : (port value : ℕ) (old new : Board) → Inputs port old value new → CountsGoOn old new
 
 status_time : HasLaws → (old : Board) → IsOnTime old → IsOnTime (read_board 0x3F4 old)
 status_time laws old was = record {
@@ -113,7 +113,7 @@ shown_stalls false holding = refl
 pub record IsKept (Underway : Board → Type 0) : Type 0 where
   pub runs : (n : ℕ) (old new : Board) → Runs n old new → Underway old → Underway new
   pub unset : (n : ℕ) (old new : Board) → RunsUnset n old new → Underway old → Underway new
-  pub read : (port value : ℕ) (old new : Board) → Inputs port value old new → Underway old → Underway new ⊎ ((controller_of new).phase ≡ Command)
+  pub read : (port value : ℕ) (old new : Board) → Inputs port old value new → Underway old → Underway new ⊎ ((controller_of new).phase ≡ Command)
   pub stirs : (old : Board) → Underway old → Underway (stirred old)
   pub takes : (old : Board) → Underway old → Underway (record old { bus = irq_taken old.bus })
 
@@ -155,7 +155,7 @@ module _ (laws : HasLaws) (Underway : Board → Type 0) (kept : IsKept Underway)
   not_over : (begun : ℕ) (start now : Board) → IsAwaited begun start now → (controller_of now).phase ≡ Command → ⊥
   not_over begun start now awaited over = false≢true (sym (ap is_unread over) ∙ (awaited.ended (ap is_executing over)).unread)
 
-  pub goes_status : (value : ℕ) (start old new : Board) → Inputs 0x3F4 value old new → GoesOn Underway start old → GoesOn Underway start new
+  pub goes_status : (value : ℕ) (start old new : Board) → Inputs 0x3F4 old value new → GoesOn Underway start old → GoesOn Underway start new
   goes_status value start old new access was =
       let begun = counted (data_commands_of (controller_of start)) in
       let between = read_board 0x3F4 old in

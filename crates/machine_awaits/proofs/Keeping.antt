@@ -35,7 +35,7 @@ format_takes : (scene : Scene) (numbers : Numbers) (old : Board) → FormatUnder
 format_takes scene numbers old (past, was) = (past, record { scene_is = was.scene_is; chips = was.chips; drive = was.drive; covered = was.covered })
 
 pub keeps_format : (scene : Scene) (numbers : Numbers) → ((n : ℕ) (old new : Board) → Runs n old new → KeepsFormat old new) → ((n : ℕ) (old new : Board) → RunsUnset n old new → KeepsFormat old new)
-    → ((port value : ℕ) (old new : Board) → Inputs port value old new → (scene : Scene) (numbers : Numbers) → FormatUnderway scene numbers old
+    → ((port value : ℕ) (old new : Board) → Inputs port old value new → (scene : Scene) (numbers : Numbers) → FormatUnderway scene numbers old
     → FormatUnderway scene numbers new ⊎ ((controller_of new).phase ≡ Command)) → IsKept (FormatUnderway scene numbers)
 keeps_format scene numbers runs unset read = record {
   runs = λ n old new steps was. runs n old new steps scene numbers was;

@@ -13,10 +13,10 @@ use Rattle.machine_awaits.specs.Awaits.{TurnsOn}
 pub as_turned : (old new : DriveState) → Turned old new → TurnsOn old new
 as_turned old new turned = record { stays_in = ap is_some turned.medium; cylinder = turned.cylinder; change = turned.change; motor = turned.motor; spin = turned.spin; never_falls = turned.faults; spends = turned.spends }
 
-pub on_passed : (old new : DriveState) → Becomes old (passed old) new → TurnsOn old new
+pub on_passed : (old new : DriveState) → Becomes (passed old) old new → TurnsOn old new
 on_passed old new is = as_turned old new (turned_passed old new is)
 
-pub on_let : (old new : DriveState) → Becomes old (let_pass old) new → TurnsOn old new
+pub on_let : (old new : DriveState) → Becomes (let_pass old) old new → TurnsOn old new
 on_let old new is = as_turned old new (turned_let old new is)
 
 pub on_still : (old new : DriveState) → new ≡ old → TurnsOn old new
@@ -33,7 +33,7 @@ on_further a b c one two = record {
   spends = spends_twice a.faults b.faults c.faults a.left b.left c.left one.spends two.spends;
 }
 
-on_gate : (opened : Bool) (old new : DriveState) → Becomes old (with_gate opened old) new → TurnsOn old new
+on_gate : (opened : Bool) (old new : DriveState) → Becomes (with_gate opened old) old new → TurnsOn old new
 on_gate opened old new is = record {
   stays_in = ap (λ s. is_some s.medium) is.becomes;
   cylinder = ap (λ s. s.cylinder) is.becomes;
@@ -60,7 +60,7 @@ some_if : (can : Bool) (medium : Option Disk) (c h place word : ℕ) → is_some
 some_if true medium c h place word = some_rewritten medium c h place word
 some_if false medium c h place word = refl
 
-on_written : (head word : ℕ) (old new : DriveState) → Writes old head word new → TurnsOn old new
+on_written : (head word : ℕ) (old new : DriveState) → Writes head word old new → TurnsOn old new
 on_written head word old new (inl wrote) = record {
   stays_in = ap (λ s. is_some s.medium) wrote.becomes ∙ some_if (can_write old) old.medium old.cylinder head old.place word;
   cylinder = ap (λ s. s.cylinder) wrote.becomes;

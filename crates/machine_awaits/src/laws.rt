@@ -31,7 +31,7 @@ pub fn a_data_command_is_awaited()
     ensures step { (begun : ℕ) (start old new : Board) → Step old new → IsAwaited begun start old → IsAwaited begun start new }
     ensures runs { (n begun : ℕ) (start old new : Board) → Runs n old new → IsAwaited begun start old → IsAwaited begun start new }
     ensures waits { (most begun : ℕ) (set : Bool) (start old new : Board) → Waits most old set new → IsAwaited begun start old → IsAwaited begun start new }
-    ensures read { (begun port value : ℕ) (start old new : Board) → (port == 0x3F5) ≡ false → Inputs port value old new
+    ensures read { (begun port value : ℕ) (start old new : Board) → (port == 0x3F5) ≡ false → Inputs port old value new
         → IsAwaited begun start old → IsAwaited begun start new }
     ensures strays { (begun : ℕ) (start old : Board) → is_executing (controller_of old).phase ≡ true → IsAwaited begun start old
         → IsAwaited begun start (record old { bus = irq_taken old.bus }) }

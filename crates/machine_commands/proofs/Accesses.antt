@@ -23,7 +23,7 @@ use Rattle.machine_commands.proofs.Steps.{drive_none, speed_none, runs_idle, idl
 abbrev pub gapped : Board → Board
 gapped board = record board { bus = record board.bus { gaps = rest_of board.bus.gaps } }
 
-pub gap_taken : (board : Board) → Idles board (controller_of board) (gapped board)
+pub gap_taken : (board : Board) → Idles (controller_of board) board (gapped board)
 gap_taken board = record {
   stays = record {
     keeps = record {
@@ -44,7 +44,7 @@ gap_taken board = record {
   channel = refl;
 }
 
-pub gap_idles : (old new : Board) → RunsGap old new → IsResting (controller_of old) → Idles old (controller_of old) new
+pub gap_idles : (old new : Board) → RunsGap old new → IsResting (controller_of old) → Idles (controller_of old) old new
 gap_idles old new gap rest =
     idles_then old (gapped old) new (controller_of old) (controller_of old) (gap_taken old) (runs_idle (next_entry old.bus.gaps) (gapped old) new gap.runs rest)
 
@@ -86,7 +86,7 @@ accessed_keeps fdc old between bus first second = record {
 }
 
 accessed_idles : (fdc : Fdc) (old between : Board) → between.bus ≡ accessed fdc old.bus → between.first ≡ old.first → between.second ≡ old.second
-    → Quiets (controller_of old) fdc → Idles old fdc between
+    → Quiets (controller_of old) fdc → Idles fdc old between
 accessed_idles fdc old between bus first second quiet = record {
   stays = record {
     keeps = accessed_keeps fdc old between bus (same_drive old.first between.first first) (same_drive old.second between.second second);
@@ -101,11 +101,11 @@ accessed_idles fdc old between bus first second quiet = record {
 
 -- an access, and then the gap
 pub access_idles : (fdc : Fdc) (old between new : Board) → between.bus ≡ accessed fdc old.bus → between.first ≡ old.first → between.second ≡ old.second
-    → Quiets (controller_of old) fdc → RunsGap between new → IsResting fdc → Idles old fdc new
+    → Quiets (controller_of old) fdc → RunsGap between new → IsResting fdc → Idles fdc old new
 access_idles fdc old between new bus first second quiet gap rest =
     let one = accessed_idles fdc old between bus first second quiet in
     let two = gap_idles between new gap (subst IsResting (sym one.controller_is) rest) in
-    idles_then old between new fdc fdc one (subst (λ c. Idles between c new) one.controller_is two)
+    idles_then old between new fdc fdc one (subst (λ c. Idles c between new) one.controller_is two)
 
 -- ---- reading
 
@@ -129,8 +129,8 @@ quiet_read true fdc low = quiet_after fdc.phase fdc.interrupt low
 quiet_read false fdc low = low
 
 -- a port of the controller is read
-pub input_idles : (port value : ℕ) (old new : Board) → Inputs port value old new → is_controllers port ≡ true
-    → IsResting (controller_after port (controller_of old)) → Idles old (controller_after port (controller_of old)) new
+pub input_idles : (port value : ℕ) (old new : Board) → Inputs port old value new → is_controllers port ≡ true
+    → IsResting (controller_after port (controller_of old)) → Idles (controller_after port (controller_of old)) old new
 input_idles port value old new access its rest =
     let fdc = controller_after port (controller_of old) in
     let between : Board = record old { bus = record old.bus { chips = port_read port old.bus.chips; fresh = false } } in
@@ -142,7 +142,7 @@ input_idles port value old new access its rest =
 -- a port of the controller other than DOR is written
 pub output_idles : (port value : ℕ) (old new : Board) → Outputs port value old new → is_controllers port ≡ true → (port == 0x3F2) ≡ false → (fdc : Fdc)
     → ((controller : Fdc) → Writes port value (lines_of old) (controller_of old) controller → controller ≡ fdc)
-    → Quiets (controller_of old) fdc → IsResting fdc → Idles old fdc new
+    → Quiets (controller_of old) fdc → IsResting fdc → Idles fdc old new
 output_idles port value old new access its other fdc only quiet rest =
     let (controller, writes, chips) = access.writes.writes.controllers its in
     let is = only controller writes in

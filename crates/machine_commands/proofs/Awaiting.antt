@@ -40,14 +40,14 @@ succeeds st0 st1 st2 key clear = rw clear refl
 
 -- ---- watches
 
-pub watches_next : (n : ℕ) (ready : Bool) (old between new : Board) → Watches n old between → ready ≡ false → Watch ready between new → Watches (n + 1) old new
-watches_next n ready old between new watches not_yet watch = subst (λ k. Watches k old new) (more n) (between, watches, subst (λ b. Watch b between new) not_yet watch)
+pub watches_next : (n : ℕ) (ready : Bool) (old between new : Board) → Watches n old between → ready ≡ false → Watch between ready new → Watches (n + 1) old new
+watches_next n ready old between new watches not_yet watch = subst (λ k. Watches k old new) (more n) (between, watches, subst (λ b. Watch between b new) not_yet watch)
   where
     more : (n : ℕ) → suc n ≡ n + 1
     more n = omega arith
 
-pub awaited_now : (n : ℕ) (ready : Bool) (old between new : Board) → Watches n old between → ready ≡ true → Watch ready between new → AwaitsResults old new
-awaited_now n ready old between new watches is watch = inl (n, between, watches, subst (λ b. Watch b between new) is watch)
+pub awaited_now : (n : ℕ) (ready : Bool) (old between new : Board) → Watches n old between → ready ≡ true → Watch between ready new → AwaitsResults old new
+awaited_now n ready old between new watches is watch = inl (n, between, watches, subst (λ b. Watch between b new) is watch)
 
 pub awaited_never : (n : ℕ) (old new : Board) → n ≡ 65537 → Watches n old new → AwaitsResults old new
 awaited_never n old new all watches = inr (subst (λ k. Watches k old new) all watches)

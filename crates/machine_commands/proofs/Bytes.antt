@@ -45,7 +45,7 @@ listens_with bytes fdc listens =
 
 -- a byte comes behind which more are to come
 pub byte_more : (byte : ℕ) (bytes : List ℕ) (old new : Board) → IsListening (controller_of old) → (controller_of old).command ++ byte ∷ [] ≡ bytes → answer bytes ≡ More
-    → Outputs 0x3F5 byte old new → Idles old (with_bytes bytes (controller_of old)) new
+    → Outputs 0x3F5 byte old new → Idles (with_bytes bytes (controller_of old)) old new
 byte_more byte bytes old new listens whole more access =
     let fdc = controller_of old in
     output_idles 0x3F5 byte old new access refl refl (with_bytes bytes fdc) only (λ low. low) (rests_with bytes fdc listens.rests)
@@ -63,10 +63,10 @@ AreMore done [] = Unit {0}
 AreMore done (byte ∷ rest) = (answer (done ++ byte ∷ []) ≡ More) × AreMore (done ++ byte ∷ []) rest
 
 pub first_bytes : (done rest : List ℕ) (old new : Board) → (controller_of old).command ≡ done → IsListening (controller_of old) → AreMore done rest
-    → Sends rest old new → Idles old (with_bytes (done ++ rest) (controller_of old)) new
+    → Sends rest old new → Idles (with_bytes (done ++ rest) (controller_of old)) old new
 first_bytes done [] old new begun listens more same =
     let all : (controller_of old).command ≡ done ++ [] = begun ∙ sym (append-nil done) in
-    subst (λ board. Idles old (with_bytes (done ++ []) (controller_of old)) board) (sym same)
+    subst (λ board. Idles (with_bytes (done ++ []) (controller_of old)) old board) (sym same)
     (idles_as old old (controller_of old) (with_bytes (done ++ []) (controller_of old)) (ap (λ bytes. with_bytes bytes (controller_of old)) all) (idles_none old))
 first_bytes done (byte ∷ rest) old new begun listens (more, others) (between, access, sends) =
     let fdc = controller_of old in
@@ -82,7 +82,7 @@ first_bytes done (byte ∷ rest) old new begun listens (more, others) (between, 
 -- the last byte comes, and the command is obeyed
 pub byte_last : (byte : ℕ) (command : Command) (old new : Board) → IsListening (controller_of old) → answer ((controller_of old).command ++ byte ∷ []) ≡ Ready command
     → (fdc : Fdc) → ((controller : Fdc) → Obeys command (lines_of old) (with_bytes [] (controller_of old)) controller → controller ≡ fdc)
-    → Quiets (controller_of old) fdc → IsResting fdc → Outputs 0x3F5 byte old new → Idles old fdc new
+    → Quiets (controller_of old) fdc → IsResting fdc → Outputs 0x3F5 byte old new → Idles fdc old new
 byte_last byte command old new listens whole fdc obeys quiet rest access = output_idles 0x3F5 byte old new access refl refl fdc only quiet rest
   where
     only : (controller : Fdc) → Writes 0x3F5 byte (lines_of old) (controller_of old) controller → controller ≡ fdc
@@ -129,7 +129,7 @@ same_lines old new keeps dor =
 pub whole_command : (first : List ℕ) (byte : ℕ) (command : Command) (old new : Board) → IsListening (controller_of old) → (controller_of old).command ≡ []
     → AreMore [] first → answer (first ++ byte ∷ []) ≡ Ready command → (fdc : Fdc)
     → ((controller : Fdc) → Obeys command (lines_of old) (with_bytes [] (controller_of old)) controller → controller ≡ fdc)
-    → Quiets (controller_of old) fdc → IsResting fdc → Sends (first ++ byte ∷ []) old new → Idles old fdc new
+    → Quiets (controller_of old) fdc → IsResting fdc → Sends (first ++ byte ∷ []) old new → Idles fdc old new
 whole_command first byte command old new listens none more whole fdc obeys quiet rest sends =
     let c = controller_of old in
     let (between, one, (last, access, same)) = sends_parts first (byte ∷ []) old new sends in
@@ -143,13 +143,13 @@ whole_command first byte command old new listens none more whole fdc obeys quiet
     let at : answer ((controller_of between).command ++ byte ∷ []) ≡ Ready command = ap (λ f. answer (f.command ++ byte ∷ [])) before.controller_is ∙ whole in
     let quiets : Quiets (controller_of between) fdc = λ low. quiet (sym (ap (λ f. f.interrupt) before.controller_is) ∙ low) in
     let after = byte_last byte command between last here at fdc obeyed quiets rest access in
-    subst (λ board. Idles old fdc board) (sym same) (idles_then old between last (with_bytes first c) fdc before after)
+    subst (λ board. Idles fdc old board) (sym same) (idles_then old between last (with_bytes first c) fdc before after)
 
 -- the same of a controller that is known
 pub whole_at : (first : List ℕ) (byte : ℕ) (command : Command) (old new : Board) (fdc : Fdc) → controller_of old ≡ fdc → IsListening fdc → fdc.command ≡ []
     → AreMore [] first → answer (first ++ byte ∷ []) ≡ Ready command → (target : Fdc)
     → ((lines : Lines) (controller : Fdc) → Obeys command lines (with_bytes [] fdc) controller → controller ≡ target)
-    → Quiets fdc target → IsResting target → Sends (first ++ byte ∷ []) old new → Idles old target new
+    → Quiets fdc target → IsResting target → Sends (first ++ byte ∷ []) old new → Idles target old new
 whole_at first byte command old new fdc at listens none more whole target obeys quiet rest sends =
     whole_command first byte command old new (subst IsListening (sym at) listens) (ap (λ f. f.command) at ∙ none) more whole target
     (λ controller does. obeys (lines_of old) controller (subst (λ f. Obeys command (lines_of old) f controller) (ap (λ f. with_bytes [] f) at) does))

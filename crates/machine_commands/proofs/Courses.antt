@@ -39,8 +39,8 @@ use Rattle.machine_commands.proofs.Steps.{first_second_or_none, runs_idle}
 pub record CourseLaws : Type 0 where
   pub count_wait : (n : ℕ) (old new : Board) → Runs n (stirred old) new → CountsGoOn old new
   pub count_waits : (most : ℕ) (set : Bool) (old new : Board) → Waits most old set new → CountsGoOn old new
-  pub count_read : (port value : ℕ) (old new : Board) → Inputs port value old new → CountsGoOn old new
-  pub await_read : (begun port value : ℕ) (start old new : Board) → (port == 0x3F5) ≡ false → Inputs port value old new → IsAwaited begun start old → IsAwaited begun start new
+  pub count_read : (port value : ℕ) (old new : Board) → Inputs port old value new → CountsGoOn old new
+  pub await_read : (begun port value : ℕ) (start old new : Board) → (port == 0x3F5) ≡ false → Inputs port old value new → IsAwaited begun start old → IsAwaited begun start new
   pub await_stray : (begun : ℕ) (start old : Board) → is_executing (controller_of old).phase ≡ true → IsAwaited begun start old → IsAwaited begun start (latch_taken old)
   pub end_runs : (n : ℕ) (old new : Board) → Runs n old new → steps_left (controller_of new).phase ≤ steps_left (controller_of old).phase - n
   pub end_unset : (n : ℕ) (old new : Board) → RunsUnset n old new → steps_left (controller_of new).phase ≤ steps_left (controller_of old).phase - n
@@ -49,7 +49,7 @@ pub record CourseLaws : Type 0 where
 pub record IsKept (Task : Board → Type 0) : Type 0 where
   pub wait : (n : ℕ) (old new : Board) → Runs n (stirred old) new → Task old → Task new
   pub waits : (most : ℕ) (set : Bool) (old new : Board) → Waits most old set new → Task old → Task new
-  pub status : (value : ℕ) (old new : Board) → Inputs 0x3F4 value old new → ((controller_of new).phase ≡ Command → ⊥) → Task old → Task new
+  pub status : (value : ℕ) (old new : Board) → Inputs 0x3F4 old value new → ((controller_of new).phase ≡ Command → ⊥) → Task old → Task new
   pub stray : (old : Board) → Task old → Task (latch_taken old)
 
 -- no count falls, but from beyond its last value
@@ -109,7 +109,7 @@ stir_awaited begun start old was = record {
 abbrev status_read : Board → Board
 status_read old = record old { bus = record old.bus { chips = port_read 0x3F4 old.bus.chips; fresh = false } }
 
-read_quietly : (begun value : ℕ) (start old new : Board) → Inputs 0x3F4 value old new → GoesQuietly begun start old → GoesQuietly begun start new
+read_quietly : (begun value : ℕ) (start old new : Board) → Inputs 0x3F4 old value new → GoesQuietly begun start old → GoesQuietly begun start new
 read_quietly begun value start old new reads was =
     runs_quietly (next_entry old.bus.gaps) begun start (gapped (status_read old)) new reads.gap.runs
     (record { controller = was.controller; drives = record { first = was.drives.first; second = was.drives.second; direct = was.drives.direct } })
@@ -176,7 +176,7 @@ pub record EndsAt (Task : Board → Type 0) (start new : Board) : Type 0 where
   pub goes : Goes Task start at
   pub idle : is_executing (controller_of at).phase ≡ false
   pub value : ℕ
-  pub reads : Inputs 0x3F4 value (latch_taken at) new
+  pub reads : Inputs 0x3F4 (latch_taken at) value new
 
 module _ (laws : CourseLaws) (Task : Board → Type 0) (kept : IsKept Task) (start : Board) (free : is_held (controller_of start) ≡ false) where
   abbrev begun : ℕ
@@ -206,7 +206,7 @@ module _ (laws : CourseLaws) (Task : Board → Type 0) (kept : IsKept Task) (sta
     counts = counts_taken start old was.counts;
   }
 
-  status_goes : (value : ℕ) (old new : Board) → Inputs 0x3F4 value old new → Goes Task start old → Goes Task start new
+  status_goes : (value : ℕ) (old new : Board) → Inputs 0x3F4 old value new → Goes Task start old → Goes Task start new
   status_goes value old new reads was =
       let awaited = laws.await_read begun 0x3F4 value start old new refl reads was.awaited in record {
         task = kept.status value old new reads (not_command (controller_of new).phase (λ idle. (awaited.ended idle).unread)) was.task;
@@ -219,7 +219,7 @@ module _ (laws : CourseLaws) (Task : Board → Type 0) (kept : IsKept Task) (sta
   held_now now was = ap (λ (dor : Dor). is_held (record (controller_of now) { dor = dor })) was.awaited.holds.dor ∙ free
 
   -- a watch
-  module _ (ready : Bool) (old new : Board) (was : Goes Task start old) (watch : Watch ready old new) where
+  module _ (ready : Bool) (old new : Board) (was : Goes Task start old) (watch : Watch old ready new) where
     pub at_wait : Goes Task start watch.waited
     at_wait = waits_go 65536 watch.set watch.stepped watch.waited watch.waits (wait_goes 1 old watch.stepped watch.steps was)
 

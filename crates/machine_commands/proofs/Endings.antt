@@ -64,10 +64,10 @@ rests_done fdc rest = record { no_command = refl; no_seek = rest.no_seek; not_as
 
 -- a byte that is read
 record GivesByte (byte : ℕ) (old : Board) (fdc next : Fdc) (new : Board) : Type 0 where
-  pub idles : Idles old next new
+  pub idles : Idles next old new
   pub byte_is : byte ≡ result_byte fdc.phase
 
-gives_byte : (byte : ℕ) (old new : Board) (fdc next : Fdc) → controller_of old ≡ fdc → given fdc ≡ next → IsResting next → Inputs 0x3F5 byte old new → GivesByte byte old fdc next new
+gives_byte : (byte : ℕ) (old new : Board) (fdc next : Fdc) → controller_of old ≡ fdc → given fdc ≡ next → IsResting next → Inputs 0x3F5 old byte new → GivesByte byte old fdc next new
 gives_byte byte old new fdc next at after rest access =
     let same : given (controller_of old) ≡ next = ap given at ∙ after in record {
       idles = idles_as old new (given (controller_of old)) next same (input_idles 0x3F5 byte old new access refl (subst IsResting (sym same) rest));
@@ -90,11 +90,11 @@ abbrev pub outcome_in : Results → result Done Code
 outcome_in results = outcome_of results.st0.0 results.st1.0 results.st2.0 results.key
 
 pub record HasTaken (outcome : result Done Code) (results : Results) (old : Board) (fdc : Fdc) (new : Board) : Type 0 where
-  pub idles : Idles old (done_at fdc) new
+  pub idles : Idles (done_at fdc) old new
   pub outcome_is : outcome ≡ outcome_in results
 
 has_taken : (outcome : result Done Code) (ending : Ending) (results : Results) (old new : Board) (fdc : Fdc) → controller_of old ≡ fdc → fdc.phase ≡ Result (Long ending results 0)
-    → IsResting fdc → TakesResults outcome old new → HasTaken outcome results old fdc new
+    → IsResting fdc → TakesResults old outcome new → HasTaken outcome results old fdc new
 has_taken outcome ending results old new fdc at phase rest takes =
     let g : ℕ → Fdc = λ k. giving fdc ending results k in
     let r : (k : ℕ) → IsResting (g k) = λ k. rests_giving fdc ending results k rest in
@@ -133,7 +133,7 @@ pub record HasFinished (Task : Board → Type 0) (start : Board) (outcome : resu
   pub low : is_up new ≡ false
 
 pub has_finished : (laws : CourseLaws) (Task : Board → Type 0) → IsKept Task → (start : Board) → is_held (controller_of start) ≡ false → (outcome : result Done Code) (sent new : Board)
-    → Goes Task start sent → Finishes outcome sent new → HasFinished Task start outcome new
+    → Goes Task start sent → Finishes sent outcome new → HasFinished Task start outcome new
 has_finished laws Task kept start free outcome sent new was finishes =
     let told = awaits_end laws Task kept start free sent finishes.awaited finishes.awaits was in
     let begun = counted (controller_of start).data_commands in

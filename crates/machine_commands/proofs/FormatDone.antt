@@ -85,7 +85,7 @@ pub record FormatLaws : Type 0 where
       → (controller_of old).fifo.on ≡ true → (controller_of old).fifo.threshold ≡ 8 → (holds_of old).request ≡ Low → FormatGoes scene numbers old new
   pub runs : (scene : Scene) (numbers : Numbers) (n : ℕ) (start old new : Board) → Runs n (stirred old) new → FormatGoes scene numbers start old → FormatGoes scene numbers start new
   pub waits : (scene : Scene) (numbers : Numbers) (most : ℕ) (set : Bool) (start old new : Board) → Waits most old set new → FormatGoes scene numbers start old → FormatGoes scene numbers start new
-  pub status : (scene : Scene) (numbers : Numbers) (value : ℕ) (start old new : Board) → Inputs 0x3F4 value old new → FormatGoes scene numbers start old → FormatGoes scene numbers start new
+  pub status : (scene : Scene) (numbers : Numbers) (value : ℕ) (start old new : Board) → Inputs 0x3F4 old value new → FormatGoes scene numbers start old → FormatGoes scene numbers start new
   pub strays : (scene : Scene) (numbers : Numbers) (start old : Board) → is_executing (controller_of old).phase ≡ true → FormatGoes scene numbers start old → FormatGoes scene numbers start (latch_taken old)
   pub runs_left : (n : ℕ) (old new : Board) → Runs n old new → steps_left (controller_of new).phase ≤ steps_left (controller_of old).phase - n
   pub unset_left : (n : ℕ) (old new : Board) → RunsUnset n old new → steps_left (controller_of new).phase ≤ steps_left (controller_of old).phase - n
@@ -119,7 +119,7 @@ few_sectors R250 = (omega arith, omega arith)
 pub record IsFormatted (motors : Motors) (bay : ℕ) (asked : Format) (outcome : Result Done Code) (old new : Board) : Type 0 where
   pub idle : IsIdle motors new
   pub laying : Option Laying
-  pub formats : FormatsTrack (rig_of old) bay asked laying (told_of outcome) (rig_of new)
+  pub formats : FormatsTrack bay asked laying (rig_of old) (told_of outcome) (rig_of new)
 
 -- the keys of a format stand in memory
 pub record HasKeys (asked : Format) (board : Board) : Type 0 where
@@ -128,7 +128,7 @@ pub record HasKeys (asked : Format) (board : Board) : Type 0 where
 
 pub format_done : FormatLaws → (motors : Motors) (bay : ℕ) (asked : Format) (outcome : Result Done Code) (old new : Board) → IsIdle motors old → bay ≤ 1
     → asked.h ≤ 1 → in_bay (rig_of old).spun bay ≡ true → option_map_or (λ disk. disk.protected) (in_bay (rig_of old).media bay) false ≡ false → length (memory_of old) ≡ 1048576
-    → HasKeys asked old → SendsFormatBytes motors bay asked outcome old new → InRange new.first → InRange new.second → IsFormatted motors bay asked outcome old new
+    → HasKeys asked old → SendsFormatBytes motors bay asked old outcome new → InRange new.first → InRange new.second → IsFormatted motors bay asked outcome old new
 format_done laws motors bay asked outcome old new idle small low spun free_medium bytes keys sends first second =
     let rate = asked.rate in
     let (disk, medium) = medium_of (drive_in old bay) (spun_in bay old ∙ spun) in
@@ -233,5 +233,5 @@ format_done laws motors bay asked outcome old new idle small low spun free_mediu
         second = second;
       };
       laying = laying;
-      formats = subst (λ r. FormatsTrack (rig_of old) bay asked laying r (rig_of new)) (sym told) shown;
+      formats = subst (λ r. FormatsTrack bay asked laying (rig_of old) r (rig_of new)) (sym told) shown;
     }

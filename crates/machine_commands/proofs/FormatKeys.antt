@@ -270,12 +270,12 @@ under_page : (r : Rig) (page : List ℕ) (bay : ℕ) (asked : Format) (disk : Di
 under_page r page bay asked disk under = record { medium = under.medium; track = under.track; same_rate = under.same_rate }
 
 lays_page : (r : Rig) (page : List ℕ) (bay : ℕ) (asked : Format) (laying : Option Laying) (new : Rig)
-    → MatchOption laying (new.media ≡ r.media) (λ one. LaysMedium (record r { page = page }) bay asked one new) → MatchOption laying (new.media ≡ r.media) (λ one. LaysMedium r bay asked one new)
+    → MatchOption laying (new.media ≡ r.media) (λ one. LaysMedium bay asked one (record r { page = page }) new) → MatchOption laying (new.media ≡ r.media) (λ one. LaysMedium bay asked one r new)
 lays_page r page bay asked None new same = same
 lays_page r page bay asked (Some one) new lays = record { before = lays.before; after = lays.after; was = lays.was; is = lays.is; same_rate = lays.same_rate; here = lays.here; makes = lays.makes }
 
 miss_page : (r : Rig) (page : List ℕ) (bay : ℕ) (asked : Format) (told : Result (Unit {0}) Code) (new : Rig)
-    → IfErr told (λ code. IsFormatMiss (record r { page = page }) bay asked code new) → IfErr told (λ code. IsFormatMiss r bay asked code new)
+    → IfErr told (λ code. IsFormatMiss bay asked (record r { page = page }) code new) → IfErr told (λ code. IsFormatMiss bay asked r code new)
 miss_page r page bay asked (Ok done) new miss = tt
 miss_page r page bay asked (Err code) new miss = record {
   coded = miss.coded;
@@ -284,7 +284,7 @@ miss_page r page bay asked (Err code) new miss = record {
 }
 
 pub other_page : (r : Rig) (page : List ℕ) (bay : ℕ) (asked : Format) (laying : Option Laying) (told : Result (Unit {0}) Code) (new : Rig)
-    → FormatsTrack (record r { page = page }) bay asked laying told new → FormatsTrack r bay asked laying told new
+    → FormatsTrack bay asked laying (record r { page = page }) told new → FormatsTrack bay asked laying r told new
 other_page r page bay asked laying told new formats = record {
   sends = record {
     heads = record { cylinders = formats.sends.heads.cylinders; numbers = formats.sends.heads.numbers; changes = formats.sends.heads.changes; spun = formats.sends.heads.spun };
@@ -306,11 +306,11 @@ other_page r page bay asked laying told new formats = record {
 pub record HasFormatted (motors : Motors) (bay : ℕ) (asked : Format) (outcome : Result Done Code) (old new : Board) : Type 0 where
   pub idle : IsIdle motors new
   pub laying : Option Laying
-  pub formats : FormatsTrack (rig_of old) bay asked laying (told_of outcome) (rig_of new)
+  pub formats : FormatsTrack bay asked laying (rig_of old) (told_of outcome) (rig_of new)
 
 pub format_whole : FormatLaws → (motors : Motors) (bay : ℕ) (asked : Format) (outcome : Result Done Code) (old put new : Board) → IsIdle motors old → bay ≤ 1 → asked.h ≤ 1
     → in_bay (rig_of old).spun bay ≡ true → option_map_or (λ disk. disk.protected) (in_bay (rig_of old).media bay) false ≡ false → length (memory_of old) ≡ 1048576
-    → sectors_at asked.rate ≤ 18 → PutsKeys asked.c asked.h (sectors_at asked.rate) old put → SendsFormatBytes motors bay asked outcome put new → InRange new.first → InRange new.second
+    → sectors_at asked.rate ≤ 18 → PutsKeys asked.c asked.h (sectors_at asked.rate) old put → SendsFormatBytes motors bay asked put outcome new → InRange new.first → InRange new.second
     → HasFormatted motors bay asked outcome old new
 format_whole laws motors bay asked outcome old put new idle small low spun free bytes few puts sends first second =
     let same = user_same (memory_of old) (memory_of put) puts.size (λ k below. puts.below k (omega arith)) in
@@ -321,7 +321,7 @@ format_whole laws motors bay asked outcome old put new idle small low spun free 
       idle = is.idle;
       laying = is.laying;
       formats = other_page (rig_of old) (page_part (memory_of put)) bay asked is.laying (told_of outcome) (rig_of new)
-          (subst (λ r. FormatsTrack r bay asked is.laying (told_of outcome) (rig_of new)) rig is.formats);
+          (subst (λ r. FormatsTrack bay asked is.laying r (told_of outcome) (rig_of new)) rig is.formats);
     }
 
 -- ---- for the code
@@ -340,5 +340,5 @@ pub format_as : (bay h sectors other gap3 fill : ℕ) (old new : Board) → sect
     → Sends (0x4D ∷ (h * 4 + bay) ∷ standard_code ∷ other ∷ gap3 ∷ fill ∷ []) old new
 format_as bay h sectors other gap3 fill old new same sends = subst (λ n. Sends (0x4D ∷ (h * 4 + bay) ∷ standard_code ∷ n ∷ gap3 ∷ fill ∷ []) old new) same sends
 
-pub track_as : (a b : Motors) (bay : ℕ) (asked : Format) (outcome : Result Done Code) (old new : Board) → a ≡ b → SendsFormatBytes a bay asked outcome old new → SendsFormatBytes b bay asked outcome old new
-track_as a b bay asked outcome old new same sends = subst (λ m. SendsFormatBytes m bay asked outcome old new) same sends
+pub track_as : (a b : Motors) (bay : ℕ) (asked : Format) (outcome : Result Done Code) (old new : Board) → a ≡ b → SendsFormatBytes a bay asked old outcome new → SendsFormatBytes b bay asked old outcome new
+track_as a b bay asked outcome old new same sends = subst (λ m. SendsFormatBytes m bay asked old outcome new) same sends

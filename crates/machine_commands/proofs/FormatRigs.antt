@@ -72,7 +72,7 @@ module _ (scene : Scene) (numbers : Numbers) (keys : List Chrn) (format : Format
   unchanged is = two_bays scene.bay (rig_of new).media (rig_of old).media course.small (medium_after scene.bay old start now new course ∙ (is ∙ sym was))
       (course_sends scene.bay old start now new course same).other_medium
 
-  laid : (has : HasLaying scene numbers keys (drive_in now scene.bay)) → LaysMedium (rig_of old) scene.bay format has.laying (rig_of new)
+  laid : (has : HasLaying scene numbers keys (drive_in now scene.bay)) → LaysMedium scene.bay format has.laying (rig_of old) (rig_of new)
   laid has = record {
     before = scene.disk;
     after = has.after;
@@ -113,12 +113,12 @@ module _ (scene : Scene) (numbers : Numbers) (keys : List Chrn) (format : Format
 
   -- what is shown of the media with the answer
   pub record ShowsFormat (laying : Option Laying) (answer : Result (Unit {0}) Code) : Type 0 where
-    pub does : MatchOption laying ((rig_of new).media ≡ (rig_of old).media) (λ one. LaysMedium (rig_of old) scene.bay format one (rig_of new))
+    pub does : MatchOption laying ((rig_of new).media ≡ (rig_of old).media) (λ one. LaysMedium scene.bay format one (rig_of old) (rig_of new))
     pub turn : (IsUndisturbed scene.bay (counters_of old) (counters_of new) ⊎ (IsOk answer × IsFaultless scene.bay (counters_of old) (counters_of new)))
         → (disk : Disk) → HasTrackUnder (rig_of old) scene.bay format disk → MatchOption laying ⊥ (λ one. one.words ≡ disk.words_per_track)
     pub fits : IsOk answer → IsFaultless scene.bay (counters_of old) (counters_of new) → (disk : Disk) → HasTrackUnder (rig_of old) scene.bay format disk
         → Fits (format_keys format) standard_code format.gap3 disk.words_per_track
-    pub refused : IfErr answer (λ code. IsFormatMiss (rig_of old) scene.bay format code (rig_of new))
+    pub refused : IfErr answer (λ code. IsFormatMiss scene.bay format (rig_of old) code (rig_of new))
 
   either_faultless : {P : Type 0} → (IsUndisturbed scene.bay (counters_of old) (counters_of new) ⊎ (P × IsFaultless scene.bay (counters_of old) (counters_of new)))
       → IsFaultless scene.bay (counters_of old) (counters_of new)
@@ -127,7 +127,7 @@ module _ (scene : Scene) (numbers : Numbers) (keys : List Chrn) (format : Format
 
   -- behind a whole turn, whatever the answer
   turned : (answer : Result (Unit {0}) Code) → LaysTurn scene numbers keys (drive_in now scene.bay)
-      → (IsOk answer → FitsOn scene numbers keys) → IfErr answer (λ code. IsFormatMiss (rig_of old) scene.bay format code (rig_of new))
+      → (IsOk answer → FitsOn scene numbers keys) → IfErr answer (λ code. IsFormatMiss scene.bay format (rig_of old) code (rig_of new))
       → (laying : Option Laying) × ShowsFormat laying answer
   turned answer turn fits refused = elim (is_there scene) [
     | inl there ↦ let whole = turn.there there in (
@@ -183,7 +183,7 @@ module _ (scene : Scene) (numbers : Numbers) (keys : List Chrn) (format : Format
       stalled : Stalled start now
       stalled = stalls refl
 
-      missed : IsFormatMiss (rig_of old) scene.bay format code.Overrun (rig_of new)
+      missed : IsFormatMiss scene.bay format (rig_of old) code.Overrun (rig_of new)
       missed = record {
         coded = tt;
         reason = λ undisturbed. absurd (course_unstalled scene.bay old start now new course undisturbed stalled);
@@ -205,7 +205,7 @@ module _ (scene : Scene) (numbers : Numbers) (keys : List Chrn) (format : Format
 
   -- what the driver is told, and what was laid
   pub format_shown : (over : Ending) → EndsAs scene numbers keys (drive_in now scene.bay) over → (over ≡ ending.Overrun → Stalled start now)
-      → (laying : Option Laying) × FormatsTrack (rig_of old) scene.bay format laying (ending_answer over) (rig_of new)
+      → (laying : Option Laying) × FormatsTrack scene.bay format laying (rig_of old) (ending_answer over) (rig_of new)
   format_shown over ends stalls =
       let (laying, shows) = shows_as over ends stalls in
       (laying, record { sends = course_sends scene.bay old start now new course same; does = shows.does; turn = shows.turn; fits = shows.fits; refused = shows.refused })

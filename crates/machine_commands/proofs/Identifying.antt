@@ -274,7 +274,7 @@ refused_by scene faults track Faultless (Err code) same calm says = λ faultless
 
 module _ (laws : IdLaws) (motors : Motors) (bay head : ℕ) (rate : Rate) (outcome : result Done Code) (old new : Board)
     (idle : IsIdle motors old) (small : bay ≤ 1) (low : head ≤ 1) (spun : in_bay (rig_of old).spun bay ≡ true)
-    (sends : SendsReadId motors bay head rate outcome old new) where
+    (sends : SendsReadId motors bay head rate old outcome new) where
   abbrev hd : ℕ
   hd = head * 4 + bay
 
@@ -287,7 +287,7 @@ module _ (laws : IdLaws) (motors : Motors) (bay head : ℕ) (rate : Rate) (outco
   abbrev start : Board
   start = sends.sends.0
 
-  code : Idles sends.ready (with_bytes (0x4A ∷ []) (controller_of sends.ready)) start
+  code : Idles (with_bytes (0x4A ∷ []) (controller_of sends.ready)) sends.ready start
   code = byte_more 0x4A (0x4A ∷ []) sends.ready start has.listens (ap (λ bytes. bytes ++ 0x4A ∷ []) has.none) id_more sends.sends.1
 
   stays : StaysIdle old start
@@ -302,7 +302,7 @@ module _ (laws : IdLaws) (motors : Motors) (bay head : ℕ) (rate : Rate) (outco
   abbrev rated : Setting
   rated = with_rate (rate_byte rate) (setting_of selected)
 
-  stands : Stands selected (with_byte 0x4A rated) start
+  stands : Stands (with_byte 0x4A rated) selected start
   stands = byte_stands selected rated 0x4A sends.ready start has.idle.ready.phase has.free (ap (λ bytes. answer (bytes ++ 0x4A ∷ [])) has.idle.ready.no_bytes ∙ id_more) sends.sends.1 has.stands
 
   abbrev scene : Scene
@@ -341,7 +341,7 @@ module _ (laws : IdLaws) (motors : Motors) (bay head : ℕ) (rate : Rate) (outco
   memory_now : memory_of new ≡ memory_of old
   memory_now = over.keeps.memory ∙ (laws.memory scene over.at over.goes.task ∙ stays.keeps.memory)
 
-  pub reads_id : ReadsId (rig_of old) bay head rate (key_told outcome) (rig_of new)
+  pub reads_id : ReadsId bay head rate (rig_of old) (key_told outcome) (rig_of new)
   reads_id = record {
     sends = sends_read motors bay (IdUnderway scene) old start new outcome sends.prepares.counts sent_all over;
     found = found_by scene faults (track_under (rig_of old) bay rate head) (key_told outcome) track says;

@@ -56,7 +56,7 @@ page_same old new address size long but below =
     ext_get_or 0 (page_part new) (page_part old) (page_length new (but.lengths ∙ long) ∙ sym (page_length old long))
     (λ k within. page_at new k ∙ (but.others (user_bytes + k) (inr (omega arith)) ∙ sym (page_at old k)))
 
-pub user_outside : (old new : List ℕ) (address size : ℕ) → length old ≡ 1048576 → SameBut old address size new → SameOutside (user_part old) address size (user_part new)
+pub user_outside : (old new : List ℕ) (address size : ℕ) → length old ≡ 1048576 → SameBut old address size new → SameOutside address size (user_part old) (user_part new)
 user_outside old new address size long but =
     let one = user_length old long in
     let two = user_length new (but.lengths ∙ long) in
@@ -70,7 +70,7 @@ user_outside old new address size long but =
 
 -- ---- bytes put there
 
-pub user_with : (old new : List ℕ) (address : ℕ) (bytes : List ℕ) → length old ≡ 1048576 → HasBytes old address bytes new → address + length bytes ≤ user_bytes
+pub user_with : (old new : List ℕ) (address : ℕ) (bytes : List ℕ) → length old ≡ 1048576 → HasBytes address bytes old new → address + length bytes ≤ user_bytes
     → user_part new ≡ with_items (user_part old) address bytes
 user_with old new address bytes long has fits =
     let one = user_length old long in
@@ -92,7 +92,7 @@ user_with old new address bytes long has fits =
         put : (k i : ℕ) → k ≡ address + i → i < length bytes → address + length bytes ≤ length (user_part old) → get_or new k 0 ≡ get_or (with_items (user_part old) address bytes) k 0
         put k i is at inside = ap (λ n. get_or new n 0) is ∙ (has.put i at ∙ sym (with_items_at (user_part old) address bytes inside k i is at))
 
-pub page_with : (old new : List ℕ) (bytes : List ℕ) → length old ≡ 1048576 → HasBytes old user_bytes bytes new → length bytes ≤ 65536
+pub page_with : (old new : List ℕ) (bytes : List ℕ) → length old ≡ 1048576 → HasBytes user_bytes bytes old new → length bytes ≤ 65536
     → page_part new ≡ with_items (page_part old) 0 bytes
 page_with old new bytes long has fits =
     let one = page_length old long in

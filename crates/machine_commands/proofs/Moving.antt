@@ -51,7 +51,7 @@ cleared_by : (b : Bool) (was : Bool) (now : Bool) → now ≡ (if b then false e
 cleared_by true was now is = inr (refl, is)
 cleared_by false was now is = inl is
 
-pulse_moves : (inward : Bool) (old new : DriveState) → Becomes old (moved inward old) new → MovesDrive old new
+pulse_moves : (inward : Bool) (old new : DriveState) → Becomes (moved inward old) old new → MovesDrive old new
 pulse_moves inward old new becomes = record {
   medium = ap (λ d. d.medium) becomes.becomes;
   speed = same_speed_by old new (ap (λ d. d.motor) becomes.becomes) (ap (λ d. d.spin) becomes.becomes);

@@ -104,7 +104,7 @@ record Swapped (medium : Option Disk) (old new : DriveState) : Type 0 where
   change : new.change ≡ true
   counts : DriveGoesOn (counts_of old) (counts_of new)
 
-becomes_loaded : (medium : Disk) (old new : DriveState) → Becomes old (loaded medium old) new → Swapped (Some medium) old new
+becomes_loaded : (medium : Disk) (old new : DriveState) → Becomes (loaded medium old) old new → Swapped (Some medium) old new
 becomes_loaded medium old new becomes = record {
   is = ap (λ (d : DriveState). d.medium) becomes.becomes;
   cylinder = ap (λ (d : DriveState). d.cylinder) becomes.becomes;
@@ -112,7 +112,7 @@ becomes_loaded medium old new becomes = record {
   counts = record { never_falls = becomes.never_falls; spends = becomes.spends };
 }
 
-becomes_unloaded : (old new : DriveState) → IsSome old.medium → Becomes old (unloaded old) new → Swapped None old new
+becomes_unloaded : (old new : DriveState) → IsSome old.medium → Becomes (unloaded old) old new → Swapped None old new
 becomes_unloaded old new some becomes = record {
   is = ap (λ (d : DriveState). d.medium) becomes.becomes;
   cylinder = ap (λ (d : DriveState). d.cylinder) becomes.becomes;
@@ -148,7 +148,7 @@ untouched old new zero small few touches becomes = untouched_by old new few touc
 untouched old new (suc zero) small few touches becomes = untouched_by old new few touches.bus (same_drive old.first new.first touches.other) (becomes_same old.second new.second becomes)
 untouched old new (suc (suc bay)) small few touches becomes = absurd (omega arith)
 
-exchanged : (old new : Board) (bay : ℕ) (medium : Option Disk) → bay ≤ 1 → old.bus.direct ≤ last_count → Touches bay old new → Swapped medium (drive_in old bay) (drive_in new bay) → Exchanged (rig_of old) bay medium (rig_of new)
+exchanged : (old new : Board) (bay : ℕ) (medium : Option Disk) → bay ≤ 1 → old.bus.direct ≤ last_count → Touches bay old new → Swapped medium (drive_in old bay) (drive_in new bay) → Exchanged bay medium (rig_of old) (rig_of new)
 exchanged old new zero medium small few touches swapped =
     let leaves = touched_leaves old new few touches.bus in
     let other = same_drive old.second new.second touches.other in
@@ -195,8 +195,8 @@ none_in None empty = refl
 none_in (Some disk) empty = absurd (empty refl)
 
 pub puts_in : (old new : Board) (bay : ℕ) (medium : Disk) (answer : Result (Unit {0}) Disk) → bay ≤ 1 → old.bus.direct ≤ last_count → Touches bay old new
-    → (IsErr answer ↔ IsSome (drive_in old bay).medium) → OnOk answer (Becomes (drive_in old bay) (loaded medium (drive_in old bay)) (drive_in new bay))
-    → IfErr answer (λ back. (back ≡ medium) × Becomes (drive_in old bay) (drive_in old bay) (drive_in new bay)) → PutsIn (rig_of old) bay medium answer (rig_of new)
+    → (IsErr answer ↔ IsSome (drive_in old bay).medium) → OnOk answer (Becomes (loaded medium (drive_in old bay)) (drive_in old bay) (drive_in new bay))
+    → IfErr answer (λ back. (back ≡ medium) × Becomes (drive_in old bay) (drive_in old bay) (drive_in new bay)) → PutsIn bay medium (rig_of old) answer (rig_of new)
 puts_in old new bay medium (Ok _) small few touches refused ok err = (
   sym (media_in old bay) ∙ none_in (drive_in old bay).medium (λ some. false≢true (refused.1 some)),
   exchanged old new bay (Some medium) small few touches (becomes_loaded medium (drive_in old bay) (drive_in new bay) ok),
@@ -205,18 +205,18 @@ puts_in old new bay medium (Err back) small few touches refused ok (same, become
     (ap is_some (sym (media_in old bay)) ∙ refused.0 refl, same, untouched old new bay small few touches becomes)
 
 pub takes_out : (old new : Board) (bay : ℕ) (answer : Option Disk) → bay ≤ 1 → old.bus.direct ≤ last_count → Touches bay old new
-    → answer ≡ (drive_in old bay).medium → Becomes (drive_in old bay) (unloaded (drive_in old bay)) (drive_in new bay) → TakesOut (rig_of old) bay answer (rig_of new)
+    → answer ≡ (drive_in old bay).medium → Becomes (unloaded (drive_in old bay)) (drive_in old bay) (drive_in new bay) → TakesOut bay (rig_of old) answer (rig_of new)
 takes_out old new bay answer small few touches is becomes = record {
   medium = is ∙ media_in old bay;
   taken_out = λ some. exchanged old new bay None small few touches (becomes_unloaded (drive_in old bay) (drive_in new bay) (ap is_some (sym is) ∙ some) becomes);
   empty = λ none. untouched old new bay small few touches
-      (subst (λ d. Becomes (drive_in old bay) d (drive_in new bay)) (unloaded_empty (drive_in old bay) (sym is ∙ none)) becomes);
+      (subst (λ d. Becomes d (drive_in old bay) (drive_in new bay)) (unloaded_empty (drive_in old bay) (sym is ∙ none)) becomes);
 }
 
 -- ---- drives
 
 takes_drive : (old new : Board) (bay : ℕ) (drive : DriveState) → bay ≤ 1 → LeavesCounts old new → drive_in new (1 - bay) ≡ drive_in old (1 - bay) → DriveGoesOn (counts_of drive) (counts_of (drive_in new bay))
-    → TakesDrive (counters_of old) bay (counts_of drive) (counters_of new)
+    → TakesDrive bay (counts_of drive) (counters_of old) (counters_of new)
 takes_drive old new zero drive small leaves other goes = record {
   drive = goes;
   other = ap counts_of other;
@@ -268,7 +268,7 @@ replaced old new (suc zero) small same none set =
 replaced old new (suc (suc bay)) small same none set = absurd (omega arith)
 
 pub exchanges : (old new : Board) (bay : ℕ) (drive : DriveState) → bay ≤ 1 → old.bus.direct ≤ last_count → Touches bay old new → IsEmpty drive
-    → FollowsMotor bay (controller_of old) drive (drive_in new bay) → ExchangesDrive (rig_of old) bay (counts_of drive) (rig_of new)
+    → FollowsMotor bay (controller_of old) drive (drive_in new bay) → ExchangesDrive bay (counts_of drive) (rig_of old) (rig_of new)
 exchanges old new bay drive small few touches empty (on, lines, becomes) =
     let is = replaced old new bay small touches.other (ap (λ (d : DriveState). d.medium) becomes.becomes ∙ empty.medium) (ap (λ (d : DriveState). d.change) becomes.becomes ∙ empty.change) in
     record {
@@ -309,7 +309,7 @@ byte_leaves address byte old new few is =
     }
 
 pub puts_memory : (address byte : ℕ) (old new : Board) → address < user_bytes → old.bus.direct ≤ last_count → new ≡ record old { bus = byte_set address byte old.bus }
-    → PutsMemory (rig_of old) address byte (rig_of new)
+    → PutsMemory address byte (rig_of old) (rig_of new)
 puts_memory address byte old new below few is =
     let leaves = byte_leaves address byte old new few is in
     let first = same_drive old.first new.first (ap (λ (b : Board). b.first) is) in
@@ -358,17 +358,17 @@ touched_idle motors old new (suc zero) small touches motor first second was =
     (ap (λ (d : DriveState). d.motor) touches.other ∙ was.motors_are.first) (motor ∙ was.motors_are.second) first second was
 touched_idle motors old new (suc (suc bay)) small touches motor first second was = absurd (omega arith)
 
-put_motor : (old new : DriveState) (medium : Disk) (answer : Result (Unit {0}) Disk) → OnOk answer (Becomes old (loaded medium old) new)
+put_motor : (old new : DriveState) (medium : Disk) (answer : Result (Unit {0}) Disk) → OnOk answer (Becomes (loaded medium old) old new)
     → IfErr answer (λ back. (back ≡ medium) × Becomes old old new) → new.motor ≡ old.motor
 put_motor old new medium (Ok _) ok err = ap (λ (d : DriveState). d.motor) ok.becomes
 put_motor old new medium (Err back) ok (same, becomes) = ap (λ (d : DriveState). d.motor) becomes.becomes
 
 pub put_idle : (motors : Motors) (old new : Board) (bay : ℕ) (medium : Disk) (answer : Result (Unit {0}) Disk) → bay ≤ 1 → Touches bay old new
-    → OnOk answer (Becomes (drive_in old bay) (loaded medium (drive_in old bay)) (drive_in new bay))
+    → OnOk answer (Becomes (loaded medium (drive_in old bay)) (drive_in old bay) (drive_in new bay))
     → IfErr answer (λ back. (back ≡ medium) × Becomes (drive_in old bay) (drive_in old bay) (drive_in new bay)) → InRange new.first → InRange new.second → IsIdle motors old → IsIdle motors new
 put_idle motors old new bay medium answer small touches ok err = touched_idle motors old new bay small touches (put_motor (drive_in old bay) (drive_in new bay) medium answer ok err)
 
-pub taken_idle : (motors : Motors) (old new : Board) (bay : ℕ) → bay ≤ 1 → Touches bay old new → Becomes (drive_in old bay) (unloaded (drive_in old bay)) (drive_in new bay)
+pub taken_idle : (motors : Motors) (old new : Board) (bay : ℕ) → bay ≤ 1 → Touches bay old new → Becomes (unloaded (drive_in old bay)) (drive_in old bay) (drive_in new bay)
     → InRange new.first → InRange new.second → IsIdle motors old → IsIdle motors new
 taken_idle motors old new bay small touches becomes = touched_idle motors old new bay small touches (ap (λ (d : DriveState). d.motor) becomes.becomes)
 

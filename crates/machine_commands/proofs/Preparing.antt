@@ -115,7 +115,7 @@ pub record HasPrepared (motors : Motors) (bay : ℕ) (rate : Rate) (old selected
   pub controller_is : controller_of ready ≡ prepared motors bay rate (controller_of old)
   pub listens : IsListening (controller_of ready)
   pub none : (controller_of ready).command ≡ []
-  pub stands : Stands selected (with_rate (rate_byte rate) (setting_of selected)) ready
+  pub stands : Stands (with_rate (rate_byte rate) (setting_of selected)) selected ready
 
 pub has_prepared : (motors : Motors) (bay : ℕ) (rate : Rate) (old ready : Board) → IsIdle motors old → bay ≤ 1 → in_bay (rig_of old).spun bay ≡ true
     → (prepares : Prepares motors bay rate old ready) → HasPrepared motors bay rate old prepares.selected ready

@@ -54,7 +54,7 @@ ready_listens motors bay fdc small dor ready = record { rests = ready_rests fdc 
 
 -- ---- behind a command the machine is idle again
 
-pub idle_again : (motors : Motors) (bay : ℕ) (old new : Board) (fdc : Fdc) → IsIdle motors old → bay ≤ 1 → dor_of fdc ≡ dor_with motors bay → IsReady fdc → Idles old fdc new
+pub idle_again : (motors : Motors) (bay : ℕ) (old new : Board) (fdc : Fdc) → IsIdle motors old → bay ≤ 1 → dor_of fdc ≡ dor_with motors bay → IsReady fdc → Idles fdc old new
     → InRange new.first → InRange new.second → IsIdle motors new
 idle_again motors bay old new fdc was small dor ready idles first second = record {
   ready = subst IsReady (sym idles.controller_is) ready;
@@ -70,7 +70,7 @@ idle_again motors bay old new fdc was small dor ready idles first second = recor
   second = second;
 }
 
-pub idle_asks : (old new : Board) (fdc : Fdc) → Idles old fdc new → fdc.seeks.cylinders ≡ (controller_of old).seeks.cylinders
+pub idle_asks : (old new : Board) (fdc : Fdc) → Idles fdc old new → fdc.seeks.cylinders ≡ (controller_of old).seeks.cylinders
     → data_commands_of fdc ≡ data_commands_of (controller_of old) → OnlyAsks (rig_of old) (rig_of new)
 idle_asks old new fdc idles numbers sent =
     keeps_asking old new idles.stays.keeps (ap (λ f. f.seeks.cylinders) idles.controller_is ∙ numbers) (ap data_commands_of idles.controller_is ∙ sent)
@@ -109,10 +109,10 @@ change_in board bay = by_bay (bay == 0)
     by_bay false = refl
 
 pub record ReadsLineIdle (motors : Motors) (bay : ℕ) (changed : Bool) (old new : Board) : Type 0 where
-  pub idles : Idles old (with_dor (dor_with motors bay) (controller_of old)) new
+  pub idles : Idles (with_dor (dor_with motors bay) (controller_of old)) old new
   pub line : changed ≡ in_bay (rig_of old).changes bay
 
-pub reads_line : (motors : Motors) (bay : ℕ) (changed : Bool) (old new : Board) → IsIdle motors old → bay ≤ 1 → ReadsLine motors bay changed old new
+pub reads_line : (motors : Motors) (bay : ℕ) (changed : Bool) (old new : Board) → IsIdle motors old → bay ≤ 1 → ReadsLine motors bay old changed new
     → ReadsLineIdle motors bay changed old new
 reads_line motors bay changed old new idle small reads =
     let byte = dor_with motors bay in
@@ -122,17 +122,17 @@ reads_line motors bay changed old new idle small reads =
     let two = input_idles 0x3F7 reads.value reads.selected new reads.reads refl (subst IsResting (sym one.controller_is) rests) in
     let lines = selected_lines motors bay reads.selected small (ap dor_of one.controller_is) in
     let kept = drive_kept old reads.selected bay one.stays.keeps in record {
-      idles = idles_then old reads.selected new fdc fdc one (subst (λ c. Idles reads.selected c new) one.controller_is two);
+      idles = idles_then old reads.selected new fdc fdc one (subst (λ c. Idles c reads.selected new) one.controller_is two);
       line = reads.answer ∙ (ap (λ v. v == 0x80) (reads.reads.value_is ∙ ap line_bits lines) ∙ (line_told (drive_in reads.selected bay).change ∙ (kept.change ∙ change_in old bay)));
     }
 
-pub line_idle : (motors : Motors) (bay : ℕ) (changed : Bool) (old new : Board) → IsIdle motors old → bay ≤ 1 → ReadsLine motors bay changed old new
+pub line_idle : (motors : Motors) (bay : ℕ) (changed : Bool) (old new : Board) → IsIdle motors old → bay ≤ 1 → ReadsLine motors bay old changed new
     → InRange new.first → InRange new.second → IsIdle motors new
 line_idle motors bay changed old new idle small reads first second =
     let is = reads_line motors bay changed old new idle small reads in
     idle_again motors bay old new (with_dor (dor_with motors bay) (controller_of old)) idle small refl (ready_with (dor_with motors bay) (controller_of old) idle.ready) is.idles first second
 
-pub line_asks : (motors : Motors) (bay : ℕ) (changed : Bool) (old new : Board) → IsIdle motors old → bay ≤ 1 → ReadsLine motors bay changed old new
+pub line_asks : (motors : Motors) (bay : ℕ) (changed : Bool) (old new : Board) → IsIdle motors old → bay ≤ 1 → ReadsLine motors bay old changed new
     → OnlyAsks (rig_of old) (rig_of new)
 line_asks motors bay changed old new idle small reads =
     idle_asks old new (with_dor (dor_with motors bay) (controller_of old)) (reads_line motors bay changed old new idle small reads).idles refl refl

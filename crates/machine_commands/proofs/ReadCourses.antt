@@ -48,7 +48,7 @@ pub record ReadLaws : Type 0 where
       → IsSetUp mode address left (set_up mode address left c)
   pub set : (address left : ℕ) (channel : Channel) → IsSetUp 0x46 address left channel → address % 65536 + left < 65536 → IsSet channel address left
   pub spelled : (head_drive : ℕ) (key : Chrn) (last_sector gap length_code : ℕ) → 1 ≤ key.n → key.n ≤ 6 → SpellsRead head_drive key last_sector gap length_code
-  pub can_begin : (start board : Board) (set : Setting) (sent : Sent) (bay address left byte : ℕ) (disk : Disk) → IsReadyIn bay disk start → Stands start set board
+  pub can_begin : (start board : Board) (set : Setting) (sent : Sent) (bay address left byte : ℕ) (disk : Disk) → IsReadyIn bay disk start → Stands set start board
       → IsSetFor sent address left byte set → address + (left + 1) ≤ length (memory_of start) → CanBegin (scene_of sent bay disk address (left + 1) board) byte board
   pub begins : (scene : Scene) (byte : ℕ) (old new : Board) → Outputs 0x3F5 byte old new → CanBegin scene byte old → ReadUnderway scene new
   pub prompt : (scene : Scene) (byte : ℕ) (old new : Board) → Outputs 0x3F5 byte old new → CanBegin scene byte old
@@ -60,11 +60,11 @@ pub record ReadLaws : Type 0 where
   pub runs : (n : ℕ) (old new : Board) → Runs n old new → KeepsRead old new
   pub still : (old new : Board) → StandsStill old new → KeepsRead old new
   pub waits : (most : ℕ) (set : Bool) (old new : Board) → Waits most old set new → KeepsRead old new
-  pub read : (port value : ℕ) (old new : Board) → Inputs port value old new → (scene : Scene) → ReadUnderway scene old → ReadUnderway scene new ⊎ ((controller_of new).phase ≡ Command)
+  pub read : (port value : ℕ) (old new : Board) → Inputs port old value new → (scene : Scene) → ReadUnderway scene old → ReadUnderway scene new ⊎ ((controller_of new).phase ≡ Command)
   pub prompt_runs : (n : ℕ) (old new : Board) → Runs n old new → (scene : Scene) → ReadPrompt scene old → ReadPrompt scene new ⊎ Stalled old new
   pub prompt_still : (old new : Board) → StandsStill old new → (scene : Scene) → ReadPrompt scene old → ReadPrompt scene new
   pub prompt_waits : (most : ℕ) (set : Bool) (old new : Board) → Waits most old set new → (scene : Scene) → ReadPrompt scene old → ReadPrompt scene new ⊎ Stalled old new
-  pub prompt_read : (port value : ℕ) (old new : Board) → Inputs port value old new → (scene : Scene) → ReadPrompt scene old
+  pub prompt_read : (port value : ℕ) (old new : Board) → Inputs port old value new → (scene : Scene) → ReadPrompt scene old
       → ReadPrompt scene new ⊎ ((controller_of new).phase ≡ Command) ⊎ Stalled old new
 
 -- ---- it goes on
@@ -156,9 +156,9 @@ read_goes laws motors bay scene byte start sent access can sending =
 pub record Puts (selected : Board) (next : Setting) (old new : Board) : Type 0 where
   pub stays : StaysIdle old new
   pub controller_is : controller_of new ≡ controller_of old
-  pub stands : Stands selected next new
+  pub stands : Stands next selected new
 
-pub puts : (port value : ℕ) (selected : Board) (set : Setting) (old new : Board) → is_controllers port ≡ false → (port == 0x3F2) ≡ false → IsResting (controller_of old) → Stands selected set old
+pub puts : (port value : ℕ) (selected : Board) (set : Setting) (old new : Board) → is_controllers port ≡ false → (port == 0x3F2) ≡ false → IsResting (controller_of old) → Stands set selected old
     → Outputs port value old new → Puts selected (with_write port value set) old new
 puts port value selected set old new its other rest stands access =
     let between = access.between in
@@ -198,7 +198,7 @@ channel_set mode address left set =
     with_write 0x0A 0x02 (with_write 0x05 (left / 256) (with_write 0x05 (left % 256) (with_write 0x81 (address / 65536) (with_write 0x04 (address / 256 % 256)
     (with_write 0x04 (address % 256) (with_write 0x0B mode (with_write 0x0C 0 (with_write 0x0A 0x06 (with_write 0x08 0 set)))))))))
 
-pub channel_puts : (mode address left : ℕ) (selected : Board) (set : Setting) (old new : Board) → IsResting (controller_of old) → Stands selected set old
+pub channel_puts : (mode address left : ℕ) (selected : Board) (set : Setting) (old new : Board) → IsResting (controller_of old) → Stands set selected old
     → SetsChannel mode address left old new → Puts selected (channel_set mode address left set) old new
 channel_puts mode address left selected set old new rest stands sets =
     let s1 = with_write 0x08 0 set in
@@ -233,11 +233,11 @@ channel_is laws address left set inside room =
 -- ---- the bytes
 
 pub bytes_stand : (selected : Board) (rest done : List ℕ) (set : Setting) (old new : Board) → set.phase ≡ Command → is_held (controller_of selected) ≡ false → set.command ≡ done → AreMore done rest
-    → Sends rest old new → Stands selected set old → Stands selected (record set { command = done ++ rest }) new
+    → Sends rest old new → Stands set selected old → Stands (record set { command = done ++ rest }) selected new
 bytes_stand selected [] done set old new command free is more same stands =
-    subst (λ board. Stands selected (record set { command = done ++ [] }) board) (sym same)
-    (subst (λ bytes. Stands selected (record set { command = bytes }) old) (is ∙ sym (append-nil done)) stands)
+    subst (λ board. Stands (record set { command = done ++ [] }) selected board) (sym same)
+    (subst (λ bytes. Stands (record set { command = bytes }) selected old) (is ∙ sym (append-nil done)) stands)
 bytes_stand selected (byte ∷ rest) done set old new command free is (more, others) (between, access, sends) stands =
     let one = byte_stands selected set byte old between command free (ap (λ bytes. answer (bytes ++ byte ∷ [])) is ∙ more) access stands in
     let two = bytes_stand selected rest (done ++ byte ∷ []) (with_byte byte set) between new command free (ap (λ bytes. bytes ++ byte ∷ []) is) others sends one in
-    subst (λ bytes. Stands selected (record set { command = bytes }) new) (append_assoc done (byte ∷ []) rest) two
+    subst (λ bytes. Stands (record set { command = bytes }) selected new) (append_assoc done (byte ∷ []) rest) two

@@ -186,7 +186,7 @@ in_page address size some same = omega arith
 module _ (laws : ReadEndLaws) (motors : Motors) (bay : ℕ) (key : Chrn) (rate : Rate) (address : ℕ) (outcome : result Done Code) (old new : Board)
     (idle : IsIdle motors old) (small : bay ≤ 1) (low : key.h ≤ 1) (coded : IsSizeCode key.n) (spun : in_bay (rig_of old).spun bay ≡ true)
     (inside : address + content_size key.n ≤ 1048576) (room : address % 65536 + (content_size key.n - 1) < 65536)
-    (sends : SendsRead motors bay key rate address outcome old new) where
+    (sends : SendsRead motors bay key rate address old outcome new) where
   abbrev hd : ℕ
   hd = key.h * 4 + bay
 
@@ -226,7 +226,7 @@ module _ (laws : ReadEndLaws) (motors : Motors) (bay : ℕ) (key : Chrn) (rate :
   last : Sends (0xFF ∷ []) start sends.sent
   last = parts.2
 
-  code_sent : Idles sends.set (with_bytes eight (controller_of sends.set)) start
+  code_sent : Idles (with_bytes eight (controller_of sends.set)) sends.set start
   code_sent = first_bytes [] eight sends.set start (ap (λ f. f.command) put.controller_is ∙ has.none) (subst IsListening (sym put.controller_is) has.listens) more first
 
   stays : StaysIdle old start
@@ -346,11 +346,11 @@ module _ (laws : ReadEndLaws) (motors : Motors) (bay : ℕ) (key : Chrn) (rate :
   stall_counts : Stall → RoseBy 1 (holds_of old).stalls (holds_of new).stalls
   stall_counts stall = let one = sent_all.keeps.stalls in let two = over.keeps.stalls in omega arith
 
-  refused : IfErr (mark_told outcome) (λ refusal. IsReadMiss (track_under (rig_of old) bay rate key.h) key bay refusal (rig_of old).counters (rig_of new).counters)
+  refused : IfErr (mark_told outcome) (λ refusal. IsReadMiss (track_under (rig_of old) bay rate key.h) key bay (rig_of old).counters refusal (rig_of new).counters)
   refused = by_told (mark_told outcome) tells
     where
       by_told : (told : result Bool Code) → Tells scene faults (memory_of at) Stall told
-          → IfErr told (λ refusal. IsReadMiss (track_under (rig_of old) bay rate key.h) key bay refusal (rig_of old).counters (rig_of new).counters)
+          → IfErr told (λ refusal. IsReadMiss (track_under (rig_of old) bay rate key.h) key bay (rig_of old).counters refusal (rig_of new).counters)
       by_told (Ok deleted) says = tt
       by_told (Err refusal) says = record {
         coded = says.coded;
@@ -370,7 +370,7 @@ module _ (laws : ReadEndLaws) (motors : Motors) (bay : ℕ) (key : Chrn) (rate :
     content_long : length content ≡ content_size key.n
     content_long = ap length finds.whole.content_is ∙ length-map-range_with_len (λ i. byte_at (track_met scene) (finds.mark + 64 + 16 * i)) 0 (content_size key.n)
 
-    field : FindsField (rig_of old) bay key rate deleted content (rig_of new)
+    field : FindsField bay key rate (rig_of old) deleted content (rig_of new)
     field = record {
       disk = has.disk.disk;
       place = finds.place;
@@ -409,10 +409,10 @@ module _ (laws : ReadEndLaws) (motors : Motors) (bay : ℕ) (key : Chrn) (rate :
         others = λ k where_k. ap (λ m. get_or m k 0) memory_end ∙ (outside.others k (subst (λ n. (k < address) ⊎ (address + n ≤ k)) (sym size_is) where_k) ∙ ap (λ m. get_or m k 0) memory_start);
       }
 
-  landed : (content : List ℕ) → HasBytes scene.memory address content (memory_of at) → HasBytes (memory_of old) address content (memory_of new)
-  landed content bytes = subst (λ m. HasBytes m address content (memory_of new)) memory_start (subst (λ m. HasBytes (memory_of start) address content m) (sym memory_end) bytes)
+  landed : (content : List ℕ) → HasBytes address content scene.memory (memory_of at) → HasBytes address content (memory_of old) (memory_of new)
+  landed content bytes = subst (λ m. HasBytes address content m (memory_of new)) memory_start (subst (λ m. HasBytes address content (memory_of start) m) (sym memory_end) bytes)
 
-  pub reads_data : address + content_size key.n ≤ user_bytes → ReadsData (rig_of old) bay key rate address (mark_told outcome) (rig_of new)
+  pub reads_data : address + content_size key.n ≤ user_bytes → ReadsData bay key rate address (rig_of old) (mark_told outcome) (rig_of new)
   reads_data below = record {
     sends = sends_read motors bay (ReadOn scene start) old start new outcome sends.prepares.counts sent_all over;
     found = by_told (mark_told outcome) tells;
@@ -422,14 +422,14 @@ module _ (laws : ReadEndLaws) (motors : Motors) (bay : ℕ) (key : Chrn) (rate :
   }
     where
       by_told : (told : result Bool Code) → Tells scene faults (memory_of at) Stall told
-          → IfOk told (λ deleted. (content : List ℕ) × FindsField (rig_of old) bay key rate deleted content (rig_of new)
+          → IfOk told (λ deleted. (content : List ℕ) × FindsField bay key rate (rig_of old) deleted content (rig_of new)
           × (user_part (memory_of new) ≡ with_items (user_part (memory_of old)) address content))
       by_told (Ok deleted) (content, finds) =
           let long = content_long deleted content finds in
           (content, field deleted content finds, user_with (memory_of old) (memory_of new) address content sends.prepares.memory (landed content finds.in_memory) (omega arith))
       by_told (Err refusal) says = tt
 
-  pub reads_back : address ≡ user_bytes → ReadsBack (rig_of old) bay key rate (mark_told outcome) (rig_of new)
+  pub reads_back : address ≡ user_bytes → ReadsBack bay key rate (rig_of old) (mark_told outcome) (rig_of new)
   reads_back at_page = record {
     sends = sends_read motors bay (ReadOn scene start) old start new outcome sends.prepares.counts sent_all over;
     found = by_told (mark_told outcome) tells;
@@ -438,12 +438,12 @@ module _ (laws : ReadEndLaws) (motors : Motors) (bay : ℕ) (key : Chrn) (rate :
   }
     where
       by_told : (told : result Bool Code) → Tells scene faults (memory_of at) Stall told
-          → IfOk told (λ deleted. (content : List ℕ) × FindsField (rig_of old) bay key rate deleted content (rig_of new)
+          → IfOk told (λ deleted. (content : List ℕ) × FindsField bay key rate (rig_of old) deleted content (rig_of new)
           × (page_part (memory_of new) ≡ with_items (page_part (memory_of old)) 0 content))
       by_told (Ok deleted) (content, finds) =
           let long = content_long deleted content finds in
           let range = size_range key.n coded in
-          let there : HasBytes (memory_of old) user_bytes content (memory_of new) = subst (λ a. HasBytes (memory_of old) a content (memory_of new)) at_page (landed content finds.in_memory) in
+          let there : HasBytes user_bytes content (memory_of old) (memory_of new) = subst (λ a. HasBytes a content (memory_of old) (memory_of new)) at_page (landed content finds.in_memory) in
           (content, field deleted content finds, page_with (memory_of old) (memory_of new) content sends.prepares.memory there (omega arith))
       by_told (Err refusal) says = tt
 

@@ -105,7 +105,7 @@ goes_then a b c one two first second = record {
   controller_is = second.controller_is;
 }
 
-idles_go : (old new : Board) (fdc : Fdc) → Idles old fdc new → Goes old fdc new
+idles_go : (old new : Board) (fdc : Fdc) → Idles fdc old new → Goes old fdc new
 idles_go old new fdc idles = record { keeps = idles.stays.keeps; first = idles.stays.first; second = idles.stays.second; controller_is = idles.controller_is }
 
 -- the reset pulse
@@ -183,19 +183,19 @@ configure_whole : answer ((0x13 ∷ 0x00 ∷ 0x07 ∷ []) ++ 0x00 ∷ []) ≡ Re
 unfolding answer
 configure_whole = refl
 
-specifies : (old new : Board) → (resets : Resets old new) → Idles resets.polled (specified_at (controller_of old)) resets.specified
+specifies : (old new : Board) → (resets : Resets old new) → Idles (specified_at (controller_of old)) resets.polled resets.specified
 specifies old new resets =
     let c = controller_of old in
     whole_at (0x03 ∷ 0xAF ∷ []) 0x02 (Specify 0xAF 0x02) resets.polled resets.specified (sensed_at c) (polls old new resets).controller_is (listens_sensed c) refl
     specify_more specify_whole (specified_at c) (λ lines controller does. does.0 refl) (λ low. low) (listens_specified c).rests resets.specifies
 
-configures : (old new : Board) → (resets : Resets old new) → Idles resets.specified (configured_at (controller_of old)) resets.configured
+configures : (old new : Board) → (resets : Resets old new) → Idles (configured_at (controller_of old)) resets.specified resets.configured
 configures old new resets =
     let c = controller_of old in
     whole_at (0x13 ∷ 0x00 ∷ 0x07 ∷ []) 0x00 (Configure 0x00 0x07 0x00) resets.specified resets.configured (specified_at c) (specifies old new resets).controller_is (listens_specified c) refl
     configure_more configure_whole (configured_at c) (λ lines controller does. does.0 refl) (λ low. low) (rests_configured c) resets.configures
 
-rates : (old new : Board) → (resets : Resets old new) → Idles resets.configured (set_up_at (controller_of old)) resets.rated
+rates : (old new : Board) → (resets : Resets old new) → Idles (set_up_at (controller_of old)) resets.configured resets.rated
 rates old new resets =
     let c = controller_of old in
     let at = (configures old new resets).controller_is in

@@ -142,7 +142,7 @@ record Begun (bay : ℕ) (fdc : Fdc) (Way : ℕ → Motion → DriveState → Ty
   pub leaves : Leaves bay old between
 
 begins : (bay : ℕ) (fdc : Fdc) (Way : ℕ → Motion → DriveState → Type 0) (Over : ℕ → ℕ → DriveState → Type 0) (old mid sent : Board)
-    → (does : SeekCommand bay fdc (drive_in old bay) Way Over) → Idles old (with_bytes does.first fdc) mid → IsListening fdc → fdc.command ≡ []
+    → (does : SeekCommand bay fdc (drive_in old bay) Way Over) → Idles (with_bytes does.first fdc) old mid → IsListening fdc → fdc.command ≡ []
     → (access : Outputs 0x3F5 does.last mid sent) → Begun bay fdc Way old (gapped access.between)
 begins bay fdc Way Over old mid sent does idles listens none access =
     let (controller, writes, chips) = access.writes.writes.controllers refl in
@@ -205,7 +205,7 @@ never_on fdc bay n Way Over board never sought = elim sought [
 ]
 
 waits : (bay : ℕ) (fdc : Fdc) (Way : ℕ → Motion → DriveState → Type 0) (Over : ℕ → ℕ → DriveState → Type 0) (status : ℕ) (old between sent new : Board) → bay ≤ 1 → CanSeek bay fdc
-    → (does : SeekCommand bay fdc (drive_in old bay) Way Over) → Begun bay fdc Way old (gapped between) → RunsGap between sent → (ends : EndsSeek status sent new)
+    → (does : SeekCommand bay fdc (drive_in old bay) Way Over) → Begun bay fdc Way old (gapped between) → RunsGap between sent → (ends : EndsSeek sent status new)
     → Waited bay fdc Over old ends.waited
 waits bay fdc Way Over status old between sent new small can does begun gap ends =
     let n = next_entry between.bus.gaps in
@@ -219,12 +219,12 @@ waits bay fdc Way Over status old between sent new small can does begun gap ends
 
 -- ---- its result
 
-idles_leave : (bay : ℕ) (old new : Board) (fdc : Fdc) → Idles old fdc new → Leaves bay old new
+idles_leave : (bay : ℕ) (old new : Board) (fdc : Fdc) → Idles fdc old new → Leaves bay old new
 idles_leave bay old new fdc idles = all_leave bay old new idles.stays.keeps idles.stays.first idles.stays.second
 
 takes_result : (bay : ℕ) (fdc : Fdc) (Way : ℕ → Motion → DriveState → Type 0) (Over : ℕ → ℕ → DriveState → Type 0) (status : ℕ) (old sent new : Board) → bay ≤ 1 → CanSeek bay fdc
     → IsListening fdc → fdc.command ≡ [] → fdc.seeks.pending ≡ none_pending
-    → (does : SeekCommand bay fdc (drive_in old bay) Way Over) → (ends : EndsSeek status sent new) → Waited bay fdc Over old ends.waited → SeekDone bay fdc Over status old new
+    → (does : SeekCommand bay fdc (drive_in old bay) Way Over) → (ends : EndsSeek sent status new) → Waited bay fdc Over old ends.waited → SeekDone bay fdc Over status old new
 takes_result bay fdc Way Over status old sent new small can listens none pending does ends was =
     let number = was.over.number in
     let code = was.over.status in
@@ -261,7 +261,7 @@ takes_result bay fdc Way Over status old sent new small can listens none pending
 pub seek_done : (motors : Motors) (bay : ℕ) (Way : ℕ → Motion → DriveState → Type 0) (Over : ℕ → ℕ → DriveState → Type 0) (status : ℕ) (old selected sent new : Board)
     → IsIdle motors old → bay ≤ 1
     → (does : SeekCommand bay (with_dor (dor_with motors bay) (controller_of old)) (drive_in old bay) Way Over)
-    → Outputs 0x3F2 (dor_with motors bay) old selected → Sends (does.first ++ does.last ∷ []) selected sent → EndsSeek status sent new
+    → Outputs 0x3F2 (dor_with motors bay) old selected → Sends (does.first ++ does.last ∷ []) selected sent → EndsSeek sent status new
     → SeekDone bay (with_dor (dor_with motors bay) (controller_of old)) Over status old new
 seek_done motors bay Way Over status old selected sent new idle small does selects sends ends =
     let byte = dor_with motors bay in
@@ -273,9 +273,9 @@ seek_done motors bay Way Over status old selected sent new idle small does selec
     let can : CanSeek bay fdc = record { no_command = rests.no_command; not_asking = rests.not_asking; no_poll = rests.no_poll; selects = (is_dor motors bay small).selects } in
     let (mid, before, (last, access, same)) = sends_parts does.first (does.last ∷ []) selected sent sends in
     let sends_first = first_bytes [] does.first selected mid (ap (λ f. f.command) one.controller_is ∙ ready.no_bytes) (subst IsListening (sym one.controller_is) listens) does.more before in
-    let idles : Idles old (with_bytes does.first fdc) mid = idles_then old selected mid fdc (with_bytes does.first fdc) one
-    (subst (λ f. Idles selected f mid) (ap (λ f. with_bytes does.first f) one.controller_is) sends_first) in
+    let idles : Idles (with_bytes does.first fdc) old mid = idles_then old selected mid fdc (with_bytes does.first fdc) one
+    (subst (λ f. Idles f selected mid) (ap (λ f. with_bytes does.first f) one.controller_is) sends_first) in
     let begun = begins bay fdc Way Over old mid last does idles listens ready.no_bytes access in
-    let here : EndsSeek status last new = subst (λ board. EndsSeek status board new) same ends in
+    let here : EndsSeek last status new = subst (λ board. EndsSeek board status new) same ends in
     let waited = waits bay fdc Way Over status old access.between last new small can does begun access.gap here in
     takes_result bay fdc Way Over status old last new small can listens ready.no_bytes ready.seeks.no_result does here waited

@@ -246,7 +246,7 @@ some_or_none : {T : Type 0} (medium : Option T) → is_some medium ≡ true → 
 some_or_none medium some none = false≢true (sym (ap is_some none) ∙ some)
 
 moves_heads : (bay : ℕ) (old new : Board) → bay ≤ 1 → MovesDrive (drive_in old bay) (drive_in new bay) → Leaves bay old new → number_of new (1 - bay) ≡ number_of old (1 - bay)
-    → data_commands_of (controller_of new) ≡ data_commands_of (controller_of old) → MovesHeads (rig_of old) bay (rig_of new)
+    → data_commands_of (controller_of new) ≡ data_commands_of (controller_of old) → MovesHeads bay (rig_of old) (rig_of new)
 moves_heads zero old new small moves left number sent =
     let (counts, driven) = counting old new (heads_go moves) (drive_goes left.keeps) left.entries left.stalls left.direct left.taken sent in
     let same : new.first.change ≡ old.first.change → (rig_of new).changes ≡ (rig_of old).changes =
@@ -318,7 +318,7 @@ number_other motors bay number code old new idle small at =
 
 -- ---- RECALIBRATE
 
-recalibrated_to : (motors : Motors) (bay status : ℕ) (old new : Board) → IsIdle motors old → bay ≤ 1 → SendsRecalibrate motors bay status old new
+recalibrated_to : (motors : Motors) (bay status : ℕ) (old new : Board) → IsIdle motors old → bay ≤ 1 → SendsRecalibrate motors bay old status new
     → SeekDone bay (with_dor (dor_with motors bay) (controller_of old)) (OutwardOver bay (drive_in old bay)) status old new
 unfolding recalibrate_command
 recalibrated_to motors bay status old new idle small sends =
@@ -341,14 +341,14 @@ outward_shown bay status number code old new small is over =
       lost = λ short. over.lost (sym told ∙ short);
     }
 
-recalibrates_rig : (bay : ℕ) (reached : Bool) (old new : Board) → bay ≤ 1 → MovesHeads (rig_of old) bay (rig_of new) → number_of new bay ≡ 0
-    → OutwardShown bay reached (drive_in old bay) (drive_in new bay) → Recalibrates (rig_of old) bay reached (rig_of new)
+recalibrates_rig : (bay : ℕ) (reached : Bool) (old new : Board) → bay ≤ 1 → MovesHeads bay (rig_of old) (rig_of new) → number_of new bay ≡ 0
+    → OutwardShown bay reached (drive_in old bay) (drive_in new bay) → Recalibrates bay (rig_of old) reached (rig_of new)
 recalibrates_rig zero reached old new small moves number is = record { moves = moves; number = number; arrives = is.arrives; away = is.away; lost = is.lost }
 recalibrates_rig (suc zero) reached old new small moves number is = record { moves = moves; number = number; arrives = is.arrives; away = is.away; lost = is.lost }
 recalibrates_rig (suc (suc bay)) reached old new small moves number is = absurd (omega arith)
 
-pub recalibrates : (motors : Motors) (bay status : ℕ) (old new : Board) → IsIdle motors old → bay ≤ 1 → SendsRecalibrate motors bay status old new
-    → Recalibrates (rig_of old) bay (bit_and status 0x10 == 0) (rig_of new)
+pub recalibrates : (motors : Motors) (bay status : ℕ) (old new : Board) → IsIdle motors old → bay ≤ 1 → SendsRecalibrate motors bay old status new
+    → Recalibrates bay (rig_of old) (bit_and status 0x10 == 0) (rig_of new)
 recalibrates motors bay status old new idle small sends =
     let done = recalibrated_to motors bay status old new idle small sends in
     let moves = moves_heads bay old new small done.over.moves done.leaves (number_other motors bay done.number done.code old new idle small done.controller_is)
@@ -357,7 +357,7 @@ recalibrates motors bay status old new idle small sends =
     (number_new motors bay done.number done.code old new idle small done.controller_is ∙ done.over.number_is)
     (outward_shown bay status done.number done.code (drive_in old bay) (drive_in new bay) small done.status_is done.over)
 
-pub recalibrate_idle : (motors : Motors) (bay status : ℕ) (old new : Board) → IsIdle motors old → bay ≤ 1 → SendsRecalibrate motors bay status old new
+pub recalibrate_idle : (motors : Motors) (bay status : ℕ) (old new : Board) → IsIdle motors old → bay ≤ 1 → SendsRecalibrate motors bay old status new
     → InRange new.first → InRange new.second → IsIdle motors new
 recalibrate_idle motors bay status old new idle small sends first second =
     let done = recalibrated_to motors bay status old new idle small sends in
@@ -380,8 +380,8 @@ sought_to motors bay target old new idle small within sends =
     old sends.selected sends.sent new idle small
     (seek_command bay target fdc (drive_in old bay) small (no_bits fdc.seeks idle.ready.seeks) within (near_by motors bay old idle small)) sends.selects sends.sends sends.ends
 
-seeks_rig : (bay target number code : ℕ) (old new : Board) → bay ≤ 1 → MovesHeads (rig_of old) bay (rig_of new) → number_of new bay ≡ target
-    → TowardOver bay (drive_in old bay) (number_of old bay) target number code (drive_in new bay) → Seeks (rig_of old) bay target (rig_of new)
+seeks_rig : (bay target number code : ℕ) (old new : Board) → bay ≤ 1 → MovesHeads bay (rig_of old) (rig_of new) → number_of new bay ≡ target
+    → TowardOver bay (drive_in old bay) (number_of old bay) target number code (drive_in new bay) → Seeks bay target (rig_of old) (rig_of new)
 seeks_rig zero target number code old new small moves now over =
     record { moves = moves; number = now; arrives = over.follows; clears = λ some apart. over.clears apart some }
 seeks_rig (suc zero) target number code old new small moves now over =
@@ -389,7 +389,7 @@ seeks_rig (suc zero) target number code old new small moves now over =
 seeks_rig (suc (suc bay)) target number code old new small moves now over = absurd (omega arith)
 
 pub seeks : (motors : Motors) (bay target : ℕ) (old new : Board) → IsIdle motors old → bay ≤ 1 → target ≤ 79 → SendsSeek motors bay target old new
-    → Seeks (rig_of old) bay target (rig_of new)
+    → Seeks bay target (rig_of old) (rig_of new)
 seeks motors bay target old new idle small within sends =
     let done = sought_to motors bay target old new idle small within sends in
     let moves = moves_heads bay old new small done.over.moves done.leaves (number_other motors bay done.number done.code old new idle small done.controller_is)

@@ -43,9 +43,9 @@ record SeekWordTime (bay : ℕ) (old : Board) (between : Fdc) (new : Board) : Ty
   pub moves : Moves (pulse_due (controller_of old).seeks ((drive_in old bay).cylinder == 0)) (drive_in old bay) (drive_in new bay)
   pub other : OnlyTurns (drive_in old (1 - bay)) (drive_in new (1 - bay))
 
-seek_rests : (fdc : Fdc) (bay : ℕ) (track0 : Bool) (between : Fdc) → CanSeek bay fdc → RestsIn (polled fdc).phase (polled fdc) track0 between → between ≡ seek_stepped track0 fdc
+seek_rests : (fdc : Fdc) (bay : ℕ) (track0 : Bool) (between : Fdc) → CanSeek bay fdc → RestsIn (polled fdc).phase track0 (polled fdc) between → between ≡ seek_stepped track0 fdc
 seek_rests fdc bay track0 between can is =
-    rests_in fdc.phase fdc track0 between can.no_command (subst (λ f. RestsIn f.phase f track0 between) (unpolled fdc can.no_poll) is)
+    rests_in fdc.phase fdc track0 between can.no_command (subst (λ f. RestsIn f.phase track0 f between) (unpolled fdc can.no_poll) is)
 
 seek_moves : (fdc : Fdc) (bay : ℕ) (before after : DriveState) → CanSeek bay fdc → MovesIn (polled fdc).phase (polled fdc) before after
     → Moves (pulse_due fdc.seeks (before.cylinder == 0)) before after

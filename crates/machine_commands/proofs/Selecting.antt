@@ -75,7 +75,7 @@ pub record IsSwitched (on : Bool) (old new : DriveState) : Type 0 where
   pub motor : new.motor ≡ on
   pub spin : on ≡ true → new.spin ≡ old.spin
 
-switched_by : (on : Bool) (before after : DriveState) → Becomes before (with_motor on before) after → IsSwitched on before after
+switched_by : (on : Bool) (before after : DriveState) → Becomes (with_motor on before) before after → IsSwitched on before after
 switched_by on before after becomes = record {
   keeps = record {
     medium = ap (λ d. d.medium) becomes.becomes;
@@ -89,7 +89,7 @@ switched_by on before after becomes = record {
 }
 
 pub switched : (k byte : ℕ) (want : Bool) (before after : DriveState) → (IsTrue want ↔ IsBitSet byte k)
-    → (on : Bool) × (IsTrue on ↔ IsBitSet byte k) × Becomes before (with_motor on before) after → IsSwitched want before after
+    → (on : Bool) × (IsTrue on ↔ IsBitSet byte k) × Becomes (with_motor on before) before after → IsSwitched want before after
 switched k byte want before after is (on, follows, becomes) =
     subst (λ b. IsSwitched b before after) (same_truth on want (IsBitSet byte k) follows is) (switched_by on before after becomes)
 
@@ -135,14 +135,14 @@ same_motor_speed want old new was is = record {
 -- a bay is selected, and the motors stay as they are
 pub selects_idle : (motors : Motors) (bay : ℕ) (old new : Board) → bay ≤ 1 → HasMotors motors old → IsResting (controller_of old)
     → IsResting (with_dor (dor_with motors bay) (controller_of old)) → Outputs 0x3F2 (dor_with motors bay) old new
-    → Idles old (with_dor (dor_with motors bay) (controller_of old)) new
+    → Idles (with_dor (dor_with motors bay) (controller_of old)) old new
 selects_idle motors bay old new small has rest after access =
     let byte = dor_with motors bay in
     let fdc = with_dor byte (controller_of old) in
     let is = is_dor motors bay small in
     let written = dor_access byte fdc motors.first motors.second old new access (dor_is_written (controller_of old) byte is.released) refl is.first is.second in
     let between = access.between in
-    let one : Idles old fdc between = record {
+    let one : Idles fdc old between = record {
       stays = record {
         keeps = accessed_keeps fdc old between written.bus written.first_is.keeps written.second_is.keeps;
         first = same_motor_speed motors.first old.first between.first has.first written.first_is;
@@ -154,4 +154,4 @@ selects_idle motors bay old new small has rest after access =
       channel = ap (λ b. b.chips.channel) written.bus;
     } in
     let two = gap_idles between new access.gap (subst IsResting (sym one.controller_is) after) in
-    idles_then old between new fdc fdc one (subst (λ c. Idles between c new) one.controller_is two)
+    idles_then old between new fdc fdc one (subst (λ c. Idles c between new) one.controller_is two)

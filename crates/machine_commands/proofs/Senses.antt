@@ -25,7 +25,7 @@ sensed_to fdc = record fdc { phase = Command; command = []; seeks = after_sense 
 
 pub senses_pending : (status : ℕ) (old new : Board) (fdc : Fdc) (code number : ℕ) → controller_of old ≡ fdc → IsListening fdc → fdc.command ≡ []
     → sensed fdc.seeks ≡ Some (code, number) → (code == 0x80) ≡ false → is_seeking (after_sense fdc.seeks) ≡ false
-    → Senses status old new → (status ≡ code) × Idles old (sensed_to fdc) new
+    → Senses old status new → (status ≡ code) × Idles (sensed_to fdc) old new
 senses_pending status old new fdc code number at listens none pending told over senses =
     let target : Fdc = answered code (Some number) (record (with_bytes [] fdc) { seeks = after_sense fdc.seeks; interrupt = false }) in
     let rests = listens.rests in
@@ -42,6 +42,6 @@ senses_pending status old new fdc code number at listens none pending told over 
     let three = input_idles 0x3F5 n senses.between new access refl (subst IsResting (sym last_is) last_rests) in (
       status_is,
       idles_then old senses.sent new target (sensed_to fdc) one
-          (idles_then senses.sent senses.between new (given target) (sensed_to fdc) (subst (λ c. Idles senses.sent c senses.between) given_is two)
-          (subst (λ c. Idles senses.between c new) last_is three)),
+          (idles_then senses.sent senses.between new (given target) (sensed_to fdc) (subst (λ c. Idles c senses.sent senses.between) given_is two)
+          (subst (λ c. Idles c senses.between new) last_is three)),
     )

@@ -22,7 +22,7 @@ use Rattle.machine_commands.proofs.Showing.{keeps_asking, at_speed_on}
 use Rattle.machine_commands.proofs.Steps.{keeps_then, idles_then, runs_idle, runs_spin, drive_none, speed_none}
 
 -- a call came
-pub stirred_idles : (board : Board) → Idles board (controller_of board) (stirred board)
+pub stirred_idles : (board : Board) → Idles (controller_of board) board (stirred board)
 stirred_idles board = record {
   stays = record {
     keeps = record { memory = refl; entries = refl; stalls = refl; first = drive_none board.first; second = drive_none board.second; direct = refl; taken = omega arith };
@@ -38,7 +38,7 @@ stirred_idles board = record {
 -- the motor is on, behind the write of DOR and behind all
 pub record IsStarted (motors : Motors) (old on new : Board) (fdc : Fdc) : Type 0 where
   pub written : IsDorWritten fdc motors.first motors.second old on
-  pub idles : Idles on fdc new
+  pub idles : Idles fdc on new
   pub ready : IsReady fdc
   pub spins : (turns on.first ≡ true → 6250 ≤ new.first.spin) × (turns on.second ≡ true → 6250 ≤ new.second.spin)
 
@@ -68,7 +68,7 @@ starts motors bay old new idle small start =
     let last = idles_then start.between (stirred start.between) new (controller_of start.between) (controller_of start.between) (stirred_idles start.between) runs in
     record {
       written = written;
-      idles = idles_then access.between start.between new fdc fdc (subst (λ c. Idles access.between c start.between) here gap) (subst (λ c. Idles start.between c new) there last);
+      idles = idles_then access.between start.between new fdc fdc (subst (λ c. Idles c access.between start.between) here gap) (subst (λ c. Idles c start.between new) there last);
       ready = ready;
       spins = (
         λ up. spun_for start.between.first.spin new.first.spin (first (turning access.between.first start.between.first gap.stays.keeps.first gap.stays.first up)),

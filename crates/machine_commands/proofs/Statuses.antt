@@ -44,7 +44,7 @@ abbrev pub status_given : Board → ℕ → Fdc
 status_given board bay = answered (status_of_lines (lines_of board) bay) None (with_bytes [] (controller_of board))
 
 pub record SensesDriveIdle (bay status : ℕ) (selected old new : Board) : Type 0 where
-  pub idles : Idles old (given (status_given selected bay)) new
+  pub idles : Idles (given (status_given selected bay)) old new
   pub ready : IsReady (given (status_given selected bay))
   pub status_is : status ≡ status_of_lines (lines_of_drive (drive_in old bay)) bay
 
@@ -67,7 +67,7 @@ ready_given board bay ready = record {
   threshold = ready.threshold;
 }
 
-pub senses_drive : (motors : Motors) (bay status : ℕ) (old new : Board) → IsIdle motors old → bay ≤ 1 → (senses : SensesDrive motors bay status old new)
+pub senses_drive : (motors : Motors) (bay status : ℕ) (old new : Board) → IsIdle motors old → bay ≤ 1 → (senses : SensesDrive motors bay old status new)
     → SensesDriveIdle bay status senses.selected old new
 senses_drive motors bay status old new idle small senses =
     let byte = dor_with motors bay in
@@ -85,7 +85,7 @@ senses_drive motors bay status old new idle small senses =
     let lines : lines_of board ≡ lines_of_drive (drive_in old bay) = selected_lines motors bay board small dor ∙ lines_kept (drive_in old bay) (drive_in board bay) (drive_kept old board bay one.stays.keeps) in
     record {
       idles = idles_then old board new fdc (given target) one
-          (idles_then board senses.sent new target (given target) two (subst (λ c. Idles senses.sent c new) at three));
+          (idles_then board senses.sent new target (given target) two (subst (λ c. Idles c senses.sent new) at three));
       ready = ready_given board bay ready;
       status_is = senses.takes.value_is ∙ (ap (λ c. result_byte c.phase) two.controller_is ∙ ap (λ l. status_of_lines l bay) lines);
     }
@@ -115,7 +115,7 @@ medium_in board bay = by_bay (bay == 0)
     by_bay true = refl
     by_bay false = refl
 
-pub status_tells : (motors : Motors) (bay status : ℕ) (old new : Board) → IsIdle motors old → bay ≤ 1 → SensesDrive motors bay status old new
+pub status_tells : (motors : Motors) (bay status : ℕ) (old new : Board) → IsIdle motors old → bay ≤ 1 → SensesDrive motors bay old status new
     → not (bit_and status 0x40 == 0) ≡ option_map_or (λ disk. disk.protected) (in_bay (rig_of old).media bay) false
 status_tells motors bay status old new idle small senses =
     let lines = lines_of_drive (drive_in old bay) in
@@ -124,7 +124,7 @@ status_tells motors bay status old new idle small senses =
     ∙ (same_protected (drive_in old bay).medium
     ∙ ap (λ m. option_map_or (λ disk. disk.protected) m false) (medium_in old bay)))
 
-pub status_idle : (motors : Motors) (bay status : ℕ) (old new : Board) → IsIdle motors old → bay ≤ 1 → SensesDrive motors bay status old new
+pub status_idle : (motors : Motors) (bay status : ℕ) (old new : Board) → IsIdle motors old → bay ≤ 1 → SensesDrive motors bay old status new
     → InRange new.first → InRange new.second → IsIdle motors new
 status_idle motors bay status old new idle small senses first second =
     let is = senses_drive motors bay status old new idle small senses in
@@ -132,7 +132,7 @@ status_idle motors bay status old new idle small senses first second =
     (ready_rests (with_dor (dor_with motors bay) (controller_of old)) (ready_with (dor_with motors bay) (controller_of old) idle.ready)) senses.selects in
     idle_again motors bay old new (given (status_given senses.selected bay)) idle small (ap dor_of one.controller_is) is.ready is.idles first second
 
-pub status_asks : (motors : Motors) (bay status : ℕ) (old new : Board) → IsIdle motors old → bay ≤ 1 → SensesDrive motors bay status old new
+pub status_asks : (motors : Motors) (bay status : ℕ) (old new : Board) → IsIdle motors old → bay ≤ 1 → SensesDrive motors bay old status new
     → OnlyAsks (rig_of old) (rig_of new)
 status_asks motors bay status old new idle small senses =
     let is = senses_drive motors bay status old new idle small senses in

@@ -93,15 +93,15 @@ unpolled_by fdc false _ = refl
 pub unpolled : (fdc : Fdc) → (fdc.poll_due && not (is_held fdc)) ≡ false → polled fdc ≡ fdc
 unpolled fdc wrong = unpolled_by fdc (fdc.poll_due && not (is_held fdc)) wrong
 
-pub rests_in : (phase : Phase) (old : Fdc) (track0 : Bool) (new : Fdc) → is_executing phase ≡ false → RestsIn phase old track0 new → new ≡ seek_stepped track0 old
+pub rests_in : (phase : Phase) (old : Fdc) (track0 : Bool) (new : Fdc) → is_executing phase ≡ false → RestsIn phase track0 old new → new ≡ seek_stepped track0 old
 rests_in Command old track0 new idle is = is
 rests_in (Execute execution) old track0 new busy is = absurd cc
 rests_in (Result answer) old track0 new idle is = is
 
 -- the controller behind the poll rests: it stays so
-stays_same : (old polled_to : Fdc) (track0 : Bool) (new : Fdc) → polled old ≡ polled_to → IsResting polled_to → RestsIn (polled old).phase (polled old) track0 new → new ≡ polled_to
+stays_same : (old polled_to : Fdc) (track0 : Bool) (new : Fdc) → polled old ≡ polled_to → IsResting polled_to → RestsIn (polled old).phase track0 (polled old) new → new ≡ polled_to
 stays_same old polled_to track0 new poll rest is =
-    let here = subst (λ fdc. RestsIn fdc.phase fdc track0 new) poll is in
+    let here = subst (λ fdc. RestsIn fdc.phase track0 fdc new) poll is in
     rests_in polled_to.phase polled_to track0 new rest.no_command here ∙ still_seeks polled_to track0 rest.no_seek
 
 -- ---- the drives
@@ -121,7 +121,7 @@ spun_more : (spin : ℕ) → min (spin + 1) 6250 ≤ (if nat_lt spin 6250 then s
 spun_more spin = grind (arith, nat_tests)
 
 -- what one word time leaves
-pub turned_by : (before target after : DriveState) → Becomes before (passed target) after → target.medium ≡ before.medium → target.cylinder ≡ before.cylinder
+pub turned_by : (before target after : DriveState) → Becomes (passed target) before after → target.medium ≡ before.medium → target.cylinder ≡ before.cylinder
     → target.change ≡ before.change → target.motor ≡ before.motor → target.spin ≡ before.spin → OnlyTurns before after
 turned_by before target after becomes medium cylinder change motor spin =
     let spun : after.spin ≡ (if turns target && nat_lt target.spin 6250 then target.spin + 1 else target.spin) = ap (λ d. d.spin) becomes.becomes in
@@ -141,10 +141,10 @@ turned_by before target after becomes medium cylinder change motor spin =
           (subst (λ n. min (target.spin + 1) 6250 ≤ n) (sym (spun ∙ ap (λ b. if b && nat_lt target.spin 6250 then target.spin + 1 else target.spin) (same ∙ on))) (spun_more target.spin));
     }
 
-pub passes_turn : (before after : DriveState) → Becomes before (passed before) after → OnlyTurns before after
+pub passes_turn : (before after : DriveState) → Becomes (passed before) before after → OnlyTurns before after
 passes_turn before after becomes = turned_by before before after becomes refl refl refl refl refl
 
-pub gate_turns : (before after : DriveState) → Becomes before (let_pass before) after → OnlyTurns before after
+pub gate_turns : (before after : DriveState) → Becomes (let_pass before) before after → OnlyTurns before after
 gate_turns before after becomes = turned_by before (with_gate false before) after becomes refl refl refl refl refl
 
 pub moves_in : (phase : Phase) (fdc : Fdc) (before after : DriveState) → is_executing phase ≡ false → MovesIn phase fdc before after
@@ -228,7 +228,7 @@ step_to old new fdc step poll rest =
     }
 
 -- in a device step of a resting controller only the drives turn
-pub step_idles : (old new : Board) → Step old new → IsResting (controller_of old) → Idles old (controller_of old) new
+pub step_idles : (old new : Board) → Step old new → IsResting (controller_of old) → Idles (controller_of old) old new
 step_idles old new step rest =
     let to = step_to old new (controller_of old) step (unpolled (controller_of old) rest.no_poll) rest in
     record {
@@ -306,22 +306,22 @@ stays_then a b c one two = record {
   low = λ quiet low. two.low (one.quiet quiet) (one.low quiet low);
 }
 
-pub idles_then : (a b c : Board) (one two : Fdc) → Idles a one b → Idles b two c → Idles a two c
+pub idles_then : (a b c : Board) (one two : Fdc) → Idles one a b → Idles two b c → Idles two a c
 idles_then a b c one two first second = record {
   stays = stays_then a b c first.stays second.stays;
   controller_is = second.controller_is;
   channel = second.channel ∙ first.channel;
 }
 
-pub idles_none : (board : Board) → Idles board (controller_of board) board
+pub idles_none : (board : Board) → Idles (controller_of board) board board
 idles_none board = record { stays = stays_none board; controller_is = refl; channel = refl }
 
-pub idles_as : (old new : Board) (one two : Fdc) → one ≡ two → Idles old one new → Idles old two new
-idles_as old new one two same idles = subst (λ fdc. Idles old fdc new) same idles
+pub idles_as : (old new : Board) (one two : Fdc) → one ≡ two → Idles one old new → Idles two old new
+idles_as old new one two same idles = subst (λ fdc. Idles fdc old new) same idles
 
-pub runs_idle : (n : ℕ) (old new : Board) → Runs n old new → IsResting (controller_of old) → Idles old (controller_of old) new
+pub runs_idle : (n : ℕ) (old new : Board) → Runs n old new → IsResting (controller_of old) → Idles (controller_of old) old new
 unfolding Runs
-runs_idle zero old new same rest = subst (λ board. Idles old (controller_of old) board) (sym same) (idles_none old)
+runs_idle zero old new same rest = subst (λ board. Idles (controller_of old) old board) (sym same) (idles_none old)
 runs_idle (suc n) old new (between, runs, step) rest =
     let before = runs_idle n old between runs rest in
     let here = subst IsResting (sym before.controller_is) rest in

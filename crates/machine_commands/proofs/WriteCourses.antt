@@ -225,7 +225,7 @@ module _ (bay : ℕ) (old start now new : Board) (is : IsCourse bay old start no
       by_bay (suc zero) low at = is.after.first.medium ∙ (is.others.first (ap (λ n. n == 0) (is.selects ∙ at)) ∙ is.before.first.medium)
       by_bay (suc (suc b)) low at = absurd (omega arith)
 
-  pub course_sends : memory_of now ≡ memory_of start → SendsWrite (rig_of old) bay (rig_of new)
+  pub course_sends : memory_of now ≡ memory_of start → SendsWrite bay (rig_of old) (rig_of new)
   course_sends same = record {
     heads = heads;
     other_medium = other_stays;

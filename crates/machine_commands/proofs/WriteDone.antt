@@ -87,7 +87,7 @@ pub record WriteLaws : Type 0 where
       → (controller_of old).fifo.on ≡ true → (controller_of old).fifo.threshold ≡ 8 → (holds_of old).request ≡ Low → WriteGoes scene deleted old new
   pub runs : (scene : Scene) (deleted : Bool) (n : ℕ) (start old new : Board) → Runs n (stirred old) new → WriteGoes scene deleted start old → WriteGoes scene deleted start new
   pub waits : (scene : Scene) (deleted : Bool) (most : ℕ) (set : Bool) (start old new : Board) → Waits most old set new → WriteGoes scene deleted start old → WriteGoes scene deleted start new
-  pub status : (scene : Scene) (deleted : Bool) (value : ℕ) (start old new : Board) → Inputs 0x3F4 value old new → WriteGoes scene deleted start old → WriteGoes scene deleted start new
+  pub status : (scene : Scene) (deleted : Bool) (value : ℕ) (start old new : Board) → Inputs 0x3F4 old value new → WriteGoes scene deleted start old → WriteGoes scene deleted start new
   pub strays : (scene : Scene) (deleted : Bool) (start old : Board) → is_executing (controller_of old).phase ≡ true → WriteGoes scene deleted start old → WriteGoes scene deleted start (latch_taken old)
   pub runs_left : (n : ℕ) (old new : Board) → Runs n old new → steps_left (controller_of new).phase ≤ steps_left (controller_of old).phase - n
   pub unset_left : (n : ℕ) (old new : Board) → RunsUnset n old new → steps_left (controller_of new).phase ≤ steps_left (controller_of old).phase - n
@@ -173,12 +173,12 @@ sizes (suc (suc (suc (suc (suc (suc (suc n))))))) low high = absurd (omega arith
 pub record IsWritten (motors : Motors) (bay : ℕ) (key : Chrn) (rate : Rate) (address : ℕ) (deleted : Bool) (outcome : Result Done Code) (old new : Board) : Type 0 where
   pub idle : IsIdle motors new
   pub change : Option Change
-  pub writes : WritesData (rig_of old) bay rate (record { key = key; deleted = deleted; content = bytes_from (rig_of old).memory address (content_size key.n) }) change (told_of outcome) (rig_of new)
+  pub writes : WritesData bay rate (record { key = key; deleted = deleted; content = bytes_from (rig_of old).memory address (content_size key.n) }) change (rig_of old) (told_of outcome) (rig_of new)
 
 pub write_done : WriteLaws → (motors : Motors) (bay : ℕ) (key : Chrn) (rate : Rate) (address : ℕ) (deleted : Bool) (outcome : Result Done Code) (old new : Board) → IsIdle motors old → bay ≤ 1
     → key.h ≤ 1 → IsSizeCode key.n → address + content_size key.n ≤ user_bytes → address % 65536 + (content_size key.n - 1) < 65536 → in_bay (rig_of old).spun bay ≡ true
     → option_map_or (λ disk. disk.protected) (in_bay (rig_of old).media bay) false ≡ false → length (memory_of old) ≡ 1048576
-    → SendsWriteBytes motors bay key rate address deleted outcome old new → InRange new.first → InRange new.second → IsWritten motors bay key rate address deleted outcome old new
+    → SendsWriteBytes motors bay key rate address deleted old outcome new → InRange new.first → InRange new.second → IsWritten motors bay key rate address deleted outcome old new
 write_done laws motors bay key rate address deleted outcome old new idle small low coded inside room spun free_medium bytes sends first second =
     let (disk, medium) = medium_of (drive_in old bay) (spun_in bay old ∙ spun) in
     let head_drive = key.h * 4 + bay in
@@ -275,7 +275,7 @@ write_done laws motors bay key rate address deleted outcome old new idle small l
         second = second;
       };
       change = change;
-      writes = subst (λ r. WritesData (rig_of old) bay rate (record { key = key; deleted = deleted; content = bytes_from (rig_of old).memory address (content_size key.n) }) change r (rig_of new)) (sym told) shown;
+      writes = subst (λ r. WritesData bay rate (record { key = key; deleted = deleted; content = bytes_from (rig_of old).memory address (content_size key.n) }) change (rig_of old) r (rig_of new)) (sym told) shown;
     }
 
 -- ---- what is asked

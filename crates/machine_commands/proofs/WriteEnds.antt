@@ -75,7 +75,7 @@ ready_status fdc over results free none is =
 pub record GoesFurther (Underway : Board → Type 0) (start : Board) : Type 0 where
   pub runs : (n : ℕ) (old new : Board) → Runs n (stirred old) new → GoesOn Underway start old → GoesOn Underway start new
   pub waits : (most : ℕ) (set : Bool) (old new : Board) → Waits most old set new → GoesOn Underway start old → GoesOn Underway start new
-  pub status : (value : ℕ) (old new : Board) → Inputs 0x3F4 value old new → GoesOn Underway start old → GoesOn Underway start new
+  pub status : (value : ℕ) (old new : Board) → Inputs 0x3F4 old value new → GoesOn Underway start old → GoesOn Underway start new
   pub strays : (old : Board) → is_executing (controller_of old).phase ≡ true → GoesOn Underway start old → GoesOn Underway start (latch_taken old)
   pub some_left : (now : Board) → Underway now → is_executing (controller_of now).phase ≡ true → 1 ≤ steps_left (controller_of now).phase
   pub runs_left : (n : ℕ) (old new : Board) → Runs n old new → steps_left (controller_of new).phase ≤ steps_left (controller_of old).phase - n
@@ -92,7 +92,7 @@ pub record IsReached (Underway : Board → Type 0) (start new : Board) : Type 0 
   pub goes : GoesOn Underway start now
   pub over : is_executing (controller_of now).phase ≡ false
   pub value : ℕ
-  pub reads : Inputs 0x3F4 value (latch_taken now) new
+  pub reads : Inputs 0x3F4 (latch_taken now) value new
 
 -- still in execution
 record IsOn (Underway : Board → Type 0) (start old new : Board) : Type 0 where
@@ -108,7 +108,7 @@ module _ (Underway : Board → Type 0) (start : Board) (laws : GoesFurther Under
   no_bits_now now goes = ap (λ seek. option_map_or (λ s. 2 ^ s.drive) seek 0) goes.awaited.calm.no_seek
 
   -- one watch
-  watch_ends : (ready : Bool) (old new : Board) → Watch ready old new → GoesOn Underway start old → ((ready ≡ false) × IsOn Underway start old new) ⊎ ((ready ≡ true) × IsReached Underway start new)
+  watch_ends : (ready : Bool) (old new : Board) → Watch old ready new → GoesOn Underway start old → ((ready ≡ false) × IsOn Underway start old new) ⊎ ((ready ≡ true) × IsReached Underway start new)
   watch_ends ready old new watch was =
       let stepped = laws.runs 1 old watch.stepped watch.steps was in
       let waited = laws.waits 65536 watch.set watch.stepped watch.waited watch.waits stepped in
@@ -140,13 +140,13 @@ module _ (Underway : Board → Type 0) (start : Board) (laws : GoesFurther Under
           let status = watch.reads.value_is ∙ ready_status (controller_of watch.waited) ending results (free_now watch.waited waited) (no_bits_now watch.waited waited) is in
           inr (watch.answer ∙ ap (λ v. v == 0xD0) status, record { now = watch.waited; goes = waited; over = over; value = watch.value; reads = watch.reads })
 
-  watch_on : (old new : Board) → Watch false old new → GoesOn Underway start old → IsOn Underway start old new
+  watch_on : (old new : Board) → Watch old false new → GoesOn Underway start old → IsOn Underway start old new
   watch_on old new watch was = elim (watch_ends false old new watch was) [
     | inl is ↦ is.1
     | inr wrong ↦ absurd (false≢true wrong.0)
   ]
 
-  watch_reached : (old new : Board) → Watch true old new → GoesOn Underway start old → IsReached Underway start new
+  watch_reached : (old new : Board) → Watch old true new → GoesOn Underway start old → IsReached Underway start new
   watch_reached old new watch was = elim (watch_ends true old new watch was) [
     | inl wrong ↦ absurd (false≢true (sym wrong.0))
     | inr is ↦ is.1
@@ -203,12 +203,12 @@ rests_over : (fdc : Fdc) → IsResting fdc → IsResting (all_read fdc)
 rests_over fdc rests = record { no_command = refl; no_seek = rests.no_seek; not_asking = rests.not_asking; no_poll = rests.no_poll }
 
 -- one more byte is read
-byte_read : (byte : ℕ) (first old new : Board) (fdc target : Fdc) → Idles first fdc old → given fdc ≡ target → IsResting target → Inputs 0x3F5 byte old new
-    → Idles first target new × (byte ≡ result_byte fdc.phase)
+byte_read : (byte : ℕ) (first old new : Board) (fdc target : Fdc) → Idles fdc first old → given fdc ≡ target → IsResting target → Inputs 0x3F5 old byte new
+    → Idles target first new × (byte ≡ result_byte fdc.phase)
 byte_read byte first old new fdc target was is rests access =
     let next : given (controller_of old) ≡ target = ap given was.controller_is ∙ is in
     let idles = input_idles 0x3F5 byte old new access refl (subst IsResting (sym next) rests) in
-    (idles_then first old new fdc target was (subst (λ f. Idles old f new) next idles), access.value_is ∙ ap (λ f. result_byte f.phase) was.controller_is)
+    (idles_then first old new fdc target was (subst (λ f. Idles f old new) next idles), access.value_is ∙ ap (λ f. result_byte f.phase) was.controller_is)
 
 same_outcome : (a b c : ℕ) (key key' : Chrn) (a' b' c' : ℕ) → a ≡ a' → b ≡ b' → c ≡ c' → key ≡ key' → outcome_of a b c key ≡ outcome_of a' b' c' key'
 same_outcome a b c key key' a' b' c' p q r s =
@@ -225,7 +225,7 @@ counted_from true count is = refl
 counted_from false count is = absurd (false≢true is)
 
 pub finished : (Underway : Board → Type 0) (start : Board) (outcome : Result Done Code) (old new : Board) → GoesFurther Underway start → is_held (controller_of start) ≡ false
-    → Finishes outcome old new → GoesOn Underway start old → IsOver Underway start outcome new
+    → Finishes old outcome new → GoesOn Underway start old → IsOver Underway start outcome new
 finished Underway start outcome old new laws free finishes was =
     let is = reached Underway start laws free old finishes.awaited finishes.awaits was in
     let now = is.now in
@@ -241,7 +241,7 @@ finished Underway start outcome old new laws free finishes was =
     } in
     let unread : Fdc = record fdc { phase = phase.Result (Long ending results 0) } in
     let same : fdc ≡ unread = ap (λ p. let f : Fdc = record fdc { phase = p } in f) phase_is in
-    let status = subst (λ f. Idles taken f finishes.awaited) same (input_idles 0x3F4 is.value taken finishes.awaited is.reads refl rests) in
+    let status = subst (λ f. Idles f taken finishes.awaited) same (input_idles 0x3F4 is.value taken finishes.awaited is.reads refl rests) in
     let takes = finishes.takes in
     let (one, st0) = byte_read takes.st0 taken finishes.awaited takes.after_st0 unread (at_read ending results 1 fdc) status refl (rests_at ending results 1 fdc rests) takes.first in
     let (two, st1) = byte_read takes.st1 taken takes.after_st0 takes.after_st1 (at_read ending results 1 fdc) (at_read ending results 2 fdc) one refl (rests_at ending results 2 fdc rests) takes.second in

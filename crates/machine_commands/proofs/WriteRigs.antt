@@ -179,7 +179,7 @@ module _ (scene : Scene) (deleted : Bool) (rate : Rate) (old start now new : Boa
 
   changes : (changed : HasChanged scene deleted (drive_in now scene.bay))
       → (IsUndisturbed scene.bay (counters_of old) (counters_of new) → IsInsideTrack scene changed.change → IsWholeWindow scene deleted changed.change)
-      → ChangesMedium (rig_of old) scene.bay rate (written_in scene deleted) changed.change (rig_of new)
+      → ChangesMedium scene.bay rate (written_in scene deleted) changed.change (rig_of old) (rig_of new)
   changes changed whole = record {
     before = scene.disk;
     after = changed.after;
@@ -205,9 +205,9 @@ module _ (scene : Scene) (deleted : Bool) (rate : Rate) (old start now new : Boa
 
   -- the answer with what is shown of the media
   pub record ShowsWrite (change : Option Change) (answer : Result (Unit {0}) Code) : Type 0 where
-    pub does : MatchOption change ((rig_of new).media ≡ (rig_of old).media) (λ one. ChangesMedium (rig_of old) scene.bay rate (written_in scene deleted) one (rig_of new))
+    pub does : MatchOption change ((rig_of new).media ≡ (rig_of old).media) (λ one. ChangesMedium scene.bay rate (written_in scene deleted) one (rig_of old) (rig_of new))
     pub done : IsOk answer → IsFaultless scene.bay (counters_of old) (counters_of new) → MatchOption change ⊥ (λ one. one.words ≡ length (window_of (written_in scene deleted)))
-    pub refused : IfErr answer (λ code. IsWriteMiss (track_under (rig_of new) scene.bay rate scene.sent.key.h) scene.sent.key scene.bay code (counters_of old) (counters_of new))
+    pub refused : IfErr answer (λ code. IsWriteMiss (track_under (rig_of new) scene.bay rate scene.sent.key.h) scene.sent.key scene.bay (counters_of old) code (counters_of new))
 
   none_overrun : (reason : Code) → (reason ≡ code.Overrun → ⊥) → reason ≡ code.Overrun → RoseBy 1 (counters_of old).stalls (counters_of new).stalls
   none_overrun reason other is = absurd (other is)
@@ -255,7 +255,7 @@ module _ (scene : Scene) (deleted : Bool) (rate : Rate) (old start now new : Boa
       not_clear no_clear (p, has) = no_clear p scene.sent.key refl has.address has.clear.inner
   shows_as ending.NoField (wrote, out) stalls = by_way wrote
     where
-      missed : IsWriteMiss (track_under (rig_of new) scene.bay rate scene.sent.key.h) scene.sent.key scene.bay code.NoMark (counters_of old) (counters_of new)
+      missed : IsWriteMiss (track_under (rig_of new) scene.bay rate scene.sent.key.h) scene.sent.key scene.bay (counters_of old) code.NoMark (counters_of new)
       missed = record { coded = tt; reason = λ undisturbed. inr (out_after wrote out); overrun = none_overrun code.NoMark (λ e. absurd cc) }
 
       by_way : (IsUnchanged scene (drive_in now scene.bay) ⊎ write.ChangesOut scene deleted (drive_in now scene.bay)) → (change : Option Change) × ShowsWrite change (Err code.NoMark)
@@ -266,7 +266,7 @@ module _ (scene : Scene) (deleted : Bool) (rate : Rate) (old start now new : Boa
       stalled : Stalled start now
       stalled = stalls refl
 
-      missed : IsWriteMiss (track_under (rig_of new) scene.bay rate scene.sent.key.h) scene.sent.key scene.bay code.Overrun (counters_of old) (counters_of new)
+      missed : IsWriteMiss (track_under (rig_of new) scene.bay rate scene.sent.key.h) scene.sent.key scene.bay (counters_of old) code.Overrun (counters_of new)
       missed = record {
         coded = tt;
         reason = λ undisturbed. absurd (course_unstalled scene.bay old start now new course undisturbed stalled);
@@ -290,11 +290,11 @@ module _ (scene : Scene) (deleted : Bool) (rate : Rate) (old start now new : Boa
 
   -- what the driver is told, and what it wrote
   pub write_shown : (over : Ending) → EndsAs scene deleted (drive_in now scene.bay) over → (over ≡ ending.Overrun → Stalled start now)
-      → (change : Option Change) × WritesData (rig_of old) scene.bay rate asked change (ending_answer over) (rig_of new)
+      → (change : Option Change) × WritesData scene.bay rate asked change (rig_of old) (ending_answer over) (rig_of new)
   write_shown over ends stalls =
       let (change, shows) = shows_as over ends stalls in (
         change,
-        subst (λ written. WritesData (rig_of old) scene.bay rate written change (ending_answer over) (rig_of new)) asked_is (record {
+        subst (λ written. WritesData scene.bay rate written change (rig_of old) (ending_answer over) (rig_of new)) asked_is (record {
           sends = course_sends scene.bay old start now new course same;
           does = shows.does;
           done = shows.done;

@@ -36,9 +36,9 @@ use Rattle.machine_commands.proofs.Steps.{calm_asks, calm_dma, idles_then, rests
 -- ---- the request
 
 -- a controller that rests stays as it is
-stays_same : (fdc : Fdc) (track0 : Bool) (new : Fdc) → IsResting fdc → RestsIn (polled fdc).phase (polled fdc) track0 new → new ≡ fdc
+stays_same : (fdc : Fdc) (track0 : Bool) (new : Fdc) → IsResting fdc → RestsIn (polled fdc).phase track0 (polled fdc) new → new ≡ fdc
 stays_same fdc track0 new rests is =
-    let here = subst (λ f. RestsIn f.phase f track0 new) (unpolled fdc rests.no_poll) is in
+    let here = subst (λ f. RestsIn f.phase track0 f new) (unpolled fdc rests.no_poll) is in
     rests_in fdc.phase fdc track0 new rests.no_command here ∙ still_seeks fdc track0 rests.no_seek
 
 between_same : (old new : Board) → IsResting (controller_of old) → (step : Step old new) → step.between ≡ controller_of old
@@ -159,7 +159,7 @@ ready_prepared dor rate fdc ready = record {
 }
 
 pub prepares_idle : (motors : Motors) (bay : ℕ) (rate : Rate) (old new : Board) → IsIdle motors old → bay ≤ 1 → Prepares motors bay rate old new
-    → Idles old (prepared (dor_with motors bay) (rate_byte rate) (controller_of old)) new
+    → Idles (prepared (dor_with motors bay) (rate_byte rate) (controller_of old)) old new
 prepares_idle motors bay rate old new idle small prepares =
     let dor = dor_with motors bay in
     let fdc = controller_of old in
@@ -181,7 +181,7 @@ pub record IsSentTo (first : List ℕ) (next byte : ℕ) (set sent : Board) : Ty
   pub listens : IsListening (controller_of before)
   pub start : Board
   pub nexts : Outputs 0x3F5 next before start
-  pub idles : Idles set (with_bytes (first ++ next ∷ []) (controller_of set)) start
+  pub idles : Idles (with_bytes (first ++ next ∷ []) (controller_of set)) set start
   pub request : (holds_of start).request ≡ Low
   pub last : Outputs 0x3F5 byte start sent
 
@@ -217,7 +217,7 @@ bytes_sent first next byte set sent listens none more whole sends =
       start = start;
       nexts = second;
       idles = idles_then set before start (with_bytes first fdc) (with_bytes (first ++ next ∷ []) fdc) idles
-          (subst (λ f. Idles before (with_bytes (first ++ next ∷ []) f) start) idles.controller_is two);
+          (subst (λ f. Idles (with_bytes (first ++ next ∷ []) f) before start) idles.controller_is two);
       request = byte_low next before start here (ap (λ b. answer (b ++ next ∷ [])) command ∙ whole) second;
       last = subst (Outputs 0x3F5 byte start) (sym same) third;
     }

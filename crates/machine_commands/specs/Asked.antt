@@ -9,20 +9,20 @@ use Rattle.machine_commands.specs.Sending.{Sends, Senses, Settles}
 use Rattle.machine_commands.specs.declared.motors.Motors.{Motors}
 
 -- the input register of a bay's drive is read: its change line is this
-pub record ReadsLine (motors : Motors) (bay : ℕ) (changed : Bool) (old new : Board) : Type 0 where
+pub record ReadsLine (motors : Motors) (bay : ℕ) (old : Board) (changed : Bool) (new : Board) : Type 0 where
   pub selected : Board
   pub selects : Outputs 0x3F2 (dor_with motors bay) old selected
   pub value : ℕ
-  pub reads : Inputs 0x3F7 value selected new
+  pub reads : Inputs 0x3F7 selected value new
   pub answer : changed ≡ (value == 0x80)
 
 -- SENSE DRIVE STATUS gives this status register 3
-pub record SensesDrive (motors : Motors) (bay status : ℕ) (old new : Board) : Type 0 where
+pub record SensesDrive (motors : Motors) (bay : ℕ) (old : Board) (status : ℕ) (new : Board) : Type 0 where
   pub selected : Board
   pub selects : Outputs 0x3F2 (dor_with motors bay) old selected
   pub sent : Board
   pub sends : Sends (0x04 ∷ bay ∷ []) selected sent
-  pub takes : Inputs 0x3F5 status sent new
+  pub takes : Inputs 0x3F5 sent status new
 
 -- the motor of a bay goes on, and it is waited until a medium has come to speed
 pub record StartsMotor (motors : Motors) (bay : ℕ) (old new : Board) : Type 0 where
@@ -31,20 +31,20 @@ pub record StartsMotor (motors : Motors) (bay : ℕ) (old new : Board) : Type 0 
   pub runs : Runs 6250 (stirred between) new
 
 -- as many device steps as a seek takes at most, and then its status register 0
-pub record EndsSeek (status : ℕ) (old new : Board) : Type 0 where
+pub record EndsSeek (old : Board) (status : ℕ) (new : Board) : Type 0 where
   pub waited : Board
   pub runs : Runs 80 (stirred old) waited
   pub sensed : Board
-  pub senses : Senses status waited sensed
+  pub senses : Senses waited status sensed
   pub settles : Settles sensed new
 
 -- RECALIBRATE
-pub record SendsRecalibrate (motors : Motors) (bay status : ℕ) (old new : Board) : Type 0 where
+pub record SendsRecalibrate (motors : Motors) (bay : ℕ) (old : Board) (status : ℕ) (new : Board) : Type 0 where
   pub selected : Board
   pub selects : Outputs 0x3F2 (dor_with motors bay) old selected
   pub sent : Board
   pub sends : Sends (0x07 ∷ bay ∷ []) selected sent
-  pub ends : EndsSeek status sent new
+  pub ends : EndsSeek sent status new
 
 -- SEEK
 pub record SendsSeek (motors : Motors) (bay target : ℕ) (old new : Board) : Type 0 where
@@ -53,7 +53,7 @@ pub record SendsSeek (motors : Motors) (bay target : ℕ) (old new : Board) : Ty
   pub sent : Board
   pub sends : Sends (0x0F ∷ bay ∷ target ∷ []) selected sent
   pub status : ℕ
-  pub ends : EndsSeek status sent new
+  pub ends : EndsSeek sent status new
 
 -- the results of the poll are taken, one for each of the four drives
 pub record TakesPolls (old new : Board) : Type 0 where
@@ -61,15 +61,15 @@ pub record TakesPolls (old new : Board) : Type 0 where
   pub settles : Settles old polled
   pub status_0 : ℕ
   pub one : Board
-  pub first : Senses status_0 polled one
+  pub first : Senses polled status_0 one
   pub status_1 : ℕ
   pub two : Board
-  pub second : Senses status_1 one two
+  pub second : Senses one status_1 two
   pub status_2 : ℕ
   pub three : Board
-  pub third : Senses status_2 two three
+  pub third : Senses two status_2 three
   pub status_3 : ℕ
-  pub fourth : Senses status_3 three new
+  pub fourth : Senses three status_3 new
 
 -- no motor
 abbrev pub none_on : Motors

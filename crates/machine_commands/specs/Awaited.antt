@@ -77,34 +77,34 @@ sector_bytes command bay key rate =
 -- ---- the end
 
 -- a device step, and as many as line 6 takes; then the latch is taken, and MSR tells whether results are ready
-pub record Watch (ready : Bool) (old new : Board) : Type 0 where
+pub record Watch (old : Board) (ready : Bool) (new : Board) : Type 0 where
   pub stepped : Board
   pub steps : Runs 1 (stirred old) stepped
   pub waited : Board
   pub set : Bool
   pub waits : Waits 65536 stepped set waited
   pub value : ℕ
-  pub reads : Inputs 0x3F4 value (latch_taken waited) new
+  pub reads : Inputs 0x3F4 (latch_taken waited) value new
   pub answer : ready ≡ (value == 0xD0)
 
 -- so often they weren't
 abbrev pub Watches : ℕ → Board → Board → Type 0
 Watches zero old new = new ≡ old
-Watches (suc n) old new = (between : Board) × Watches n old between × Watch false between new
+Watches (suc n) old new = (between : Board) × Watches n old between × Watch between false new
 
 -- they were once, or never in 65,537 watches
 abbrev pub AwaitsResults : Board → Board → Type 0
-AwaitsResults old new = ((n : ℕ) × (between : Board) × Watches n old between × Watch true between new) ⊎ Watches 65537 old new
+AwaitsResults old new = ((n : ℕ) × (between : Board) × Watches n old between × Watch between true new) ⊎ Watches 65537 old new
 
 -- the key among the result bytes
-pub record TakesKey (key : Chrn) (old new : Board) : Type 0 where
+pub record TakesKey (old : Board) (key : Chrn) (new : Board) : Type 0 where
   pub after_c : Board
-  pub c : Inputs 0x3F5 key.c old after_c
+  pub c : Inputs 0x3F5 old key.c after_c
   pub after_h : Board
-  pub h : Inputs 0x3F5 key.h after_c after_h
+  pub h : Inputs 0x3F5 after_c key.h after_h
   pub after_r : Board
-  pub r : Inputs 0x3F5 key.r after_h after_r
-  pub n : Inputs 0x3F5 key.n after_r new
+  pub r : Inputs 0x3F5 after_h key.r after_r
+  pub n : Inputs 0x3F5 after_r key.n new
 
 -- what the results come to
 abbrev pub outcome_of : ℕ → ℕ → ℕ → Chrn → Result Done Code
@@ -112,47 +112,47 @@ outcome_of st0 st1 st2 key =
     if has_set st0 0xC0 then Err (refusal_of st1) else Ok (record { deleted = has_set st2 0x40; key = key })
 
 -- the seven result bytes are read
-pub record TakesResults (outcome : Result Done Code) (old new : Board) : Type 0 where
+pub record TakesResults (old : Board) (outcome : Result Done Code) (new : Board) : Type 0 where
   pub st0 : ℕ
   pub after_st0 : Board
-  pub first : Inputs 0x3F5 st0 old after_st0
+  pub first : Inputs 0x3F5 old st0 after_st0
   pub st1 : ℕ
   pub after_st1 : Board
-  pub second : Inputs 0x3F5 st1 after_st0 after_st1
+  pub second : Inputs 0x3F5 after_st0 st1 after_st1
   pub st2 : ℕ
   pub after_st2 : Board
-  pub third : Inputs 0x3F5 st2 after_st1 after_st2
+  pub third : Inputs 0x3F5 after_st1 st2 after_st2
   pub key : Chrn
-  pub keys : TakesKey key after_st2 new
+  pub keys : TakesKey after_st2 key new
   pub is : outcome ≡ outcome_of st0 st1 st2 key
 
 -- the end of a data command is awaited, and its results are taken
-pub record Finishes (outcome : Result Done Code) (old new : Board) : Type 0 where
+pub record Finishes (old : Board) (outcome : Result Done Code) (new : Board) : Type 0 where
   pub awaited : Board
   pub awaits : AwaitsResults old awaited
   pub taken : Board
-  pub takes : TakesResults outcome awaited taken
+  pub takes : TakesResults awaited outcome taken
   pub settles : Settles taken new
 
 -- ---- whole commands
 
 -- READ ID
-pub record SendsReadId (motors : Motors) (bay head : ℕ) (rate : Rate) (outcome : Result Done Code) (old new : Board) : Type 0 where
+pub record SendsReadId (motors : Motors) (bay head : ℕ) (rate : Rate) (old : Board) (outcome : Result Done Code) (new : Board) : Type 0 where
   pub ready : Board
   pub prepares : Prepares motors bay rate old ready
   pub sent : Board
   pub sends : Sends (0x4A ∷ (head * 4 + bay) ∷ []) ready sent
-  pub finishes : Finishes outcome sent new
+  pub finishes : Finishes sent outcome new
 
 -- READ DATA
-pub record SendsRead (motors : Motors) (bay : ℕ) (key : Chrn) (rate : Rate) (address : ℕ) (outcome : Result Done Code) (old new : Board) : Type 0 where
+pub record SendsRead (motors : Motors) (bay : ℕ) (key : Chrn) (rate : Rate) (address : ℕ) (old : Board) (outcome : Result Done Code) (new : Board) : Type 0 where
   pub ready : Board
   pub prepares : Prepares motors bay rate old ready
   pub set : Board
   pub sets : SetsChannel 0x46 address (content_size key.n - 1) ready set
   pub sent : Board
   pub sends : Sends (sector_bytes 0x46 bay key rate) set sent
-  pub finishes : Finishes outcome sent new
+  pub finishes : Finishes sent outcome new
 
 -- the key of an outcome, and its mark
 abbrev pub key_told : Result Done Code → Result Chrn Code

@@ -21,7 +21,7 @@ pub record Untouched (old new : Rig) : Type 0 where
 -- ---- media
 
 -- a bay has another medium, or none, and its change line is set
-pub record Exchanged (old : Rig) (bay : ℕ) (medium : Option Disk) (new : Rig) : Type 0 where
+pub record Exchanged (bay : ℕ) (medium : Option Disk) (old new : Rig) : Type 0 where
   pub media : new.media ≡ with_bay old.media bay medium
   pub changes : new.changes ≡ with_bay old.changes bay true
   pub other_spun : in_bay new.spun (1 - bay) ≡ in_bay old.spun (1 - bay)
@@ -34,20 +34,20 @@ pub record Exchanged (old : Rig) (bay : ℕ) (medium : Option Disk) (new : Rig) 
   pub taken : new.counters.taken ≡ old.counters.taken
 
 -- a medium was put into an empty bay, or was given back
-abbrev pub PutsIn : Rig → ℕ → Disk → Result (Unit {0}) Disk → Rig → Type 0
-PutsIn old bay medium (Ok _) new = (in_bay old.media bay ≡ None) × Exchanged old bay (Some medium) new
-PutsIn old bay medium (Err back) new = IsSome (in_bay old.media bay) × (back ≡ medium) × Untouched old new
+abbrev pub PutsIn : ℕ → Disk → Rig → Result (Unit {0}) Disk → Rig → Type 0
+PutsIn bay medium old (Ok _) new = (in_bay old.media bay ≡ None) × Exchanged bay (Some medium) old new
+PutsIn bay medium old (Err back) new = IsSome (in_bay old.media bay) × (back ≡ medium) × Untouched old new
 
 -- the medium of a bay was taken out, where one was in
-pub record TakesOut (old : Rig) (bay : ℕ) (answer : Option Disk) (new : Rig) : Type 0 where
+pub record TakesOut (bay : ℕ) (old : Rig) (answer : Option Disk) (new : Rig) : Type 0 where
   pub medium : answer ≡ in_bay old.media bay
-  pub taken_out : IsSome answer → Exchanged old bay None new
+  pub taken_out : IsSome answer → Exchanged bay None old new
   pub empty : answer ≡ None → Untouched old new
 
 -- ---- drives
 
 -- how counters go on where a drive with these counts takes the place of the one in a bay
-pub record TakesDrive (old : Counters) (bay : ℕ) (counts : DriveCounts) (new : Counters) : Type 0 where
+pub record TakesDrive (bay : ℕ) (counts : DriveCounts) (old new : Counters) : Type 0 where
   pub drive : DriveGoesOn counts (in_bay new.drives bay)
   pub other : in_bay new.drives (1 - bay) ≡ in_bay old.drives (1 - bay)
   pub spares : new.spares ≡ old.spares
@@ -59,7 +59,7 @@ pub record TakesDrive (old : Counters) (bay : ℕ) (counts : DriveCounts) (new :
   pub past_driver : IsPastDriver 1 old new
 
 -- a drive with these counts and no medium took the place of the one in a bay
-pub record ExchangesDrive (old : Rig) (bay : ℕ) (counts : DriveCounts) (new : Rig) : Type 0 where
+pub record ExchangesDrive (bay : ℕ) (counts : DriveCounts) (old new : Rig) : Type 0 where
   pub media : new.media ≡ with_bay old.media bay None
   pub changes : new.changes ≡ with_bay old.changes bay true
   pub other_spun : in_bay new.spun (1 - bay) ≡ in_bay old.spun (1 - bay)
@@ -67,12 +67,12 @@ pub record ExchangesDrive (old : Rig) (bay : ℕ) (counts : DriveCounts) (new : 
   pub numbers : new.numbers ≡ old.numbers
   pub memory : new.memory ≡ old.memory
   pub page : new.page ≡ old.page
-  pub counters : TakesDrive old.counters bay counts new.counters
+  pub counters : TakesDrive bay counts old.counters new.counters
 
 -- ---- memory
 
 -- a byte of user memory was set
-pub record PutsMemory (old : Rig) (address byte : ℕ) (new : Rig) : Type 0 where
+pub record PutsMemory (address byte : ℕ) (old new : Rig) : Type 0 where
   pub memory : new.memory ≡ slice_set old.memory address byte
   pub media : new.media ≡ old.media
   pub changes : new.changes ≡ old.changes

@@ -51,7 +51,7 @@ pub record StaysIdle (old new : Board) : Type 0 where
   pub low : (controller_of old).interrupt ≡ false → is_up old ≡ false → is_up new ≡ false
 
 -- the controller is then this, and the channel is as it was
-pub record Idles (old : Board) (controller : Fdc) (new : Board) : Type 0 where
+pub record Idles (controller : Fdc) (old new : Board) : Type 0 where
   pub stays : StaysIdle old new
   pub controller_is : controller_of new ≡ controller
   pub channel : channel_of new ≡ channel_of old

@@ -24,12 +24,12 @@ pub record Settles (old new : Board) : Type 0 where
 -- the cylinder number that follows status register 0, where a result was pending
 abbrev pub TakesNumber : Bool → Board → Board → Type 0
 TakesNumber true old new = new ≡ old
-TakesNumber false old new = (number : ℕ) × Inputs 0x3F5 number old new
+TakesNumber false old new = (number : ℕ) × Inputs 0x3F5 old number new
 
 -- SENSE INTERRUPT gives this status
-pub record Senses (status : ℕ) (old new : Board) : Type 0 where
+pub record Senses (old : Board) (status : ℕ) (new : Board) : Type 0 where
   pub sent : Board
   pub sends : Sends (0x08 ∷ []) old sent
   pub between : Board
-  pub takes : Inputs 0x3F5 status sent between
+  pub takes : Inputs 0x3F5 sent status between
   pub number : TakesNumber (status == 0x80) between new

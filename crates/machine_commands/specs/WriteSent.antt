@@ -14,14 +14,14 @@ use Rattle.machine_commands.specs.declared.motors.Motors.{Motors}
 use Rattle.machine_commands.specs.declared.results.Done.{Done}
 
 -- a write is set up and sent, and its end awaited
-pub record SendsWriteBytes (motors : Motors) (bay : ℕ) (key : Chrn) (rate : Rate) (address : ℕ) (deleted : Bool) (outcome : Result Done Code) (old new : Board) : Type 0 where
+pub record SendsWriteBytes (motors : Motors) (bay : ℕ) (key : Chrn) (rate : Rate) (address : ℕ) (deleted : Bool) (old : Board) (outcome : Result Done Code) (new : Board) : Type 0 where
   pub ready : Board
   pub prepares : Prepares motors bay rate old ready
   pub set : Board
   pub sets : SetsChannel 0x4A address (content_size key.n - 1) ready set
   pub sent : Board
   pub sends : Sends (sector_bytes (write_code deleted) bay key rate) set sent
-  pub finishes : Finishes outcome sent new
+  pub finishes : Finishes sent outcome new
 
 -- what a driver is told of a command that tells nothing but that it was done
 abbrev pub told_of : Result Done Code → Result (Unit {0}) Code
@@ -33,14 +33,14 @@ abbrev pub keys_at : ℕ
 keys_at = 0xF8000
 
 -- a FORMAT TRACK is set up and sent, and its end awaited
-pub record SendsFormatBytes (motors : Motors) (bay : ℕ) (asked : Format) (outcome : Result Done Code) (old new : Board) : Type 0 where
+pub record SendsFormatBytes (motors : Motors) (bay : ℕ) (asked : Format) (old : Board) (outcome : Result Done Code) (new : Board) : Type 0 where
   pub ready : Board
   pub prepares : Prepares motors bay asked.rate old ready
   pub set : Board
   pub sets : SetsChannel 0x4A keys_at (sectors_at asked.rate * 4 - 1) ready set
   pub sent : Board
   pub sends : Sends (0x4D ∷ (asked.h * 4 + bay) ∷ standard_code ∷ sectors_at asked.rate ∷ asked.gap3 ∷ asked.fill ∷ []) set sent
-  pub finishes : Finishes outcome sent new
+  pub finishes : Finishes sent outcome new
 
 -- ---- the keys of a format
 

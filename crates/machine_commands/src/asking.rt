@@ -30,7 +30,7 @@ impl<D: Drive> CommandedMachine<D> {
     /// Reads the change line.
     pub(crate) fn read_line(&mut self, bay: u8) -> bool
         requires { bay ≤ 1 }
-        ensures reads { ReadsLine self.old.motors bay result (board_of D.state self.old) (board_of D.state self.new) }
+        ensures reads { ReadsLine self.old.motors bay (board_of D.state self.old) result (board_of D.state self.new) }
         ensures motors { self.new.motors ≡ self.old.motors }
     {
         self.select(bay);
@@ -40,7 +40,7 @@ impl<D: Drive> CommandedMachine<D> {
     /// SENSE DRIVE STATUS.
     pub(crate) fn sense_drive(&mut self, bay: u8) -> u8
         requires { bay ≤ 1 }
-        ensures senses { SensesDrive self.old.motors bay result (board_of D.state self.old) (board_of D.state self.new) }
+        ensures senses { SensesDrive self.old.motors bay (board_of D.state self.old) result (board_of D.state self.new) }
         ensures motors { self.new.motors ≡ self.old.motors }
     {
         self.select(bay);

@@ -33,7 +33,7 @@ impl<D: Drive> CommandedMachine<D> {
     ) -> Result<Done, Code>
         requires bay { bay ≤ 1 }
         requires head { h ≤ 1 }
-        ensures sends { (c : ℕ) → SendsFormatBytes self.old.motors bay (record { c = c; h = h; rate = rate; gap3 = gap3; fill = fill }) result (board_of D.state self.old) (board_of D.state self.new) }
+        ensures sends { (c : ℕ) → SendsFormatBytes self.old.motors bay (record { c = c; h = h; rate = rate; gap3 = gap3; fill = fill }) (board_of D.state self.old) result (board_of D.state self.new) }
         ensures motors { self.new.motors ≡ self.old.motors }
     {
         let sectors = rate.sectors();

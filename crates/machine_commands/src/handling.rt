@@ -14,7 +14,7 @@ impl<D: Drive> CommandedMachine<D> {
     /// Puts a medium into a bay. Where one is in already, the new one is given back.
     pub fn insert(&mut self, bay: u8, medium: Medium) -> Result<(), Medium>
         requires { bay ≤ 1 }
-        ensures step { PutsIn (rig_shown D.state self.old) bay medium result (rig_shown D.state self.new) }
+        ensures step { PutsIn bay medium (rig_shown D.state self.old) result (rig_shown D.state self.new) }
         ensures idle { is_idle D.state self.old → is_idle D.state self.new }
     {
         self.keep_counts();
@@ -26,7 +26,7 @@ impl<D: Drive> CommandedMachine<D> {
     /// Takes the medium out of a bay.
     pub fn eject(&mut self, bay: u8) -> Option<Medium>
         requires { bay ≤ 1 }
-        ensures step { TakesOut (rig_shown D.state self.old) bay result (rig_shown D.state self.new) }
+        ensures step { TakesOut bay (rig_shown D.state self.old) result (rig_shown D.state self.new) }
         ensures idle { is_idle D.state self.old → is_idle D.state self.new }
     {
         self.keep_counts();
@@ -41,7 +41,7 @@ impl<D: Drive> CommandedMachine<D> {
         requires bay { bay ≤ 1 }
         requires empty { IsEmpty (D.state drive) }
         ensures handed_out { D.state result ≡ drive_in (board_of D.state self.old) bay }
-        ensures step { ExchangesDrive (rig_shown D.state self.old) bay (counts_of (D.state drive)) (rig_shown D.state self.new) }
+        ensures step { ExchangesDrive bay (counts_of (D.state drive)) (rig_shown D.state self.old) (rig_shown D.state self.new) }
         ensures idle { is_idle D.state self.old → is_idle D.state self.new }
     {
         self.keep_counts();
@@ -53,7 +53,7 @@ impl<D: Drive> CommandedMachine<D> {
     /// Sets a byte of user memory.
     pub fn set_memory(&mut self, address: u32, byte: u8)
         requires { address < user_bytes }
-        ensures step { PutsMemory (rig_shown D.state self.old) address byte (rig_shown D.state self.new) }
+        ensures step { PutsMemory address byte (rig_shown D.state self.old) (rig_shown D.state self.new) }
         ensures idle { is_idle D.state self.old → is_idle D.state self.new }
     {
         self.keep_counts();

@@ -29,7 +29,7 @@ impl<D: Drive> CommandedMachine<D> {
     /// RECALIBRATE: its status register 0.
     pub(crate) fn step_outward(&mut self, bay: u8) -> u8
         requires { bay ≤ 1 }
-        ensures sends { SendsRecalibrate self.old.motors bay result (board_of D.state self.old) (board_of D.state self.new) }
+        ensures sends { SendsRecalibrate self.old.motors bay (board_of D.state self.old) result (board_of D.state self.new) }
         ensures motors { self.new.motors ≡ self.old.motors }
     {
         self.select(bay);
@@ -50,7 +50,7 @@ impl<D: Drive> CommandedMachine<D> {
 
     /// Waits until the seek is over, and gives its status register 0.
     fn end_seek(&mut self) -> u8
-        ensures ends { EndsSeek result (board_of D.state self.old) (board_of D.state self.new) }
+        ensures ends { EndsSeek (board_of D.state self.old) result (board_of D.state self.new) }
         ensures motors { self.new.motors ≡ self.old.motors }
     {
         self.machine.wait(LONGEST_SEEK);
@@ -61,7 +61,7 @@ impl<D: Drive> CommandedMachine<D> {
 
     /// SENSE INTERRUPT: status register 0 of the lowest drive with a pending result, 80 where there is none.
     pub(crate) fn sense_interrupt(&mut self) -> u8
-        ensures senses { Senses result (board_of D.state self.old) (board_of D.state self.new) }
+        ensures senses { Senses (board_of D.state self.old) result (board_of D.state self.new) }
         ensures motors { self.new.motors ≡ self.old.motors }
     {
         self.send(&[SENSE_INTERRUPT]);

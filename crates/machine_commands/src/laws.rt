@@ -30,9 +30,9 @@ use spelled_commands::laws::reads_are_spelled;
 /// READ ID at the ports of an idle machine tells of the track under the head, and the machine is idle again.
 pub(crate) fn a_read_id_is_done()
     ensures reads { (motors : Motors) (bay head : ℕ) (rate : Rate) (outcome : Result Done Code) (old new : Board) → IsIdle motors old → bay ≤ 1 → head ≤ 1
-        → in_bay (rig_of old).spun bay ≡ true → SendsReadId motors bay head rate outcome old new → ReadsId (rig_of old) bay head rate (key_told outcome) (rig_of new) }
+        → in_bay (rig_of old).spun bay ≡ true → SendsReadId motors bay head rate old outcome new → ReadsId bay head rate (rig_of old) (key_told outcome) (rig_of new) }
     ensures idle { (motors : Motors) (bay head : ℕ) (rate : Rate) (outcome : Result Done Code) (old new : Board) → IsIdle motors old → bay ≤ 1 → head ≤ 1
-        → in_bay (rig_of old).spun bay ≡ true → SendsReadId motors bay head rate outcome old new → InRange new.first → InRange new.second → IsIdle motors new }
+        → in_bay (rig_of old).spun bay ≡ true → SendsReadId motors bay head rate old outcome new → InRange new.first → InRange new.second → IsIdle motors new }
 {
     counts_go_on();
     a_data_command_is_awaited();
@@ -47,13 +47,13 @@ pub(crate) fn a_read_id_is_done()
 pub(crate) fn a_read_is_done()
     ensures user { (motors : Motors) (bay : ℕ) (key : Chrn) (rate : Rate) (address : ℕ) (outcome : Result Done Code) (old new : Board) → IsIdle motors old → bay ≤ 1 → key.h ≤ 1
         → IsSizeCode key.n → in_bay (rig_of old).spun bay ≡ true → address + content_size key.n ≤ user_bytes → address % 65536 + (content_size key.n - 1) < 65536
-        → SendsRead motors bay key rate address outcome old new → ReadsData (rig_of old) bay key rate address (mark_told outcome) (rig_of new) }
+        → SendsRead motors bay key rate address old outcome new → ReadsData bay key rate address (rig_of old) (mark_told outcome) (rig_of new) }
     ensures page { (motors : Motors) (bay : ℕ) (key : Chrn) (rate : Rate) (outcome : Result Done Code) (old new : Board) → IsIdle motors old → bay ≤ 1 → key.h ≤ 1
         → IsSizeCode key.n → in_bay (rig_of old).spun bay ≡ true
-        → SendsRead motors bay key rate user_bytes outcome old new → ReadsBack (rig_of old) bay key rate (mark_told outcome) (rig_of new) }
+        → SendsRead motors bay key rate user_bytes old outcome new → ReadsBack bay key rate (rig_of old) (mark_told outcome) (rig_of new) }
     ensures idle { (motors : Motors) (bay : ℕ) (key : Chrn) (rate : Rate) (address : ℕ) (outcome : Result Done Code) (old new : Board) → IsIdle motors old → bay ≤ 1 → key.h ≤ 1
         → IsSizeCode key.n → in_bay (rig_of old).spun bay ≡ true → address + content_size key.n ≤ 1048576 → address % 65536 + (content_size key.n - 1) < 65536
-        → SendsRead motors bay key rate address outcome old new → InRange new.first → InRange new.second → IsIdle motors new }
+        → SendsRead motors bay key rate address old outcome new → InRange new.first → InRange new.second → IsIdle motors new }
 {
     counts_go_on();
     a_data_command_is_awaited();

@@ -25,7 +25,7 @@ impl<D: Drive> CommandedMachine<D> {
     pub(crate) fn identify(&mut self, bay: u8, head: u8, rate: Rate) -> Result<Done, Code>
         requires bay { bay ≤ 1 }
         requires head { head ≤ 1 }
-        ensures sends { SendsReadId self.old.motors bay head rate result (board_of D.state self.old) (board_of D.state self.new) }
+        ensures sends { SendsReadId self.old.motors bay head rate (board_of D.state self.old) result (board_of D.state self.new) }
         ensures motors { self.new.motors ≡ self.old.motors }
     {
         self.prepare(bay, rate);
@@ -45,7 +45,7 @@ impl<D: Drive> CommandedMachine<D> {
         requires head { key.h ≤ 1 }
         requires coded { IsSizeCode key.n }
         requires range { address + content_size key.n ≤ 1048576 }
-        ensures sends { SendsRead self.old.motors bay key rate address result (board_of D.state self.old) (board_of D.state self.new) }
+        ensures sends { SendsRead self.old.motors bay key rate address (board_of D.state self.old) result (board_of D.state self.new) }
         ensures motors { self.new.motors ≡ self.old.motors }
     {
         self.prepare(bay, rate);

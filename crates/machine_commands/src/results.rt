@@ -65,7 +65,7 @@ impl<D: Drive> CommandedMachine<D> {
 
     /// Waits for the end of a data command, and takes its results.
     pub(crate) fn finish(&mut self) -> Result<Done, Code>
-        ensures finishes { Finishes result (board_of D.state self.old) (board_of D.state self.new) }
+        ensures finishes { Finishes (board_of D.state self.old) result (board_of D.state self.new) }
         ensures motors { self.new.motors ≡ self.old.motors }
     {
         self.await_results();
@@ -88,7 +88,7 @@ impl<D: Drive> CommandedMachine<D> {
 
     /// Waits for line 6 once, and tells whether results are ready.
     fn await_line(&mut self) -> bool
-        ensures watch { Watch result (board_of D.state self.old) (board_of D.state self.new) }
+        ensures watch { Watch (board_of D.state self.old) result (board_of D.state self.new) }
         ensures motors { self.new.motors ≡ self.old.motors }
     {
         self.machine.wait(1);
@@ -99,7 +99,7 @@ impl<D: Drive> CommandedMachine<D> {
 
     /// Reads the seven result bytes.
     fn take_results(&mut self) -> Result<Done, Code>
-        ensures takes { TakesResults result (board_of D.state self.old) (board_of D.state self.new) }
+        ensures takes { TakesResults (board_of D.state self.old) result (board_of D.state self.new) }
         ensures motors { self.new.motors ≡ self.old.motors }
     {
         let st0 = self.result_byte();
@@ -117,7 +117,7 @@ impl<D: Drive> CommandedMachine<D> {
 
     /// Reads the key among the result bytes.
     fn take_key(&mut self) -> Chrn
-        ensures takes { TakesKey result (board_of D.state self.old) (board_of D.state self.new) }
+        ensures takes { TakesKey (board_of D.state self.old) result (board_of D.state self.new) }
         ensures motors { self.new.motors ≡ self.old.motors }
     {
         let c = self.result_byte();

@@ -32,7 +32,7 @@ impl<D: Drive> CommandedMachine<D> {
 
     /// Reads a result byte.
     pub(crate) fn result_byte(&mut self) -> u8
-        ensures takes { Inputs 0x3F5 result (board_of D.state self.old) (board_of D.state self.new) }
+        ensures takes { Inputs 0x3F5 (board_of D.state self.old) result (board_of D.state self.new) }
         ensures motors { self.new.motors ≡ self.old.motors }
     {
         self.machine.inb(DATA)

@@ -31,7 +31,7 @@ impl<D: Drive> CommandedMachine<D> {
         requires head { key.h ≤ 1 }
         requires coded { IsSizeCode key.n }
         requires range { address + content_size key.n ≤ 1048576 }
-        ensures sends { SendsWriteBytes self.old.motors bay key rate address deleted result (board_of D.state self.old) (board_of D.state self.new) }
+        ensures sends { SendsWriteBytes self.old.motors bay key rate address deleted (board_of D.state self.old) result (board_of D.state self.new) }
         ensures motors { self.new.motors ≡ self.old.motors }
     {
         let command = write_byte(deleted);

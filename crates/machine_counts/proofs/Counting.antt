@@ -157,7 +157,7 @@ gap_count between new gap =
     let on = runs_count (next_entry between.bus.gaps) (record between { bus = record between.bus { gaps = rest_of between.bus.gaps } }) new gap.runs in
     record { first = on.first; second = on.second; stalls = on.stalls; spent = on.spent; taken = on.taken; direct = on.direct }
 
-pub input_counts : (port value : ℕ) (old new : Board) → Inputs port value old new → CountsGoOn old new
+pub input_counts : (port value : ℕ) (old new : Board) → Inputs port old value new → CountsGoOn old new
 input_counts port value old new access =
     let between : Board = record old { bus = record old.bus { chips = port_read port old.bus.chips; fresh = false } } in
     counts_on old between new (all_counts old between (drives_same old between refl refl) (same_on (holds_of old) (holds_of between) (port_holds (is_controllers port))) refl refl) (gap_count between new access.gap)

@@ -33,7 +33,7 @@ pub record DrivesGoOn (old new : Board) : Type 0 where
 
 -- ---- the calls on a drive
 
-goes_as : (old target new : DriveState) → Becomes old target new → GoesOn old new
+goes_as : (old target new : DriveState) → Becomes target old new → GoesOn old new
 goes_as old target new becomes = record { never_falls = becomes.never_falls; spends = becomes.spends }
 
 goes_same : (old new : DriveState) → new ≡ old → GoesOn old new
@@ -50,11 +50,11 @@ goes_closed : (closed : Bool) (old new : DriveState) → Closes closed old new �
 goes_closed true old new becomes = goes_as old (with_gate false old) new becomes
 goes_closed false old new same = goes_same old new same
 
-goes_written : (old new : DriveState) (head word : ℕ) → Writes old head word new → GoesOn old new
+goes_written : (old new : DriveState) (head word : ℕ) → Writes head word old new → GoesOn old new
 goes_written old new head word (inl wrote) = goes_as old (written head word old) new wrote
 goes_written old new head word (inr (can, becomes, rose)) = goes_as old (cut_off old) new becomes
 
-goes_pulsed : (inward : Bool) (old new : DriveState) → Pulses old inward new → GoesOn old new
+goes_pulsed : (inward : Bool) (old new : DriveState) → Pulses inward old new → GoesOn old new
 goes_pulsed inward old new (inl moves) = goes_as old (moved inward old) new moves
 goes_pulsed inward old new (inr (stays, rose)) = goes_as old old new stays
 

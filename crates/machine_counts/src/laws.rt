@@ -12,6 +12,6 @@ pub fn counts_go_on()
     ensures runs { (n : ℕ) (old new : Board) → Runs n old new → CountsGoOn old new }
     ensures wait { (n : ℕ) (old new : Board) → Runs n (stirred old) new → CountsGoOn old new }
     ensures waits { (most : ℕ) (set : Bool) (old new : Board) → Waits most old set new → CountsGoOn old new }
-    ensures read { (port value : ℕ) (old new : Board) → Inputs port value old new → CountsGoOn old new }
+    ensures read { (port value : ℕ) (old new : Board) → Inputs port old value new → CountsGoOn old new }
     ensures write { (port value : ℕ) (old new : Board) → Outputs port value old new → CountsGoOn old new }
 {}

@@ -131,7 +131,7 @@ read_soon chips port punctual was true true = given_soon chips punctual was (is_
 read_soon chips port punctual was true false = same_soon chips chips.controller refl refl refl refl punctual was
 read_soon chips port punctual was false data_port = record { drained = was.drained; few = was.few; soon = was.soon; no_late = was.no_late }
 
-pub inputs_prompt : (port value : ℕ) (old new : Board) → Inputs port value old new → (scene : Scene) → ReadPrompt scene old
+pub inputs_prompt : (port value : ℕ) (old new : Board) → Inputs port old value new → (scene : Scene) → ReadPrompt scene old
     → ReadPrompt scene new ⊎ ((controller_of new).phase ≡ Command) ⊎ Stalled old new
 inputs_prompt port value old new access scene ((under, punctual), soon) = elim (read_in_time port value old new access scene (under, punctual)) [
   | inl on_time ↦ elim (runs_prompt (next_entry old.bus.gaps) (read_board port old) new access.gap.runs scene

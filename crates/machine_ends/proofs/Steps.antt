@@ -101,8 +101,8 @@ soon_idle chips idle none calm = record {
 module _ (scene : Scene) (past : Past) (chips : Chips) (drive : DriveState) (between : Fdc) (after : DriveState) (whole : IsScene scene) (known : IsReadBy scene past chips)
     (hears : IsHearing scene past (is_executing chips.controller.phase) drive) (works : Works chips.controller drive between after) (then_known : IsBetween scene chips between after)
     (was : IsPunctual chips) (soon : IsSoonOver chips) where
-  rests : RestsIn chips.controller.phase (polled chips.controller) (drive.cylinder == 0) between
-  rests = subst (λ phase. RestsIn phase (polled chips.controller) (drive.cylinder == 0) between) (polled_phase chips.controller) works.rests
+  rests : RestsIn chips.controller.phase (drive.cylinder == 0) (polled chips.controller) between
+  rests = subst (λ phase. RestsIn phase (drive.cylinder == 0) (polled chips.controller) between) (polled_phase chips.controller) works.rests
 
   heard_few : lingers chips.controller.phase ≡ false → steps_taken chips.controller.phase ≤ 32768
   heard_few over = few_in scene past chips.controller.phase chips.controller.asking chips.controller.fifo.bytes _ drive whole hears known.reads (paced past scene.sent chips.controller known.reads) over

@@ -140,7 +140,7 @@ rest_word steps bytes phase new idle over calm same fifo none = record {
 }
 
 pub word_on : (past : Past) (sent : Sent) (phase : Phase) (asking : Bool) (bytes : List ℕ) (index : Bool) (word : ℕ) (polls new : Fdc) (track0 : Bool)
-    → MayReadIn past sent phase asking bytes → ExecutesIn phase index word polls new → RestsIn phase polls track0 new → polls.phase ≡ phase → polls.fifo.bytes ≡ bytes
+    → MayReadIn past sent phase asking bytes → ExecutesIn phase index word polls new → RestsIn phase track0 polls new → polls.phase ≡ phase → polls.fifo.bytes ≡ bytes
     → steps_taken phase ≤ 32790 → (phase_counted phase ≡ true → bytes ≡ []) → is_late phase ≡ false → WordOn (lingers phase) (steps_taken phase) bytes new
 word_on past sent Command asking bytes index word polls new track0 was executes rests same fifo few drained calm = absurd was
 word_on past sent (Result answer) asking bytes index word polls new track0 was executes rests same fifo few drained calm =

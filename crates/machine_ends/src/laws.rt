@@ -23,7 +23,7 @@ pub fn a_read_ends_in_time()
     ensures unset { (n : ℕ) (old new : Board) → RunsUnset n old new → (scene : Scene) → ReadPrompt scene old → ReadPrompt scene new ⊎ Stalled old new }
     ensures still { (old new : Board) → StandsStill old new → (scene : Scene) → ReadPrompt scene old → ReadPrompt scene new }
     ensures waits { (most : ℕ) (set : Bool) (old new : Board) → Waits most old set new → (scene : Scene) → ReadPrompt scene old → ReadPrompt scene new ⊎ Stalled old new }
-    ensures read { (port value : ℕ) (old new : Board) → Inputs port value old new → (scene : Scene) → ReadPrompt scene old
+    ensures read { (port value : ℕ) (old new : Board) → Inputs port old value new → (scene : Scene) → ReadPrompt scene old
         → ReadPrompt scene new ⊎ ((controller_of new).phase ≡ Command) ⊎ Stalled old new }
     ensures no_overrun { (scene : Scene) (board : Board) → ReadPrompt scene board → is_overrun (controller_of board).phase ≡ false }
     ensures no_late { (scene : Scene) (board : Board) → ReadPrompt scene board → is_late (controller_of board).phase ≡ false }

@@ -101,7 +101,7 @@ drive_less scene past before now drive less was = record {
   works = λ busy. was.works (less busy);
 }
 
-pub inputs_keep : (port value : ℕ) (old new : Board) → Inputs port value old new → (scene : Scene) (numbers : Numbers) → FormatUnderway scene numbers old
+pub inputs_keep : (port value : ℕ) (old new : Board) → Inputs port old value new → (scene : Scene) (numbers : Numbers) → FormatUnderway scene numbers old
     → FormatUnderway scene numbers new ⊎ ((controller_of new).phase ≡ Command)
 inputs_keep port value old new access scene numbers (past, was) =
     let chips = port_read port old.bus.chips in

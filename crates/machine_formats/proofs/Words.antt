@@ -51,7 +51,7 @@ either_same : (can : Bool) (one two : Option Disk) → one ≡ two → (if can t
 either_same true one two same = same
 either_same false one two same = refl
 
-writes_absent : (scene : Scene) (old new : DriveState) (word : ℕ) → (IsThere scene → ⊥) → old.medium ≡ Some scene.disk → old.cylinder ≡ scene.cylinder → Writes old (head_sent scene.sent) word new → new.medium ≡ old.medium
+writes_absent : (scene : Scene) (old new : DriveState) (word : ℕ) → (IsThere scene → ⊥) → old.medium ≡ Some scene.disk → old.cylinder ≡ scene.cylinder → Writes (head_sent scene.sent) word old new → new.medium ≡ old.medium
 writes_absent scene old new word none medium at (inl wrote) =
     ap (λ s. s.medium) wrote.becomes
     ∙ either_same (can_write old) (rewritten old.medium old.cylinder (head_sent scene.sent) old.place word) old.medium
@@ -225,7 +225,7 @@ medium_stays scene start words before after was same falls = record {
 }
 
 -- in the step that stops it
-pub stopped_on : (scene : Scene) (past : Past) (drive after : DriveState) → IsDisk scene.disk → IsAtDrive scene past true drive → Becomes drive (let_pass drive) after
+pub stopped_on : (scene : Scene) (past : Past) (drive after : DriveState) → IsDisk scene.disk → IsAtDrive scene past true drive → Becomes (let_pass drive) drive after
     → IsAtDrive scene (stepped past) false after
 stopped_on scene past drive after valid was becomes = record {
   hears = hears_on scene past.turns past.seen drive.faults after.faults becomes.never_falls was.hears;

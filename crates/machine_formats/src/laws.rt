@@ -34,7 +34,7 @@ pub fn port_accesses_keep_a_format()
         → FormatUnderway scene numbers new }
     ensures still { (scene : Scene) (numbers : Numbers) (byte : ℕ) (old new : Board) → Outputs 0x3F5 byte old new → CanBegin scene numbers byte old → StaysStill old new }
     ensures leaves { (scene : Scene) (numbers : Numbers) (byte : ℕ) (old new : Board) → Outputs 0x3F5 byte old new → CanBegin scene numbers byte old → LeavesOthers old new }
-    ensures keeps { (port value : ℕ) (old new : Board) → Inputs port value old new → (scene : Scene) (numbers : Numbers) → FormatUnderway scene numbers old
+    ensures keeps { (port value : ℕ) (old new : Board) → Inputs port old value new → (scene : Scene) (numbers : Numbers) → FormatUnderway scene numbers old
         → FormatUnderway scene numbers new ⊎ ((controller_of new).phase ≡ Command) }
 {}
 

@@ -121,7 +121,7 @@ port_stalls chips port true = line_stalls _ chips.holding
 port_stalls chips port false = refl
 
 -- before the gap
-pub read_in_time : (port value : ℕ) (old new : Board) → Inputs port value old new → (scene : Scene) → ReadInTime scene old
+pub read_in_time : (port value : ℕ) (old new : Board) → Inputs port old value new → (scene : Scene) → ReadInTime scene old
     → ReadInTime scene (read_board port old) ⊎ ((controller_of new).phase ≡ Command)
 read_in_time port value old new access scene ((past, was), punctual) =
     let chips = old.bus.chips in
@@ -131,7 +131,7 @@ read_in_time port value old new access scene ((past, was), punctual) =
 pub read_stalls : (port : ℕ) (old : Board) → (holds_of (read_board port old)).stalls ≡ (holds_of old).stalls
 read_stalls port old = port_stalls old.bus.chips port (is_controllers port)
 
-pub inputs_in_time : (port value : ℕ) (old new : Board) → Inputs port value old new → (scene : Scene) → ReadInTime scene old
+pub inputs_in_time : (port value : ℕ) (old new : Board) → Inputs port old value new → (scene : Scene) → ReadInTime scene old
     → ReadInTime scene new ⊎ ((controller_of new).phase ≡ Command) ⊎ Stalled old new
 inputs_in_time port value old new access scene was = elim (read_in_time port value old new access scene was) [
   | inl under ↦ elim (runs_in_time (next_entry old.bus.gaps) (read_board port old) new access.gap.runs scene under) [

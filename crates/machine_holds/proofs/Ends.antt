@@ -34,7 +34,7 @@ dma_left : (left : ℕ) (chips : Chips) → steps_left chips.controller.phase �
 dma_left left chips was = dma_keeps (λ c. steps_left c.controller.phase ≡ left) (left_moved left) (λ c holding is. is) chips was
 
 -- the word time takes one
-ends_in : (phase : Phase) (polls between : Fdc) (track0 : Bool) → EndsIn phase between.phase → RestsIn phase polls track0 between → polls.phase ≡ phase
+ends_in : (phase : Phase) (polls between : Fdc) (track0 : Bool) → EndsIn phase between.phase → RestsIn phase track0 polls between → polls.phase ≡ phase
     → steps_left between.phase ≤ steps_left phase - 1
 ends_in Command polls between track0 ends rests same =
     let none : steps_left between.phase ≡ 0 = ap (λ fdc. steps_left fdc.phase) rests ∙ ap steps_left same in omega arith
@@ -42,10 +42,10 @@ ends_in (Result answer) polls between track0 ends rests same =
     let none : steps_left between.phase ≡ 0 = ap (λ fdc. steps_left fdc.phase) rests ∙ ap steps_left same in omega arith
 ends_in (Execute execution) polls between track0 ends rests same = omega arith
 
-word_ends : (old between : Fdc) (track0 : Bool) → EndsIn old.phase between.phase → RestsIn (polled old).phase (polled old) track0 between
+word_ends : (old between : Fdc) (track0 : Bool) → EndsIn old.phase between.phase → RestsIn (polled old).phase track0 (polled old) between
     → steps_left between.phase ≤ steps_left old.phase - 1
 word_ends old between track0 ends rests =
-    ends_in old.phase (polled old) between track0 ends (subst (λ phase. RestsIn phase (polled old) track0 between) (polled_phase old) rests) (polled_phase old)
+    ends_in old.phase (polled old) between track0 ends (subst (λ phase. RestsIn phase track0 (polled old) between) (polled_phase old) rests) (polled_phase old)
 
 first_second_or_none : (n : ℕ) → (n ≡ 0) ⊎ ((n ≡ 1) ⊎ (2 ≤ n))
 first_second_or_none zero = inl refl

@@ -69,7 +69,7 @@ over_task past sent head_drive steps (Read reading) asking fifo index word polls
 over_task past sent head_drive steps _ asking fifo index word polls between was overruns room = absurd was
 
 over_in : (past : Past) (sent : Sent) (phase : Phase) (asking : Bool) (fifo : List ℕ) (index : Bool) (word : ℕ) (polls between : Fdc) (track0 : Bool)
-    → MayReadIn past sent phase asking fifo → OverrunsIn phase index word polls between → RestsIn phase polls track0 between → polls.phase ≡ phase
+    → MayReadIn past sent phase asking fifo → OverrunsIn phase index word polls between → RestsIn phase track0 polls between → polls.phase ≡ phase
     → (past.counted ≡ false → is_executing phase ≡ true → is_full polls ≡ true → ⊥) → is_overrun phase ≡ false → is_overrun between.phase ≡ false
 over_in past sent Command asking fifo index word polls between track0 was overruns rests same room calm = absurd was
 over_in past sent (Result answer) asking fifo index word polls between track0 was overruns rests same room calm =
@@ -77,7 +77,7 @@ over_in past sent (Result answer) asking fifo index word polls between track0 wa
 over_in past sent (Execute execution) asking fifo index word polls between track0 was overruns rests same room calm =
     over_task past sent execution.head_drive execution.steps execution.task asking fifo index word polls between was overruns (λ uncounted full. room uncounted refl full)
 
-pub busy_in : (phase : Phase) (polls between : Fdc) (track0 : Bool) → RestsIn phase polls track0 between → polls.phase ≡ phase → is_executing between.phase ≡ true → is_executing phase ≡ true
+pub busy_in : (phase : Phase) (polls between : Fdc) (track0 : Bool) → RestsIn phase track0 polls between → polls.phase ≡ phase → is_executing between.phase ≡ true → is_executing phase ≡ true
 busy_in Command polls between track0 rests same busy = absurd (false≢true (sym (ap (λ fdc. is_executing fdc.phase) rests ∙ ap is_executing same) ∙ busy))
 busy_in (Result answer) polls between track0 rests same busy = absurd (false≢true (sym (ap (λ fdc. is_executing fdc.phase) rests ∙ ap is_executing same) ∙ busy))
 busy_in (Execute execution) polls between track0 rests same busy = refl
@@ -234,7 +234,7 @@ in_step scene past chips drive between after known works then_known was = by_bus
 
     over : is_overrun between.phase ≡ false
     over = over_in past scene.sent chips.controller.phase chips.controller.asking chips.controller.fifo.bytes _ works.reads.word (polled chips.controller) between (drive.cylinder == 0)
-        known.reads works.reads.follows.overruns (subst (λ phase. RestsIn phase (polled chips.controller) (drive.cylinder == 0) between) (polled_phase chips.controller) works.rests)
+        known.reads works.reads.follows.overruns (subst (λ phase. RestsIn phase (drive.cylinder == 0) (polled chips.controller) between) (polled_phase chips.controller) works.rests)
         (polled_phase chips.controller)
         (λ uncounted busy full.
         let timely = was.timely busy in
@@ -254,7 +254,7 @@ in_step scene past chips drive between after known works then_known was = by_bus
     })
     by_busy true busy =
         let was_busy = busy_in chips.controller.phase (polled chips.controller) between (drive.cylinder == 0)
-        (subst (λ phase. RestsIn phase (polled chips.controller) (drive.cylinder == 0) between) (polled_phase chips.controller) works.rests) (polled_phase chips.controller) busy in
+        (subst (λ phase. RestsIn phase (drive.cylinder == 0) (polled chips.controller) between) (polled_phase chips.controller) works.rests) (polled_phase chips.controller) busy in
         let timely = was.timely was_busy in
         let flows = flows_in chips.controller.phase chips.controller.asking between was_busy works.flows in
         let rule : between.asking ≡ phase_asks between.phase between.asking between.fifo =

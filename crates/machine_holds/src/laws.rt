@@ -33,7 +33,7 @@ pub fn a_read_overruns_only_by_a_stall()
     ensures unset { (n : ℕ) (old new : Board) → RunsUnset n old new → (scene : Scene) → ReadInTime scene old → ReadInTime scene new ⊎ Stalled old new }
     ensures still { (old new : Board) → StandsStill old new → (scene : Scene) → ReadInTime scene old → ReadInTime scene new }
     ensures waits { (most : ℕ) (set : Bool) (old new : Board) → Waits most old set new → (scene : Scene) → ReadInTime scene old → ReadInTime scene new ⊎ Stalled old new }
-    ensures read { (port value : ℕ) (old new : Board) → Inputs port value old new → (scene : Scene) → ReadInTime scene old
+    ensures read { (port value : ℕ) (old new : Board) → Inputs port old value new → (scene : Scene) → ReadInTime scene old
         → ReadInTime scene new ⊎ ((controller_of new).phase ≡ Command) ⊎ Stalled old new }
 {}
 

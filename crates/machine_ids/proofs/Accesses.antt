@@ -82,7 +82,7 @@ by_port scene past chips port known false = inl (record {
   busy = λ busy. busy;
 })
 
-pub inputs_keep : (port value : ℕ) (old new : Board) → Inputs port value old new → (scene : Scene) → IdUnderway scene old
+pub inputs_keep : (port value : ℕ) (old new : Board) → Inputs port old value new → (scene : Scene) → IdUnderway scene old
     → IdUnderway scene new ⊎ ((controller_of new).phase ≡ Command)
 inputs_keep port value old new access scene (past, was) =
     let chips = port_read port old.bus.chips in
@@ -166,7 +166,7 @@ begins_quietly count start scene byte old new access can was =
 
 -- ---- all but the last byte
 
-pub can_begin : (start board : Board) (set : Setting) (head_drive bay byte : ℕ) (disk : Disk) → IsReadyIn bay disk start → Stands start set board
+pub can_begin : (start board : Board) (set : Setting) (head_drive bay byte : ℕ) (disk : Disk) → IsReadyIn bay disk start → Stands set start board
     → IsSetForId head_drive byte set → CanBeginId (id_scene head_drive bay disk board) byte board
 can_begin start board set head_drive bay byte disk ready stands for =
     let chips = stands.chips in

@@ -95,8 +95,8 @@ in_phase : (scene : Scene) (past : Past) (chips : Chips) (drive : DriveState) (b
     → Works chips.controller drive between after → (phase : Phase) → (polled chips.controller).phase ≡ phase → is_late phase ≡ false
     → MayReadIdIn past scene.sent.head_drive phase → PacedIn past phase
     → IsHearing scene past (is_executing phase) drive
-    → StepHears phase chips.controller (polled chips.controller) (at_index drive) drive after between
-    → RestsIn phase (polled chips.controller) (drive.cylinder == 0) between
+    → StepHears phase (polled chips.controller) (at_index drive) chips.controller drive after between
+    → RestsIn phase (drive.cylinder == 0) (polled chips.controller) between
     → MovesIn phase (polled chips.controller) drive after
     → FlowsIn phase chips.controller.asking between
     → IsBetween scene chips between after
@@ -147,6 +147,6 @@ word_time scene past chips drive between after whole known hears works =
     let polls = polled old in
     let same : polls.phase ≡ old.phase = polled_phase old in
     in_phase scene past chips drive between after whole known works old.phase same known.no_late known.identifies (paced_id past scene.sent.head_drive old known.identifies) hears works.reads
-    (subst (λ phase. RestsIn phase polls (drive.cylinder == 0) between) same works.rests)
+    (subst (λ phase. RestsIn phase (drive.cylinder == 0) polls between) same works.rests)
     (subst (λ phase. MovesIn phase polls drive after) same works.drive)
     works.flows

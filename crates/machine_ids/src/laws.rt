@@ -17,7 +17,7 @@ use fdc_core::laws::read_id_tells;
 /// A READ ID can begin where all bytes but its last were sent to a machine at rest with a medium at speed. The last byte
 /// begins it, and counts one data command.
 pub fn a_read_id_begins()
-    ensures can_begin { (start board : Board) (set : Setting) (head_drive bay byte : ℕ) (disk : Disk) → IsReadyIn bay disk start → Stands start set board
+    ensures can_begin { (start board : Board) (set : Setting) (head_drive bay byte : ℕ) (disk : Disk) → IsReadyIn bay disk start → Stands set start board
         → IsSetForId head_drive byte set → CanBeginId (id_scene head_drive bay disk board) byte board }
     ensures begins { (scene : Scene) (byte : ℕ) (old new : Board) → Outputs 0x3F5 byte old new → CanBeginId scene byte old → IdUnderway scene new }
     ensures counts { (begun : ℕ) (start : Board) (scene : Scene) (byte : ℕ) (old new : Board) → Outputs 0x3F5 byte old new → CanBeginId scene byte old
@@ -32,7 +32,7 @@ pub fn a_read_id_goes_on()
     ensures unset { (n : ℕ) (old new : Board) → RunsUnset n old new → KeepsId old new }
     ensures still { (old new : Board) → StandsStill old new → KeepsId old new }
     ensures waits { (most : ℕ) (set : Bool) (old new : Board) → Waits most old set new → KeepsId old new }
-    ensures read { (port value : ℕ) (old new : Board) → Inputs port value old new → (scene : Scene) → IdUnderway scene old
+    ensures read { (port value : ℕ) (old new : Board) → Inputs port old value new → (scene : Scene) → IdUnderway scene old
         → IdUnderway scene new ⊎ ((controller_of new).phase ≡ Command) }
 {}
 

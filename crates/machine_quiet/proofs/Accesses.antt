@@ -29,7 +29,7 @@ use Rattle.machine_quiet.proofs.Turning.{turned_still}
 
 -- ---- the gap
 
-gap_stands : (start : Board) (set : Setting) (between new : Board) → RunsGap between new → Stands start set between → Stands start set new
+gap_stands : (start : Board) (set : Setting) (between new : Board) → RunsGap between new → Stands set start between → Stands set start new
 gap_stands start set between new gap was =
     runs_stand (next_entry between.bus.gaps) start set (record between { bus = record between.bus { gaps = rest_of between.bus.gaps } }) new gap.runs
     (still_stands start set between (record between { bus = record between.bus { gaps = rest_of between.bus.gaps } })
@@ -39,11 +39,11 @@ gap_stands start set between new gap was =
 
 -- a port that isn't the output register's leaves the drives
 written_stands : (start : Board) (set : Setting) (port value : ℕ) (old between : Board) (chips : Chips) → (port == 0x3F2) ≡ false → (writes : WritesPort port value old between)
-    → writes.chips ≡ chips → is_executing set.phase ≡ false → ChipsStand start.bus.chips set chips → HaveTurned start old → (IsHushed start → IsHushed old)
-    → chips.controller.interrupt ≡ (controller_of old).interrupt → chips.controller.poll_due ≡ (controller_of old).poll_due → Stands start set between
+    → writes.chips ≡ chips → is_executing set.phase ≡ false → ChipsStand set start.bus.chips chips → HaveTurned start old → (IsHushed start → IsHushed old)
+    → chips.controller.interrupt ≡ (controller_of old).interrupt → chips.controller.poll_due ≡ (controller_of old).poll_due → Stands set start between
 written_stands start set port value old between chips other writes is idle stand drives hush interrupt poll = record {
   idle = idle;
-  chips = subst (ChipsStand start.bus.chips set) (sym (ap (λ bus. bus.chips) writes.bus ∙ is)) stand;
+  chips = subst (ChipsStand set start.bus.chips) (sym (ap (λ bus. bus.chips) writes.bus ∙ is)) stand;
   drives = drives_on start old between drives (record {
     first = turned_still old.first between.first (writes.motors.first_stays other);
     second = turned_still old.second between.second (writes.motors.second_stays other);
@@ -66,8 +66,8 @@ not_output port beside = by_port (port == 0x3F2) refl
     by_port true is = absurd (false≢true (sym beside ∙ ap is_controllers (equal_of port 0x3F2 is)))
     by_port false is = refl
 
-with_channel : (old : Chips) (set : Setting) (now : Chips) (port value : ℕ) → ChipsStand old set now
-    → ChipsStand old (with_write port value set) (record now { channel = after_write port value now.channel })
+with_channel : (old : Chips) (set : Setting) (now : Chips) (port value : ℕ) → ChipsStand set old now
+    → ChipsStand (with_write port value set) old (record now { channel = after_write port value now.channel })
 with_channel old set now port value was = record {
   controller = was.controller;
   phase = was.phase;
@@ -80,7 +80,7 @@ with_channel old set now port value was = record {
 }
 
 pub channel_stands : (start : Board) (set : Setting) (port value : ℕ) (old new : Board) → is_controllers port ≡ false → Outputs port value old new
-    → Stands start set old → Stands start (with_write port value set) new
+    → Stands set start old → Stands (with_write port value set) start new
 channel_stands start set port value old new beside access was =
     gap_stands start (with_write port value set) access.between new access.gap
     (written_stands start (with_write port value set) port value old access.between (record old.bus.chips { channel = after_write port value old.bus.chips.channel })
@@ -94,9 +94,9 @@ shown_stalls true holding = refl
 shown_stalls false holding = refl
 
 -- a controller with other bytes, another rate or another phase
-with_controller : (old : Chips) (set : Setting) (now : Chips) (then_set : Setting) (controller : Fdc) → ChipsStand old set now → HoldsOn old.controller.data_commands old.controller controller
+with_controller : (old : Chips) (set : Setting) (now : Chips) (then_set : Setting) (controller : Fdc) → ChipsStand set old now → HoldsOn old.controller.data_commands old.controller controller
     → controller.phase ≡ then_set.phase → controller.command ≡ then_set.command → controller.rate ≡ then_set.rate → controller.asking ≡ false → then_set.channel ≡ set.channel
-    → ChipsStand old then_set (shown_again (record now { controller = controller }))
+    → ChipsStand then_set old (shown_again (record now { controller = controller }))
 with_controller old set now then_set controller was holds phase command rate low channel = record {
   controller = holds;
   phase = phase;
@@ -130,13 +130,13 @@ like_holds begun start old new was like listens = record {
 }
 
 -- the data port takes bytes
-pub port_takes : (start : Board) (set : Setting) (old : Board) → Stands start set old → set.phase ≡ Command → is_held (controller_of start) ≡ false → is_taking (controller_of old) ≡ true
+pub port_takes : (start : Board) (set : Setting) (old : Board) → Stands set start old → set.phase ≡ Command → is_held (controller_of start) ≡ false → is_taking (controller_of old) ≡ true
 port_takes start set old was command free =
     let same : is_held (controller_of old) ≡ false = ap (λ dor. is_held (record (controller_of start) { dor = dor })) was.chips.controller.dor ∙ free in
     ap (λ phase. takes_in phase (is_held (controller_of old))) (was.chips.phase ∙ command) ∙ ap not same
 
 pub byte_stands : (start : Board) (set : Setting) (byte : ℕ) (old new : Board) → set.phase ≡ Command → is_held (controller_of start) ≡ false → answer (set.command ++ byte ∷ []) ≡ More
-    → Outputs 0x3F5 byte old new → Stands start set old → Stands start (with_byte byte set) new
+    → Outputs 0x3F5 byte old new → Stands set start old → Stands (with_byte byte set) start new
 byte_stands start set byte old new command free more access was =
     let (controller, writes, chips_are) = access.writes.writes.controllers refl in
     let fdc = controller_of old in
@@ -161,7 +161,7 @@ byte_stands start set byte old new command free more access was =
     phase (ap (λ c. c.command) after ∙ ap (λ bytes. bytes ++ byte ∷ []) was.chips.command) (ap (λ c. c.rate) after ∙ was.chips.rate) (ap (λ c. c.asking) after ∙ was.chips.low) refl)
     was.drives was.hush (ap (λ c. c.interrupt) after) (ap (λ c. c.poll_due) after))
 
-pub rate_stands : (start : Board) (set : Setting) (byte : ℕ) (old new : Board) → Outputs 0x3F7 byte old new → Stands start set old → Stands start (with_rate byte set) new
+pub rate_stands : (start : Board) (set : Setting) (byte : ℕ) (old new : Board) → Outputs 0x3F7 byte old new → Stands set start old → Stands (with_rate byte set) start new
 rate_stands start set byte old new access was =
     let (controller, writes, chips_are) = access.writes.writes.controllers refl in
     let fdc = controller_of old in
@@ -210,8 +210,8 @@ read_by controllers data_port port set =
     if controllers then (if data_port then record set { phase = phase_after set.phase } else set)
     else record set { channel = after_read port set.channel }
 
-read_chips : (old : Chips) (set : Setting) (now : Chips) (port : ℕ) → is_executing set.phase ≡ false → ChipsStand old set now → (controllers data_port : Bool)
-    → ChipsStand old (read_by controllers data_port port set)
+read_chips : (old : Chips) (set : Setting) (now : Chips) (port : ℕ) → is_executing set.phase ≡ false → ChipsStand set old now → (controllers data_port : Bool)
+    → ChipsStand (read_by controllers data_port port set) old
     (if controllers then shown_again (record now { controller = if data_port then given now.controller else now.controller }) else record now { channel = after_read port now.channel })
 read_chips old set now port idle was true true =
     let phase : (given now.controller).phase ≡ phase_after set.phase = ap phase_after was.phase in
@@ -259,7 +259,7 @@ read_polled chips port none true true = none
 read_polled chips port none true false = none
 read_polled chips port none false data_port = none
 
-pub input_stands : (start : Board) (set : Setting) (port value : ℕ) (old new : Board) → Inputs port value old new → Stands start set old → Stands start (with_read port set) new
+pub input_stands : (start : Board) (set : Setting) (port value : ℕ) (old new : Board) → Inputs port old value new → Stands set start old → Stands (with_read port set) start new
 input_stands start set port value old new access was =
     let between : Board = record old { bus = record old.bus { chips = port_read port old.bus.chips; fresh = false } } in
     gap_stands start (with_read port set) between new access.gap (record {
@@ -274,5 +274,5 @@ input_stands start set port value old new access was =
     })
 
 -- what the data port gives
-pub input_gives : (start : Board) (set : Setting) (value : ℕ) (old new : Board) → Inputs 0x3F5 value old new → Stands start set old → value ≡ result_byte set.phase
+pub input_gives : (start : Board) (set : Setting) (value : ℕ) (old new : Board) → Inputs 0x3F5 old value new → Stands set start old → value ≡ result_byte set.phase
 input_gives start set value old new access was = access.value_is ∙ ap result_byte was.chips.phase

@@ -31,13 +31,13 @@ stepped_stayed old new track0 is = record {
   asking = ap (λ fdc. fdc.asking) is ∙ polled_asking old;
 }
 
-rests_stayed : (phase : Phase) (old new : Fdc) (track0 : Bool) → is_executing phase ≡ false → RestsIn phase (polled old) track0 new → Stayed old new
+rests_stayed : (phase : Phase) (old new : Fdc) (track0 : Bool) → is_executing phase ≡ false → RestsIn phase track0 (polled old) new → Stayed old new
 rests_stayed Command old new track0 idle rests = stepped_stayed old new track0 rests
 rests_stayed (Result answer) old new track0 idle rests = stepped_stayed old new track0 rests
 rests_stayed (Execute execution) old new track0 idle rests = absurd (false≢true (sym idle))
 
-rested : (old new : Fdc) (track0 : Bool) → is_executing old.phase ≡ false → RestsIn (polled old).phase (polled old) track0 new → Stayed old new
-rested old new track0 idle rests = rests_stayed old.phase old new track0 idle (subst (λ phase. RestsIn phase (polled old) track0 new) (polled_phase old) rests)
+rested : (old new : Fdc) (track0 : Bool) → is_executing old.phase ≡ false → RestsIn (polled old).phase track0 (polled old) new → Stayed old new
+rested old new track0 idle rests = rests_stayed old.phase old new track0 idle (subst (λ phase. RestsIn phase track0 (polled old) new) (polled_phase old) rests)
 
 -- ---- INT
 
@@ -64,15 +64,15 @@ stepped_low old new track0 none unpolled low is =
     not_seeking seeks none = rw none refl
 
 rests_low : (phase : Phase) (old new : Fdc) (track0 : Bool) → is_executing phase ≡ false → old.seeks.seek ≡ None → old.poll_due ≡ false → old.interrupt ≡ false
-    → RestsIn phase (polled old) track0 new → StaysLow new
+    → RestsIn phase track0 (polled old) new → StaysLow new
 rests_low Command old new track0 idle none unpolled low rests = stepped_low old new track0 none unpolled low rests
 rests_low (Result answer) old new track0 idle none unpolled low rests = stepped_low old new track0 none unpolled low rests
 rests_low (Execute execution) old new track0 idle none unpolled low rests = absurd (false≢true (sym idle))
 
 low_rested : (old new : Fdc) (track0 : Bool) → is_executing old.phase ≡ false → old.seeks.seek ≡ None → old.poll_due ≡ false → old.interrupt ≡ false
-    → RestsIn (polled old).phase (polled old) track0 new → StaysLow new
+    → RestsIn (polled old).phase track0 (polled old) new → StaysLow new
 low_rested old new track0 idle none unpolled low rests =
-    rests_low old.phase old new track0 idle none unpolled low (subst (λ phase. RestsIn phase (polled old) track0 new) (polled_phase old) rests)
+    rests_low old.phase old new track0 idle none unpolled low (subst (λ phase. RestsIn phase track0 (polled old) new) (polled_phase old) rests)
 
 step_low : (old new : Board) → is_executing (controller_of old).phase ≡ false → (controller_of old).seeks.seek ≡ None → IsHushed old → (step : Step old new) → StaysLow step.between
 step_low old new idle none hushed step = elim (first_second_or_none (selected_of old)) [
@@ -104,7 +104,7 @@ step_stayed old new idle step = elim (first_second_or_none (selected_of old)) [
 ]
 
 -- the request plays no part
-quiet_chips : (old : Chips) (set : Setting) (now : Chips) (request : Request) → ChipsStand old set now → ChipsStand old set (record now { holding = record now.holding { request = request } })
+quiet_chips : (old : Chips) (set : Setting) (now : Chips) (request : Request) → ChipsStand set old now → ChipsStand set old (record now { holding = record now.holding { request = request } })
 quiet_chips old set now request was = record {
   controller = was.controller;
   phase = was.phase;
@@ -116,11 +116,11 @@ quiet_chips old set now request was = record {
   stalls = was.stalls;
 }
 
-stands_dma : (old : Chips) (set : Setting) (now : Chips) → ChipsStand old set now → ChipsStand old set (dma_stepped now)
-stands_dma old set now was = subst (ChipsStand old set) (sym (idle_dma now was.low)) (quiet_chips old set now Low was)
+stands_dma : (old : Chips) (set : Setting) (now : Chips) → ChipsStand set old now → ChipsStand set old (dma_stepped now)
+stands_dma old set now was = subst (ChipsStand set old) (sym (idle_dma now was.low)) (quiet_chips old set now Low was)
 
-stands_word : (old : Chips) (set : Setting) (now : Chips) (between : Fdc) → ChipsStand old set now → HoldsOn old.controller.data_commands old.controller between
-    → Stayed now.controller between → Stays now.controller between → ChipsStand old set (record now { controller = between })
+stands_word : (old : Chips) (set : Setting) (now : Chips) (between : Fdc) → ChipsStand set old now → HoldsOn old.controller.data_commands old.controller between
+    → Stayed now.controller between → Stays now.controller between → ChipsStand set old (record now { controller = between })
 stands_word old set now between was holds stayed stays = record {
   controller = holds;
   phase = stayed.phase ∙ was.phase;
@@ -132,13 +132,13 @@ stands_word old set now between was holds stayed stays = record {
   stalls = was.stalls;
 }
 
-pub step_stands : (start : Board) (set : Setting) (old new : Board) → Step old new → Stands start set old → Stands start set new
+pub step_stands : (start : Board) (set : Setting) (old new : Board) → Step old new → Stands set start old → Stands set start new
 step_stands start set old new step was =
     let works = step_works (controller_of start).data_commands (controller_of start) old new was.chips.controller step in
     let (stayed, stays) = step_stayed old new (ap is_executing was.chips.phase ∙ was.idle) step in
     record {
       idle = was.idle;
-      chips = subst (ChipsStand start.bus.chips set) (sym (ap (λ bus. bus.chips) step.bus))
+      chips = subst (ChipsStand set start.bus.chips) (sym (ap (λ bus. bus.chips) step.bus))
           (stands_dma start.bus.chips set (record old.bus.chips { controller = step.between })
           (stands_word start.bus.chips set old.bus.chips step.between was.chips works.controller stayed stays));
       drives = drives_on start old new was.drives works.drives;
@@ -146,10 +146,10 @@ step_stands start set old new step was =
           (step_low old new (ap is_executing was.chips.phase ∙ was.idle) was.chips.controller.quiet.no_seek (was.hush first) step);
     }
 
-pub still_stands : (start : Board) (set : Setting) (old new : Board) → StandsStill old new → Stands start set old → Stands start set new
+pub still_stands : (start : Board) (set : Setting) (old new : Board) → StandsStill old new → Stands set start old → Stands set start new
 still_stands start set old new still was = record {
   idle = was.idle;
-  chips = subst (ChipsStand start.bus.chips set) (sym still.chips) was.chips;
+  chips = subst (ChipsStand set start.bus.chips) (sym still.chips) was.chips;
   drives = drives_on start old new was.drives (drives_still old new still);
   hush = λ first. let before = was.hush first in record {
     low = ap (λ chips. chips.controller.interrupt) still.chips ∙ before.low;
@@ -159,7 +159,7 @@ still_stands start set old new still was = record {
 }
 
 pub starts_standing : (board : Board) → IsQuiet (controller_of board) → is_executing (controller_of board).phase ≡ false → (controller_of board).asking ≡ false
-    → Stands board (setting_of board) board
+    → Stands (setting_of board) board board
 starts_standing board quiet idle low =
     let all = starts_quietly board quiet in
     record {
@@ -169,16 +169,16 @@ starts_standing board quiet idle low =
       hush = λ first. first;
     }
 
-pub runs_stand : (n : ℕ) (start : Board) (set : Setting) (old new : Board) → Runs n old new → Stands start set old → Stands start set new
+pub runs_stand : (n : ℕ) (start : Board) (set : Setting) (old new : Board) → Runs n old new → Stands set start old → Stands set start new
 unfolding Runs
-runs_stand zero start set old new same was = subst (Stands start set) (sym same) was
+runs_stand zero start set old new same was = subst (Stands set start) (sym same) was
 runs_stand (suc n) start set old new (between, runs, step) was = step_stands start set between new step (runs_stand n start set old between runs was)
 
-pub unset_stand : (n : ℕ) (start : Board) (set : Setting) (old new : Board) → RunsUnset n old new → Stands start set old → Stands start set new
+pub unset_stand : (n : ℕ) (start : Board) (set : Setting) (old new : Board) → RunsUnset n old new → Stands set start old → Stands set start new
 unfolding RunsUnset
-unset_stand zero start set old new same was = subst (Stands start set) (sym same) was
+unset_stand zero start set old new same was = subst (Stands set start) (sym same) was
 unset_stand (suc n) start set old new (between, runs, unset, step) was = step_stands start set between new step (unset_stand n start set old between runs was)
 
-pub waits_stand : (most : ℕ) (answer : Bool) (start : Board) (set : Setting) (old new : Board) → Waits most old answer new → Stands start set old → Stands start set new
+pub waits_stand : (most : ℕ) (answer : Bool) (start : Board) (set : Setting) (old new : Board) → Waits most old answer new → Stands set start old → Stands set start new
 waits_stand most answer start set old new waits was =
     unset_stand waits.steps start set (stirred old) new waits.runs (still_stands start set old (stirred old) (stirred_still old) was)

@@ -38,10 +38,10 @@ holds_word begun start old new was listened stays = record {
 }
 
 listens_in : (old new : Fdc) (index track0 : Bool) (word : ℕ) → IsQuiet old → ExecutesIn old.phase index word (polled old) new
-    → RestsIn (polled old).phase (polled old) track0 new → Listened (polled old) new
+    → RestsIn (polled old).phase track0 (polled old) new → Listened (polled old) new
 listens_in old new index track0 word quiet executes rests =
     word_listens old.phase (polled old) new index track0 word (polled_seek old ∙ quiet.no_seek) quiet.listens (polled_phase old) executes
-    (subst (λ phase. RestsIn phase (polled old) track0 new) (polled_phase old) rests)
+    (subst (λ phase. RestsIn phase track0 (polled old) new) (polled_phase old) rests)
 
 pub holds_works : (begun : ℕ) (start old : Fdc) (before : DriveState) (new : Fdc) (after : DriveState) → HoldsOn begun start old → Works old before new after → HoldsOn begun start new
 holds_works begun start old before new after was works =

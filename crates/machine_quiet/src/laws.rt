@@ -29,28 +29,28 @@ pub fn quiet_steps_turn_drives()
 /// Between two data commands device steps leave what was set, memory and the stalls, and DRQ stays low.
 pub fn steps_leave_a_setting()
     ensures starts { (board : Board) → IsQuiet (controller_of board) → is_executing (controller_of board).phase ≡ false → (controller_of board).asking ≡ false
-        → Stands board (setting_of board) board }
-    ensures still { (start : Board) (set : Setting) (old new : Board) → StandsStill old new → Stands start set old → Stands start set new }
-    ensures runs { (n : ℕ) (start : Board) (set : Setting) (old new : Board) → Runs n old new → Stands start set old → Stands start set new }
-    ensures waits { (most : ℕ) (line : Bool) (start : Board) (set : Setting) (old new : Board) → Waits most old line new → Stands start set old → Stands start set new }
+        → Stands (setting_of board) board board }
+    ensures still { (start : Board) (set : Setting) (old new : Board) → StandsStill old new → Stands set start old → Stands set start new }
+    ensures runs { (n : ℕ) (start : Board) (set : Setting) (old new : Board) → Runs n old new → Stands set start old → Stands set start new }
+    ensures waits { (most : ℕ) (line : Bool) (start : Board) (set : Setting) (old new : Board) → Waits most old line new → Stands set start old → Stands set start new }
 {}
 
 /// A port access between two data commands sets its register, and leaves all else, whatever gap follows it: a port of the
 /// channel, the data port with a byte of a command that isn't whole yet, the rate, and each port that is read.
 pub fn accesses_set_registers()
     ensures channel { (start : Board) (set : Setting) (port value : ℕ) (old new : Board) → is_controllers port ≡ false → Outputs port value old new
-        → Stands start set old → Stands start (with_write port value set) new }
+        → Stands set start old → Stands (with_write port value set) start new }
     ensures byte { (start : Board) (set : Setting) (value : ℕ) (old new : Board) → set.phase ≡ Command → is_held (controller_of start) ≡ false
-        → answer (set.command ++ value ∷ []) ≡ More → Outputs 0x3F5 value old new → Stands start set old → Stands start (with_byte value set) new }
-    ensures rate { (start : Board) (set : Setting) (value : ℕ) (old new : Board) → Outputs 0x3F7 value old new → Stands start set old → Stands start (with_rate value set) new }
-    ensures read { (start : Board) (set : Setting) (port value : ℕ) (old new : Board) → Inputs port value old new → Stands start set old → Stands start (with_read port set) new }
-    ensures gives { (start : Board) (set : Setting) (value : ℕ) (old new : Board) → Inputs 0x3F5 value old new → Stands start set old → value ≡ result_byte set.phase }
+        → answer (set.command ++ value ∷ []) ≡ More → Outputs 0x3F5 value old new → Stands set start old → Stands (with_byte value set) start new }
+    ensures rate { (start : Board) (set : Setting) (value : ℕ) (old new : Board) → Outputs 0x3F7 value old new → Stands set start old → Stands (with_rate value set) start new }
+    ensures read { (start : Board) (set : Setting) (port value : ℕ) (old new : Board) → Inputs port old value new → Stands set start old → Stands (with_read port set) start new }
+    ensures gives { (start : Board) (set : Setting) (value : ℕ) (old new : Board) → Inputs 0x3F5 old value new → Stands set start old → value ≡ result_byte set.phase }
 {}
 
 /// Seven reads of the data port give the results of a data command, which are ST0, ST1, ST2, C, H, R, N; then the controller
 /// takes commands, and all else stands as it was.
 pub fn results_are_read()
     ensures { (ending : Ending) (results : Results) (old new : Board) (st0 st1 st2 c h r n : ℕ) → IsQuiet (controller_of old) → (controller_of old).asking ≡ false
-        → (controller_of old).phase ≡ Result (Long ending results 0) → GivesBytes (st0 ∷ st1 ∷ st2 ∷ c ∷ h ∷ r ∷ n ∷ []) old new
-        → HasGiven results (st0 ∷ st1 ∷ st2 ∷ c ∷ h ∷ r ∷ n ∷ []) old (setting_of old) new }
+        → (controller_of old).phase ≡ Result (Long ending results 0) → GivesBytes old (st0 ∷ st1 ∷ st2 ∷ c ∷ h ∷ r ∷ n ∷ []) new
+        → HasGiven results (setting_of old) old (st0 ∷ st1 ∷ st2 ∷ c ∷ h ∷ r ∷ n ∷ []) new }
 {}

@@ -132,7 +132,7 @@ abbrev pub read_board : ℕ → Board → Board
 read_board port old = record old { bus = record old.bus { chips = port_read port old.bus.chips; gaps = rest_of old.bus.gaps; fresh = false } }
 
 -- before the gap; or the controller takes commands behind it
-pub read_between : (port value : ℕ) (old new : Board) → Inputs port value old new → (scene : Scene) → ReadUnderway scene old
+pub read_between : (port value : ℕ) (old new : Board) → Inputs port old value new → (scene : Scene) → ReadUnderway scene old
     → ReadUnderway scene (read_board port old) ⊎ ((controller_of new).phase ≡ Command)
 read_between port value old new access scene (past, was) =
     let chips = port_read port old.bus.chips in
@@ -148,7 +148,7 @@ read_between port value old new access scene (past, was) =
       | inr over ↦ inr (runs_command (next_entry old.bus.gaps) (read_board port old) new access.gap.runs over)
     ]
 
-pub inputs_keep : (port value : ℕ) (old new : Board) → Inputs port value old new → (scene : Scene) → ReadUnderway scene old
+pub inputs_keep : (port value : ℕ) (old new : Board) → Inputs port old value new → (scene : Scene) → ReadUnderway scene old
     → ReadUnderway scene new ⊎ ((controller_of new).phase ≡ Command)
 inputs_keep port value old new access scene was = elim (read_between port value old new access scene was) [
   | inl on ↦ inl (runs_keep (next_entry old.bus.gaps) (read_board port old) new access.gap.runs scene on)

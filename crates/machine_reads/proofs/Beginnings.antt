@@ -50,7 +50,7 @@ turned_in bay old new turned = by_bay (bay == 0)
     by_bay true = turned.first
     by_bay false = turned.second
 
-pub can_begin : (start board : Board) (set : Setting) (sent : Sent) (bay address left byte : ℕ) (disk : Disk) → IsReadyIn bay disk start → Stands start set board
+pub can_begin : (start board : Board) (set : Setting) (sent : Sent) (bay address left byte : ℕ) (disk : Disk) → IsReadyIn bay disk start → Stands set start board
     → IsSetFor sent address left byte set → address + (left + 1) ≤ length (memory_of start) → CanBegin (scene_of sent bay disk address (left + 1) board) byte board
 can_begin start board set sent bay address left byte disk ready stands for fits =
     let chips = stands.chips in

@@ -53,10 +53,10 @@ dma_command chips is = by_due (is_due (looked_at chips).holding.request)
     by_due true = granted_command (looked_at chips) is
     by_due false = is
 
-rests_command : (old between : Fdc) (track0 : Bool) → old.phase ≡ Command → RestsIn (polled old).phase (polled old) track0 between → between.phase ≡ Command
+rests_command : (old between : Fdc) (track0 : Bool) → old.phase ≡ Command → RestsIn (polled old).phase track0 (polled old) between → between.phase ≡ Command
 rests_command old between track0 is rests =
     let same = polled_phase old ∙ is in
-    let quiet = subst (λ phase. RestsIn phase (polled old) track0 between) same rests in
+    let quiet = subst (λ phase. RestsIn phase track0 (polled old) between) same rests in
     ap (λ fdc. fdc.phase) quiet ∙ same
 
 first_second_or_none : (n : ℕ) → (n ≡ 0) ⊎ ((n ≡ 1) ⊎ (2 ≤ n))

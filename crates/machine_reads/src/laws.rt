@@ -37,7 +37,7 @@ pub fn device_steps_keep_a_read()
 /// last result byte was read; whatever gaps follow the accesses.
 pub fn port_accesses_keep_a_read()
     ensures begins { (scene : Scene) (byte : ℕ) (old new : Board) → Outputs 0x3F5 byte old new → CanBegin scene byte old → ReadUnderway scene new }
-    ensures keeps { (port value : ℕ) (old new : Board) → Inputs port value old new → (scene : Scene) → ReadUnderway scene old
+    ensures keeps { (port value : ℕ) (old new : Board) → Inputs port old value new → (scene : Scene) → ReadUnderway scene old
         → ReadUnderway scene new ⊎ ((controller_of new).phase ≡ Command) }
 {}
 
@@ -45,7 +45,7 @@ pub fn port_accesses_keep_a_read()
 /// command.
 pub fn a_read_begins()
     ensures set { (address left : ℕ) (channel : Channel) → IsSetUp 0x46 address left channel → address % 65536 + left < 65536 → IsSet channel address left }
-    ensures can_begin { (start board : Board) (set : Setting) (sent : Sent) (bay address left byte : ℕ) (disk : Disk) → IsReadyIn bay disk start → Stands start set board
+    ensures can_begin { (start board : Board) (set : Setting) (sent : Sent) (bay address left byte : ℕ) (disk : Disk) → IsReadyIn bay disk start → Stands set start board
         → IsSetFor sent address left byte set → address + (left + 1) ≤ length (memory_of start) → CanBegin (scene_of sent bay disk address (left + 1) board) byte board }
     ensures counts { (begun : ℕ) (start : Board) (scene : Scene) (byte : ℕ) (old new : Board) → Outputs 0x3F5 byte old new → CanBegin scene byte old
         → GoesQuietly begun start old → GoesQuietly (counted begun) start new }

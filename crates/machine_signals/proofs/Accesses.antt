@@ -126,7 +126,7 @@ read_signals old new was latch true true port is =
 read_signals old new was latch true false port is = same_signal old new (ap (λ chips. chips.controller) is) latch was
 read_signals old new was latch false data_port port is = same_signal old new (ap (λ chips. chips.controller) is) latch was
 
-pub input_signals : (port value : ℕ) (old new : Board) → Inputs port value old new → IsSignalling old → IsSignalling new
+pub input_signals : (port value : ℕ) (old new : Board) → Inputs port old value new → IsSignalling old → IsSignalling new
 input_signals port value old new access was =
     runs_signal (next_entry old.bus.gaps) (read_board port old) new access.gap.runs
     (read_signals old (read_board port old) was refl (is_controllers port) (port == 0x3F5) port refl)

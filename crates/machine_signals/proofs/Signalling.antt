@@ -95,18 +95,18 @@ pub record IsBehind (old between : Fdc) : Type 0 where
 gated_same : (a b : Fdc) → a.dor ≡ b.dor → is_gated b ≡ true → is_gated a ≡ true
 gated_same a b same is = ap (λ (dor : Dor). is_gated (record a { dor = dor })) same ∙ is
 
-rests_idle : (phase : Phase) (polls new : Fdc) (track0 : Bool) → polls.phase ≡ phase → is_executing phase ≡ false → RestsIn phase polls track0 new → is_executing new.phase ≡ false
+rests_idle : (phase : Phase) (polls new : Fdc) (track0 : Bool) → polls.phase ≡ phase → is_executing phase ≡ false → RestsIn phase track0 polls new → is_executing new.phase ≡ false
 rests_idle Command polls new track0 same idle rests = ap (λ fdc. is_executing fdc.phase) rests ∙ ap is_executing same
 rests_idle (Result answer) polls new track0 same idle rests = ap (λ fdc. is_executing fdc.phase) rests ∙ ap is_executing same
 rests_idle (Execute execution) polls new track0 same idle rests = absurd (false≢true (sym idle))
 
 word_behind : (old between : Fdc) (index track0 : Bool) (word : ℕ) → IsQuiet old → is_gated old ≡ true → ExecutesIn old.phase index word (polled old) between
-    → RestsIn (polled old).phase (polled old) track0 between → Stays old between → IsBehind old between
+    → RestsIn (polled old).phase track0 (polled old) between → Stays old between → IsBehind old between
 word_behind old between index track0 word quiet gated executes rests stays = record {
   gated = gated_same between old stays.dor gated;
   busy = λ busy low unpolled. let same = polled_same old unpolled in
       subst (λ polls. Signals polls between) same (word_signals old.phase (polled old) between index word busy quiet.listens executes);
-  idle = λ idle. rests_idle old.phase (polled old) between track0 (polled_phase old) idle (subst (λ phase. RestsIn phase (polled old) track0 between) (polled_phase old) rests);
+  idle = λ idle. rests_idle old.phase (polled old) between track0 (polled_phase old) idle (subst (λ phase. RestsIn phase track0 (polled old) between) (polled_phase old) rests);
 }
 
 step_behind : (old new : Board) → IsSignalling old → (step : Step old new) → IsBehind (controller_of old) step.between

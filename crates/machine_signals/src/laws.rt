@@ -23,7 +23,7 @@ pub fn a_command_signals_its_end()
     ensures step { (old new : Board) → Step old new → IsSignalling old → IsSignalling new }
     ensures runs { (n : ℕ) (old new : Board) → Runs n old new → IsSignalling old → IsSignalling new }
     ensures waits { (most : ℕ) (set : Bool) (old new : Board) → Waits most old set new → IsSignalling old → IsSignalling new }
-    ensures read { (port value : ℕ) (old new : Board) → Inputs port value old new → IsSignalling old → IsSignalling new }
+    ensures read { (port value : ℕ) (old new : Board) → Inputs port old value new → IsSignalling old → IsSignalling new }
     ensures strays { (old : Board) → is_executing (controller_of old).phase ≡ true → IsSignalling old → IsSignalling (record old { bus = irq_taken old.bus }) }
     ensures taken { (old : Board) → is_executing (controller_of old).phase ≡ false → IsSignalling old → (irq_taken old.bus).taken ≡ counted old.bus.taken }
 {}

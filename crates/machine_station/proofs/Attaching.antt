@@ -73,7 +73,7 @@ other_put old new (suc zero) value in_range is = ap (λ (t : Two _). t.first) is
 other_put old new (suc (suc n)) value in_range is = absurd (omega arith)
 
 module _ (driver : Driver) (old new : Rig) where
-  attached_exchanged : (bay : ℕ) (medium : Option Disk) → bay ≤ 1 → Exchanged old bay medium new → IsAttached driver old → IsAttached driver new
+  attached_exchanged : (bay : ℕ) (medium : Option Disk) → bay ≤ 1 → Exchanged bay medium old new → IsAttached driver old → IsAttached driver new
   attached_exchanged bay medium in_range exchanged = attached_line driver old bay new in_range (record {
     changes = exchanged.changes;
     numbers = exchanged.numbers;
@@ -95,19 +95,19 @@ module _ (driver : Driver) (old new : Rig) where
   attached_untouched : Untouched old new → IsAttached driver old → IsAttached driver new
   attached_untouched same = attached_same same.media same.changes same.spun same.numbers same.cylinders same.counts
 
-  pub attached_memory : (address byte : ℕ) → PutsMemory old address byte new → IsAttached driver old → IsAttached driver new
+  pub attached_memory : (address byte : ℕ) → PutsMemory address byte old new → IsAttached driver old → IsAttached driver new
   attached_memory address byte step = attached_same step.media step.changes step.spun step.numbers step.cylinders step.counts
 
 module _ (driver : Driver) (old new : Rig) (bay : ℕ) where
-  pub attached_inserted : (disk : Disk) (answer : Result (Unit {0}) Disk) → bay ≤ 1 → PutsIn old bay disk answer new → IsAttached driver old → IsAttached driver new
+  pub attached_inserted : (disk : Disk) (answer : Result (Unit {0}) Disk) → bay ≤ 1 → PutsIn bay disk old answer new → IsAttached driver old → IsAttached driver new
   attached_inserted disk (Ok u) in_range step = attached_exchanged driver old new bay (Some disk) in_range step.1
   attached_inserted disk (Err back) in_range step = attached_untouched driver old new step.2
 
-  pub attached_ejected : (answer : Option Disk) → bay ≤ 1 → TakesOut old bay answer new → IsAttached driver old → IsAttached driver new
+  pub attached_ejected : (answer : Option Disk) → bay ≤ 1 → TakesOut bay old answer new → IsAttached driver old → IsAttached driver new
   attached_ejected None in_range step = attached_untouched driver old new (step.empty refl)
   attached_ejected (Some disk) in_range step = attached_exchanged driver old new bay None in_range (step.taken_out refl)
 
-  pub attached_unit : (counts : DriveCounts) → bay ≤ 1 → ExchangesDrive old bay counts new → IsAttached driver old → IsAttached driver new
+  pub attached_unit : (counts : DriveCounts) → bay ≤ 1 → ExchangesDrive bay counts old new → IsAttached driver old → IsAttached driver new
   attached_unit counts in_range exchanged = attached_line driver old bay new in_range (record {
     changes = exchanged.changes;
     numbers = exchanged.numbers;
@@ -118,10 +118,10 @@ module _ (driver : Driver) (old new : Rig) (bay : ℕ) where
   })
 
 -- what calls past the driver leave of the counts
-pub inserted_goes_on : (old new : Rig) (bay : ℕ) (disk : Disk) (answer : Result (Unit {0}) Disk) → PutsIn old bay disk answer new → GoesOn old.counters new.counters
+pub inserted_goes_on : (old new : Rig) (bay : ℕ) (disk : Disk) (answer : Result (Unit {0}) Disk) → PutsIn bay disk old answer new → GoesOn old.counters new.counters
 inserted_goes_on old new bay disk (Ok u) step = step.1.counts
 inserted_goes_on old new bay disk (Err back) step = step.2.counts
 
-pub ejected_goes_on : (old new : Rig) (bay : ℕ) (answer : Option Disk) → TakesOut old bay answer new → GoesOn old.counters new.counters
+pub ejected_goes_on : (old new : Rig) (bay : ℕ) (answer : Option Disk) → TakesOut bay old answer new → GoesOn old.counters new.counters
 ejected_goes_on old new bay None step = (step.empty refl).counts
 ejected_goes_on old new bay (Some disk) step = (step.taken_out refl).counts

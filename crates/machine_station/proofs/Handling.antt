@@ -75,7 +75,7 @@ module _ (driver : Driver) (old new : Rig) (spares : ℕ) (waiting : List DriveC
       ∙ ap (λ m. shown_with driver left counters (with_bay old.media bay medium) (with_bay old.changes bay true) m) memory
       ∙ ap (λ b. let s : StationState = record { bays = b; memory = old.memory; spares = left; tries = driver.tries; counters = counters } in s) (line_put_at (bay == 0) driver old.media old.changes medium)
 
-  exchanges : (bay : ℕ) (medium : Option Disk) → Exchanged old bay medium new → Exchanges (shown driver old spares waiting) bay medium (shown driver new spares waiting)
+  exchanges : (bay : ℕ) (medium : Option Disk) → Exchanged bay medium old new → Exchanges bay medium (shown driver old spares waiting) (shown driver new spares waiting)
   exchanges bay medium exchanged = record {
     becomes = becomes_exchanged spares waiting bay medium exchanged.media exchanged.changes exchanged.memory;
     access = past_driver 1 old.counters new.counters waiting waiting exchanged.past_driver;
@@ -104,12 +104,12 @@ medium_at driver rig spares waiting bay = medium_at_either (bay == 0) driver rig
 
 module _ (driver : Driver) (old new : Rig) (spares : ℕ) (waiting : List DriveCounts) (bay : ℕ) where
   -- a medium is put in
-  pub inserts : (disk : Disk) (answer : Result (Unit {0}) Disk) → PutsIn old bay disk answer new → Inserts (shown driver old spares waiting) bay disk answer (shown driver new spares waiting)
+  pub inserts : (disk : Disk) (answer : Result (Unit {0}) Disk) → PutsIn bay disk old answer new → Inserts bay disk (shown driver old spares waiting) answer (shown driver new spares waiting)
   inserts disk (Ok u) step = (medium_at driver old spares waiting bay ∙ step.0, exchanges driver old new spares waiting bay (Some disk) step.1)
   inserts disk (Err back) step = (ap is_some (medium_at driver old spares waiting bay) ∙ step.0, step.1, unmoved driver old new spares waiting step.2)
 
   -- a medium is taken out
-  pub ejects : (answer : Option Disk) → TakesOut old bay answer new → Ejects (shown driver old spares waiting) bay answer (shown driver new spares waiting)
+  pub ejects : (answer : Option Disk) → TakesOut bay old answer new → Ejects bay (shown driver old spares waiting) answer (shown driver new spares waiting)
   ejects answer step = record {
     medium = step.medium ∙ sym (medium_at driver old spares waiting bay);
     exchanged = λ some. exchanges driver old new spares waiting bay None (step.taken_out some);
@@ -118,7 +118,7 @@ module _ (driver : Driver) (old new : Rig) (spares : ℕ) (waiting : List DriveC
 
 module _ (driver : Driver) (old new : Rig) (spares : ℕ) (waiting : List DriveCounts) where
   -- a byte of memory is set
-  pub sets_memory : (address byte : ℕ) → PutsMemory old address byte new → SetsMemory (shown driver old spares waiting) address byte (shown driver new spares waiting)
+  pub sets_memory : (address byte : ℕ) → PutsMemory address byte old new → SetsMemory address byte (shown driver old spares waiting) (shown driver new spares waiting)
   sets_memory address byte step =
       let counters = with_waiting new.counters waiting in
       record {
@@ -131,24 +131,24 @@ module _ (driver : Driver) (old new : Rig) (spares : ℕ) (waiting : List DriveC
 -- ---- flags
 
 -- of a station whose bay was exchanged
-pub flags_exchanged : (old : StationState) (bay : ℕ) (medium : Option Disk) (new : StationState) → Exchanges old bay medium new → flags_shown new ≡ with_bay (flags_shown old) bay (flags_of (fresh_bay medium))
+pub flags_exchanged : (old : StationState) (bay : ℕ) (medium : Option Disk) (new : StationState) → Exchanges bay medium old new → flags_shown new ≡ with_bay (flags_shown old) bay (flags_of (fresh_bay medium))
 flags_exchanged old bay medium new exchanged = ap flags_shown exchanged.becomes ∙ flags_put old.bays bay (fresh_bay medium)
 
-pub flags_inserted : (old : StationState) (bay : ℕ) (disk : Disk) (answer : Result (Unit {0}) Disk) (new : StationState) → is_err answer ≡ false → Inserts old bay disk answer new → flags_shown new ≡ with_bay (flags_shown old) bay (flags_of (fresh_bay (Some disk)))
+pub flags_inserted : (old : StationState) (bay : ℕ) (disk : Disk) (answer : Result (Unit {0}) Disk) (new : StationState) → is_err answer ≡ false → Inserts bay disk old answer new → flags_shown new ≡ with_bay (flags_shown old) bay (flags_of (fresh_bay (Some disk)))
 flags_inserted old bay disk (Ok u) new fine step = flags_exchanged old bay (Some disk) new step.1
 flags_inserted old bay disk (Err back) new fine step = absurd (false≢true (sym fine))
 
-pub flags_given_back : (old : StationState) (bay : ℕ) (disk : Disk) (answer : Result (Unit {0}) Disk) (new : StationState) → is_err answer ≡ true → Inserts old bay disk answer new → flags_shown new ≡ flags_shown old
+pub flags_given_back : (old : StationState) (bay : ℕ) (disk : Disk) (answer : Result (Unit {0}) Disk) (new : StationState) → is_err answer ≡ true → Inserts bay disk old answer new → flags_shown new ≡ flags_shown old
 flags_given_back old bay disk (Ok u) new err step = absurd (false≢true err)
 flags_given_back old bay disk (Err back) new err step = ap flags_shown step.2.stays
 
-pub flags_ejected : (old : StationState) (bay : ℕ) (answer : Option Disk) (new : StationState) → IsSome answer → Ejects old bay answer new → flags_shown new ≡ with_bay (flags_shown old) bay (flags_of (fresh_bay None))
+pub flags_ejected : (old : StationState) (bay : ℕ) (answer : Option Disk) (new : StationState) → IsSome answer → Ejects bay old answer new → flags_shown new ≡ with_bay (flags_shown old) bay (flags_of (fresh_bay None))
 flags_ejected old bay answer new some step = flags_exchanged old bay None new (step.exchanged some)
 
-pub flags_none_ejected : (old : StationState) (bay : ℕ) (answer : Option Disk) (new : StationState) → answer ≡ None → Ejects old bay answer new → flags_shown new ≡ flags_shown old
+pub flags_none_ejected : (old : StationState) (bay : ℕ) (answer : Option Disk) (new : StationState) → answer ≡ None → Ejects bay old answer new → flags_shown new ≡ flags_shown old
 flags_none_ejected old bay answer new none step = ap flags_shown (step.unmoved none).stays
 
-pub flags_memory : (driver : Driver) (old new : Rig) (spares : ℕ) (waiting : List DriveCounts) (address byte : ℕ) (flags : Flags) → PutsMemory old address byte new → bays_flagged flags ≡ flags_shown (shown driver old spares waiting) → bays_flagged flags ≡ flags_shown (shown driver new spares waiting)
+pub flags_memory : (driver : Driver) (old new : Rig) (spares : ℕ) (waiting : List DriveCounts) (address byte : ℕ) (flags : Flags) → PutsMemory address byte old new → bays_flagged flags ≡ flags_shown (shown driver old spares waiting) → bays_flagged flags ≡ flags_shown (shown driver new spares waiting)
 flags_memory driver old new spares waiting address byte flags step was =
     was ∙ sym (ap flags_shown (sets_memory driver old new spares waiting address byte step).becomes)
 

@@ -16,7 +16,7 @@ use Rattle.machine_station.proofs.Bays.{flags_put}
 use Rattle.machine_station.proofs.Handling.{becomes_exchanged, past_driver}
 
 -- the first of the waiting drives is put in, and the others wait
-pub unit_taken : {D : Type 0} (state : D → DriveState) (driver : Driver) (old new : Rig) (bay : ℕ) (drive : D) (spare rest : List D) → spare ≡ drive ∷ rest → ExchangesDrive old bay (counts_of (state drive)) new → IsExchanged (shown driver old (length spare) (all_counts state spare)) bay (shown driver new (length rest) (all_counts state rest))
+pub unit_taken : {D : Type 0} (state : D → DriveState) (driver : Driver) (old new : Rig) (bay : ℕ) (drive : D) (spare rest : List D) → spare ≡ drive ∷ rest → ExchangesDrive bay (counts_of (state drive)) old new → IsExchanged bay (shown driver old (length spare) (all_counts state spare)) (shown driver new (length rest) (all_counts state rest))
 unit_taken state driver old new bay drive spare rest is exchanged =
     let count : length spare ≡ length (drive ∷ rest) = ap length is in
     let less : length rest ≡ length spare - 1 = omega arith in
@@ -35,5 +35,5 @@ unit_taken state driver old new bay drive spare rest is exchanged =
       access = past_driver 1 old.counters new.counters (all_counts state spare) (all_counts state rest) exchanged.counters.past_driver;
     }
 
-pub flags_unit : (old : StationState) (bay : ℕ) (new : StationState) → IsExchanged old bay new → flags_shown new ≡ with_bay (flags_shown old) bay (flags_of (fresh_bay None))
+pub flags_unit : (old : StationState) (bay : ℕ) (new : StationState) → IsExchanged bay old new → flags_shown new ≡ with_bay (flags_shown old) bay (flags_of (fresh_bay None))
 flags_unit old bay new exchanged = ap flags_shown exchanged.becomes ∙ flags_put old.bays bay (fresh_bay None)

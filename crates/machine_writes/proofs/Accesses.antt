@@ -146,7 +146,7 @@ drive_less scene past before now drive less was = record {
   works = λ busy. was.works (less busy);
 }
 
-pub inputs_keep : (port value : ℕ) (old new : Board) → Inputs port value old new → (scene : Scene) (deleted : Bool) → WriteUnderway scene deleted old
+pub inputs_keep : (port value : ℕ) (old new : Board) → Inputs port old value new → (scene : Scene) (deleted : Bool) → WriteUnderway scene deleted old
     → WriteUnderway scene deleted new ⊎ ((controller_of new).phase ≡ Command)
 inputs_keep port value old new access scene deleted (past, was) =
     let chips = port_read port old.bus.chips in

@@ -99,7 +99,7 @@ task_covered scene deleted past drive after polls between asking fifo was _ head
 
 phase_covered : (scene : Scene) (deleted : Bool) (past : Past) (drive after : DriveState) (polls between : Fdc) (asking : Bool) (fifo : Fifo) (phase : Phase) → polls.phase ≡ phase
     → MayWriteIn past scene.sent deleted phase asking fifo → IsAtDrive scene past (is_executing phase) drive → WritesIn phase asking fifo polls drive after between
-    → RestsIn phase polls (drive.cylinder == 0) between → (refuses phase ≡ true → scene.disk.protected ≡ true) → refuses between.phase ≡ true → scene.disk.protected ≡ true
+    → RestsIn phase (drive.cylinder == 0) polls between → (refuses phase ≡ true → scene.disk.protected ≡ true) → refuses between.phase ≡ true → scene.disk.protected ≡ true
 phase_covered scene deleted past drive after polls between asking fifo Command same may was writes rests before is = absurd may
 phase_covered scene deleted past drive after polls between asking fifo (Execute execution) same may was writes rests before is =
     task_covered scene deleted past drive after polls between asking fifo was execution.task execution.head_drive execution.steps may writes is
@@ -112,7 +112,7 @@ works_covered : (scene : Scene) (deleted : Bool) (past : Past) (chips : Chips) (
 works_covered scene deleted past chips drive between after known was works before is =
     let old = chips.controller in
     phase_covered scene deleted past drive after (polled old) between old.asking old.fifo old.phase (polled_phase old) known.writes was works.writes
-    (subst (λ phase. RestsIn phase (polled old) (drive.cylinder == 0) between) (polled_phase old) works.rests) before is
+    (subst (λ phase. RestsIn phase (drive.cylinder == 0) (polled old) between) (polled_phase old) works.rests) before is
 
 -- ---- the device step
 

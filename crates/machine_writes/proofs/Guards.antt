@@ -41,7 +41,7 @@ can_guard : (medium : Option Disk) (c h place word : ℕ) (can : Bool) → IsGua
 can_guard medium c h place word true = rewritten_guards medium c h place word
 can_guard medium c h place word false = inl refl
 
-writes_guard : (before after : DriveState) (head word : ℕ) → Writes before head word after → IsGuarded before.medium after.medium
+writes_guard : (before after : DriveState) (head word : ℕ) → Writes head word before after → IsGuarded before.medium after.medium
 writes_guard before after head word (inl wrote) =
     subst (IsGuarded before.medium) (sym (ap (λ s. s.medium) wrote.becomes)) (can_guard before.medium before.cylinder head before.place word (can_write before))
 writes_guard before after head word (inr (can, becomes, rose)) = inl (ap (λ s. s.medium) becomes.becomes)

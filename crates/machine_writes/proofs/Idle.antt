@@ -33,14 +33,14 @@ pub record IsIdleStill (new : Fdc) : Type 0 where
   pub over : is_executing new.phase ≡ false
   pub quiet : new.asking ≡ false
 
-idle_in : (phase : Phase) (polls new : Fdc) (track0 : Bool) → is_executing phase ≡ false → polls.phase ≡ phase → polls.asking ≡ false → RestsIn phase polls track0 new → IsIdleStill new
+idle_in : (phase : Phase) (polls new : Fdc) (track0 : Bool) → is_executing phase ≡ false → polls.phase ≡ phase → polls.asking ≡ false → RestsIn phase track0 polls new → IsIdleStill new
 idle_in Command polls new track0 idle same low rests = record { over = ap (λ fdc. is_executing fdc.phase) rests ∙ ap is_executing same; quiet = ap (λ fdc. fdc.asking) rests ∙ low }
 idle_in (Result answer) polls new track0 idle same low rests = record { over = ap (λ fdc. is_executing fdc.phase) rests ∙ ap is_executing same; quiet = ap (λ fdc. fdc.asking) rests ∙ low }
 idle_in (Execute execution) polls new track0 idle same low rests = absurd (false≢true (sym idle))
 
-idle_on : (old new : Fdc) (track0 : Bool) → is_executing old.phase ≡ false → old.asking ≡ false → RestsIn (polled old).phase (polled old) track0 new → IsIdleStill new
+idle_on : (old new : Fdc) (track0 : Bool) → is_executing old.phase ≡ false → old.asking ≡ false → RestsIn (polled old).phase track0 (polled old) new → IsIdleStill new
 idle_on old new track0 idle low rests =
-    idle_in old.phase (polled old) new track0 idle (polled_phase old) (polled_asking old ∙ low) (subst (λ phase. RestsIn phase (polled old) track0 new) (polled_phase old) rests)
+    idle_in old.phase (polled old) new track0 idle (polled_phase old) (polled_asking old ∙ low) (subst (λ phase. RestsIn phase track0 (polled old) new) (polled_phase old) rests)
 
 idle_moves : (phase : Phase) (polls : Fdc) (before after : DriveState) → is_executing phase ≡ false → MovesIn phase polls before after → after.medium ≡ before.medium
 idle_moves Command polls before after idle moves = moves_same _ before after moves

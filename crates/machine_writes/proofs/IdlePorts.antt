@@ -65,7 +65,7 @@ by_port chips port false = record { memory = refl; request = λ low. low; idle =
 abbrev pub read_board : ℕ → Board → Board
 read_board port old = record old { bus = record old.bus { chips = port_read port old.bus.chips; gaps = rest_of old.bus.gaps; fresh = false } }
 
-pub inputs_idle : (port value : ℕ) (old new : Board) → Inputs port value old new → IsIdle old → RestsIdle old new
+pub inputs_idle : (port value : ℕ) (old new : Board) → Inputs port old value new → IsIdle old → RestsIdle old new
 inputs_idle port value old new access was =
     let leaves = by_port old.bus.chips port (is_controllers port) in
     let stays = runs_idle (next_entry old.bus.gaps) (read_board port old) new access.gap.runs (record { over = leaves.idle was.over; quiet = leaves.asking ∙ was.quiet }) in
@@ -77,7 +77,7 @@ inputs_idle port value old new access was =
       request = λ low. stays.request (leaves.request low);
     }
 
-pub inputs_still : (port value : ℕ) (old new : Board) → Inputs port value old new → HasNoSeek old → StaysStill old new
+pub inputs_still : (port value : ℕ) (old new : Board) → Inputs port old value new → HasNoSeek old → StaysStill old new
 inputs_still port value old new access was =
     let leaves = by_port old.bus.chips port (is_controllers port) in
     let selects = was.selects in
@@ -90,7 +90,7 @@ inputs_still port value old new access was =
     } in
     stays_further old (read_board port old) new between (runs_still (next_entry old.bus.gaps) (read_board port old) new access.gap.runs between.no_seek)
 
-pub inputs_leave : (port value : ℕ) (old new : Board) → Inputs port value old new → LeavesOthers old new
+pub inputs_leave : (port value : ℕ) (old new : Board) → Inputs port old value new → LeavesOthers old new
 inputs_leave port value old new access =
     let leaves = by_port old.bus.chips port (is_controllers port) in
     leaves_on old (read_board port old) new (record { dor = ap (λ dor. dor.0) leaves.dor; first = λ _. refl; second = λ _. refl })

@@ -253,7 +253,7 @@ lasts_in Command old new slack busy lasts waits = absurd (false≢true busy)
 lasts_in (Result answer) old new slack busy lasts waits = absurd (false≢true busy)
 lasts_in (Execute execution) old new slack busy lasts waits = lasts slack waits
 
-over_rests : (phase : Phase) (polls between : Fdc) (track0 : Bool) → RestsIn phase polls track0 between → polls.phase ≡ phase → is_executing phase ≡ false → between.phase ≡ phase
+over_rests : (phase : Phase) (polls between : Fdc) (track0 : Bool) → RestsIn phase track0 polls between → polls.phase ≡ phase → is_executing phase ≡ false → between.phase ≡ phase
 over_rests Command polls between track0 rests same idle = ap (λ fdc. fdc.phase) rests ∙ same
 over_rests (Result answer) polls between track0 rests same idle = ap (λ fdc. fdc.phase) rests ∙ same
 over_rests (Execute execution) polls between track0 rests same idle = absurd (false≢true (sym idle))
@@ -333,7 +333,7 @@ module _ (falls : Falls) (chips : Chips) (drive : DriveState) (between : Fdc) (a
   idle_step : is_executing chips.controller.phase ≡ false → IsPunctual (dma_stepped (record chips { controller = between }))
   idle_step idle =
       let same : between.phase ≡ chips.controller.phase =
-      over_rests chips.controller.phase (polled chips.controller) between (drive.cylinder == 0) (subst (λ phase. RestsIn phase (polled chips.controller) (drive.cylinder == 0) between) (polled_phase chips.controller) works.rests)
+      over_rests chips.controller.phase (polled chips.controller) between (drive.cylinder == 0) (subst (λ phase. RestsIn phase (drive.cylinder == 0) (polled chips.controller) between) (polled_phase chips.controller) works.rests)
       (polled_phase chips.controller) idle in
       record {
         timely = λ busy. absurd (false≢true (sym (dma_executing false (record chips { controller = between }) (ap is_executing same ∙ idle)) ∙ busy));

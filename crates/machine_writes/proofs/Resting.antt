@@ -9,10 +9,10 @@ use Rattle.machine_reads.proofs.Steps.{polled_phase}
 use Rattle.machine_writes.proofs.Guards.{first_second_or_none}
 use Rattle.machine_writes.proofs.Kept.{dma_keeps, moved_command}
 
-rests_command : (old between : Fdc) (track0 : Bool) → old.phase ≡ Command → RestsIn (polled old).phase (polled old) track0 between → between.phase ≡ Command
+rests_command : (old between : Fdc) (track0 : Bool) → old.phase ≡ Command → RestsIn (polled old).phase track0 (polled old) between → between.phase ≡ Command
 rests_command old between track0 is rests =
     let same = polled_phase old ∙ is in
-    let quiet = subst (λ phase. RestsIn phase (polled old) track0 between) same rests in
+    let quiet = subst (λ phase. RestsIn phase track0 (polled old) between) same rests in
     ap (λ fdc. fdc.phase) quiet ∙ same
 
 step_command : (old new : Board) → Step old new → (controller_of old).phase ≡ Command → (controller_of new).phase ≡ Command

@@ -208,7 +208,7 @@ in_phase : (scene : Scene) (deleted : Bool) (past : Past) (chips : Chips) (drive
     → MayWriteIn past scene.sent deleted phase chips.controller.asking chips.controller.fifo
     → IsAtDrive scene past (is_executing phase) drive
     → WritesIn phase chips.controller.asking chips.controller.fifo (polled chips.controller) drive after between
-    → RestsIn phase (polled chips.controller) (drive.cylinder == 0) between
+    → RestsIn phase (drive.cylinder == 0) (polled chips.controller) between
     → MovesIn phase (polled chips.controller) drive after
     → IsBetween scene deleted chips between after
 in_phase scene deleted past chips drive after between whole known works Command is may was writes rests moves = absurd may
@@ -236,7 +236,7 @@ word_time scene deleted past chips drive between after whole known was works =
     let polls = polled old in
     let same : polls.phase ≡ old.phase = polled_phase old in
     in_phase scene deleted past chips drive after between whole known works old.phase same known.writes was works.writes
-    (subst (λ phase. RestsIn phase polls (drive.cylinder == 0) between) same works.rests)
+    (subst (λ phase. RestsIn phase (drive.cylinder == 0) polls between) same works.rests)
     (subst (λ phase. MovesIn phase polls drive after) same works.drive)
 
 -- ---- the transfers behind it

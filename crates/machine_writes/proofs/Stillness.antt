@@ -86,7 +86,7 @@ same_spin drive fast =
     let low = not_below drive.spin (second_true (turns drive) (nat_le 6250 drive.spin) fast) in
     ap (λ b. if turns drive && b then drive.spin + 1 else drive.spin) low ∙ ap (λ b. if b then drive.spin + 1 else drive.spin) (and_false (turns drive))
 
-still_passed : (before after : DriveState) → Becomes before (passed before) after → IsStill before after
+still_passed : (before after : DriveState) → Becomes (passed before) before after → IsStill before after
 still_passed before after becomes = record {
   cylinder = ap (λ s. s.cylinder) becomes.becomes;
   change = ap (λ s. s.change) becomes.becomes;
@@ -96,7 +96,7 @@ still_passed before after becomes = record {
   spends = becomes.spends;
 }
 
-still_let : (before after : DriveState) → Becomes before (let_pass before) after → IsStill before after
+still_let : (before after : DriveState) → Becomes (let_pass before) before after → IsStill before after
 still_let before after becomes = record {
   cylinder = ap (λ s. s.cylinder) becomes.becomes;
   change = ap (λ s. s.change) becomes.becomes;
@@ -106,7 +106,7 @@ still_let before after becomes = record {
   spends = becomes.spends;
 }
 
-still_gate : (on : Bool) (before after : DriveState) → Becomes before (with_gate on before) after → IsStill before after
+still_gate : (on : Bool) (before after : DriveState) → Becomes (with_gate on before) before after → IsStill before after
 still_gate on before after becomes = record {
   cylinder = ap (λ s. s.cylinder) becomes.becomes;
   change = ap (λ s. s.change) becomes.becomes;
@@ -128,7 +128,7 @@ some_if : (can : Bool) (medium : Option Disk) (c h place word : ℕ) → is_some
 some_if true medium c h place word = some_rewritten medium c h place word
 some_if false medium c h place word = refl
 
-still_written : (before after : DriveState) (head word : ℕ) → Writes before head word after → IsStill before after
+still_written : (before after : DriveState) (head word : ℕ) → Writes head word before after → IsStill before after
 still_written before after head word (inl wrote) = record {
   cylinder = ap (λ s. s.cylinder) wrote.becomes;
   change = ap (λ s. s.change) wrote.becomes;
@@ -270,7 +270,7 @@ none_stepped seeks track0 none = by_seek seeks.seek none
     by_seek (Some seek) is = absurd (cc is)
 
 still_phase : (phase : Phase) (asking : Bool) (fifo : Fifo) (index : Bool) (word : ℕ) (polls : Fdc) (before after : DriveState) (new : Fdc) → polls.seeks.seek ≡ None → MovesIn phase polls before after
-    → WritesIn phase asking fifo polls before after new → ExecutesIn phase index word polls new → RestsIn phase polls (before.cylinder == 0) new → IsStillStep before after polls new
+    → WritesIn phase asking fifo polls before after new → ExecutesIn phase index word polls new → RestsIn phase (before.cylinder == 0) polls new → IsStillStep before after polls new
 still_phase Command asking fifo index word polls before after new none moves writes executes rests =
     with_seeks before after polls new (still_moves polls.seeks (before.cylinder == 0) before after none moves) (ap (λ fdc. fdc.seeks) rests ∙ none_stepped polls.seeks (before.cylinder == 0) none)
 still_phase (Result answer) asking fifo index word polls before after new none moves writes executes rests =
@@ -284,7 +284,7 @@ still_works old before new after none works =
     let same = polled_phase old in
     let is = still_phase old.phase old.asking old.fifo _ works.reads.word (polled old) before after new (seek ∙ none)
     (subst (λ phase. MovesIn phase (polled old) before after) same works.drive) works.writes works.reads.follows.executes
-    (subst (λ phase. RestsIn phase (polled old) (before.cylinder == 0) new) same works.rests) in
+    (subst (λ phase. RestsIn phase (before.cylinder == 0) (polled old) new) same works.rests) in
     record { still = is.still; seek = is.seek ∙ seek; numbers = is.numbers ∙ numbers }
 
 -- ---- the device step

@@ -44,7 +44,7 @@ pub fn port_accesses_keep_a_write()
         → WriteUnderway scene deleted new }
     ensures still { (scene : Scene) (deleted : Bool) (byte : ℕ) (old new : Board) → Outputs 0x3F5 byte old new → CanBegin scene deleted byte old → StaysStill old new }
     ensures leaves { (scene : Scene) (deleted : Bool) (byte : ℕ) (old new : Board) → Outputs 0x3F5 byte old new → CanBegin scene deleted byte old → LeavesOthers old new }
-    ensures keeps { (port value : ℕ) (old new : Board) → Inputs port value old new → (scene : Scene) (deleted : Bool) → WriteUnderway scene deleted old
+    ensures keeps { (port value : ℕ) (old new : Board) → Inputs port old value new → (scene : Scene) (deleted : Bool) → WriteUnderway scene deleted old
         → WriteUnderway scene deleted new ⊎ ((controller_of new).phase ≡ Command) }
 {}
 

@@ -15,7 +15,7 @@ use Rattle.memory_station.proofs.DrivenBays.{fewer_driven, becomes_bay}
 abbrev acked_bay : Option Disk → ℕ → Rate → Bay
 acked_bay medium faults rate = record { medium = medium; acknowledged = Some faults; rate = rate }
 
-pub acked : (n : ℕ) (old new : StationState) (before : Bay) (disk : Disk) (rate : Rate) (commands : ℕ) → before.medium ≡ Some disk → commands ≤ 6 → ((p : ℕ) → IsAddress (track_of disk 0 0) p → rate ≡ disk.rate) → (HasNoStart disk → rate ≡ R500) → (rate ≡ R250 → disk.rate ≡ R250) → Drives n before commands (acked_bay before.medium 0 rate) old new → AcksDrive old n (Ok tt) new
+pub acked : (n : ℕ) (old new : StationState) (before : Bay) (disk : Disk) (rate : Rate) (commands : ℕ) → before.medium ≡ Some disk → commands ≤ 6 → ((p : ℕ) → IsAddress (track_of disk 0 0) p → rate ≡ disk.rate) → (HasNoStart disk → rate ≡ R500) → (rate ≡ R250 → disk.rate ≡ R250) → Drives n before commands (acked_bay before.medium 0 rate) old new → AcksDrive n old (Ok tt) new
 acked n old new before disk rate commands is few found none double drives = record {
   done = λ _. record {
     disk = disk;
@@ -31,7 +31,7 @@ acked n old new before disk rate commands is few found none double drives = reco
   driven = fewer_driven commands 6 old.counters new.counters few drives.sent.driven;
 }
 
-pub unready : (n : ℕ) (old new : StationState) (before : Bay) → before.medium ≡ None → Drives n before 0 (fresh_bay before.medium) old new → AcksDrive old n (Err NotReady) new
+pub unready : (n : ℕ) (old new : StationState) (before : Bay) → before.medium ≡ None → Drives n before 0 (fresh_bay before.medium) old new → AcksDrive n old (Err NotReady) new
 unready n old new before is drives = record {
   done = λ ok. absurd (false≢true ok);
   refused = record {

@@ -44,7 +44,7 @@ one_format R500 tries some = omega arith
 one_format R250 tries some = omega arith
 
 -- without faults a format is refused for one cause
-cause : (format : Format) (n : ℕ) (old new : StationState) (answer : Result (Unit {0}) Code) → (IsOk answer ↔ IsFormattable format (bay_of old n).medium) → IfErr answer (λ code. code ≡ NoMark) → IfErr answer (λ code. IsFormatCause format (bay_of old n).medium n code old new)
+cause : (format : Format) (n : ℕ) (old new : StationState) (answer : Result (Unit {0}) Code) → (IsOk answer ↔ IsFormattable format (bay_of old n).medium) → IfErr answer (λ code. code ≡ NoMark) → IfErr answer (λ code. IsFormatCause format (bay_of old n).medium n old code new)
 cause format n old new (Ok _) exactly is = tt
 cause format n old new (Err code) exactly is = record {
   device = subst IsDeviceRefusal (sym is) tt;
@@ -76,7 +76,7 @@ module _ (format : Format) (n sectors : ℕ) (before : Bay) (old new : StationSt
     exactly_none : IsOk {T = Unit {0}} (Err NoMark) ↔ IsFormattable format (bay_of old n).medium
     exactly_none = (λ ok. absurd (false≢true ok), λ can. absurd (not_formattable can))
 
-    pub formatted_none : FormatsDrive format n (Err NoMark) old new
+    pub formatted_none : FormatsDrive format n old (Err NoMark) new
     formatted_none = record {
       layings = [];
       few = omega arith;
@@ -155,7 +155,7 @@ module _ (format : Format) (n sectors : ℕ) (before : Bay) (old new : StationSt
               fits.1 (subst (Within sectors) (sym long) (subst (λ s. Within s d.words_per_track) (sym count) here)),
         )
 
-    pub formatted_laid : (answer : Result (Unit {0}) Code) → (IsOk answer ↔ laid_words sectors 2 format.gap3 ≤ k) → IfErr answer (λ code. code ≡ NoMark) → FormatsDrive format n answer old new
+    pub formatted_laid : (answer : Result (Unit {0}) Code) → (IsOk answer ↔ laid_words sectors 2 format.gap3 ≤ k) → IfErr answer (λ code. code ≡ NoMark) → FormatsDrive format n old answer new
     formatted_laid answer fits no_mark =
         let exactly = fits_exactly answer fits in
         record {

@@ -44,7 +44,7 @@ module _ (memory : List ℕ) (a : ℕ) (bytes : List ℕ) (fits : a + length byt
   length-with_items =
       omega (arith, front, length-append (take a memory) (bytes ++ drop (a + length bytes) memory), length-append bytes (drop (a + length bytes) memory), length-drop (a + length bytes) memory)
 
-  pub same_outside : SameOutside memory a (length bytes) (with_items memory a bytes)
+  pub same_outside : SameOutside a (length bytes) memory (with_items memory a bytes)
   unfolding with_items
   same_outside = record {
     length = length-with_items;
@@ -75,7 +75,7 @@ never_found track key looked p seen not all address =
     not found.0 found.1 (one_look_at track p key.n looked (look.Found found.0 found.1) seen found.2)
 
 module _ (track : List ℕ) (key : Chrn) (tries n : ℕ) (code : Code) (old new : StationState) where
-  cause_of : (looked : Look) → LookFor track key looked → RefusedAs looked code → IsReadCause track key tries n code old new
+  cause_of : (looked : Look) → LookFor track key looked → RefusedAs looked code → IsReadCause track key tries n old code new
   cause_of look.NoMark is refused = record {
     device = subst IsDeviceRefusal (sym refused) tt;
     no_mark = λ e quiet. inl (nothing_from track is).clear_marks;
@@ -123,7 +123,7 @@ module _ (bays : Two Bay) (memory after : List ℕ) (spares tries n address : �
   abbrev after_read : StationState
   after_read = station bays after spares tries new
 
-  read_done : (deleted : Bool) → ReadsField (in_bay bays n) key deleted content → IsRead before_read n key address deleted after_read
+  read_done : (deleted : Bool) → ReadsField (in_bay bays n) key deleted content → IsRead n key address before_read deleted after_read
   read_done deleted field =
       let at = field.recorded in
       let track = track_of at.disk key.c key.h in
@@ -149,17 +149,17 @@ module _ (bays : Two Bay) (memory after : List ℕ) (spares tries n address : �
         commands = sent.rose;
       }
 
-  read_refused : (code : Code) → IsRefusedLook (met (in_bay bays n) key.c key.h) key code → IsReadRefused before_read n key address code after_read
+  read_refused : (code : Code) → IsRefusedLook (met (in_bay bays n) key.c key.h) key code → IsReadRefused n key address before_read code after_read
   read_refused code refused = record {
     cause = cause_of (met (in_bay bays n) key.c key.h) key tries n code before_read after_read refused.looked refused.is refused.by_code;
     memory =
         let room : address + length content ≤ length memory = omega arith in
         let outside = same_outside memory address content room in
-        subst (λ m. SameOutside memory address (content_size key.n) m) (sym is) (subst (λ k. SameOutside memory address k (with_items memory address content)) size outside);
+        subst (λ m. SameOutside address (content_size key.n) memory m) (sym is) (subst (λ k. SameOutside address k memory (with_items memory address content)) size outside);
     becomes = refl;
   }
 
-  pub reads : (answer : Result Bool Code) → IfOk answer (λ deleted. ReadsField slot key deleted content) → IfErr answer (λ code. IsRefusedLook (met slot key.c key.h) key code) → ReadsDrive before_read n key address answer after_read
+  pub reads : (answer : Result Bool Code) → IfOk answer (λ deleted. ReadsField slot key deleted content) → IfErr answer (λ code. IsRefusedLook (met slot key.c key.h) key code) → ReadsDrive n key address before_read answer after_read
   reads (Ok deleted) found refused = record {
     found = read_done deleted (subst (λ b. ReadsField b key deleted content) was found);
     refused = tt;

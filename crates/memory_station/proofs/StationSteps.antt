@@ -54,20 +54,20 @@ module _ (bays : Two Bay) (memory : List ℕ) (spares tries n : ℕ) (old new : 
   pub unmoved : IsUnmoved (station bays memory spares tries old) (station bays memory spares tries new)
   unmoved = record { stays = refl; access = access }
 
-  pub exchanged : (after : Two Bay) (value : Bay) (medium : Option Disk) → after ≡ with_bay bays n value → value ≡ fresh_bay medium → Exchanges (station bays memory spares tries old) n medium (station after memory spares tries new)
+  pub exchanged : (after : Two Bay) (value : Bay) (medium : Option Disk) → after ≡ with_bay bays n value → value ≡ fresh_bay medium → Exchanges n medium (station bays memory spares tries old) (station after memory spares tries new)
   exchanged after value medium is fresh = record {
     becomes = ap (λ b. station b memory spares tries new) (is ∙ ap (with_bay bays n) fresh);
     access = access;
   }
 
-  pub ejected_none : is_some (in_bay bays n).medium ≡ false → Ejects (station bays memory spares tries old) n None (station bays memory spares tries new)
+  pub ejected_none : is_some (in_bay bays n).medium ≡ false → Ejects n (station bays memory spares tries old) None (station bays memory spares tries new)
   ejected_none none = record {
     medium = sym (none_from (in_bay bays n).medium none);
     exchanged = λ some. absurd (false≢true some);
     unmoved = λ is. unmoved;
   }
 
-  pub ejected : (after : Two Bay) (medium : Option Disk) → is_some (in_bay bays n).medium ≡ true → medium ≡ (in_bay bays n).medium → after ≡ with_bay bays n (fresh_bay None) → Ejects (station bays memory spares tries old) n medium (station after memory spares tries new)
+  pub ejected : (after : Two Bay) (medium : Option Disk) → is_some (in_bay bays n).medium ≡ true → medium ≡ (in_bay bays n).medium → after ≡ with_bay bays n (fresh_bay None) → Ejects n (station bays memory spares tries old) medium (station after memory spares tries new)
   ejected after medium some is left = record {
     medium = is;
     exchanged = λ has. exchanged after (fresh_bay None) None left refl;
@@ -81,7 +81,7 @@ quiet_more (suc spares) some =
     let back : spares ≡ suc spares - 1 = omega arith in
     ap (λ k. faultless ∷ replicate k faultless) back
 
-pub spare_taken : (bays after : Two Bay) (memory : List ℕ) (spares tries n : ℕ) (counts next : Counts) (value : Bay) → 1 ≤ spares → after ≡ with_bay bays n value → value ≡ fresh_bay None → next.taken ≡ counts.taken → counts.direct ≤ next.direct → ((k : ℕ) → IsPastDriver 1 (counters_of k counts) (counters_of k next)) → IsExchanged (station bays memory spares tries (counters_of spares counts)) n (station after memory (spares - 1) tries (counters_of (spares - 1) next))
+pub spare_taken : (bays after : Two Bay) (memory : List ℕ) (spares tries n : ℕ) (counts next : Counts) (value : Bay) → 1 ≤ spares → after ≡ with_bay bays n value → value ≡ fresh_bay None → next.taken ≡ counts.taken → counts.direct ≤ next.direct → ((k : ℕ) → IsPastDriver 1 (counters_of k counts) (counters_of k next)) → IsExchanged n (station bays memory spares tries (counters_of spares counts)) (station after memory (spares - 1) tries (counters_of (spares - 1) next))
 spare_taken bays after memory spares tries n counts next value some is fresh taken direct access = record {
   becomes = ap (λ b. station b memory (spares - 1) tries (counters_of (spares - 1) next)) (is ∙ ap (with_bay bays n) fresh);
   some = some;
@@ -120,6 +120,6 @@ bytes_part memory list start size count is long =
     ap (λ k. take k (drop start list)) counted ∙ ap (λ row. take count (drop start row)) is
 
 -- an acknowledgement of a bay
-pub acks_bay : (old new : StationState) (bay : ℕ) (answer : Result (Unit {0}) Code) → bay ≤ 1 → AcksDrive old bay answer new → Acks old bay answer new
+pub acks_bay : (old new : StationState) (bay : ℕ) (answer : Result (Unit {0}) Code) → bay ≤ 1 → AcksDrive bay old answer new → Acks bay old answer new
 acks_bay old new bay answer in_range acks =
-    subst (λ b. MatchBool b (AcksDrive old bay answer new) (IsRefusedAtOnce old BadRequest answer new)) (sym (le-leb bay 1 in_range)) acks
+    subst (λ b. MatchBool b (AcksDrive bay old answer new) (IsRefusedAtOnce BadRequest old answer new)) (sym (le-leb bay 1 in_range)) acks

@@ -78,7 +78,7 @@ absent_found track key code absent is =
       | inr e ↦ e.1
     ]
 
-pub wrote_absent : (written : Written) (n : ℕ) (before : Bay) (code : Code) (old new : StationState) → IsAbsent (met before written.key.c written.key.h) written.key code → Drives n before 1 before old new → WritesDrive written n (Err code) old new
+pub wrote_absent : (written : Written) (n : ℕ) (before : Bay) (code : Code) (old new : StationState) → IsAbsent (met before written.key.c written.key.h) written.key code → Drives n before 1 before old new → WritesDrive written n old (Err code) new
 wrote_absent written n before code old new none drives =
     let c = written.key.c in
     let h = written.key.h in
@@ -173,7 +173,7 @@ field_here bay key p d field is =
     })
 
 -- what was put there is a change of the disk
-pub change_here : (written : Written) (p k : ℕ) (d after : Disk) (before : Bay) → IsHere before written.key p d → IsCutTo d written.key.c written.key.h p k (window_of written) after → IsChange written d (change_at written.key.c p k) after
+pub change_here : (written : Written) (p k : ℕ) (d after : Disk) (before : Bay) → IsHere before written.key p d → IsCutTo written.key.c written.key.h p k (window_of written) d after → IsChange written d (change_at written.key.c p k) after
 change_here written p k d after before here put =
     record { track = here.meets.has; address = here.address; cuttable = put.cuttable; cut = put.cut }
 
@@ -214,7 +214,7 @@ module _ (written : Written) (fits : FitsKey written) (n p commands : ℕ) (d af
 
   -- ---- a window that isn't all inside the track
 
-  refused_cut : (changes : List Change) → length changes ≤ 1 → All (λ change. change.cylinder ≡ key.c) changes → Reaches written (bay_of old n).medium changes (bay_of new n).medium → HasWindowCut (met (bay_of new n) key.c key.h) key → (window_word p + window_words key.n ≤ length track → ⊥) → commands ≤ 2 → WritesDrive written n (Err NoMark) old new
+  refused_cut : (changes : List Change) → length changes ≤ 1 → All (λ change. change.cylinder ≡ key.c) changes → Reaches written (bay_of old n).medium changes (bay_of new n).medium → HasWindowCut (met (bay_of new n) key.c key.h) key → (window_word p + window_words key.n ≤ length track → ⊥) → commands ≤ 2 → WritesDrive written n old (Err NoMark) new
   refused_cut changes one here_alone reach cut outside few = record {
     changes = changes;
     few = let some = drives.some_tries in omega arith;
@@ -240,7 +240,7 @@ module _ (written : Written) (fits : FitsKey written) (n p commands : ℕ) (d af
 
   -- ---- a window, or its beginning, that was put on the track
 
-  module _ (k : ℕ) (put : IsCutTo d key.c key.h p k (window_of written) after) where
+  module _ (k : ℕ) (put : IsCutTo key.c key.h p k (window_of written) d after) where
     abbrev change : Change
     change = change_at key.c p k
 
@@ -270,7 +270,7 @@ module _ (written : Written) (fits : FitsKey written) (n p commands : ℕ) (d af
         subst (λ row. HasWindowCut row key) (sym met_now)
         (p, address_now, λ inside. outside (omega (arith, length-alike d after key.c key.h here.valid (keeps).alike here.meets.has)))
 
-  pub wrote_cut : (words : List ℕ) → words ≡ window_of written → PutsWindow d key.c key.h p words false after → commands ≤ 2 → WritesDrive written n (Err NoMark) old new
+  pub wrote_cut : (words : List ℕ) → words ≡ window_of written → PutsWindow key.c key.h p words d false after → commands ≤ 2 → WritesDrive written n old (Err NoMark) new
   wrote_cut words is put few =
       let outside : window_word p + window_words key.n ≤ length track → ⊥ = λ inside. put.0 (omega (arith, ap length is, length-window_of written fits)) in
       elim put.1 [
@@ -281,14 +281,14 @@ module _ (written : Written) (fits : FitsKey written) (n p commands : ℕ) (d af
             (reach_none written (bay_of old n).medium (bay_of new n).medium (medium_new ∙ ap (λ f. Some f) same ∙ sym medium_old))
             (subst (λ row. HasWindowCut row key) (sym now) (p, here.address, outside)) outside few
         | inr (k, cut) ↦
-            let Cut : List ℕ → Type 0 = λ row. IsCutTo d key.c key.h p k row after in
+            let Cut : List ℕ → Type 0 = λ row. IsCutTo key.c key.h p k row d after in
             let done = subst Cut is cut in
             refused_cut (change k done ∷ []) (omega arith) (only_here k done) (one_change k done) (cut_now k done outside) outside few
       ]
 
   -- ---- a window that is all inside the track
 
-  module _ (put : IsCutTo d key.c key.h p (length (window_of written)) (window_of written) after) (both : commands ≡ 2) where
+  module _ (put : IsCutTo key.c key.h p (length (window_of written)) (window_of written) d after) (both : commands ≡ 2) where
     abbrev all : ℕ
     all = length (window_of written)
 
@@ -298,7 +298,7 @@ module _ (written : Written) (fits : FitsKey written) (n p commands : ℕ) (d af
     keeps_sectors : IsRegularDisk d → KeepsSectors d key after
     keeps_sectors regular = change_keeps_sectors written d whole after (is_change all put) regular fits (inr refl)
 
-    alone : (answer : Result (Unit {0}) Code) → IsRegularDisk d → ChangesAlone written n p d answer old new
+    alone : (answer : Result (Unit {0}) Code) → IsRegularDisk d → ChangesAlone written n p d old answer new
     alone answer regular = record {
       after = after;
       words = all;
@@ -310,17 +310,17 @@ module _ (written : Written) (fits : FitsKey written) (n p commands : ℕ) (d af
       entry = λ ok quiet. written_on_map written d whole after (is_change all put) regular fits refl;
     }
 
-    keeps_regular : (answer : Result (Unit {0}) Code) → (disk : Disk) → (bay_of old n).medium ≡ Some disk → IsRegularDisk disk → KeepsRegular written n disk answer old new
+    keeps_regular : (answer : Result (Unit {0}) Code) → (disk : Disk) → (bay_of old n).medium ≡ Some disk → IsRegularDisk disk → KeepsRegular written n disk old answer new
     keeps_regular answer disk is regular =
-        of_disk (λ e. KeepsRegular written n e answer old new) disk is (record {
+        of_disk (λ e. KeepsRegular written n e old answer new) disk is (record {
           none = λ no. absurd (no p address_old);
           one = λ q address tidy.
               let here_regular = regular_here disk is regular in
               let here_too = subst (λ row. IsAddressAt row q key) met_old address in
-              subst (λ r. ChangesAlone written n r d answer old new) (one_address d key.c key.h p q key here_regular here.meets.has here.address here_too) (alone answer here_regular);
+              subst (λ r. ChangesAlone written n r d old answer new) (one_address d key.c key.h p q key here_regular here.meets.has here.address here_too) (alone answer here_regular);
         })
 
-    wrote : (answer : Result (Unit {0}) Code) → (IsOk answer → IsWritten written n (whole ∷ []) old new) → IfErr answer (λ code. IsWriteCause written (met (bay_of old n) key.c key.h) (met (bay_of new n) key.c key.h) (whole ∷ []) n code old new) → WritesDrive written n answer old new
+    wrote : (answer : Result (Unit {0}) Code) → (IsOk answer → IsWritten written n (whole ∷ []) old new) → IfErr answer (λ code. IsWriteCause written (met (bay_of old n) key.c key.h) (met (bay_of new n) key.c key.h) (whole ∷ []) n old code new) → WritesDrive written n old answer new
     wrote answer done refused = record {
       changes = whole ∷ [];
       few = let some = drives.some_tries in omega arith;
@@ -333,7 +333,7 @@ module _ (written : Written) (fits : FitsKey written) (n p commands : ℕ) (d af
       driven = few_commands (omega arith);
     }
 
-    pub wrote_whole : (answer : Result (Unit {0}) Code) → ReadsBack track_after p key.n written.deleted written.content answer → WritesDrive written n answer old new
+    pub wrote_whole : (answer : Result (Unit {0}) Code) → ReadsBack track_after p key.n written.deleted written.content answer → WritesDrive written n old answer new
     wrote_whole (Ok unit) (place, seen, is) =
         let sector : IsSector track_after key written.deleted written.content = (p, place, address_now all put, seen, is) in
         wrote (Ok unit) (λ ok. record {

@@ -13,16 +13,16 @@ use Rattle.sector_model.specs.Stations as model
 use Rattle.memory_station.specs.Shown.{IsRecorded}
 
 -- the medium has the first k of these words at the window's place of the address field at p
-pub record IsCutTo (before : Disk) (c h p k : ℕ) (words : List ℕ) (after : Disk) : Type 0 where
+pub record IsCutTo (c h p k : ℕ) (words : List ℕ) (before after : Disk) : Type 0 where
   pub cuttable : IsCuttable (track_of before c h) p k words
   pub cut : IsWithTrack before c h (cut_of (track_of before c h) p k words) after
 
 -- as many of the words as are inside the track were put there; the answer says whether all are
-abbrev pub PutsWindow : Disk → ℕ → ℕ → ℕ → List ℕ → Bool → Disk → Type 0
-PutsWindow before c h p words whole after =
-    MatchBool whole (IsCutTo before c h p (length words) words after)
+abbrev pub PutsWindow : ℕ → ℕ → ℕ → List ℕ → Disk → Bool → Disk → Type 0
+PutsWindow c h p words before whole after =
+    MatchBool whole (IsCutTo c h p (length words) words before after)
     ((window_word p + length words ≤ length (track_of before c h) → ⊥)
-    × ((after ≡ before) ⊎ ((k : ℕ) × IsCutTo before c h p k words after)))
+    × ((after ≡ before) ⊎ ((k : ℕ) × IsCutTo c h p k words before after)))
 
 -- the refusal of what was read back
 abbrev pub RefusedBack : List ℕ → ℕ → Bool → List ℕ → Look → Code → Type 0

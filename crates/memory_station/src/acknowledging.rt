@@ -42,7 +42,7 @@ impl Bay {
     pub fn acknowledge(&mut self) -> Outcome
         ensures { (n : ℕ) (old new : StationState)
             → Drives n (bay_shown self.old) result.commands (bay_shown self.new) old new
-            → AcksDrive old n result.answer new }
+            → AcksDrive n old result.answer new }
     {
         let Some(medium) = &self.medium else {
             self.acknowledged = false;

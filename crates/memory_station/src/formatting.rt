@@ -54,7 +54,7 @@ impl Bay {
         ensures { (n : ℕ) (old new : StationState)
             → Drives n (bay_shown self.old) result.commands (bay_shown self.new) old new
             → FormatsDrive (record { c = c; h = h; rate = (bay_shown self.old).rate; gap3 = gap3; fill = fill })
-            n result.answer old new }
+            n old result.answer new }
     {
         let sectors = self.rate.sectors();
         if !self.has_track(c, h) {

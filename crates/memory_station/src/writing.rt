@@ -39,7 +39,7 @@ fn put_window(medium: &mut Medium, key: Chrn, place: usize, words: &[u16]) -> bo
     requires track { HasTrack medium.old key.c key.h }
     requires address { IsAddressAt (track_of medium.old key.c key.h) place key }
     requires short { length words.now ≤ 16384 }
-    ensures { PutsWindow medium.old key.c key.h place words.now result medium.new }
+    ensures { PutsWindow key.c key.h place words.now medium.old result medium.new }
 {
     let length = usize::from(medium.words());
     let start = window_word(place);
@@ -109,7 +109,7 @@ impl Bay {
         ensures { (n : ℕ) (old new : StationState)
             → Drives n (bay_shown self.old) result.commands (bay_shown self.new) old new
             → WritesDrive (record { key = key; deleted = deleted; content = content.now })
-            n result.answer old new }
+            n old result.answer new }
     {
         let Some(medium) = &mut self.medium else {
             unreachable!();
@@ -138,7 +138,7 @@ impl Bay {
         ensures { (n : ℕ) (old new : StationState)
             → Drives n (bay_shown self.old) result.commands (bay_shown self.new) old new
             → WritesDrive (record { key = key; deleted = deleted; content = content.now })
-            n result.answer old new }
+            n old result.answer new }
     {
         let window = &mut words[..WINDOW_WORDS + content.len()];
         match self.find_field(key) {

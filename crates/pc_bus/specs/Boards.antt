@@ -75,8 +75,8 @@ new_bus pace = record {
 -- a new machine with these drives: the controller turns their motors off
 pub record IsNew (pace : Pace) (bay0 bay1 : DriveState) (new : Board) : Type 0 where
   pub bus : new.bus ≡ new_bus pace
-  pub first : Becomes bay0 (with_motor false bay0) new.first
-  pub second : Becomes bay1 (with_motor false bay1) new.second
+  pub first : Becomes (with_motor false bay0) bay0 new.first
+  pub second : Becomes (with_motor false bay1) bay1 new.second
 
 -- ---- the lines of the selected drive
 

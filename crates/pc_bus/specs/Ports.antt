@@ -41,7 +41,7 @@ pub record WritesChips (port value : ℕ) (lines : Lines) (old new : Chips) : Ty
 -- a drive's motor line is the bit of DOR
 abbrev pub FollowsMotor : ℕ → Fdc → DriveState → DriveState → Type 0
 FollowsMotor bay controller before after =
-    (on : Bool) × (IsTrue on ↔ IsBitSet (dor_of controller) (4 + bay)) × Becomes before (with_motor on before) after
+    (on : Bool) × (IsTrue on ↔ IsBitSet (dor_of controller) (4 + bay)) × Becomes (with_motor on before) before after
 
 -- a write of DOR turns the motors of both drives on and off, with no device step; another access leaves the drives
 pub record SetsMotors (port : ℕ) (controller : Fdc) (old new : Board) : Type 0 where
@@ -64,7 +64,7 @@ pub record RunsGap (old new : Board) : Type 0 where
   pub runs : Runs (next_entry old.bus.gaps) (record old { bus = record old.bus { gaps = rest_of old.bus.gaps } }) new
 
 -- a port is read, and then the gap runs
-pub record Inputs (port value : ℕ) (old new : Board) : Type 0 where
+pub record Inputs (port : ℕ) (old : Board) (value : ℕ) (new : Board) : Type 0 where
   pub value_is : value ≡ port_value port (lines_of old) old.bus.chips
   pub gap : RunsGap (record old { bus = record old.bus { chips = port_read port old.bus.chips; fresh = false } }) new
 

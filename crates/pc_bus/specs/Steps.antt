@@ -18,9 +18,9 @@ use Rattle.pc_bus.specs.declared.bus.Bus.{Bus}
 
 -- the controller and the selected drive make a device step
 pub record Works (old : Fdc) (before : DriveState) (new : Fdc) (after : DriveState) : Type 0 where
-  pub rests : Rests (polled old) (before.cylinder == 0) new
-  pub reads : Listens old (polled old) (at_index before) before after new
-  pub writes : WritesOn old (polled old) before after new
+  pub rests : Rests (before.cylinder == 0) (polled old) new
+  pub reads : Listens (polled old) (at_index before) old before after new
+  pub writes : WritesOn (polled old) old before after new
   pub drive : MovesDrive (polled old) before after
   pub ends : Ends old new
   pub stays : Stays old new
@@ -29,15 +29,15 @@ pub record Works (old : Fdc) (before : DriveState) (new : Fdc) (after : DriveSta
 
 -- the controller makes a device step where no drive is selected
 pub record WorksAlone (old new : Fdc) : Type 0 where
-  pub rests : Rests (polled old) false new
-  pub reads : ListensToNone old (polled old) new
+  pub rests : Rests false (polled old) new
+  pub reads : ListensToNone (polled old) old new
   pub ends : Ends old new
   pub stays : Stays old new
   pub flows : Flows old new
 
 -- a word time passes at a drive that isn't selected
 abbrev pub Passes : DriveState → DriveState → Type 0
-Passes before after = Becomes before (passed before) after
+Passes before after = Becomes (passed before) before after
 
 -- the controller makes its device step with the selected drive, and the word time passes at the others
 pub record PassesWordTime (selected : ℕ) (old : Fdc) (first second : DriveState) (new : Fdc) (first_after second_after : DriveState) : Type 0 where

@@ -43,8 +43,8 @@ impl<D: Drive> MachineOf<D> {
         requires { bay ≤ 1 }
         ensures touches { Touches bay (board D.state self.old) (board D.state self.new) }
         ensures refused { IsErr result ↔ IsSome (drive_in (board D.state self.old) bay).medium }
-        ensures ok { OnOk result (Becomes (drive_in (board D.state self.old) bay)
-            (loaded medium (drive_in (board D.state self.old) bay)) (drive_in (board D.state self.new) bay)) }
+        ensures ok { OnOk result (Becomes (loaded medium (drive_in (board D.state self.old) bay))
+            (drive_in (board D.state self.old) bay) (drive_in (board D.state self.new) bay)) }
         ensures err { IfErr result (λ back. (back ≡ medium)
             × Becomes (drive_in (board D.state self.old) bay) (drive_in (board D.state self.old) bay) (drive_in (board D.state self.new) bay)) }
     {
@@ -61,8 +61,8 @@ impl<D: Drive> MachineOf<D> {
         requires { bay ≤ 1 }
         ensures touches { Touches bay (board D.state self.old) (board D.state self.new) }
         ensures medium { result ≡ (drive_in (board D.state self.old) bay).medium }
-        ensures becomes { Becomes (drive_in (board D.state self.old) bay)
-            (unloaded (drive_in (board D.state self.old) bay)) (drive_in (board D.state self.new) bay) }
+        ensures becomes { Becomes (unloaded (drive_in (board D.state self.old) bay))
+            (drive_in (board D.state self.old) bay) (drive_in (board D.state self.new) bay) }
     {
         self.bus.touch();
         if bay == 0 {

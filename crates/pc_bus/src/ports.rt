@@ -20,7 +20,7 @@ const ABSENT: Lines = Lines {
 impl<D: Drive> MachineOf<D> {
     /// Reads a port, and lets the device steps of the next gap pass. FF where nothing answers.
     pub fn inb(&mut self, port: u16) -> u8
-        ensures { Inputs port result (board D.state self.old) (board D.state self.new) }
+        ensures { Inputs port (board D.state self.old) result (board D.state self.new) }
     {
         let lines = self.lines();
         let value = self.bus.read_port(port, lines);

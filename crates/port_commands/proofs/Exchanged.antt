@@ -17,10 +17,10 @@ abbrev pub bench_with : Board → Names → Option Files → Bench
 bench_with board names files = record { board = board; names = names; files = files }
 
 -- an insert that got no image stops, and the bench is as it was
-pub stops_loading : (board : Board) (names : Names) (told after : Option Files) (bay : ℕ) (name : List ℕ) (cause : Stop) → bay ≤ 1 → false ≡ is_loaded names bay → ((bay : ℕ) → StopCause told (request.Insert bay name) cause) → after ≡ told → StopsAt (bench_with board names told) (line.Insert bay name) cause (bench_with board names after)
+pub stops_loading : (board : Board) (names : Names) (told after : Option Files) (bay : ℕ) (name : List ℕ) (cause : Stop) → bay ≤ 1 → false ≡ is_loaded names bay → ((bay : ℕ) → StopCause told (request.Insert bay name) cause) → after ≡ told → StopsAt (line.Insert bay name) (bench_with board names told) cause (bench_with board names after)
 stops_loading board names told after bay name cause low empty because same = (free_bay names bay low (sym empty), because bay, ap (bench_with board names) same)
 
 -- the end of bay 1 stops the end of a run, or doesn't
-pub second_stops : (result : Result (Unit {0}) Stop) (old mid new : Bench) → EndsBay old 0 mid → OnErr result (DropsMedium mid 1 new) → OnErr result (EndStopsAt old new)
+pub second_stops : (result : Result (Unit {0}) Stop) (old mid new : Bench) → EndsBay 0 old mid → OnErr result (DropsMedium 1 mid new) → OnErr result (EndStopsAt old new)
 second_stops (Ok u) old mid new first drops = tt
 second_stops (Err cause) old mid new first drops = AtSecond mid first drops

@@ -42,7 +42,7 @@ unfolding RunsUnset ChangesWords
 unset_change zero start old new same runs = subst (SameMedia start) (sym runs) same
 unset_change (suc n) start old new same (between, runs, unset, step) = (between, unset_change n start old between same runs, step_guards between new step)
 
-pub read_changes : (port value : ℕ) (old new : Board) → Inputs port value old new → ChangesWords (next_entry old.bus.gaps) old new
+pub read_changes : (port value : ℕ) (old new : Board) → Inputs port old value new → ChangesWords (next_entry old.bus.gaps) old new
 read_changes port value old new inputs =
     runs_change (next_entry old.bus.gaps) old (gapped (read_board port old)) new (record { first = refl; second = refl }) inputs.gap.runs
 
@@ -72,7 +72,7 @@ bay_same old new same bay = by_bay (bay == 0)
     by_bay true = same.first
     by_bay false = same.second
 
-read_guards : (port value : ℕ) (old new : Board) → Inputs port value old new → (bay : ℕ) → GuardsBay bay old new
+read_guards : (port value : ℕ) (old new : Board) → Inputs port old value new → (bay : ℕ) → GuardsBay bay old new
 read_guards port value old new inputs bay = runs_guard (next_entry old.bus.gaps) (gapped (read_board port old)) new inputs.gap.runs bay
 
 write_guards : (port value : ℕ) (old new : Board) → Outputs port value old new → (bay : ℕ) → GuardsBay bay old new
@@ -102,21 +102,21 @@ touched_guards : (touched : ℕ) (old new : Board) → nat_le touched 1 ≡ true
 touched_guards touched old new low touches bay within differs covered =
     ap (λ (s : DriveState). s.medium) (other_same touched bay old new (bay_low touched low) within differs touches.other)
 
-insert_guards : (old new : Bench) (touched : ℕ) (name : List ℕ) (said : Answer) → DoesLine old (line.Insert touched name) said new → GuardsLine old (line.Insert touched name) new
+insert_guards : (old new : Bench) (touched : ℕ) (name : List ℕ) (said : Answer) → DoesLine (line.Insert touched name) old said new → GuardsLine (line.Insert touched name) old new
 insert_guards old new touched name said does = by_refusal (insert_refusal old.names touched) refl does
   where
-    by_refusal : (refusal : Option Reason) → insert_refusal old.names touched ≡ refusal → MatchOption refusal ((said ≡ answer.Done) × LoadsMedium old touched name new) (λ cause. IsRefused old cause said new) → GuardsLine old (line.Insert touched name) new
+    by_refusal : (refusal : Option Reason) → insert_refusal old.names touched ≡ refusal → MatchOption refusal ((said ≡ answer.Done) × LoadsMedium touched name old new) (λ cause. IsRefused cause old said new) → GuardsLine (line.Insert touched name) old new
     by_refusal None free (done, loads) = λ bay within leaves covered. touched_guards touched old.board new.board (free_low (nat_le touched 1) _ _ free) loads.touches bay within leaves covered
     by_refusal (Some cause) taken refused = λ bay within leaves covered. ap (λ (bench : Bench). (drive_in bench.board bay).medium) refused.same
 
-eject_guards : (old new : Bench) (touched : ℕ) (said : Answer) → DoesLine old (line.Eject touched) said new → GuardsLine old (line.Eject touched) new
+eject_guards : (old new : Bench) (touched : ℕ) (said : Answer) → DoesLine (line.Eject touched) old said new → GuardsLine (line.Eject touched) old new
 eject_guards old new touched said does = by_refusal (eject_refusal old.names touched) refl does
   where
-    by_refusal : (refusal : Option Reason) → eject_refusal old.names touched ≡ refusal → MatchOption refusal ((said ≡ answer.Done) × StoresMedium old touched new) (λ cause. IsRefused old cause said new) → GuardsLine old (line.Eject touched) new
+    by_refusal : (refusal : Option Reason) → eject_refusal old.names touched ≡ refusal → MatchOption refusal ((said ≡ answer.Done) × StoresMedium touched old new) (λ cause. IsRefused cause old said new) → GuardsLine (line.Eject touched) old new
     by_refusal None free (done, stores) = λ bay within leaves covered. touched_guards touched old.board new.board (free_low (nat_le touched 1) _ _ free) stores.takes.touches bay within leaves covered
     by_refusal (Some cause) taken refused = λ bay within leaves covered. ap (λ (bench : Bench). (drive_in bench.board bay).medium) refused.same
 
-line_guards : (old new : Bench) (asked : PortLine) (said : Answer) → DoesLine old asked said new → GuardsLine old asked new
+line_guards : (old new : Bench) (asked : PortLine) (said : Answer) → DoesLine asked old said new → GuardsLine asked old new
 line_guards old new (line.In port) said (reads, keeps) = λ bay within leaves. read_guards port reads.value old.board new.board reads.inputs bay
 line_guards old new (line.Out port value) said (nothing, writes, keeps) = λ bay within leaves. write_guards port value old.board new.board writes bay
 line_guards old new (line.Wait steps) said (nothing, runs, keeps) = λ bay within leaves. runs_guard steps (stirred old.board) new.board runs bay
@@ -147,7 +147,7 @@ runs_rise (suc n) old new (between, runs, step) =
     let one : new.bus.steps ≡ min (between.bus.steps + 1) last_count = ap (λ (bus : Bus). bus.steps) step.bus in
     omega (arith, before, one)
 
-read_rises : (port value : ℕ) (old new : Board) → Inputs port value old new → RoseBy 0 old.bus.steps new.bus.steps
+read_rises : (port value : ℕ) (old new : Board) → Inputs port old value new → RoseBy 0 old.bus.steps new.bus.steps
 read_rises port value old new inputs =
     rose_least (next_entry old.bus.gaps) old.bus.steps new.bus.steps (runs_rise (next_entry old.bus.gaps) (gapped (read_board port old)) new inputs.gap.runs)
 
@@ -164,15 +164,15 @@ touched_steps bay old new touches = ap (λ (bus : Bus). bus.steps) touches.bus
 same_steps : (old new : Bench) → new ≡ old → new.board.bus.steps ≡ old.board.bus.steps
 same_steps old new same = ap (λ (bench : Bench). bench.board.bus.steps) same
 
-insert_rises : (old new : Bench) (bay : ℕ) (name : List ℕ) (said : Answer) (refusal : Option Reason) → MatchOption refusal ((said ≡ answer.Done) × LoadsMedium old bay name new) (λ cause. IsRefused old cause said new) → new.board.bus.steps ≡ old.board.bus.steps
+insert_rises : (old new : Bench) (bay : ℕ) (name : List ℕ) (said : Answer) (refusal : Option Reason) → MatchOption refusal ((said ≡ answer.Done) × LoadsMedium bay name old new) (λ cause. IsRefused cause old said new) → new.board.bus.steps ≡ old.board.bus.steps
 insert_rises old new bay name said None (done, loads) = touched_steps bay old.board new.board loads.touches
 insert_rises old new bay name said (Some cause) refused = same_steps old new refused.same
 
-eject_rises : (old new : Bench) (bay : ℕ) (said : Answer) (refusal : Option Reason) → MatchOption refusal ((said ≡ answer.Done) × StoresMedium old bay new) (λ cause. IsRefused old cause said new) → new.board.bus.steps ≡ old.board.bus.steps
+eject_rises : (old new : Bench) (bay : ℕ) (said : Answer) (refusal : Option Reason) → MatchOption refusal ((said ≡ answer.Done) × StoresMedium bay old new) (λ cause. IsRefused cause old said new) → new.board.bus.steps ≡ old.board.bus.steps
 eject_rises old new bay said None (done, stores) = touched_steps bay old.board new.board stores.takes.touches
 eject_rises old new bay said (Some cause) refused = same_steps old new refused.same
 
-line_rises : (old new : Bench) (asked : PortLine) (said : Answer) → DoesLine old asked said new → RoseBy (waits_in asked) old.board.bus.steps new.board.bus.steps
+line_rises : (old new : Bench) (asked : PortLine) (said : Answer) → DoesLine asked old said new → RoseBy (waits_in asked) old.board.bus.steps new.board.bus.steps
 line_rises old new (line.In port) said (reads, keeps) = read_rises port reads.value old.board new.board reads.inputs
 line_rises old new (line.Out port value) said (nothing, writes, keeps) = write_rises port value old.board new.board writes
 line_rises old new (line.Wait steps) said (nothing, runs, keeps) = runs_rise steps (stirred old.board) new.board runs
@@ -193,7 +193,7 @@ record Reaches (old : Bench) (course : List Taken) (new : Bench) : Type 0 where
   pub run : PortRun old course mid
   pub steps : new.board.bus.steps ≡ mid.board.bus.steps
 
-ends_steps : (bay : ℕ) (old new : Bench) → EndsBay old bay new → new.board.bus.steps ≡ old.board.bus.steps
+ends_steps : (bay : ℕ) (old new : Bench) → EndsBay bay old new → new.board.bus.steps ≡ old.board.bus.steps
 ends_steps bay old new (Stored is stores) = touched_steps bay old.board new.board stores.takes.touches
 ends_steps bay old new (Left left) = same_steps old new left.same
 
@@ -201,7 +201,7 @@ end_stops_steps : (old new : Bench) → EndStopsAt old new → new.board.bus.ste
 end_stops_steps old new (AtFirst drops) = touched_steps 0 old.board new.board drops.takes.touches
 end_stops_steps old new (AtSecond mid first drops) = touched_steps 1 mid.board new.board drops.takes.touches ∙ ends_steps 0 old mid first
 
-stops_steps : (old new : Bench) (asked : PortLine) (cause : Stop) → StopsAt old asked cause new → new.board.bus.steps ≡ old.board.bus.steps
+stops_steps : (old new : Bench) (asked : PortLine) (cause : Stop) → StopsAt asked old cause new → new.board.bus.steps ≡ old.board.bus.steps
 stops_steps old new (line.Insert bay name) cause (free, because, same) = same_steps old new same
 stops_steps old new (line.Eject bay) cause (free, only, drops) = touched_steps bay old.board new.board drops.takes.touches
 stops_steps old new (line.In port) cause stops = absurd stops
@@ -209,7 +209,7 @@ stops_steps old new (line.Out port value) cause stops = absurd stops
 stops_steps old new (line.Wait steps) cause stops = absurd stops
 stops_steps old new line.Irq cause stops = absurd stops
 
-lines_reach : (old new : World) (asked_for : List PortLine) (course : List Taken) (ended : Status) → PlaysLines old asked_for course new ended → Reaches old.bench course new.bench
+lines_reach : (old new : World) (asked_for : List PortLine) (course : List Taken) (ended : Status) → PlaysLines asked_for old course new ended → Reaches old.bench course new.bench
 lines_reach old new asked_for course ended (Played played) = record {
   mid = played.mid;
   run = played.run;
@@ -235,14 +235,14 @@ none_reach : (old new : Bench) (course : List Taken) → course ≡ [] → new �
 none_reach old new course nothing same =
     subst (λ (c : List Taken). Reaches old c new) (sym nothing) (record { mid = old; run = refl; steps = same_steps old new same })
 
-parsed_reach : (old new : World) (parsed : Result (List PortLine) ℕ) (course : List Taken) (ended : Status) → PlaysParsed old parsed course new ended → Reaches old.bench course new.bench
+parsed_reach : (old new : World) (parsed : Result (List PortLine) ℕ) (course : List Taken) (ended : Status) → PlaysParsed parsed old course new ended → Reaches old.bench course new.bench
 parsed_reach old new (Ok asked_for) course ended plays = lines_reach old new asked_for course ended plays
 parsed_reach old new (Err bad) course ended alone = none_reach old.bench new.bench course alone.nothing alone.tells.bench
 
 idle_reach : (old new : World) (course : List Taken) (cause ended : Status) → IsIdle old course new cause ended → Reaches old.bench course new.bench
 idle_reach old new course cause ended idle = none_reach old.bench new.bench course idle.nothing (ap (λ (world : World). world.bench) idle.same)
 
-plays_reach : (old new : World) (name : List ℕ) (course : List Taken) (ended : Status) → Plays old name course new ended → Reaches old.bench course new.bench
+plays_reach : (old new : World) (name : List ℕ) (course : List Taken) (ended : Status) → Plays name old course new ended → Reaches old.bench course new.bench
 plays_reach old new name course ended (There plays) = parsed_reach old new (ports_of plays.text) course ended plays.plays
 plays_reach old new name course ended (Missing absent alone) = none_reach old.bench new.bench course alone.nothing alone.tells.bench
 plays_reach old new name course ended (TooLong longer alone) = none_reach old.bench new.bench course alone.nothing alone.tells.bench
@@ -250,7 +250,7 @@ plays_reach old new name course ended (Faulty idle) = idle_reach old new course 
 plays_reach old new name course ended (Starved idle) = idle_reach old new course _ ended idle
 
 -- what holds of every run
-pub ran : (old new : World) (name : List ℕ) (ended : Status) → ((course : List Taken) × Plays old name course new ended) → RunsPorts old name new ended
+pub ran : (old new : World) (name : List ℕ) (ended : Status) → ((course : List Taken) × Plays name old course new ended) → RunsPorts name old new ended
 ran old new name ended (course, plays) =
     let reached = plays_reach old new name course ended plays in record {
       course = course;
@@ -260,11 +260,11 @@ ran old new name ended (course, plays) =
     }
 
 -- a run that begins with no names
-pub ran_bare : (board : Board) (names : Names) (files : Option Files) (report : Option (List ℕ)) (new : World) (name : List ℕ) (ended : Status) → names ≡ no_names → ((course : List Taken) × Plays (world_with board names files report) name course new ended) → RunsPorts (world_with board no_names files report) name new ended
+pub ran_bare : (board : Board) (names : Names) (files : Option Files) (report : Option (List ℕ)) (new : World) (name : List ℕ) (ended : Status) → names ≡ no_names → ((course : List Taken) × Plays name (world_with board names files report) course new ended) → RunsPorts name (world_with board no_names files report) new ended
 ran_bare board names files report new name ended same plays =
     ran (world_with board no_names files report) new name ended
-    (subst (λ (n : Names). (course : List Taken) × Plays (world_with board n files report) name course new ended) same plays)
+    (subst (λ (n : Names). (course : List Taken) × Plays name (world_with board n files report) course new ended) same plays)
 
 -- nothing was done where memory couldn't be had before the first line
-pub starves : (old : World) (name : List ℕ) → RunsPorts old name old status.NoMemory
+pub starves : (old : World) (name : List ℕ) → RunsPorts name old old status.NoMemory
 starves old name = ran old old name status.NoMemory ([], Starved (record { nothing = refl; same = refl; status = refl }))

@@ -26,8 +26,8 @@ use Rattle.port_commands.specs.Texts.{answer_text}
 
 -- ---- one line more at the end of a course
 
-pub run_more : (old mid : Bench) (course : List Taken) (taken : Taken) → PortRun old course mid → DoesLine mid taken.asked taken.answer taken.after → PortRun old (course ++ taken ∷ []) taken.after
-run_more old mid [] taken run does = (subst (λ (b : Bench). DoesLine b taken.asked taken.answer taken.after) run does, refl)
+pub run_more : (old mid : Bench) (course : List Taken) (taken : Taken) → PortRun old course mid → DoesLine taken.asked mid taken.answer taken.after → PortRun old (course ++ taken ∷ []) taken.after
+run_more old mid [] taken run does = (subst (λ (b : Bench). DoesLine taken.asked b taken.answer taken.after) run does, refl)
 run_more old mid (first ∷ later) taken run does = (run.0, run_more first.after mid later taken run.1 does)
 
 lines_more : (course : List Taken) (taken : Taken) → lines_of (course ++ taken ∷ []) ≡ lines_of course ++ taken.asked ∷ []
@@ -57,11 +57,11 @@ refusal_more (first ∷ later) taken =
 -- ---- runs of lines
 
 -- no line was done
-pub has-run-none : (old : World) → HasRun old [] false old
+pub has-run-none : (old : World) → HasRun [] old false old
 has-run-none old = record { course = []; run = refl; all = refl; report = sym (grown-nothing old.report); is_refused = refl }
 
 -- one line more was done
-has-run-more : (old mid new : World) (before : List PortLine) (asked : PortLine) (refused refusal : Bool) → HasRun old before refused mid → IsRound mid asked refusal new → HasRun old (before ++ asked ∷ []) (refused || refusal) new
+has-run-more : (old mid new : World) (before : List PortLine) (asked : PortLine) (refused refusal : Bool) → HasRun before old refused mid → IsRound asked mid refusal new → HasRun (before ++ asked ∷ []) old (refused || refusal) new
 has-run-more old mid new before asked refused refusal so_far round =
     let taken : Taken = record { asked = asked; answer = round.answer; after = new.bench } in
     record {
@@ -73,10 +73,10 @@ has-run-more old mid new before asked refused refusal so_far round =
     }
 
 -- the lines up to one more were done
-pub has-run-next : (old mid new : World) (asked_for : List PortLine) (i : ℕ) (asked : PortLine) (refused refusal now : Bool) → HasRun old (take i asked_for) refused mid → IsRound mid asked refusal new → i < length asked_for → asked ≡ get_or asked_for i asked → now ≡ (refused || refusal) → HasRun old (take (i + 1) asked_for) now new
+pub has-run-next : (old mid new : World) (asked_for : List PortLine) (i : ℕ) (asked : PortLine) (refused refusal now : Bool) → HasRun (take i asked_for) old refused mid → IsRound asked mid refusal new → i < length asked_for → asked ≡ get_or asked_for i asked → now ≡ (refused || refusal) → HasRun (take (i + 1) asked_for) old now new
 has-run-next old mid new asked_for i asked refused refusal now so_far round within item either =
     let one : take (i + 1) asked_for ≡ take i asked_for ++ asked ∷ [] = take_more asked_for i asked within ∙ ap (λ (r : PortLine). take i asked_for ++ r ∷ []) (sym item) in
-    subst (λ (b : Bool). HasRun old (take (i + 1) asked_for) b new) (sym either) (subst (λ (rs : List PortLine). HasRun old rs (refused || refusal) new) (sym one) (has-run-more old mid new (take i asked_for) asked refused refusal so_far round))
+    subst (λ (b : Bool). HasRun (take (i + 1) asked_for) old b new) (sym either) (subst (λ (rs : List PortLine). HasRun rs old (refused || refusal) new) (sym one) (has-run-more old mid new (take i asked_for) asked refused refusal so_far round))
 
 -- a line, those before it and those after it are all
 parted : (asked_for : List PortLine) (i : ℕ) (asked : PortLine) → i < length asked_for → asked ≡ get_or asked_for i asked → asked_for ≡ take i asked_for ++ asked ∷ drop (suc i) asked_for
@@ -84,7 +84,7 @@ parted asked_for i asked within item =
     sym (take-append-drop i asked_for) ∙ ap (λ (rest : List PortLine). take i asked_for ++ rest) (drop-cons asked_for i asked within ∙ ap (λ (r : PortLine). r ∷ drop (suc i) asked_for) (sym item))
 
 -- a line broke the run off
-pub broken : (old mid new : World) (asked_for : List PortLine) (i : ℕ) (asked : PortLine) (refused : Bool) (ended : Status) → HasRun old (take i asked_for) refused mid → i < length asked_for → asked ≡ get_or asked_for i asked → Breaks mid asked new ended → HasPlayed old asked_for new ended
+pub broken : (old mid new : World) (asked_for : List PortLine) (i : ℕ) (asked : PortLine) (refused : Bool) (ended : Status) → HasRun (take i asked_for) old refused mid → i < length asked_for → asked ≡ get_or asked_for i asked → Breaks asked mid new ended → HasPlayed asked_for old new ended
 broken old mid new asked_for i asked refused ended so_far within item (AtStop cause stops prints) = (
   so_far.course,
   Stopped (record {
@@ -95,7 +95,7 @@ broken old mid new asked_for i asked refused ended so_far within item (AtStop ca
     run = so_far.run;
     all = parted asked_for i asked within item ∙ ap (λ (before : List PortLine). before ++ asked ∷ drop (suc i) asked_for) so_far.all;
     stops = stops;
-    prints = subst (λ (r : Option (List ℕ)). Prints r (stop_text cause) (stop_status cause) new.report ended) so_far.report prints;
+    prints = subst (λ (r : Option (List ℕ)). Prints (stop_text cause) (stop_status cause) r new.report ended) so_far.report prints;
   }),
 )
 broken old mid new asked_for i asked refused ended so_far within item (AtPut said does part fault) =
@@ -117,7 +117,7 @@ broken old mid new asked_for i asked refused ended so_far within item (AtPut sai
     )
 
 -- all lines were done, and then the end came
-pub run-ends : (old mid new : World) (asked_for : List PortLine) (refused : Bool) (ended : Status) → HasRun old asked_for refused mid → new.report ≡ mid.report → EndsAs mid.bench refused new.bench ended → HasPlayed old asked_for new ended
+pub run-ends : (old mid new : World) (asked_for : List PortLine) (refused : Bool) (ended : Status) → HasRun asked_for old refused mid → new.report ≡ mid.report → EndsAs refused mid.bench new.bench ended → HasPlayed asked_for old new ended
 run-ends old mid new asked_for refused ended so_far report (InWhole ends whole) = (
   so_far.course,
   Played (record {
@@ -146,11 +146,11 @@ run-ends old mid new asked_for refused ended so_far report (AtStore cause only s
 -- ---- texts
 
 -- a text that spells lines
-pub parsed_plays : (old new : World) (text : List ℕ) (given read : List PortLine) (ended : Status) → ports_of text ≡ Ok read → given ≡ read → HasPlayed old given new ended → (course : List Taken) × PlaysOrStarves old text course new ended
+pub parsed_plays : (old new : World) (text : List ℕ) (given read : List PortLine) (ended : Status) → ports_of text ≡ Ok read → given ≡ read → HasPlayed given old new ended → (course : List Taken) × PlaysOrStarves text old course new ended
 parsed_plays old new text given read ended spelled same played = (
   played.0,
-  AsParsed (subst (λ (parsed : Result (List PortLine) ℕ). PlaysParsed old parsed played.0 new ended) (sym spelled)
-      (subst (λ (rs : List PortLine). PlaysLines old rs played.0 new ended) same played.1)),
+  AsParsed (subst (λ (parsed : Result (List PortLine) ℕ). PlaysParsed parsed old played.0 new ended) (sym spelled)
+      (subst (λ (rs : List PortLine). PlaysLines rs old played.0 new ended) same played.1)),
 )
 
 -- what a reading answered that found a bad line
@@ -158,14 +158,14 @@ pub read_bad : {A : Type 0} (items : A → List PortLine) (error : JobError) (sa
 read_bad items error said line reads is = subst (λ (e : JobError). ReadsText items (Err e) said) is reads
 
 -- a text with a bad line
-pub unparsed_tells : (old new : World) (text : List ℕ) (line : ℕ) (ended : Status) → ports_of text ≡ Err line → Tells old (bad_line_text line) status.BadJob new ended → (course : List Taken) × PlaysOrStarves old text course new ended
+pub unparsed_tells : (old new : World) (text : List ℕ) (line : ℕ) (ended : Status) → ports_of text ≡ Err line → Tells (bad_line_text line) status.BadJob old new ended → (course : List Taken) × PlaysOrStarves text old course new ended
 unparsed_tells old new text line ended spelled tells = (
   [],
-  AsParsed (subst (λ (parsed : Result (List PortLine) ℕ). PlaysParsed old parsed [] new ended) (sym spelled) (record { nothing = refl; tells = tells })),
+  AsParsed (subst (λ (parsed : Result (List PortLine) ℕ). PlaysParsed parsed old [] new ended) (sym spelled) (record { nothing = refl; tells = tells })),
 )
 
 -- memory for the lines of a text couldn't be had
-pub text_starves : (old : World) (text : List ℕ) → (course : List Taken) × PlaysOrStarves old text course old status.NoMemory
+pub text_starves : (old : World) (text : List ℕ) → (course : List Taken) × PlaysOrStarves text old course old status.NoMemory
 text_starves old text = ([], Starving (record { nothing = refl; same = refl; status = refl }))
 
 -- a loaded text is the told file's
@@ -174,7 +174,7 @@ loaded_text None name bytes loads = tt
 loaded_text (Some files) name bytes loads = subst (λ (found : Option (List ℕ)). IsSomeAnd found (λ b. (b ≡ bytes.items) × (length b ≤ 4194304))) (sym loads.0) (refl, loads.1)
 
 -- a run whose text was read
-as_text : (old new : World) (name text : List ℕ) (course : List Taken) (ended : Status) → IsText old.bench.files name text → PlaysOrStarves old text course new ended → Plays old name course new ended
+as_text : (old new : World) (name text : List ℕ) (course : List Taken) (ended : Status) → IsText old.bench.files name text → PlaysOrStarves text old course new ended → Plays name old course new ended
 as_text old new name text course ended told (AsParsed plays) = There (record { text = text; told = told; plays = plays })
 as_text old new name text course ended told (Starving idle) = Starved idle
 
@@ -184,7 +184,7 @@ abbrev pub world_with : Board → Names → Option Files → Option (List ℕ) �
 world_with board names files report = record { bench = record { board = board; names = names; files = files }; report = report }
 
 -- a run whose text wasn't had
-as_missed : (board : Board) (names : Names) (told : Option Files) (report after : Option (List ℕ)) (name : List ℕ) (error : LoadError) (ended : Status) → IfSome told (λ files. Loads files name 4194304 (Err error)) → Misses error name report after ended → (course : List Taken) × Plays (world_with board names told report) name course (world_with board names told after) ended
+as_missed : (board : Board) (names : Names) (told : Option Files) (report after : Option (List ℕ)) (name : List ℕ) (error : LoadError) (ended : Status) → IfSome told (λ files. Loads files name 4194304 (Err error)) → Misses error name report after ended → (course : List Taken) × Plays name (world_with board names told report) course (world_with board names told after) ended
 as_missed board names None report after name load.Absent ended loads missed = ([], Missing tt (record { nothing = refl; tells = record { bench = refl; prints = missed } }))
 as_missed board names (Some files) report after name load.Absent ended loads missed = ([], Missing loads (record { nothing = refl; tells = record { bench = refl; prints = missed } }))
 as_missed board names None report after name load.TooLong ended loads missed = ([], TooLong tt (record { nothing = refl; tells = record { bench = refl; prints = missed } }))
@@ -193,16 +193,16 @@ as_missed board names told report after name load.Failed ended loads missed = ([
 as_missed board names told report after name load.NoMemory ended loads missed = ([], Starved (record { nothing = refl; same = ap (world_with board names told) missed.0; status = missed.1 }))
 
 -- a file that was loaded, and a text that was played
-pub text_plays : (board : Board) (names : Names) (told loaded : Option Files) (report : Option (List ℕ)) (new : World) (name text : List ℕ) (bytes : Vec ℕ Global) (ended : Status) → loaded ≡ told → text ≡ bytes.items → IfSome told (λ files. Loads files name 4194304 (Ok bytes)) → ((course : List Taken) × PlaysOrStarves (world_with board names loaded report) text course new ended) → (course : List Taken) × Plays (world_with board names told report) name course new ended
+pub text_plays : (board : Board) (names : Names) (told loaded : Option Files) (report : Option (List ℕ)) (new : World) (name text : List ℕ) (bytes : Vec ℕ Global) (ended : Status) → loaded ≡ told → text ≡ bytes.items → IfSome told (λ files. Loads files name 4194304 (Ok bytes)) → ((course : List Taken) × PlaysOrStarves text (world_with board names loaded report) course new ended) → (course : List Taken) × Plays name (world_with board names told report) course new ended
 text_plays board names told loaded report new name text bytes ended stays same loads plays = (
   plays.0,
   as_text (world_with board names told report) new name bytes.items plays.0 ended (loaded_text told name bytes loads)
-      (subst (λ (files : Option Files). PlaysOrStarves (world_with board names files report) bytes.items plays.0 new ended) stays
-      (subst (λ (read : List ℕ). PlaysOrStarves (world_with board names loaded report) read plays.0 new ended) same plays.1)),
+      (subst (λ (files : Option Files). PlaysOrStarves bytes.items (world_with board names files report) plays.0 new ended) stays
+      (subst (λ (read : List ℕ). PlaysOrStarves read (world_with board names loaded report) plays.0 new ended) same plays.1)),
 )
 
 -- a file that wasn't loaded
-pub missed_plays : (board : Board) (names : Names) (told loaded : Option Files) (report after : Option (List ℕ)) (name : List ℕ) (error : LoadError) (ended : Status) → loaded ≡ told → IfSome told (λ files. Loads files name 4194304 (Err error)) → Misses error name report after ended → (course : List Taken) × Plays (world_with board names told report) name course (world_with board names loaded after) ended
+pub missed_plays : (board : Board) (names : Names) (told loaded : Option Files) (report after : Option (List ℕ)) (name : List ℕ) (error : LoadError) (ended : Status) → loaded ≡ told → IfSome told (λ files. Loads files name 4194304 (Err error)) → Misses error name report after ended → (course : List Taken) × Plays name (world_with board names told report) course (world_with board names loaded after) ended
 missed_plays board names told loaded report after name error ended stays loads missed =
-    subst (λ (files : Option Files). (course : List Taken) × Plays (world_with board names told report) name course (world_with board names files after) ended) (sym stays)
+    subst (λ (files : Option Files). (course : List Taken) × Plays name (world_with board names told report) course (world_with board names files after) ended) (sym stays)
     (as_missed board names told report after name error ended loads missed)

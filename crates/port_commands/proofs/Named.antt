@@ -63,7 +63,7 @@ runs_loaded (suc n) old new (between, runs, step) =
     loaded_on old between new (runs_loaded n old between runs)
     (record { first = guarded_loaded between.first.medium new.first.medium guards.first; second = guarded_loaded between.second.medium new.second.medium guards.second })
 
-inputs_loaded : (port value : ℕ) (old new : Board) → Inputs port value old new → KeepsLoaded old new
+inputs_loaded : (port value : ℕ) (old new : Board) → Inputs port old value new → KeepsLoaded old new
 inputs_loaded port value old new inputs =
     let keeps = runs_loaded (next_entry old.bus.gaps) (gapped (read_board port old)) new inputs.gap.runs in
     record { first = keeps.first; second = keeps.second }
@@ -80,7 +80,7 @@ still_named names old new keeps named = record { first = named.first ∙ sym kee
 
 -- ---- each call
 
-pub named_read : (names : Names) (port value : ℕ) (old new : Board) → Inputs port value old new → AreNamed names old → AreNamed names new
+pub named_read : (names : Names) (port value : ℕ) (old new : Board) → Inputs port old value new → AreNamed names old → AreNamed names new
 named_read names port value old new inputs named = still_named names old new (inputs_loaded port value old new inputs) named
 
 pub named_write : (names : Names) (port value : ℕ) (old new : Board) → Outputs port value old new → AreNamed names old → AreNamed names new

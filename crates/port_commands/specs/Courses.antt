@@ -15,7 +15,7 @@ pub record Taken : Type 0 where
 -- the course of a run: its lines were done one after the other
 abbrev pub PortRun : Bench → List Taken → Bench → Type 0
 PortRun old [] new = new ≡ old
-PortRun old (taken ∷ later) new = DoesLine old taken.asked taken.answer taken.after × PortRun taken.after later new
+PortRun old (taken ∷ later) new = DoesLine taken.asked old taken.answer taken.after × PortRun taken.after later new
 
 -- the lines of a course
 abbrev pub lines_of : List Taken → List PortLine
@@ -37,22 +37,22 @@ waits_of [] = 0
 waits_of (taken ∷ later) = waits_in taken.asked + waits_of later
 
 -- a bay without a medium at the end
-pub record IsLeft (old : Bench) (bay : ℕ) (new : Bench) : Type 0 where
+pub record IsLeft (bay : ℕ) (old new : Bench) : Type 0 where
   pub empty : is_loaded old.names bay ≡ false
   pub same : new ≡ old
 
 -- the end of a bay: its medium is stored, if one is in
-pub data EndsBay (old : Bench) (bay : ℕ) (new : Bench) : Type 0 where
-  Stored : is_loaded old.names bay ≡ true → StoresMedium old bay new → EndsBay old bay new
-  Left : IsLeft old bay new → EndsBay old bay new
+pub data EndsBay (bay : ℕ) (old new : Bench) : Type 0 where
+  Stored : is_loaded old.names bay ≡ true → StoresMedium bay old new → EndsBay bay old new
+  Left : IsLeft bay old new → EndsBay bay old new
 
 -- the end of a run: bay 0, then bay 1
 pub record Ends (old new : Bench) : Type 0 where
   pub mid : Bench
-  pub first : EndsBay old 0 mid
-  pub second : EndsBay mid 1 new
+  pub first : EndsBay 0 old mid
+  pub second : EndsBay 1 mid new
 
 -- where the end of a run stopped: at the store of bay 0, or at that of bay 1 after the end of bay 0
 pub data EndStopsAt (old new : Bench) : Type 0 where
-  AtFirst : DropsMedium old 0 new → EndStopsAt old new
-  AtSecond : (mid : Bench) → EndsBay old 0 mid → DropsMedium mid 1 new → EndStopsAt old new
+  AtFirst : DropsMedium 0 old new → EndStopsAt old new
+  AtSecond : (mid : Bench) → EndsBay 0 old mid → DropsMedium 1 mid new → EndStopsAt old new

@@ -26,18 +26,18 @@ abbrev pub GuardsBay : ℕ → Board → Board → Type 0
 GuardsBay bay old new = is_protected (drive_in old bay).medium ≡ true → (drive_in new bay).medium ≡ (drive_in old bay).medium
 
 -- a line leaves the protected media that it doesn't take out
-abbrev pub GuardsLine : Bench → PortLine → Bench → Type 0
-GuardsLine old asked new =
+abbrev pub GuardsLine : PortLine → Bench → Bench → Type 0
+GuardsLine asked old new =
     (bay : ℕ) → bay ≤ 1 → leaves_bay bay asked ≡ true → GuardsBay bay old.board new.board
 
 -- each line of a course does
 abbrev pub GuardsCourse : Bench → List Taken → Type 0
 GuardsCourse old [] = Unit {0}
-GuardsCourse old (taken ∷ later) = GuardsLine old taken.asked taken.after × GuardsCourse taken.after later
+GuardsCourse old (taken ∷ later) = GuardsLine taken.asked old taken.after × GuardsCourse taken.after later
 
 -- how a file of port accesses is run, how many device steps passed at least, and that protected media stayed as they were
-pub record RunsPorts (old : World) (name : List ℕ) (new : World) (ended : Status) : Type 0 where
+pub record RunsPorts (name : List ℕ) (old new : World) (ended : Status) : Type 0 where
   pub course : List Taken
-  pub plays : Plays old name course new ended
+  pub plays : Plays name old course new ended
   pub steps : RoseBy (waits_of course) old.bench.board.bus.steps new.bench.board.bus.steps
   pub media : GuardsCourse old.bench course

@@ -40,36 +40,36 @@ eject_refusal names bay =
     if is_bay bay then (if is_loaded names bay then None else Some reason.Empty) else Some (reason.Driver BadRequest)
 
 -- the image of this name was loaded, and its medium put into the bay
-pub record LoadsMedium (old : Bench) (bay : ℕ) (name : List ℕ) (new : Bench) : Type 0 where
+pub record LoadsMedium (bay : ℕ) (name : List ℕ) (old new : Bench) : Type 0 where
   pub disk : Disk
   pub image : IsImageOf old.files name disk
   pub touches : Touches bay old.board new.board
-  pub drive : Becomes (drive_in old.board bay) (loaded disk (drive_in old.board bay)) (drive_in new.board bay)
+  pub drive : Becomes (loaded disk (drive_in old.board bay)) (drive_in old.board bay) (drive_in new.board bay)
   pub names : new.names ≡ with_bay old.names bay (Some name)
   pub files : new.files ≡ old.files
 
 -- the medium was taken out of the bay
-pub record TakesOut (old : Bench) (bay : ℕ) (new : Bench) : Type 0 where
+pub record TakesOut (bay : ℕ) (old new : Bench) : Type 0 where
   pub touches : Touches bay old.board new.board
-  pub drive : Becomes (drive_in old.board bay) (unloaded (drive_in old.board bay)) (drive_in new.board bay)
+  pub drive : Becomes (unloaded (drive_in old.board bay)) (drive_in old.board bay) (drive_in new.board bay)
   pub names : new.names ≡ with_bay old.names bay None
 
 -- the medium was taken out, and its image stored under its name
-pub record StoresMedium (old : Bench) (bay : ℕ) (new : Bench) : Type 0 where
+pub record StoresMedium (bay : ℕ) (old new : Bench) : Type 0 where
   pub disk : Disk
   pub name : List ℕ
   pub medium : (drive_in old.board bay).medium ≡ Some disk
   pub named : in_bay old.names bay ≡ Some name
-  pub takes : TakesOut old bay new
+  pub takes : TakesOut bay old new
   pub files : new.files ≡ stored old.files name (file_of disk)
 
 -- the medium was taken out, and its image couldn't be stored
-pub record DropsMedium (old : Bench) (bay : ℕ) (new : Bench) : Type 0 where
-  pub takes : TakesOut old bay new
+pub record DropsMedium (bay : ℕ) (old new : Bench) : Type 0 where
+  pub takes : TakesOut bay old new
   pub files : new.files ≡ old.files
 
 -- a line that puts a medium in or takes one out was refused
-pub record IsRefused (old : Bench) (cause : Reason) (said : Answer) (new : Bench) : Type 0 where
+pub record IsRefused (cause : Reason) (old : Bench) (said : Answer) (new : Bench) : Type 0 where
   pub answered : said ≡ answer.Refused cause
   pub same : new ≡ old
 
@@ -77,32 +77,32 @@ pub record IsRefused (old : Bench) (cause : Reason) (said : Answer) (new : Bench
 pub record ReadsPort (port : ℕ) (old : Board) (said : Answer) (new : Board) : Type 0 where
   pub value : ℕ
   pub answered : said ≡ answer.Byte port value
-  pub inputs : Inputs port value old new
+  pub inputs : Inputs port old value new
 
 -- a line is done
-abbrev pub DoesLine : Bench → PortLine → Answer → Bench → Type 0
-DoesLine old (line.In port) said new = ReadsPort port old.board said new.board × KeepsMedia old new
-DoesLine old (line.Out port value) said new =
+abbrev pub DoesLine : PortLine → Bench → Answer → Bench → Type 0
+DoesLine (line.In port) old said new = ReadsPort port old.board said new.board × KeepsMedia old new
+DoesLine (line.Out port value) old said new =
     (said ≡ answer.Nothing) × Outputs port value old.board new.board × KeepsMedia old new
-DoesLine old (line.Wait steps) said new =
+DoesLine (line.Wait steps) old said new =
     (said ≡ answer.Nothing) × Runs steps (stirred old.board) new.board × KeepsMedia old new
-DoesLine old line.Irq said new =
+DoesLine line.Irq old said new =
     (said ≡ answer.Latch (latch_of old.board).is_set) × (new.board ≡ record old.board { bus = irq_taken old.board.bus })
     × KeepsMedia old new
-DoesLine old (line.Insert bay name) said new =
-    MatchOption (insert_refusal old.names bay) ((said ≡ answer.Done) × LoadsMedium old bay name new)
-    (λ cause. IsRefused old cause said new)
-DoesLine old (line.Eject bay) said new =
-    MatchOption (eject_refusal old.names bay) ((said ≡ answer.Done) × StoresMedium old bay new)
-    (λ cause. IsRefused old cause said new)
+DoesLine (line.Insert bay name) old said new =
+    MatchOption (insert_refusal old.names bay) ((said ≡ answer.Done) × LoadsMedium bay name old new)
+    (λ cause. IsRefused cause old said new)
+DoesLine (line.Eject bay) old said new =
+    MatchOption (eject_refusal old.names bay) ((said ≡ answer.Done) × StoresMedium bay old new)
+    (λ cause. IsRefused cause old said new)
 
 -- a line that isn't refused stops the run: an image can't be had, or can't be stored and is dropped
-abbrev pub StopsAt : Bench → PortLine → Stop → Bench → Type 0
-StopsAt old (line.Insert bay name) cause new =
+abbrev pub StopsAt : PortLine → Bench → Stop → Bench → Type 0
+StopsAt (line.Insert bay name) old cause new =
     (insert_refusal old.names bay ≡ None) × StopCause old.files (request.Insert bay name) cause × (new ≡ old)
-StopsAt old (line.Eject bay) cause new =
-    (eject_refusal old.names bay ≡ None) × IsEndStop cause × DropsMedium old bay new
-StopsAt old _ cause new = ⊥
+StopsAt (line.Eject bay) old cause new =
+    (eject_refusal old.names bay ≡ None) × IsEndStop cause × DropsMedium bay old new
+StopsAt _ old cause new = ⊥
 
 -- the answer is a refusal
 abbrev pub is_refusal : Answer → Bool

@@ -33,23 +33,23 @@ world_of state files report machine names shelf out =
 -- ---- one line
 
 -- a line was done and told whole; `refused` says that its answer is a refusal
-pub record IsRound (old : World) (asked : PortLine) (refused : Bool) (new : World) : Type 0 where
+pub record IsRound (asked : PortLine) (old : World) (refused : Bool) (new : World) : Type 0 where
   pub answer : Answer
-  pub does : DoesLine old.bench asked answer new.bench
+  pub does : DoesLine asked old.bench answer new.bench
   pub report : new.report ≡ grown old.report (answer_text asked answer)
   pub is_refused : refused ≡ is_refusal answer
 
 -- a line stopped the run, or its answer couldn't be told whole
-pub data Breaks (old : World) (asked : PortLine) (new : World) (ended : Status) : Type 0 where
-  AtStop : (cause : Stop) → StopsAt old.bench asked cause new.bench
-      → Prints old.report (stop_text cause) (stop_status cause) new.report ended → Breaks old asked new ended
-  AtPut : (said : Answer) → DoesLine old.bench asked said new.bench
-      → GrowsByPart old.report (answer_text asked said) new.report → IsPutFault ended → Breaks old asked new ended
+pub data Breaks (asked : PortLine) (old new : World) (ended : Status) : Type 0 where
+  AtStop : (cause : Stop) → StopsAt asked old.bench cause new.bench
+      → Prints (stop_text cause) (stop_status cause) old.report new.report ended → Breaks asked old new ended
+  AtPut : (said : Answer) → DoesLine asked old.bench said new.bench
+      → GrowsByPart old.report (answer_text asked said) new.report → IsPutFault ended → Breaks asked old new ended
 
 -- ---- all lines
 
 -- some lines were done and told whole
-pub record HasRun (old : World) (lines : List PortLine) (refused : Bool) (new : World) : Type 0 where
+pub record HasRun (lines : List PortLine) (old : World) (refused : Bool) (new : World) : Type 0 where
   pub course : List Taken
   pub run : PortRun old.bench course new.bench
   pub all : lines ≡ lines_of course
@@ -57,7 +57,7 @@ pub record HasRun (old : World) (lines : List PortLine) (refused : Bool) (new : 
   pub is_refused : refused ≡ has_refusal course
 
 -- all lines were done and told, and the media that were left in were stored
-pub record IsPlayed (old : World) (lines : List PortLine) (course : List Taken) (new : World) (ended : Status) : Type 0 where
+pub record IsPlayed (lines : List PortLine) (old : World) (course : List Taken) (new : World) (ended : Status) : Type 0 where
   pub mid : Bench
   pub run : PortRun old.bench course mid
   pub all : lines ≡ lines_of course
@@ -66,24 +66,24 @@ pub record IsPlayed (old : World) (lines : List PortLine) (course : List Taken) 
   pub status : ended ≡ whole_status (has_refusal course)
 
 -- a line stopped the run, after all before it were done and told
-pub record IsStopped (old : World) (lines : List PortLine) (course : List Taken) (new : World) (ended : Status) : Type 0 where
+pub record IsStopped (lines : List PortLine) (old : World) (course : List Taken) (new : World) (ended : Status) : Type 0 where
   pub asked : PortLine
   pub later : List PortLine
   pub mid : Bench
   pub cause : Stop
   pub run : PortRun old.bench course mid
   pub all : lines ≡ lines_of course ++ asked ∷ later
-  pub stops : StopsAt mid asked cause new.bench
-  pub prints : Prints (grown old.report (course_text course)) (stop_text cause) (stop_status cause) new.report ended
+  pub stops : StopsAt asked mid cause new.bench
+  pub prints : Prints (stop_text cause) (stop_status cause) (grown old.report (course_text course)) new.report ended
 
 -- the answer to a line couldn't be told whole, after all before it were done and told
-pub record IsUnfinished (old : World) (lines : List PortLine) (course : List Taken) (new : World) (ended : Status) : Type 0 where
+pub record IsUnfinished (lines : List PortLine) (old : World) (course : List Taken) (new : World) (ended : Status) : Type 0 where
   pub before : List Taken
   pub last : Taken
   pub later : List PortLine
   pub mid : Bench
   pub run : PortRun old.bench before mid
-  pub does : DoesLine mid last.asked last.answer last.after
+  pub does : DoesLine last.asked mid last.answer last.after
   pub after : new.bench ≡ last.after
   pub course_is : course ≡ before ++ last ∷ []
   pub all : lines ≡ lines_of before ++ last.asked ∷ later
@@ -91,7 +91,7 @@ pub record IsUnfinished (old : World) (lines : List PortLine) (course : List Tak
   pub fault : IsPutFault ended
 
 -- all lines were done and told, and the end couldn't store what was left in
-pub record IsEndStopped (old : World) (lines : List PortLine) (course : List Taken) (new : World) (ended : Status) : Type 0 where
+pub record IsEndStopped (lines : List PortLine) (old : World) (course : List Taken) (new : World) (ended : Status) : Type 0 where
   pub mid : Bench
   pub cause : Stop
   pub run : PortRun old.bench course mid
@@ -102,32 +102,32 @@ pub record IsEndStopped (old : World) (lines : List PortLine) (course : List Tak
   pub status : ended ≡ stop_status cause
 
 -- how the lines of a text are played, and the course of their run
-pub data PlaysLines (old : World) (lines : List PortLine) (course : List Taken) (new : World) (ended : Status) : Type 0 where
-  Played : IsPlayed old lines course new ended → PlaysLines old lines course new ended
-  Stopped : IsStopped old lines course new ended → PlaysLines old lines course new ended
-  BrokenOff : IsUnfinished old lines course new ended → PlaysLines old lines course new ended
-  EndStopped : IsEndStopped old lines course new ended → PlaysLines old lines course new ended
+pub data PlaysLines (lines : List PortLine) (old : World) (course : List Taken) (new : World) (ended : Status) : Type 0 where
+  Played : IsPlayed lines old course new ended → PlaysLines lines old course new ended
+  Stopped : IsStopped lines old course new ended → PlaysLines lines old course new ended
+  BrokenOff : IsUnfinished lines old course new ended → PlaysLines lines old course new ended
+  EndStopped : IsEndStopped lines old course new ended → PlaysLines lines old course new ended
 
 -- the lines of a text are played, by some course
-abbrev pub HasPlayed : World → List PortLine → World → Status → Type 0
-HasPlayed old lines new ended = (course : List Taken) × PlaysLines old lines course new ended
+abbrev pub HasPlayed : List PortLine → World → World → Status → Type 0
+HasPlayed lines old new ended = (course : List Taken) × PlaysLines lines old course new ended
 
 -- the end of a run: what was left in was stored, or a stop came at a store
-pub data EndsAs (old : Bench) (refused : Bool) (new : Bench) (ended : Status) : Type 0 where
-  InWhole : Ends old new → ended ≡ whole_status refused → EndsAs old refused new ended
-  AtStore : (cause : Stop) → IsEndStop cause → EndStopsAt old new → ended ≡ stop_status cause → EndsAs old refused new ended
+pub data EndsAs (refused : Bool) (old new : Bench) (ended : Status) : Type 0 where
+  InWhole : Ends old new → ended ≡ whole_status refused → EndsAs refused old new ended
+  AtStore : (cause : Stop) → IsEndStop cause → EndStopsAt old new → ended ≡ stop_status cause → EndsAs refused old new ended
 
 -- ---- the text
 
 -- nothing was done but to print a line
-pub record Tells (old : World) (line : List ℕ) (wanted : Status) (new : World) (ended : Status) : Type 0 where
+pub record Tells (line : List ℕ) (wanted : Status) (old new : World) (ended : Status) : Type 0 where
   pub bench : new.bench ≡ old.bench
-  pub prints : Prints old.report line wanted new.report ended
+  pub prints : Prints line wanted old.report new.report ended
 
 -- no line was done, and a last line told why
-pub record TellsAlone (old : World) (line : List ℕ) (wanted : Status) (course : List Taken) (new : World) (ended : Status) : Type 0 where
+pub record TellsAlone (line : List ℕ) (wanted : Status) (old : World) (course : List Taken) (new : World) (ended : Status) : Type 0 where
   pub nothing : course ≡ []
-  pub tells : Tells old line wanted new ended
+  pub tells : Tells line wanted old new ended
 
 -- nothing was done
 pub record IsIdle (old : World) (course : List Taken) (new : World) (cause ended : Status) : Type 0 where
@@ -136,35 +136,35 @@ pub record IsIdle (old : World) (course : List Taken) (new : World) (cause ended
   pub status : ended ≡ cause
 
 -- a text in the grammar of port accesses has lines, and any other a first bad one
-abbrev pub PlaysParsed : World → Result (List PortLine) ℕ → List Taken → World → Status → Type 0
-PlaysParsed old (Ok lines) course new ended = PlaysLines old lines course new ended
-PlaysParsed old (Err line) course new ended = TellsAlone old (bad_line_text line) status.BadJob course new ended
+abbrev pub PlaysParsed : Result (List PortLine) ℕ → World → List Taken → World → Status → Type 0
+PlaysParsed (Ok lines) old course new ended = PlaysLines lines old course new ended
+PlaysParsed (Err line) old course new ended = TellsAlone (bad_line_text line) status.BadJob old course new ended
 
 -- a text is played as it is parsed, or memory for that couldn't be had
-pub data PlaysOrStarves (old : World) (text : List ℕ) (course : List Taken) (new : World) (ended : Status) : Type 0 where
-  AsParsed : PlaysParsed old (ports_of text) course new ended → PlaysOrStarves old text course new ended
-  Starving : IsIdle old course new status.NoMemory ended → PlaysOrStarves old text course new ended
+pub data PlaysOrStarves (text : List ℕ) (old : World) (course : List Taken) (new : World) (ended : Status) : Type 0 where
+  AsParsed : PlaysParsed (ports_of text) old course new ended → PlaysOrStarves text old course new ended
+  Starving : IsIdle old course new status.NoMemory ended → PlaysOrStarves text old course new ended
 
 -- the text is there, and is played as it is parsed
-pub record PlaysText (old : World) (name : List ℕ) (course : List Taken) (new : World) (ended : Status) : Type 0 where
+pub record PlaysText (name : List ℕ) (old : World) (course : List Taken) (new : World) (ended : Status) : Type 0 where
   pub text : List ℕ
   pub told : IsText old.bench.files name text
-  pub plays : PlaysParsed old (ports_of text) course new ended
+  pub plays : PlaysParsed (ports_of text) old course new ended
 
 -- how a file of port accesses is played: its text is there; no file has its name; the file is too long; the shelf failed;
 -- or memory couldn't be had before the first line
-pub data Plays (old : World) (name : List ℕ) (course : List Taken) (new : World) (ended : Status) : Type 0 where
-  There : PlaysText old name course new ended → Plays old name course new ended
-  Missing : IsAbsent old.bench.files name → TellsAlone old (absent_text name) status.Absent course new ended
-      → Plays old name course new ended
-  TooLong : IsLonger old.bench.files name most_job_bytes → TellsAlone old (bad_line_text 0) status.BadJob course new ended
-      → Plays old name course new ended
-  Faulty : IsIdle old course new status.FileFault ended → Plays old name course new ended
-  Starved : IsIdle old course new status.NoMemory ended → Plays old name course new ended
+pub data Plays (name : List ℕ) (old : World) (course : List Taken) (new : World) (ended : Status) : Type 0 where
+  There : PlaysText name old course new ended → Plays name old course new ended
+  Missing : IsAbsent old.bench.files name → TellsAlone (absent_text name) status.Absent old course new ended
+      → Plays name old course new ended
+  TooLong : IsLonger old.bench.files name most_job_bytes → TellsAlone (bad_line_text 0) status.BadJob old course new ended
+      → Plays name old course new ended
+  Faulty : IsIdle old course new status.FileFault ended → Plays name old course new ended
+  Starved : IsIdle old course new status.NoMemory ended → Plays name old course new ended
 
 -- why a text wasn't had, and what was printed of it
 abbrev pub Misses : LoadError → List ℕ → Option (List ℕ) → Option (List ℕ) → Status → Type 0
-Misses load.Absent name old new ended = Prints old (absent_text name) status.Absent new ended
-Misses load.TooLong name old new ended = Prints old (bad_line_text 0) status.BadJob new ended
+Misses load.Absent name old new ended = Prints (absent_text name) status.Absent old new ended
+Misses load.TooLong name old new ended = Prints (bad_line_text 0) status.BadJob old new ended
 Misses load.Failed name old new ended = (new ≡ old) × (ended ≡ status.FileFault)
 Misses load.NoMemory name old new ended = (new ≡ old) × (ended ≡ status.NoMemory)

@@ -24,10 +24,10 @@ pub(crate) fn do_line<S: Shelf, D: Drive>(
     shelf: &mut S,
 ) -> Result<Answer, Stop>
     requires { AreNamed names.old (board D.state machine.old) }
-    ensures does { IfOk result (λ said. DoesLine (bench_of D.state S.told machine.old names.old shelf.old)
-        line.now said (bench_of D.state S.told machine.new names.new shelf.new)) }
-    ensures stops { IfErr result (λ cause. StopsAt (bench_of D.state S.told machine.old names.old shelf.old)
-        line.now cause (bench_of D.state S.told machine.new names.new shelf.new)) }
+    ensures does { IfOk result (λ said. DoesLine line.now
+        (bench_of D.state S.told machine.old names.old shelf.old) said (bench_of D.state S.told machine.new names.new shelf.new)) }
+    ensures stops { IfErr result (λ cause. StopsAt line.now
+        (bench_of D.state S.told machine.old names.old shelf.old) cause (bench_of D.state S.told machine.new names.new shelf.new)) }
     ensures named { AreNamed names.new (board D.state machine.new) }
     ensures faults { Blames (IsErrOf result Stop.FileFault) (S.fault_count shelf.old)
         (S.fault_count shelf.new) }

@@ -13,7 +13,7 @@ ghost use Rattle.port_commands.specs.Guards.{ChangesWords, GuardsCourse};
 /// each of its own; a protected medium stays as it is. Lines leave the protected media that they don't take out, and the count of
 /// device steps rises by at least what they wait.
 pub fn accesses_guard_media()
-    ensures read { (port value : ℕ) (old new : Board) → Inputs port value old new
+    ensures read { (port value : ℕ) (old new : Board) → Inputs port old value new
         → ChangesWords (next_entry old.bus.gaps) old new }
     ensures write { (port value : ℕ) (old new : Board) → Outputs port value old new
         → ChangesWords (next_entry old.bus.gaps) old new }

@@ -31,10 +31,10 @@ pub(crate) fn insert<S: Shelf, D: Drive>(
     shelf: &mut S,
 ) -> Result<Answer, Stop>
     requires { AreNamed names.old (board D.state machine.old) }
-    ensures does { IfOk result (λ said. DoesLine (bench_of D.state S.told machine.old names.old shelf.old)
-        (line.Insert bay name.now) said (bench_of D.state S.told machine.new names.new shelf.new)) }
-    ensures stops { IfErr result (λ cause. StopsAt (bench_of D.state S.told machine.old names.old shelf.old)
-        (line.Insert bay name.now) cause (bench_of D.state S.told machine.new names.new shelf.new)) }
+    ensures does { IfOk result (λ said. DoesLine (line.Insert bay name.now)
+        (bench_of D.state S.told machine.old names.old shelf.old) said (bench_of D.state S.told machine.new names.new shelf.new)) }
+    ensures stops { IfErr result (λ cause. StopsAt (line.Insert bay name.now)
+        (bench_of D.state S.told machine.old names.old shelf.old) cause (bench_of D.state S.told machine.new names.new shelf.new)) }
     ensures named { AreNamed names.new (board D.state machine.new) }
     ensures faults { Blames (IsErrOf result Stop.FileFault) (S.fault_count shelf.old)
         (S.fault_count shelf.new) }
@@ -63,8 +63,8 @@ fn put_in<D: Drive>(
     requires bay { bay ≤ 1 }
     requires empty { is_loaded_in names.old bay ≡ false }
     ensures touches { Touches bay (board D.state machine.old) (board D.state machine.new) }
-    ensures drive { Becomes (drive_in (board D.state machine.old) bay)
-        (loaded medium (drive_in (board D.state machine.old) bay)) (drive_in (board D.state machine.new) bay) }
+    ensures drive { Becomes (loaded medium (drive_in (board D.state machine.old) bay))
+        (drive_in (board D.state machine.old) bay) (drive_in (board D.state machine.new) bay) }
     ensures names { names.new ≡ with_bay names.old bay (Some name) }
     ensures named { AreNamed names.new (board D.state machine.new) }
 {
@@ -83,10 +83,10 @@ pub(crate) fn eject<S: Shelf, D: Drive>(
     shelf: &mut S,
 ) -> Result<Answer, Stop>
     requires { AreNamed names.old (board D.state machine.old) }
-    ensures does { IfOk result (λ said. DoesLine (bench_of D.state S.told machine.old names.old shelf.old)
-        (line.Eject bay) said (bench_of D.state S.told machine.new names.new shelf.new)) }
-    ensures stops { IfErr result (λ cause. StopsAt (bench_of D.state S.told machine.old names.old shelf.old)
-        (line.Eject bay) cause (bench_of D.state S.told machine.new names.new shelf.new)) }
+    ensures does { IfOk result (λ said. DoesLine (line.Eject bay)
+        (bench_of D.state S.told machine.old names.old shelf.old) said (bench_of D.state S.told machine.new names.new shelf.new)) }
+    ensures stops { IfErr result (λ cause. StopsAt (line.Eject bay)
+        (bench_of D.state S.told machine.old names.old shelf.old) cause (bench_of D.state S.told machine.new names.new shelf.new)) }
     ensures named { AreNamed names.new (board D.state machine.new) }
     ensures faults { Blames (IsErrOf result Stop.FileFault) (S.fault_count shelf.old)
         (S.fault_count shelf.new) }
@@ -112,9 +112,9 @@ fn take_out<S: Shelf, D: Drive>(
     requires named { AreNamed names.old (board D.state machine.old) }
     requires bay { bay ≤ 1 }
     requires loaded { is_loaded_in names.old bay ≡ true }
-    ensures ok { OnOk result (StoresMedium (bench_of D.state S.told machine.old names.old shelf.old) bay
+    ensures ok { OnOk result (StoresMedium bay (bench_of D.state S.told machine.old names.old shelf.old)
         (bench_of D.state S.told machine.new names.new shelf.new)) }
-    ensures err { OnErr result (DropsMedium (bench_of D.state S.told machine.old names.old shelf.old) bay
+    ensures err { OnErr result (DropsMedium bay (bench_of D.state S.told machine.old names.old shelf.old)
         (bench_of D.state S.told machine.new names.new shelf.new)) }
     ensures cause { IfErr result IsEndStop }
     ensures named { AreNamed names.new (board D.state machine.new) }
@@ -136,9 +136,9 @@ fn end_bay<S: Shelf, D: Drive>(
 ) -> Result<(), Stop>
     requires named { AreNamed names.old (board D.state machine.old) }
     requires bay { bay ≤ 1 }
-    ensures ok { OnOk result (EndsBay (bench_of D.state S.told machine.old names.old shelf.old) bay
+    ensures ok { OnOk result (EndsBay bay (bench_of D.state S.told machine.old names.old shelf.old)
         (bench_of D.state S.told machine.new names.new shelf.new)) }
-    ensures err { OnErr result (DropsMedium (bench_of D.state S.told machine.old names.old shelf.old) bay
+    ensures err { OnErr result (DropsMedium bay (bench_of D.state S.told machine.old names.old shelf.old)
         (bench_of D.state S.told machine.new names.new shelf.new)) }
     ensures cause { IfErr result IsEndStop }
     ensures named { AreNamed names.new (board D.state machine.new) }

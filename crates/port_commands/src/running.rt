@@ -35,10 +35,10 @@ fn run_one<S: Shelf, K: Sink, D: Drive>(
 ) -> Result<bool, Status>
     requires { AreNamed names.old (board D.state machine.old) }
     ensures round { IfOk result (λ refused. IsRound
-        (world_of D.state S.told K.told machine.old names.old shelf.old out.old) line.now refused
+        line.now (world_of D.state S.told K.told machine.old names.old shelf.old out.old) refused
         (world_of D.state S.told K.told machine.new names.new shelf.new out.new)) }
     ensures breaks { IfErr result (λ ended. Breaks
-        (world_of D.state S.told K.told machine.old names.old shelf.old out.old) line.now
+        line.now (world_of D.state S.told K.told machine.old names.old shelf.old out.old)
         (world_of D.state S.told K.told machine.new names.new shelf.new out.new) ended) }
     ensures named { AreNamed names.new (board D.state machine.new) }
     ensures is_form { result ≢ Err Status.BadWords }
@@ -82,10 +82,10 @@ fn run_lines<S: Shelf, K: Sink, D: Drive>(
 ) -> Result<bool, Status>
     requires { AreNamed names.old (board D.state machine.old) }
     ensures run { IfOk result (λ refused. HasRun
-        (world_of D.state S.told K.told machine.old names.old shelf.old out.old) lines.now refused
+        lines.now (world_of D.state S.told K.told machine.old names.old shelf.old out.old) refused
         (world_of D.state S.told K.told machine.new names.new shelf.new out.new)) }
     ensures plays { IfErr result (λ ended. HasPlayed
-        (world_of D.state S.told K.told machine.old names.old shelf.old out.old) lines.now
+        lines.now (world_of D.state S.told K.told machine.old names.old shelf.old out.old)
         (world_of D.state S.told K.told machine.new names.new shelf.new out.new) ended) }
     ensures named { AreNamed names.new (board D.state machine.new) }
     ensures is_form { result ≢ Err Status.BadWords }
@@ -113,7 +113,7 @@ fn finish<S: Shelf, D: Drive>(
     refused: bool,
 ) -> Status
     requires { AreNamed names.old (board D.state machine.old) }
-    ensures ends { EndsAs (bench_of D.state S.told machine.old names.old shelf.old) refused
+    ensures ends { EndsAs refused (bench_of D.state S.told machine.old names.old shelf.old)
         (bench_of D.state S.told machine.new names.new shelf.new) result }
     ensures is_form { result ≢ Status.BadWords }
     ensures shelf_faults { Blames (result ≡ Status.FileFault) (S.fault_count shelf.old)
@@ -147,7 +147,7 @@ fn play_lines<S: Shelf, K: Sink, D: Drive>(
 ) -> Status
     requires { AreNamed names.old (board D.state machine.old) }
     ensures plays { HasPlayed
-        (world_of D.state S.told K.told machine.old names.old shelf.old out.old) lines.now
+        lines.now (world_of D.state S.told K.told machine.old names.old shelf.old out.old)
         (world_of D.state S.told K.told machine.new names.new shelf.new out.new) result }
     ensures is_form { result ≢ Status.BadWords }
     ensures shelf_faults { Blames (result ≡ Status.FileFault) (S.fault_count shelf.old)
@@ -172,7 +172,7 @@ fn play_text<S: Shelf, K: Sink, D: Drive>(
 ) -> Status
     requires { AreNamed names.old (board D.state machine.old) }
     ensures plays { (course : List Taken) × PlaysOrStarves
-        (world_of D.state S.told K.told machine.old names.old shelf.old out.old) text.now course
+        text.now (world_of D.state S.told K.told machine.old names.old shelf.old out.old) course
         (world_of D.state S.told K.told machine.new names.new shelf.new out.new) result }
     ensures is_form { result ≢ Status.BadWords }
     ensures shelf_faults { Blames (result ≡ Status.FileFault) (S.fault_count shelf.old)
@@ -213,7 +213,7 @@ pub fn run_ports<S: Shelf, K: Sink, D: Drive>(
 ) -> Status
     requires { IsBare (board D.state machine.old) }
     ensures runs { (names : NamesOfMedia) × RunsPorts
-        (world_of D.state S.told K.told machine.old no_names shelf.old out.old) text_name.now
+        text_name.now (world_of D.state S.told K.told machine.old no_names shelf.old out.old)
         (world_of D.state S.told K.told machine.new names shelf.new out.new) result }
     ensures is_form { result ≢ Status.BadWords }
     ensures shelf_faults { Blames (result ≡ Status.FileFault) (S.fault_count shelf.old)

@@ -84,7 +84,7 @@ stays_failed bytes piece e =
 
 -- ---- all pieces
 
-pub pieces_after : (pieces : List (List ℕ)) (bytes : List ℕ) (old new : Progress) → IsFed bytes old → FeedsAll old pieces new → IsFed (bytes ++ flat_map (λ piece. piece) pieces) new
+pub pieces_after : (pieces : List (List ℕ)) (bytes : List ℕ) (old new : Progress) → IsFed bytes old → FeedsAll pieces old new → IsFed (bytes ++ flat_map (λ piece. piece) pieces) new
 pieces_after [] bytes old new fed same = subst (λ (p : Progress). IsFed (bytes ++ []) p) same (rw (append-nil bytes) fed)
 pieces_after (piece ∷ pieces) bytes old new fed (next, feeds, more) =
     subst (λ (bs : List ℕ). IsFed bs new) (append_assoc bytes piece (flat_map (λ piece. piece) pieces)) (pieces_after pieces (bytes ++ piece) next new (feeds bytes fed) more)

@@ -25,13 +25,13 @@ IsFed bytes (Going h body) =
 IsFed bytes (Failed e) = OrNoMemory e (IsWrong bytes e)
 
 -- whatever was fed before, the piece is fed after it
-abbrev pub Feeds : Progress → List ℕ → Progress → Type 0
-Feeds old piece new = (bytes : List ℕ) → IsFed bytes old → IsFed (bytes ++ piece) new
+abbrev pub Feeds : List ℕ → Progress → Progress → Type 0
+Feeds piece old new = (bytes : List ℕ) → IsFed bytes old → IsFed (bytes ++ piece) new
 
 -- the pieces are fed one after the other
-abbrev pub FeedsAll : Progress → List (List ℕ) → Progress → Type 0
-FeedsAll old [] new = old ≡ new
-FeedsAll old (piece ∷ pieces) new = (next : Progress) × Feeds old piece next × FeedsAll next pieces new
+abbrev pub FeedsAll : List (List ℕ) → Progress → Progress → Type 0
+FeedsAll [] old new = old ≡ new
+FeedsAll (piece ∷ pieces) old new = (next : Progress) × Feeds piece old next × FeedsAll pieces next new
 
 -- no fault has come to light so far
 abbrev pub IsSound : Progress → Type 0

@@ -7,5 +7,5 @@ ghost use Rattle.raw_image.specs.Progress.{Progress, IsFed, FeedsAll};
 /// ends then, `ImageReader::finish` answers what `read_image` answers on the whole.
 pub fn any_pieces()
     ensures { (pieces : List (List ℕ)) (new last : Progress) → IsFed [] new
-        → FeedsAll new pieces last → IsFed (flat_map (λ piece. piece) pieces) last }
+        → FeedsAll pieces new last → IsFed (flat_map (λ piece. piece) pieces) last }
 {}

@@ -51,7 +51,7 @@ impl ImageReader {
     /// Takes the next piece of the file, of any length. After an error this call and `finish` answer the same error for
     /// ever.
     pub fn feed(&mut self, piece: &[u8]) -> Result<(), ImageError>
-        ensures fed { Feeds self.old piece.now self.new }
+        ensures fed { Feeds piece.now self.old self.new }
         ensures ok { OnOk result (IsSound self.new) }
         ensures err { IfErr result (λ e. self.new ≡ Failed e) }
         // However the file goes on, this is what is wrong with it.

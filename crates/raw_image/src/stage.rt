@@ -41,7 +41,7 @@ impl Front {
 
     /// Takes the next bytes of the file.
     fn fed(self, alloc: Global, piece: &[u8]) -> Result<Stage, ImageError>
-        ensures fed { Feeds (Begun self.bytes.items) piece.now (after result) }
+        ensures fed { Feeds piece.now (Begun self.bytes.items) (after result) }
         ensures sound { IfOk result (λ stage. IsSound (progress_of stage)) }
     {
         let mut header = self.bytes;
@@ -120,7 +120,7 @@ impl Stage {
 
     /// Takes the next bytes of the file.
     pub fn fed(self, alloc: Global, piece: &[u8]) -> Result<Stage, ImageError>
-        ensures fed { Feeds (progress_of self) piece.now (after result) }
+        ensures fed { Feeds piece.now (progress_of self) (after result) }
         ensures sound { IfOk result (λ stage. IsSound (progress_of stage)) }
         ensures again { (e : ImageError) → progress_of self ≡ Failed e → result ≡ Err e }
     {

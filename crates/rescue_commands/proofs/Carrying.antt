@@ -111,17 +111,17 @@ quiet asked reply.DoneDeleted fine = refl
 quiet asked (reply.Bytes address content) fine = refl
 quiet asked (reply.Refused cause) fine = absurd (cc)
 
-pub stopped_halted : (task : Task) (tasks : List Task) (asked : Request) (old new : Stage) (cause : Stop) → asked ≡ request_of task → StopsAt old.state old.files asked cause new.state new.files → IsHalted (task ∷ tasks) old (halt.Stopped cause) new
+pub stopped_halted : (task : Task) (tasks : List Task) (asked : Request) (old new : Stage) (cause : Stop) → asked ≡ request_of task → StopsAt asked old.state old.files cause new.state new.files → IsHalted (task ∷ tasks) old (halt.Stopped cause) new
 stopped_halted task tasks asked old new cause is stops = record {
   course = [];
   left = task ∷ tasks;
   mid = old;
   run = (refl, refl);
   follows = refl;
-  halts = (task, tasks, refl, subst (λ (r : Request). StopsAt old.state old.files r cause new.state new.files) is stops);
+  halts = (task, tasks, refl, subst (λ (r : Request). StopsAt r old.state old.files cause new.state new.files) is stops);
 }
 
-pub asked_goes : (asked : Request) (answer : Reply) (result : Result (Unit {0}) Halt) (old new : Stage) → Judges asked answer result → Step old.state old.files asked answer new.state new.files → Goes no_lines (Ask asked ∷ []) old result new
+pub asked_goes : (asked : Request) (answer : Reply) (result : Result (Unit {0}) Halt) (old new : Stage) → Judges asked answer result → Step asked old.state old.files answer new.state new.files → Goes no_lines (Ask asked ∷ []) old result new
 asked_goes asked answer (Ok given) old new fine step = record {
   course = (record { asked = asked; answer = answer; after = new.state }) ∷ [];
   run = (new.files, step, (refl, refl));
@@ -134,7 +134,7 @@ asked_goes asked answer (Err (halt.Refused named cause)) old new judged step = r
   mid = old;
   run = (refl, refl);
   follows = refl;
-  halts = (Ask asked, [], refl, judged.0, refl, subst (λ (r : Request). Step old.state old.files r (reply.Refused cause) new.state new.files) (sym judged.0) (subst (λ (a : Reply). Step old.state old.files asked a new.state new.files) judged.1 step));
+  halts = (Ask asked, [], refl, judged.0, refl, subst (λ (r : Request). Step r old.state old.files (reply.Refused cause) new.state new.files) (sym judged.0) (subst (λ (a : Reply). Step asked old.state old.files a new.state new.files) judged.1 step));
 }
 asked_goes asked answer (Err (halt.Stopped cause)) old new judged step = absurd judged
 asked_goes asked answer (Err halt.Starved) old new judged step = absurd judged

@@ -53,7 +53,7 @@ begun_is : (tasks left same : List Task) (old mid : Stage) (report : Option (Lis
 begun_is tasks left same old mid report course run follows is =
     record { run = run; follows = subst (λ (t : List Task). Follows tasks course t) is follows }
 
-pub halt_told : (tasks : List Task) (old new : Stage) (report after : Option (List ℕ)) (cause : Halt) (ended : Status) (halted : IsHalted tasks old cause new) → TellsHalt report cause after ended → Halts tasks (told_of old report) (course_to halted.course cause new.state) (told_of new after) ended
+pub halt_told : (tasks : List Task) (old new : Stage) (report after : Option (List ℕ)) (cause : Halt) (ended : Status) (halted : IsHalted tasks old cause new) → TellsHalt cause report after ended → Halts tasks (told_of old report) (course_to halted.course cause new.state) (told_of new after) ended
 halt_told tasks old new report after (halt.Refused named cause) ended halted tells =
     AtRefusal (record {
       before = halted.course;
@@ -108,7 +108,7 @@ two_asked asked taken next later is =
 not_refused : (answer : Reply) (cause : Reason) → is_refusal answer ≡ false → answer ≡ reply.Refused cause → ⊥
 not_refused answer cause fine refused = true≢false (sym (ap is_refusal refused) ∙ fine)
 
-inserted : (name : List ℕ) (answer : Reply) (old new : State) (told after : Option Files) → is_refusal answer ≡ false → Step old told (request.Insert 0 name) answer new after → ((disk : Disk) × ((bay_of new.station 0).medium ≡ Some disk)) × (after ≡ told)
+inserted : (name : List ℕ) (answer : Reply) (old new : State) (told after : Option Files) → is_refusal answer ≡ false → Step (request.Insert 0 name) old told answer new after → ((disk : Disk) × ((bay_of new.station 0).medium ≡ Some disk)) × (after ≡ told)
 inserted name answer old new told after fine step =
     by_refusal (refusal_of old (request.Insert 0 name)) step
     (λ does. ((does.2.0, ap (λ (s : StationState). (bay_of s 0).medium) does.2.2.exchanged.becomes), does.1))
@@ -118,7 +118,7 @@ inserted name answer old new told after fine step =
 opened : (name : List ℕ) (old new : Stage) (course : List Taken) → Run old.state old.files course new.state new.files → Follows (open_tasks name) course [] → ((disk : Disk) × ((bay_of new.state.station 0).medium ≡ Some disk)) × (new.files ≡ old.files)
 opened name old new [] run is = absurd (cc)
 opened name old new (taken ∷ []) run is =
-    let step = subst (λ (r : Request). Step old.state old.files r taken.answer taken.after run.0) is.0 run.1 in
+    let step = subst (λ (r : Request). Step r old.state old.files taken.answer taken.after run.0) is.0 run.1 in
     let there = inserted name taken.answer old.state taken.after old.files run.0 (none_more _ _ is.2).0 step in
     ((there.0.0, ap (λ (s : State). (bay_of s.station 0).medium) run.2.0 ∙ there.0.1), run.2.1 ∙ there.1)
 opened name old new (taken ∷ next ∷ later) run is = absurd (two_asked (request.Insert 0 name) taken next later is)
@@ -165,7 +165,7 @@ halts_ties tasks old course new ended (ForMemory p) = ran_ties old.state new.sta
 
 -- ---- The whole rescue.
 
-pub not_opened : (from to log : List ℕ) (old new : Stage) (report after : Option (List ℕ)) (cause : Halt) (ended : Status) → IsHalted (open_tasks from) old cause new → TellsHalt report cause after ended → Runs (Rescues from to log) (told_of old report) (told_of new after) ended
+pub not_opened : (from to log : List ℕ) (old new : Stage) (report after : Option (List ℕ)) (cause : Halt) (ended : Status) → IsHalted (open_tasks from) old cause new → TellsHalt cause report after ended → Runs (Rescues from to log) (told_of old report) (told_of new after) ended
 not_opened from to log old new report after cause ended halted tells =
     let halts = halt_told (open_tasks from) old new report after cause ended halted tells in
     record { course = course_to halted.course cause new.state; does = NotOpened halts; ties = halts_ties (open_tasks from) (told_of old report) _ (told_of new after) ended halts }
@@ -220,7 +220,7 @@ found_carried to log shape found logged keys counted lines listed old mid new en
     (subst (λ (l : List LogLine). StoresLog log l (length (asked_keys shape (lines_found found))) mid.files old.report new.files new.report ended) list
     (subst (λ (k : List Chrn). StoresLog log listed (length k) mid.files old.report new.files new.report ended) (count ∙ same) stores))
 
-pub found_halted : (to log : List ℕ) (shape : Shape) (found : Option (Vec LogLine Global)) (logged : Bool) (keys : List Chrn) (old new : World) (cause : Halt) (ended : Status) → logged ≡ is_some found → keys ≡ asked_keys shape (lines_found found) → IsHalted (rescue_tasks to shape logged keys) (stage_in old) cause (stage_in new) → TellsHalt old.report cause new.report ended → RescuesFound to log shape (lines_found found) old new ended
+pub found_halted : (to log : List ℕ) (shape : Shape) (found : Option (Vec LogLine Global)) (logged : Bool) (keys : List Chrn) (old new : World) (cause : Halt) (ended : Status) → logged ≡ is_some found → keys ≡ asked_keys shape (lines_found found) → IsHalted (rescue_tasks to shape logged keys) (stage_in old) cause (stage_in new) → TellsHalt cause old.report new.report ended → RescuesFound to log shape (lines_found found) old new ended
 found_halted to log shape found logged keys old new cause ended there same halted tells =
     HaltedOut cause (subst (λ (t : List Task). IsHalted t (stage_in old) cause (stage_in new)) (same_tasks to shape found logged keys there same) halted) tells
 

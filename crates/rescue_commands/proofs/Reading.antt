@@ -34,7 +34,7 @@ is_next key (Err code.Seek) = (refl, refl)
 is_next key (Err code.NotReady) = (refl, refl)
 
 -- its write was asked
-pub written_goes : (key : Chrn) (answer : Reply) (asked : Request) (result : Result (Unit {0}) Halt) (old mid new : Stage) → IsNext key answer (next.Write asked) → Goes no_lines (Ask asked ∷ []) mid result new → Step old.state old.files (read_of key) answer mid.state mid.files → Goes no_lines (Rescue key ∷ []) old result new
+pub written_goes : (key : Chrn) (answer : Reply) (asked : Request) (result : Result (Unit {0}) Halt) (old mid new : Stage) → IsNext key answer (next.Write asked) → Goes no_lines (Ask asked ∷ []) mid result new → Step (read_of key) old.state old.files answer mid.state mid.files → Goes no_lines (Rescue key ∷ []) old result new
 written_goes key answer asked (Ok given) old mid new is goes step = record {
   course = (record { asked = read_of key; answer = answer; after = mid.state }) ∷ goes.course;
   run = (mid.files, step, goes.run);
@@ -51,7 +51,7 @@ written_goes key answer asked (Err cause) old mid new is goes step = record {
 }
 
 -- it goes to the log
-pub logged_carries : (key : Chrn) (answer : Reply) (line : LogLine) (old mid : Stage) → IsNext key answer (next.Log line) → Step old.state old.files (read_of key) answer mid.state mid.files → Carries (Rescue key ∷ []) (line ∷ []) old mid
+pub logged_carries : (key : Chrn) (answer : Reply) (line : LogLine) (old mid : Stage) → IsNext key answer (next.Log line) → Step (read_of key) old.state old.files answer mid.state mid.files → Carries (Rescue key ∷ []) (line ∷ []) old mid
 logged_carries key answer line old mid is step = record {
   course = (record { asked = read_of key; answer = answer; after = mid.state }) ∷ [];
   run = (mid.files, step, (refl, refl));
@@ -60,14 +60,14 @@ logged_carries key answer line old mid is step = record {
 }
 
 -- the rescue ends there
-pub ended_halts : (key : Chrn) (answer : Reply) (asked : Request) (cause : Reason) (old mid : Stage) → asked ≡ read_of key → after_answer key answer ≡ None → answer ≡ reply.Refused cause → Step old.state old.files (read_of key) answer mid.state mid.files → IsHalted (Rescue key ∷ []) old (halt.Refused asked cause) mid
+pub ended_halts : (key : Chrn) (answer : Reply) (asked : Request) (cause : Reason) (old mid : Stage) → asked ≡ read_of key → after_answer key answer ≡ None → answer ≡ reply.Refused cause → Step (read_of key) old.state old.files answer mid.state mid.files → IsHalted (Rescue key ∷ []) old (halt.Refused asked cause) mid
 ended_halts key answer asked cause old mid named none is step = record {
   course = [];
   left = Rescue key ∷ [];
   mid = old;
   run = (refl, refl);
   follows = refl;
-  halts = (Rescue key, [], refl, named, sym (ap (after_answer key) is) ∙ none, subst (λ (r : Request). Step old.state old.files r (reply.Refused cause) mid.state mid.files) (sym named) (subst (λ (a : Reply). Step old.state old.files (read_of key) a mid.state mid.files) is step));
+  halts = (Rescue key, [], refl, named, sym (ap (after_answer key) is) ∙ none, subst (λ (r : Request). Step r old.state old.files (reply.Refused cause) mid.state mid.files) (sym named) (subst (λ (a : Reply). Step (read_of key) old.state old.files a mid.state mid.files) is step));
 }
 
 -- ---- One record after the other.

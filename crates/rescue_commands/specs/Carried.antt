@@ -50,10 +50,10 @@ abbrev pub HaltsAt : List Task → Stage → Halt → Stage → Type 0
 HaltsAt left old (halt.Refused named cause) new =
     (task : Task) × (later : List Task) × (left ≡ task ∷ later) × (named ≡ request_of task)
     × (following task (reply.Refused cause) ≡ None)
-    × Step old.state old.files named (reply.Refused cause) new.state new.files
+    × Step named old.state old.files (reply.Refused cause) new.state new.files
 HaltsAt left old (halt.Stopped cause) new =
     (task : Task) × (later : List Task) × (left ≡ task ∷ later)
-    × StopsAt old.state old.files (request_of task) cause new.state new.files
+    × StopsAt (request_of task) old.state old.files cause new.state new.files
 HaltsAt left old halt.Starved new = new ≡ old
 
 -- a part of the tasks was carried out, and then it halted
@@ -97,13 +97,13 @@ IsNextOf key answer (Err cause) = (after_answer key answer ≡ None) × (answer 
 -- what follows the answer to a read was carried out, or halted: whenever the read itself came before
 abbrev pub GoesAfter : Chrn → Reply → Stage → Result (Option LogLine) Halt → Stage → Type 0
 GoesAfter key answer mid result new =
-    (old : Stage) → Step old.state old.files (read_of key) answer mid.state mid.files
+    (old : Stage) → Step (read_of key) old.state old.files answer mid.state mid.files
     → Goes line_of (Rescue key ∷ []) old result new
 
 -- a line was put behind those of a log, or memory for it couldn't be had
-abbrev pub PushesLine : List LogLine → Option LogLine → List LogLine → Result (Unit {0}) Halt → Type 0
-PushesLine old line new (Ok _) = new ≡ old ++ line_of line
-PushesLine old line new (Err cause) = cause ≡ halt.Starved
+abbrev pub PushesLine : Option LogLine → List LogLine → Result (Unit {0}) Halt → List LogLine → Type 0
+PushesLine line old (Ok _) new = new ≡ old ++ line_of line
+PushesLine line old (Err cause) new = cause ≡ halt.Starved
 
 -- the disk of a name was put into bay 0, and has this shape
 pub record Opens (name : List ℕ) (shape : Shape) (old new : Stage) : Type 0 where
@@ -111,7 +111,7 @@ pub record Opens (name : List ℕ) (shape : Shape) (old new : Stage) : Type 0 wh
   pub there : shape_in (bay_of new.state.station 0) ≡ Some shape
 
 -- what is told of a halt
-abbrev pub TellsHalt : Option (List ℕ) → Halt → Option (List ℕ) → Status → Type 0
-TellsHalt old (halt.Refused named cause) new ended = Prints old (stopped_text named cause) status.SomeRefused new ended
-TellsHalt old (halt.Stopped cause) new ended = Prints old (stop_text cause) (stop_status cause) new ended
-TellsHalt old halt.Starved new ended = (new ≡ old) × (ended ≡ status.NoMemory)
+abbrev pub TellsHalt : Halt → Option (List ℕ) → Option (List ℕ) → Status → Type 0
+TellsHalt (halt.Refused named cause) old new ended = Prints (stopped_text named cause) status.SomeRefused old new ended
+TellsHalt (halt.Stopped cause) old new ended = Prints (stop_text cause) (stop_status cause) old new ended
+TellsHalt halt.Starved old new ended = (new ≡ old) × (ended ≡ status.NoMemory)

@@ -44,9 +44,9 @@ pub record IsRefusedAt (tasks : List Task) (old : World) (course : List Taken) (
   pub asked : last.asked ≡ request_of task
   pub answered : last.answer ≡ reply.Refused cause
   pub ends : following task (reply.Refused cause) ≡ None
-  pub step : Step mid files last.asked last.answer last.after new.files
+  pub step : Step last.asked mid files last.answer last.after new.files
   pub after : new.state ≡ last.after
-  pub prints : Prints old.report (stopped_text last.asked cause) status.SomeRefused new.report ended
+  pub prints : Prints (stopped_text last.asked cause) status.SomeRefused old.report new.report ended
 
 -- the request after the course stopped the run
 pub record IsStoppedAt (tasks : List Task) (old : World) (course : List Taken) (new : World) (ended : Status) : Type 0 where
@@ -56,8 +56,8 @@ pub record IsStoppedAt (tasks : List Task) (old : World) (course : List Taken) (
   pub files : Option Files
   pub cause : Stop
   pub begun : IsBegun tasks old course (task ∷ later) mid files
-  pub stops : StopsAt mid files (request_of task) cause new.state new.files
-  pub prints : Prints old.report (stop_text cause) (stop_status cause) new.report ended
+  pub stops : StopsAt (request_of task) mid files cause new.state new.files
+  pub prints : Prints (stop_text cause) (stop_status cause) old.report new.report ended
 
 -- memory couldn't be had behind the course
 pub record IsStarvedAt (tasks : List Task) (old : World) (course : List Taken) (new : World) (ended : Status) : Type 0 where
@@ -83,7 +83,7 @@ last_text outcome = outcome_text outcome ++ codes "\n"
 -- the new log was stored, and the last line tells how many records were written; or it couldn't be stored
 pub data StoresLog (log : List ℕ) (lines : List LogLine) (asked : ℕ) (files : Option Files) (report : Option (List ℕ)) (after : Option Files) (told : Option (List ℕ)) (ended : Status) : Type 0 where
   IsStored : after ≡ stored files log (log_text lines)
-      → Prints report (last_text (outcome_of asked lines)) (outcome_status (outcome_of asked lines)) told ended
+      → Prints (last_text (outcome_of asked lines)) (outcome_status (outcome_of asked lines)) report told ended
       → StoresLog log lines asked files report after told ended
   NotStored : after ≡ files → told ≡ report → IsStoreFault ended → StoresLog log lines asked files report after told ended
 
@@ -100,7 +100,7 @@ bad_log_text line = codes "log line " ++ (decimal line ++ codes " not understood
 
 -- what is told where there is no log to go by
 abbrev pub Misses : NoLog → Option (List ℕ) → Option (List ℕ) → Status → Type 0
-Misses (none.BadLine line) old new ended = Prints old (bad_log_text line) status.BadJob new ended
+Misses (none.BadLine line) old new ended = Prints (bad_log_text line) status.BadJob old new ended
 Misses none.FileFault old new ended = (new ≡ old) × (ended ≡ status.FileFault)
 Misses none.NoMemory old new ended = (new ≡ old) × (ended ≡ status.NoMemory)
 

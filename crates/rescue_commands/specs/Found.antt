@@ -16,7 +16,7 @@ use Rattle.rescue_commands.specs.Commands.{Misses, StoresLog}
 pub data RescuesBy (tasks : List Task) (asked : ℕ) (log : List ℕ) (old new : World) (ended : Status) : Type 0 where
   CarriedOut : (lines : List LogLine) (mid : World) → Carries tasks lines (stage_in old) (stage_in mid) → new.state ≡ mid.state
       → StoresLog log lines asked mid.files old.report new.files new.report ended → RescuesBy tasks asked log old new ended
-  HaltedOut : (cause : Halt) → IsHalted tasks (stage_in old) cause (stage_in new) → TellsHalt old.report cause new.report ended
+  HaltedOut : (cause : Halt) → IsHalted tasks (stage_in old) cause (stage_in new) → TellsHalt cause old.report new.report ended
       → RescuesBy tasks asked log old new ended
 
 abbrev pub RescuesFound : List ℕ → List ℕ → Shape → Option (List LogLine) → World → World → Status → Type 0

@@ -60,7 +60,7 @@ fn unless_refused(request: Request, reply: &Reply) -> Result<(), Halt>
 
 /// Puts the last line of a rescue that was halted, and gives the status.
 pub(crate) fn tell_halt<K: Sink>(alloc: Global, out: &mut K, halt: &Halt) -> Status
-    ensures tells { TellsHalt (K.told out.old) halt.now (K.told out.new) result }
+    ensures tells { TellsHalt halt.now (K.told out.old) (K.told out.new) result }
     ensures is_form { result ≢ Status.BadWords }
     ensures shelf_fault { result ≡ Status.FileFault → halt.now ≡ Halt.Stopped Stop.FileFault }
     ensures sink_faults { Blames (result ≡ Status.SinkFault) (K.fault_count out.old) (K.fault_count out.new) }

@@ -79,7 +79,7 @@ fn rescue_record<S: Shelf, D: Station>(
 
 /// Puts a line behind those of the log, if there is one.
 fn push_line(log: &mut Vec<LogLine>, line: Option<LogLine>) -> Result<(), Halt>
-    ensures { PushesLine log.old.items line log.new.items result }
+    ensures { PushesLine line log.old.items result log.new.items }
 {
     if let Some(line) = line {
         if log.push(line).is_err() {

@@ -39,7 +39,7 @@ pub record BeginsNew (heads : ℕ) (to : List ℕ) (files : Files) (state : Stat
   pub has : HasOther start to files state told
   pub laid : AreLaid heads start
 
-pub begins_new : (from to : List ℕ) (disk : Disk) (files : Files) (old new : State) (after : Option Files) (course : List Taken) → IsImageOf (Some files) from disk → DoesAll old (Some files) (request.Insert 0 from ∷ blank_request 1 to disk.cylinders disk.rate ∷ ready_requests disk.rate (format_each 1 (tracks_of disk.cylinders disk.heads))) course new after → length old.station.memory ≡ user_bytes → IsFaultless 1 old.station.counters new.station.counters → BeginsNew disk.heads to files new after
+pub begins_new : (from to : List ℕ) (disk : Disk) (files : Files) (old new : State) (after : Option Files) (course : List Taken) → IsImageOf (Some files) from disk → DoesAll (request.Insert 0 from ∷ blank_request 1 to disk.cylinders disk.rate ∷ ready_requests disk.rate (format_each 1 (tracks_of disk.cylinders disk.heads))) old (Some files) course new after → length old.station.memory ≡ user_bytes → IsFaultless 1 old.station.counters new.station.counters → BeginsNew disk.heads to files new after
 begins_new from to disk files old new after course image all size faultless =
     let rate = disk.rate in
     let tracks = tracks_of disk.cylinders disk.heads in
@@ -79,7 +79,7 @@ begins_new from to disk files old new after course image all size faultless =
     }
 
 -- that of an earlier run
-pub begins_again : (from to : List ℕ) (disk target : Disk) (files : Files) (old new : State) (after : Option Files) (course : List Taken) → IsImageOf (Some files) from disk → IsImageOf (Some files) to target → IsRegularDisk target → DoesAll old (Some files) (request.Insert 0 from ∷ request.Insert 1 to ∷ ready_requests disk.rate []) course new after → length old.station.memory ≡ user_bytes → HasOther target to files new after
+pub begins_again : (from to : List ℕ) (disk target : Disk) (files : Files) (old new : State) (after : Option Files) (course : List Taken) → IsImageOf (Some files) from disk → IsImageOf (Some files) to target → IsRegularDisk target → DoesAll (request.Insert 0 from ∷ request.Insert 1 to ∷ ready_requests disk.rate []) old (Some files) course new after → length old.station.memory ≡ user_bytes → HasOther target to files new after
 begins_again from to disk target files old new after course image other regular all size =
     let opened = opens_other from to disk files old new after course image all in
     let both = opened.both in

@@ -32,7 +32,7 @@ pub record SplitsAsks (requests : List Request) (rest : List Task) (old : State)
   pub one : List Taken
   pub two : List Taken
   pub is : course ≡ one ++ two
-  pub before : DoesAll old told requests one mid files
+  pub before : DoesAll requests old told one mid files
   pub run : Run mid files two new after
   pub follows : Follows rest two []
 
@@ -81,10 +81,10 @@ pub record KeyWritten (key : Chrn) (rest : List Task) (old : State) (told : Opti
   pub asked : read.asked ≡ read_of key
   pub answered : read.answer ≡ read_reply (Ok deleted)
   pub call : IsDriverCall old told read.after files
-  pub reads : Reads old.station 0 key 0x10000 (Ok deleted) read.after.station
+  pub reads : Reads 0 key 0x10000 old.station (Ok deleted) read.after.station
   pub writes : write.asked ≡ write_of key deleted
   pub done : is_refusal write.answer ≡ false
-  pub stores : Step read.after files (write_of key deleted) write.answer write.after more
+  pub stores : Step (write_of key deleted) read.after files write.answer write.after more
   pub run : Run write.after more later new after
   pub follows : Follows rest later []
 
@@ -97,7 +97,7 @@ pub record KeyLogged (key : Chrn) (rest : List Task) (old : State) (told : Optio
   pub asked : read.asked ≡ read_of key
   pub answered : read.answer ≡ read_reply (Err cause)
   pub call : IsDriverCall old told read.after files
-  pub reads : Reads old.station 0 key 0x10000 (Err cause) read.after.station
+  pub reads : Reads 0 key 0x10000 old.station (Err cause) read.after.station
   pub run : Run read.after files later new after
   pub follows : Follows rest later []
 
@@ -127,7 +127,7 @@ next_of key (Err code.Page) more e = absurd (cc e)
 next_of key (Err code.NotReady) more e = absurd (cc e)
 
 -- the write that followed
-by_write : (key : Chrn) (deleted : Bool) (rest : List Task) (old new : State) (told after files : Option Files) (read : Taken) (later : List Taken) → read.asked ≡ read_of key → read.answer ≡ read_reply (Ok deleted) → IsDriverCall old told read.after files → Reads old.station 0 key 0x10000 (Ok deleted) read.after.station → Run read.after files later new after → Follows (Ask (write_of key deleted) ∷ rest) later [] → TakesKey key rest old told (read ∷ later) new after
+by_write : (key : Chrn) (deleted : Bool) (rest : List Task) (old new : State) (told after files : Option Files) (read : Taken) (later : List Taken) → read.asked ≡ read_of key → read.answer ≡ read_reply (Ok deleted) → IsDriverCall old told read.after files → Reads 0 key 0x10000 old.station (Ok deleted) read.after.station → Run read.after files later new after → Follows (Ask (write_of key deleted) ∷ rest) later [] → TakesKey key rest old told (read ∷ later) new after
 by_write key deleted rest old new told after files read [] asked answered call reads run follows = absurd (cc follows)
 by_write key deleted rest old new told after files read (write ∷ later) asked answered call reads run follows =
     let done = ask_done write.answer follows.1 follows.2 in
@@ -144,12 +144,12 @@ by_write key deleted rest old new told after files read (write ∷ later) asked 
       reads = reads;
       writes = follows.0;
       done = done.0;
-      stores = subst (λ (q : Request). Step read.after files q write.answer write.after run.0) follows.0 run.1;
+      stores = subst (λ (q : Request). Step q read.after files write.answer write.after run.0) follows.0 run.1;
       run = run.2;
       follows = subst (λ (more : List Task). Follows (more ++ rest) later []) done.1 follows.3;
     }) refl
 
-by_called : (key : Chrn) (rest : List Task) (old new : State) (told after files : Option Files) (read : Taken) (later : List Taken) (called : Result Bool Code) (more : List Task) → read.asked ≡ read_of key → read.answer ≡ read_reply called → IsDriverCall old told read.after files → Reads old.station 0 key 0x10000 called read.after.station → Run read.after files later new after → Next key called more → Follows (more ++ rest) later [] → TakesKey key rest old told (read ∷ later) new after
+by_called : (key : Chrn) (rest : List Task) (old new : State) (told after files : Option Files) (read : Taken) (later : List Taken) (called : Result Bool Code) (more : List Task) → read.asked ≡ read_of key → read.answer ≡ read_reply called → IsDriverCall old told read.after files → Reads 0 key 0x10000 old.station called read.after.station → Run read.after files later new after → Next key called more → Follows (more ++ rest) later [] → TakesKey key rest old told (read ∷ later) new after
 by_called key rest old new told after files read later (Ok deleted) more asked answered call reads run next follows =
     by_write key deleted rest old new told after files read later asked answered call reads run (subst (λ (m : List Task). Follows (m ++ rest) later []) next follows)
 by_called key rest old new told after files read later (Err cause) more asked answered call reads run next follows =
@@ -169,7 +169,7 @@ by_called key rest old new told after files read later (Err cause) more asked an
 pub takes_key : (key : Chrn) (rest : List Task) (old new : State) (told after : Option Files) (course : List Taken) → Run old told course new after → Follows (Rescue key ∷ rest) course [] → TakesKey key rest old told course new after
 takes_key key rest old new told after [] run follows = absurd (cc follows)
 takes_key key rest old new told after (taken ∷ later) run follows =
-    let step = subst (λ (q : Request). Step old told q taken.answer taken.after run.0) follows.0 run.1 in
+    let step = subst (λ (q : Request). Step q old told taken.answer taken.after run.0) follows.0 run.1 in
     let called = step.1.0 in
     let is = step.1.1 in
     let more = follows.1 in

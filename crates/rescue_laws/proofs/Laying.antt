@@ -28,7 +28,7 @@ formats_keep [] = refl
 formats_keep (track ∷ later) = formats_keep later
 
 -- the formats leave bay 0 as it is
-pub first_stays : (tracks : List Track) (old new : State) (told after : Option Files) (course : List Taken) → DoesAll old told (format_each 1 tracks) course new after → bay_of new.station 0 ≡ bay_of old.station 0
+pub first_stays : (tracks : List Track) (old new : State) (told after : Option Files) (course : List Taken) → DoesAll (format_each 1 tracks) old told course new after → bay_of new.station 0 ≡ bay_of old.station 0
 first_stays [] old new told after course all = ap (λ (s : State). bay_of s.station 0) (ends_there old new told after course all).0
 first_stays (track ∷ later) old new told after course all =
     let one = begins old new told after (request.Format 1 track.0 track.1) (format_each 1 later) course all in
@@ -46,7 +46,7 @@ pub record LaysTracks (at : Rate) (source : Disk) (tracks : List Track) (disk : 
   pub names : new.names ≡ old.names
   pub files : after ≡ told
 
-pub lays_tracks : (rate : Rate) (source : Disk) (tracks : List Track) (disk : Disk) (old new : State) (told after : Option Files) (course : List Taken) → DoesAll old told (format_each 1 tracks) course new after → ((c h : ℕ) → Among tracks c h → HasTrack disk c h) → IsReady rate source disk old → IsFaultless 1 old.station.counters new.station.counters → LaysTracks rate source tracks disk old told new after
+pub lays_tracks : (rate : Rate) (source : Disk) (tracks : List Track) (disk : Disk) (old new : State) (told after : Option Files) (course : List Taken) → DoesAll (format_each 1 tracks) old told course new after → ((c h : ℕ) → Among tracks c h → HasTrack disk c h) → IsReady rate source disk old → IsFaultless 1 old.station.counters new.station.counters → LaysTracks rate source tracks disk old told new after
 lays_tracks rate source [] disk old new told after course all has ready faultless =
     let same = ends_there old new told after course all in
     record {
@@ -62,7 +62,7 @@ lays_tracks rate source (track ∷ later) disk old new told after course all has
     let g = track.1 in
     let format = request.Format 1 b g in
     let one = begins old new told after format (format_each 1 later) course all in
-    let first : DoesAll old told (format ∷ []) ((record { asked = format; answer = one.answer; after = one.mid }) ∷ []) one.mid one.files = record {
+    let first : DoesAll (format ∷ []) old told ((record { asked = format; answer = one.answer; after = one.mid }) ∷ []) one.mid one.files = record {
       run = (one.files, one.step, (refl, refl));
       all = refl;
       done = (let fine = one.done in rw fine refl);

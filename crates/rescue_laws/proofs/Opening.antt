@@ -77,13 +77,13 @@ rescue_asks from to shape logged keys =
 
 -- ---- the disk that was put in
 
-pub opened_shape : (from : List ℕ) (disk : Disk) (files : Files) (requests : List Request) (old new : State) (after : Option Files) (course : List Taken) (shape : Shape) → IsImageOf (Some files) from disk → DoesAll old (Some files) (request.Insert 0 from ∷ requests) course new after → IsShapePutIn course shape → shape ≡ shape_of disk
+pub opened_shape : (from : List ℕ) (disk : Disk) (files : Files) (requests : List Request) (old new : State) (after : Option Files) (course : List Taken) (shape : Shape) → IsImageOf (Some files) from disk → DoesAll (request.Insert 0 from ∷ requests) old (Some files) course new after → IsShapePutIn course shape → shape ≡ shape_of disk
 opened_shape from disk files requests old new after [] shape image all put = let e = all.all in absurd (cc e)
 opened_shape from disk files requests old new after (taken ∷ later) shape image all put =
     let e = all.all in
     let asked : taken.asked ≡ request.Insert 0 from = cc e in
     let done = (or_false (is_refusal taken.answer) (has_refusal later) all.done).0 in
-    let step = subst (λ (q : Request). Step old (Some files) q taken.answer taken.after all.run.0) asked all.run.1 in
+    let step = subst (λ (q : Request). Step q old (Some files) taken.answer taken.after all.run.0) asked all.run.1 in
     put_shape from disk files old taken.after all.run.0 taken.answer shape image step done (put done)
 
 -- both diskettes are in, and ready
@@ -105,9 +105,9 @@ record IsIn (disk : Disk) (files : Files) (rest : List Request) (old new : State
   pub memory : mid.station.memory ≡ old.station.memory
   pub same_files : mid_files ≡ Some files
   pub fell : NeverFell old.station.counters mid.station.counters
-  pub behind : DoesAll mid mid_files rest course new after
+  pub behind : DoesAll rest mid mid_files course new after
 
-is_in : (from : List ℕ) (disk : Disk) (files : Files) (rest : List Request) (old new : State) (after : Option Files) (course : List Taken) → IsImageOf (Some files) from disk → DoesAll old (Some files) (request.Insert 0 from ∷ rest) course new after → IsIn disk files rest old new after
+is_in : (from : List ℕ) (disk : Disk) (files : Files) (rest : List Request) (old new : State) (after : Option Files) (course : List Taken) → IsImageOf (Some files) from disk → DoesAll (request.Insert 0 from ∷ rest) old (Some files) course new after → IsIn disk files rest old new after
 is_in from disk files rest old new after course image all =
     let one = begins old new (Some files) after (request.Insert 0 from) rest course all in
     let put = one.does.2 in
@@ -128,7 +128,7 @@ pub record OpensBlank (disk : Disk) (to : List ℕ) (files : Files) (formats : L
   pub valid : IsDisk (blank_of disk.cylinders disk.rate)
   pub both : AreOpen disk (blank_of disk.cylinders disk.rate) to files formats old new after
 
-pub opens_blank : (from to : List ℕ) (disk : Disk) (files : Files) (formats : List Request) (old new : State) (after : Option Files) (course : List Taken) → IsImageOf (Some files) from disk → DoesAll old (Some files) (request.Insert 0 from ∷ blank_request 1 to disk.cylinders disk.rate ∷ ready_requests disk.rate formats) course new after → OpensBlank disk to files formats old new after
+pub opens_blank : (from to : List ℕ) (disk : Disk) (files : Files) (formats : List Request) (old new : State) (after : Option Files) (course : List Taken) → IsImageOf (Some files) from disk → DoesAll (request.Insert 0 from ∷ blank_request 1 to disk.cylinders disk.rate ∷ ready_requests disk.rate formats) old (Some files) course new after → OpensBlank disk to files formats old new after
 opens_blank from to disk files formats old new after course image all =
     let rate = disk.rate in
     let count = disk.cylinders in
@@ -158,7 +158,7 @@ pub record OpensOther (disk : Disk) (to : List ℕ) (files : Files) (old new : S
   pub image : IsImageOf (Some files) to target
   pub both : AreOpen disk target to files [] old new after
 
-pub opens_other : (from to : List ℕ) (disk : Disk) (files : Files) (old new : State) (after : Option Files) (course : List Taken) → IsImageOf (Some files) from disk → DoesAll old (Some files) (request.Insert 0 from ∷ request.Insert 1 to ∷ ready_requests disk.rate []) course new after → OpensOther disk to files old new after
+pub opens_other : (from to : List ℕ) (disk : Disk) (files : Files) (old new : State) (after : Option Files) (course : List Taken) → IsImageOf (Some files) from disk → DoesAll (request.Insert 0 from ∷ request.Insert 1 to ∷ ready_requests disk.rate []) old (Some files) course new after → OpensOther disk to files old new after
 opens_other from to disk files old new after course image all =
     let next = ready_requests disk.rate [] in
     let one = is_in from disk files (request.Insert 1 to ∷ next) old new after course image all in

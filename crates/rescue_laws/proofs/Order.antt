@@ -44,7 +44,7 @@ abbrev pub stores_none : Request → Bool
 stores_none (request.Eject bay) = false
 stores_none _ = true
 
-none_stored : (old new : State) (told after : Option Files) (asked : Request) (answer : Reply) → Does old told asked answer new after → stores_none asked ≡ true → after ≡ told
+none_stored : (old new : State) (told after : Option Files) (asked : Request) (answer : Reply) → Does asked old told answer new after → stores_none asked ≡ true → after ≡ told
 none_stored old new told after (request.Insert bay name) answer does e = does.1
 none_stored old new told after (request.Blank bay name cylinders) answer does e = does.1
 none_stored old new told after (request.BlankDd bay name cylinders) answer does e = does.1
@@ -60,12 +60,12 @@ none_stored old new told after (request.Unit bay) answer does e = does.1
 none_stored old new told after (request.SetRate bay rate) answer does e = does.0.files
 none_stored old new told after (request.Tries tries) answer does e = does.0.files
 
-step_stores : (old new : State) (told after : Option Files) (asked : Request) (answer : Reply) → Step old told asked answer new after → stores_none asked ≡ true → after ≡ told
+step_stores : (old new : State) (told after : Option Files) (asked : Request) (answer : Reply) → Step asked old told answer new after → stores_none asked ≡ true → after ≡ told
 step_stores old new told after asked answer step none =
     either (refusal_of old asked) step (λ does. none_stored old new told after asked answer does none) (λ cause refused. refused.files)
 
 -- nor does a refused request
-refused_stored : (old new : State) (told after : Option Files) (asked : Request) (cause : Reason) → Does old told asked (reply.Refused cause) new after → after ≡ told
+refused_stored : (old new : State) (told after : Option Files) (asked : Request) (cause : Reason) → Does asked old told (reply.Refused cause) new after → after ≡ told
 refused_stored old new told after (request.Eject bay) cause does = absurd (cc does.0)
 refused_stored old new told after (request.Insert bay name) cause does = does.1
 refused_stored old new told after (request.Blank bay name cylinders) cause does = does.1
@@ -81,7 +81,7 @@ refused_stored old new told after (request.Unit bay) cause does = does.1
 refused_stored old new told after (request.SetRate bay rate) cause does = does.0.files
 refused_stored old new told after (request.Tries tries) cause does = does.0.files
 
-refused_stores : (old new : State) (told after : Option Files) (asked : Request) (cause : Reason) → Step old told asked (reply.Refused cause) new after → after ≡ told
+refused_stores : (old new : State) (told after : Option Files) (asked : Request) (cause : Reason) → Step asked old told (reply.Refused cause) new after → after ≡ told
 refused_stores old new told after asked cause step =
     either (refusal_of old asked) step (λ does. refused_stored old new told after asked cause does) (λ reason refused. refused.files)
 
@@ -137,7 +137,7 @@ write_call : (key : Chrn) (deleted : Bool) → is_call (write_of key deleted) �
 write_call key true = refl
 write_call key false = refl
 
-call_keeps : (old new : State) (told after : Option Files) (asked : Request) (answer : Reply) → Step old told asked answer new after → is_call asked ≡ true → (new.names ≡ old.names) × (after ≡ told)
+call_keeps : (old new : State) (told after : Option Files) (asked : Request) (answer : Reply) → Step asked old told answer new after → is_call asked ≡ true → (new.names ≡ old.names) × (after ≡ told)
 call_keeps old new told after (request.Ack bay) answer step e = (step.0.names, step.0.files)
 call_keeps old new told after (request.Read bay key address) answer step e = (step.0.names, step.0.files)
 call_keeps old new told after (request.Write bay key address) answer step e = (step.0.names, step.0.files)
@@ -252,7 +252,7 @@ module _ (to log : List ℕ) (before : List Task) (none : list_all task_stores_n
   halts_in_order : ((files : Option Files) (state : State) → Run old.state old.files course state files → Follows (before ++ last_tasks) course [] → StoresDisk to old.files files) → Halts (before ++ last_tasks) old course new ended → StoresInOrder to log (log_of course) old.files new.files
   halts_in_order all (AtRefusal p) =
       let begun = left_over before p.later p.task old.state p.mid old.files p.files p.before none p.begun.run p.begun.follows in
-      let step = subst (λ (r : Reply). Step p.mid p.files p.last.asked r p.last.after new.files) p.answered p.step in
+      let step = subst (λ (r : Reply). Step p.last.asked p.mid p.files r p.last.after new.files) p.answered p.step in
       Nothing (refused_stores p.mid p.last.after p.files new.files p.last.asked p.cause step ∙ begun)
   halts_in_order all (AtStop p) =
       Nothing (p.stops.files ∙ left_over before p.later p.task old.state p.mid old.files p.files course none p.begun.run p.begun.follows)
@@ -263,7 +263,7 @@ module _ (to log : List ℕ) (before : List Task) (none : list_all task_stores_n
       go (next ∷ left) follows = Nothing (left_over before left next old.state new.state old.files new.files course none p.begun.run follows)
 
 -- the name of the other diskette
-second_named : (to : List ℕ) (shape : Shape) (logged : Bool) (old new : State) (told after : Option Files) (answer : Reply) → Step old told (second_request to shape logged) answer new after → is_refusal answer ≡ false → (in_bay new.names 1 ≡ Some to) × (after ≡ told)
+second_named : (to : List ℕ) (shape : Shape) (logged : Bool) (old new : State) (told after : Option Files) (answer : Reply) → Step (second_request to shape logged) old told answer new after → is_refusal answer ≡ false → (in_bay new.names 1 ≡ Some to) × (after ≡ told)
 second_named to shape true old new told after answer step done =
     let does = done_does old new told after (request.Insert 1 to) answer step done in
     (ap (λ (n : Two (Option (List ℕ))). in_bay n 1) does.2.2.names, does.1)
@@ -306,7 +306,7 @@ disk_in_order from to log shape old course new ended (Rescued found there p) = t
 opens_nothing : (from : List ℕ) (old : World) (course : List Taken) (new : World) (ended : Status) → Halts (open_tasks from) old course new ended → new.files ≡ old.files
 opens_nothing from old course new ended (AtRefusal p) =
     let begun = course_stores old.state p.mid old.files p.files p.before p.begun.run (all_followed stores_none (λ key. refl) write_none (open_tasks from) (p.task ∷ p.later) p.before refl p.begun.follows) in
-    let step = subst (λ (r : Reply). Step p.mid p.files p.last.asked r p.last.after new.files) p.answered p.step in
+    let step = subst (λ (r : Reply). Step p.last.asked p.mid p.files r p.last.after new.files) p.answered p.step in
     refused_stores p.mid p.last.after p.files new.files p.last.asked p.cause step ∙ begun
 opens_nothing from old course new ended (AtStop p) =
     p.stops.files ∙ course_stores old.state p.mid old.files p.files course p.begun.run (all_followed stores_none (λ key. refl) write_none (open_tasks from) (p.task ∷ p.later) course refl p.begun.follows)

@@ -33,7 +33,7 @@ pub record ReadKeeps (old new : StationState) : Type 0 where
   pub bays : new.bays ≡ old.bays
   pub size : length new.memory ≡ length old.memory
 
-drive_keeps : (key : Chrn) (old new : StationState) (called : Result Bool Code) → key.n ≡ 2 → length old.memory ≡ user_bytes → ReadsDrive old 0 key 0x10000 called new → ReadKeeps old new
+drive_keeps : (key : Chrn) (old new : StationState) (called : Result Bool Code) → key.n ≡ 2 → length old.memory ≡ user_bytes → ReadsDrive 0 key 0x10000 old called new → ReadKeeps old new
 drive_keeps key old new (Ok deleted) sized size drive =
     let found = drive.found in
     let long : length found.content ≡ 512 = ap length found.whole.content_is ∙ length-bytes_at (track_of found.disk found.cylinder key.h) (found.mark + 64) (content_size key.n) ∙ ap content_size sized in
@@ -46,7 +46,7 @@ drive_keeps key old new (Err code) sized size drive = record {
   size = drive.refused.memory.length;
 }
 
-pub read_keeps : (key : Chrn) (old new : StationState) (called : Result Bool Code) → key.n ≡ 2 → length old.memory ≡ user_bytes → Reads old 0 key 0x10000 called new → ReadKeeps old new
+pub read_keeps : (key : Chrn) (old new : StationState) (called : Result Bool Code) → key.n ≡ 2 → length old.memory ≡ user_bytes → Reads 0 key 0x10000 old called new → ReadKeeps old new
 read_keeps key old new called sized size reads =
     either (read_refusal old 0 key 0x10000) reads (drive_keeps key old new called sized size)
     (λ code refused. record {

@@ -31,9 +31,9 @@ record IsSet (rate : Rate) (old : State) (told : Option Files) (rest : List Requ
   pub names : mid.names ≡ old.names
   pub same_files : files ≡ told
   pub fell : NeverFell old.station.counters mid.station.counters
-  pub behind : DoesAll mid files rest course new after
+  pub behind : DoesAll rest mid files course new after
 
-sets : (rate : Rate) (rest : List Request) (old new : State) (told after : Option Files) (course : List Taken) → DoesAll old told (rate_requests rate 1 ++ rest) course new after → IsSet rate old told rest new after
+sets : (rate : Rate) (rest : List Request) (old new : State) (told after : Option Files) (course : List Taken) → DoesAll (rate_requests rate 1 ++ rest) old told course new after → IsSet rate old told rest new after
 sets R500 rest old new told after course all = record {
   mid = old;
   files = told;
@@ -90,14 +90,14 @@ pub record AreReady (disk target : Disk) (old : State) (told : Option Files) (re
   pub names : mid.names ≡ old.names
   pub same_files : files ≡ told
   pub fell : NeverFell old.station.counters mid.station.counters
-  pub behind : DoesAll mid files rest course new after
+  pub behind : DoesAll rest mid files course new after
 
 -- the requests that make them so
 abbrev pub ready_requests : Rate → List Request → List Request
 ready_requests rate rest =
     request.Ack 0 ∷ (rate_requests rate 0 ++ (request.Ack 1 ∷ (rate_requests rate 1 ++ rest)))
 
-pub makes_ready : (disk target : Disk) (rest : List Request) (old new : State) (told after : Option Files) (course : List Taken) → DoesAll old told (ready_requests disk.rate rest) course new after → (bay_of old.station 0).medium ≡ Some disk → (bay_of old.station 1).medium ≡ Some target → AreReady disk target old told rest new after
+pub makes_ready : (disk target : Disk) (rest : List Request) (old new : State) (told after : Option Files) (course : List Taken) → DoesAll (ready_requests disk.rate rest) old told course new after → (bay_of old.station 0).medium ≡ Some disk → (bay_of old.station 1).medium ≡ Some target → AreReady disk target old told rest new after
 makes_ready disk target rest old new told after course all first second =
     let last = request.Ack 1 ∷ (rate_requests disk.rate 1 ++ rest) in
     let one = begins old new told after (request.Ack 0) (rate_requests disk.rate 0 ++ last) course all in

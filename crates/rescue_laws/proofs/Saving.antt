@@ -75,7 +75,7 @@ pub record GoesToField (disk : Disk) (key : Chrn) (old : StationState) : Type 0 
   pub field : HasField disk key
   pub rate : (bay_of old 1).rate ≡ disk.rate
 
-goes_to_field : (key : Chrn) (address : ℕ) (deleted : Bool) (disk : Disk) (old new : StationState) (called : Result (Unit {0}) Code) → IsRegularDisk disk → WritesDrive (written_from old key address deleted) 1 called old new → IsOk called → IsFaultless 1 old.counters new.counters → (bay_of old 1).medium ≡ Some disk → GoesToField disk key old
+goes_to_field : (key : Chrn) (address : ℕ) (deleted : Bool) (disk : Disk) (old new : StationState) (called : Result (Unit {0}) Code) → IsRegularDisk disk → WritesDrive (written_from old key address deleted) 1 old called new → IsOk called → IsFaultless 1 old.counters new.counters → (bay_of old 1).medium ≡ Some disk → GoesToField disk key old
 goes_to_field key address deleted disk old new called regular drive ok faultless medium =
     let written = written_from old key address deleted in
     let done = drive.done ok in
@@ -103,8 +103,8 @@ module _ (heads : ℕ) (disk next : Disk) (c h : ℕ) (keeps : KeepsTracks disk 
 
 -- ---- the write
 
-pub write_does : (key : Chrn) (deleted : Bool) (old new : State) (told after : Option Files) (answer : Reply) → Step old told (write_of key deleted) answer new after
-    → IsDriverCall old told new after × ((called : Result (Unit {0}) Code) × (answer ≡ reply_of called) × WritesTo old.station 1 key 0x10000 deleted called new.station)
+pub write_does : (key : Chrn) (deleted : Bool) (old new : State) (told after : Option Files) (answer : Reply) → Step (write_of key deleted) old told answer new after
+    → IsDriverCall old told new after × ((called : Result (Unit {0}) Code) × (answer ≡ reply_of called) × WritesTo 1 key 0x10000 deleted old.station called new.station)
 write_does key true old new told after answer step = step
 write_does key false old new told after answer step = step
 
@@ -126,7 +126,7 @@ pub record SavesKey (heads : ℕ) (disk : Disk) (key : Chrn) (deleted : Bool) (o
   pub names : new.names ≡ old.names
   pub files : after ≡ told
 
-module _ (tidy : AllTidy) (heads : ℕ) (disk : Disk) (key : Chrn) (deleted : Bool) (old new : State) (called : Result (Unit {0}) Code) (regular : IsRegularDisk disk) (size : length old.station.memory ≡ user_bytes) (sized : key.n ≡ 2) (head : key.h < heads) (drive : WritesDrive (written_from old.station key 0x10000 deleted) 1 called old.station new.station) (ok : IsOk called) (faultless : IsFaultless 1 old.station.counters new.station.counters) (medium : (bay_of old.station 1).medium ≡ Some disk) where
+module _ (tidy : AllTidy) (heads : ℕ) (disk : Disk) (key : Chrn) (deleted : Bool) (old new : State) (called : Result (Unit {0}) Code) (regular : IsRegularDisk disk) (size : length old.station.memory ≡ user_bytes) (sized : key.n ≡ 2) (head : key.h < heads) (drive : WritesDrive (written_from old.station key 0x10000 deleted) 1 old.station called new.station) (ok : IsOk called) (faultless : IsFaultless 1 old.station.counters new.station.counters) (medium : (bay_of old.station 1).medium ≡ Some disk) where
   abbrev content : List ℕ
   content = bytes_from old.station.memory 0x10000 (content_size key.n)
 
@@ -168,7 +168,7 @@ module _ (tidy : AllTidy) (heads : ℕ) (disk : Disk) (key : Chrn) (deleted : Bo
   guarded_saves told after later call (inr (first, rest)) =
       saves told after later (first disk key.c goes.field.place medium goes.field.has goes.field.address) call (inr rest)
 
-pub saves_key : (tidy : AllTidy) (heads : ℕ) (disk : Disk) (key : Chrn) (deleted : Bool) (old : State) (told : Option Files) (taken : Taken) (after : Option Files) (later : List Taken) → IsRegularDisk disk → length old.station.memory ≡ user_bytes → key.n ≡ 2 → key.h < heads → taken.asked ≡ write_of key deleted → Step old told (write_of key deleted) taken.answer taken.after after → is_refusal taken.answer ≡ false → IsFaultless 1 old.station.counters taken.after.station.counters → (bay_of old.station 1).medium ≡ Some disk → IsGuarded heads disk old (taken ∷ later) → SavesKey heads disk key deleted old told taken.after after later
+pub saves_key : (tidy : AllTidy) (heads : ℕ) (disk : Disk) (key : Chrn) (deleted : Bool) (old : State) (told : Option Files) (taken : Taken) (after : Option Files) (later : List Taken) → IsRegularDisk disk → length old.station.memory ≡ user_bytes → key.n ≡ 2 → key.h < heads → taken.asked ≡ write_of key deleted → Step (write_of key deleted) old told taken.answer taken.after after → is_refusal taken.answer ≡ false → IsFaultless 1 old.station.counters taken.after.station.counters → (bay_of old.station 1).medium ≡ Some disk → IsGuarded heads disk old (taken ∷ later) → SavesKey heads disk key deleted old told taken.after after later
 saves_key tidy heads disk key deleted old told taken after later regular size sized head asked step done faultless medium guarded =
     let call = write_does key deleted old taken.after told after taken.answer step in
     let ok = ok_called call.1.0 taken.answer call.1.1 done in

@@ -163,7 +163,7 @@ module _ (from to log : List ℕ) (disk target : Disk) (files : Files) (old new 
       }
 
   -- with one
-  settles_again : (lines : List LogLine) → IsLogFound (Some files) log (sectors_at disk.rate) (Some lines) → IsTarget files to target old course → SplitsAsks (opening from to (shape_of disk) true) (map Rescue (asked_keys (shape_of disk) (Some lines)) ++ last_tasks) old (Some files) course new after → Settles disk target (Some lines) to files course after
+  settles_again : (lines : List LogLine) → IsLogFound (Some files) log (sectors_at disk.rate) (Some lines) → IsTarget to target files old course → SplitsAsks (opening from to (shape_of disk) true) (map Rescue (asked_keys (shape_of disk) (Some lines)) ++ last_tasks) old (Some files) course new after → Settles disk target (Some lines) to files course after
   settles_again lines there other split =
       let keys = asked_keys (shape_of disk) (Some lines) in
       let plain_requests = opening_plain from to (shape_of disk) true in
@@ -181,6 +181,6 @@ module _ (from to log : List ℕ) (disk target : Disk) (files : Files) (old new 
         count = all_counted keys target to files split.mid new split.files after course split.one split.two split.is plain split.before.done all;
       }
 
-  pub settles : (found : Option (List LogLine)) → IsLogFound (Some files) log (sectors_at disk.rate) found → HasTarget found files to target old course → SplitsAsks (opening from to (shape_of disk) (is_some found)) (map Rescue (asked_keys (shape_of disk) found) ++ last_tasks) old (Some files) course new after → Settles disk target found to files course after
+  pub settles : (found : Option (List LogLine)) → IsLogFound (Some files) log (sectors_at disk.rate) found → HasTarget found to target files old course → SplitsAsks (opening from to (shape_of disk) (is_some found)) (map Rescue (asked_keys (shape_of disk) found) ++ last_tasks) old (Some files) course new after → Settles disk target found to files course after
   settles None there other split = settles_new there split
   settles (Some lines) there other split = settles_again lines there other split

@@ -26,7 +26,7 @@ last_tasks = Ask (request.Eject 1) ∷ []
 -- the records were saved, and the disk stored
 pub record StoresKeys (start : Disk) (keys : List Chrn) (to : List ℕ) (files : Files) (old : State) (told : Option Files) (course : List Taken) (new : State) (after : Option Files) : Type 0 where
   pub saves : SavesKeys start keys last_tasks old told course new after
-  pub ejects : DoesAll saves.mid saves.files (request.Eject 1 ∷ []) saves.two new after
+  pub ejects : DoesAll (request.Eject 1 ∷ []) saves.mid saves.files saves.two new after
   pub stores : after ≡ stored (Some files) to (file_of saves.final)
 
 none_left : (course : List Taken) → Follows [] course [] → course ≡ []
@@ -34,15 +34,15 @@ none_left [] follows = refl
 none_left (taken ∷ later) follows = absurd follows
 
 -- the last request alone
-pub ejects_alone : (old new : State) (told after : Option Files) (course : List Taken) → Run old told course new after → Follows last_tasks course [] → DoesAll old told (request.Eject 1 ∷ []) course new after
+pub ejects_alone : (old new : State) (told after : Option Files) (course : List Taken) → Run old told course new after → Follows last_tasks course [] → DoesAll (request.Eject 1 ∷ []) old told course new after
 ejects_alone old new told after course run follows =
     let split = splits_asks (request.Eject 1 ∷ []) [] old new told after course run follows in
     let none = none_left split.two split.follows in
     let end = subst (λ (row : List Taken). Run split.mid split.files row new after) none split.run in
     let is : course ≡ split.one = split.is ∙ ap (λ (row : List Taken). split.one ++ row) none ∙ append-nil split.one in
-    let here = subst (λ (s : State). DoesAll old told (request.Eject 1 ∷ []) split.one s split.files) (sym end.0) split.before in
-    let told_here = subst (λ (f : Option Files). DoesAll old told (request.Eject 1 ∷ []) split.one new f) (sym end.1) here in
-    subst (λ (row : List Taken). DoesAll old told (request.Eject 1 ∷ []) row new after) (sym is) told_here
+    let here = subst (λ (s : State). DoesAll (request.Eject 1 ∷ []) old told split.one s split.files) (sym end.0) split.before in
+    let told_here = subst (λ (f : Option Files). DoesAll (request.Eject 1 ∷ []) old told split.one new f) (sym end.1) here in
+    subst (λ (row : List Taken). DoesAll (request.Eject 1 ∷ []) old told row new after) (sym is) told_here
 
 pub stores_keys : (heads : ℕ) (keys : List Chrn) (start : Disk) (to : List ℕ) (files : Files) (old new : State) (told after : Option Files) (course : List Taken) → Run old told course new after → Follows (map Rescue keys ++ last_tasks) course [] → HasOther start to files old told → AllByRecursion (CanAsk heads) keys → AreDistinct keys → IsGuarded heads start old course → IsFaultless 1 old.station.counters new.station.counters → StoresKeys start keys to files old told course new after
 stores_keys heads keys start to files old new told after course run follows has cans distinct guarded faultless =

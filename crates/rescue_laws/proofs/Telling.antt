@@ -43,7 +43,7 @@ pub record TellsKey (disk : Disk) (count : ℕ) (key : Chrn) (called : Result Bo
   pub holds : Holds disk count new
 
 -- a standard key
-on_disk : (disk : Disk) (count : ℕ) (key : Chrn) (called : Result Bool Code) (old new : State) (told after : Option Files) → disk.cylinders ≤ 80 → disk.heads ≤ 2 → IsUnmistaken disk → IsAsked disk key → HasTrack disk key.c key.h → IsDriverCall old told new after → Reads old.station 0 key 0x10000 called new.station → Holds disk count old.station → IsUndisturbed 0 old.station.counters new.station.counters → NeverFell old.station.counters new.station.counters → TellsKey disk count key called new.station
+on_disk : (disk : Disk) (count : ℕ) (key : Chrn) (called : Result Bool Code) (old new : State) (told after : Option Files) → disk.cylinders ≤ 80 → disk.heads ≤ 2 → IsUnmistaken disk → IsAsked disk key → HasTrack disk key.c key.h → IsDriverCall old told new after → Reads 0 key 0x10000 old.station called new.station → Holds disk count old.station → IsUndisturbed 0 old.station.counters new.station.counters → NeverFell old.station.counters new.station.counters → TellsKey disk count key called new.station
 on_disk disk count key called old new told after few_cylinders few_heads unmistaken asked has call reads holds quiet fell =
     let standard : IsStandardKey disk key = record { track = has; sector = asked.sector; size = asked.size } in
     let tells = one_read disk count key old new told after (read_reply called) few_cylinders few_heads unmistaken standard (call, (called, refl, reads)) holds quiet fell in
@@ -64,7 +64,7 @@ module _ (disk : Disk) (count : ℕ) (key : Chrn) (asked : IsAsked disk key) (no
   same_faults : faults_of new.counters 0 ≡ count
   same_faults = let first = fell.first in let stalls = fell.stalls in let together = quiet.together in let was = holds.faults in omega arith
 
-  only_mark : (tries : ℕ) (cause : Code) → IsReadCause (met (bay_of old 0) key.c key.h) key tries 0 cause old new → refusal_of_read key (Err cause) ≡ told_of key NoMark
+  only_mark : (tries : ℕ) (cause : Code) → IsReadCause (met (bay_of old 0) key.c key.h) key tries 0 old cause new → refusal_of_read key (Err cause) ≡ told_of key NoMark
   only_mark tries code.NoMark is = refl
   only_mark tries code.NotFound is = absurd (nothing.marks (is.not_found refl quiet).0)
   only_mark tries code.BadCrc is = let bad = is.bad_data refl quiet in absurd (nothing.addresses bad.0 key bad.1)
@@ -76,7 +76,7 @@ module _ (disk : Disk) (count : ℕ) (key : Chrn) (asked : IsAsked disk key) (no
   only_mark tries code.Page is = absurd is.device
   only_mark tries code.NotReady is = absurd is.device
 
-  drive_tells : (called : Result Bool Code) → ReadsDrive old 0 key 0x10000 called new → TellsKey disk count key called new
+  drive_tells : (called : Result Bool Code) → ReadsDrive 0 key 0x10000 old called new → TellsKey disk count key called new
   drive_tells (Ok deleted) drive =
       let is = drive.found in
       let same : is.disk ≡ disk = cc (is.medium, holds.medium) in
@@ -90,12 +90,12 @@ module _ (disk : Disk) (count : ℕ) (key : Chrn) (asked : IsAsked disk key) (no
     holds = holds_on disk count old new holds (bays_stay old new _ drive.refused.becomes) same_faults;
   }
 
-  off_disk : (called : Result Bool Code) → Reads old 0 key 0x10000 called new → TellsKey disk count key called new
+  off_disk : (called : Result Bool Code) → Reads 0 key 0x10000 old called new → TellsKey disk count key called new
   off_disk called reads =
       let free = subst (λ (k : Chrn). read_refusal old 0 k 0x10000 ≡ None) (sym (key_is key asked.size)) (not_refused old key.c key.h key.r count asked.cylinder asked.head asked.sector.0 holds.acknowledged) in
       drive_tells called (reaches _ (read_refusal old 0 key 0x10000) free reads)
 
-pub tells_key : (disk : Disk) (count : ℕ) (key : Chrn) (called : Result Bool Code) (old new : State) (told after : Option Files) → disk.cylinders ≤ 80 → disk.heads ≤ 2 → IsUnmistaken disk → IsAsked disk key → IsDriverCall old told new after → Reads old.station 0 key 0x10000 called new.station → Holds disk count old.station → IsUndisturbed 0 old.station.counters new.station.counters → NeverFell old.station.counters new.station.counters → TellsKey disk count key called new.station
+pub tells_key : (disk : Disk) (count : ℕ) (key : Chrn) (called : Result Bool Code) (old new : State) (told after : Option Files) → disk.cylinders ≤ 80 → disk.heads ≤ 2 → IsUnmistaken disk → IsAsked disk key → IsDriverCall old told new after → Reads 0 key 0x10000 old.station called new.station → Holds disk count old.station → IsUndisturbed 0 old.station.counters new.station.counters → NeverFell old.station.counters new.station.counters → TellsKey disk count key called new.station
 tells_key disk count key called old new told after few_cylinders few_heads unmistaken asked call reads holds quiet fell =
     elim (cases_lt key.c disk.cylinders) [
       | inl cylinder ↦ elim (cases_lt key.h disk.heads) [

@@ -103,7 +103,7 @@ same_outcome course asked count =
     let written : asked - length (log_of course) ≡ count_writes course = omega arith in
     ap (λ (n : ℕ). record { written = n; asked = asked }) written
 
-pub rescue_stores : (from to log : List ℕ) (disk target : Disk) (files : Files) (old : World) (course : List Taken) (new : World) (ended : Status) → Rescues from to log old course new ended → IsEndStatus ended → IsNotStopped course → to ≢ log → old.files ≡ Some files → IsImageOf (Some files) from disk → length old.state.station.memory ≡ user_bytes → IsFaultless 1 old.state.station.counters new.state.station.counters → ((found : Option (List LogLine)) → IsLogFound (Some files) log (sectors_at disk.rate) found → HasTarget found files to target old.state course) → IsRescue disk target to log files old course new ended
+pub rescue_stores : (from to log : List ℕ) (disk target : Disk) (files : Files) (old : World) (course : List Taken) (new : World) (ended : Status) → Rescues from to log old course new ended → IsEndStatus ended → IsNotStopped course → to ≢ log → old.files ≡ Some files → IsImageOf (Some files) from disk → length old.state.station.memory ≡ user_bytes → IsFaultless 1 old.state.station.counters new.state.station.counters → ((found : Option (List LogLine)) → IsLogFound (Some files) log (sectors_at disk.rate) found → HasTarget found to target files old.state course) → IsRescue disk target to log files old course new ended
 rescue_stores from to log disk target files old course new ended rescues whole fine differ told image size faultless other =
     let all = parts from to log disk files old course new ended rescues whole fine told image in
     let found = all.0 in
@@ -145,7 +145,7 @@ record HoldsFirst (disk : Disk) (old mid : State) : Type 0 where
   pub fell : NeverFell old.station.counters mid.station.counters
 
 -- the formats leave bay 0 as it is
-formats_stay : (shape : Shape) (logged : Bool) (old new : State) (told after : Option Files) (course : List Taken) → DoesAll old told (formats_for shape logged) course new after → (bay_of new.station 0 ≡ bay_of old.station 0) × NeverFell old.station.counters new.station.counters
+formats_stay : (shape : Shape) (logged : Bool) (old new : State) (told after : Option Files) (course : List Taken) → DoesAll (formats_for shape logged) old told course new after → (bay_of new.station 0 ≡ bay_of old.station 0) × NeverFell old.station.counters new.station.counters
 formats_stay shape true old new told after course all = (first_stays [] old new told after course all, never_fell old new told after [] course all refl)
 formats_stay shape false old new told after course all =
     let tracks = tracks_of shape.cylinders shape.heads in
@@ -166,7 +166,7 @@ opened_first disk target to files shape logged old mid after both =
           (both_fell old.station.counters both.start.station.counters ready.mid.station.counters both.fell ready.fell) same.1;
     }
 
-holds_first : (from to : List ℕ) (disk : Disk) (found : Option (List LogLine)) (files : Files) (old mid : State) (after : Option Files) (course : List Taken) → IsImageOf (Some files) from disk → DoesAll old (Some files) (opening from to (shape_of disk) (is_some found)) course mid after → HoldsFirst disk old mid
+holds_first : (from to : List ℕ) (disk : Disk) (found : Option (List LogLine)) (files : Files) (old mid : State) (after : Option Files) (course : List Taken) → IsImageOf (Some files) from disk → DoesAll (opening from to (shape_of disk) (is_some found)) old (Some files) course mid after → HoldsFirst disk old mid
 holds_first from to disk None files old mid after course image all =
     let opened = opens_blank from to disk files (format_each 1 (tracks_of disk.cylinders disk.heads)) old mid after course image all in
     opened_first disk _ to files (shape_of disk) false old mid after opened.both

@@ -37,15 +37,15 @@ abbrev pub IsNotStopped : List Taken → Type 0
 IsNotStopped course = (before : List Taken) (last : Taken) → course ≡ before ++ last ∷ [] → is_refusal last.answer ≡ false
 
 -- the other diskette, as it is loaded where there is a log: the image of a regular disk, each write to which is Tidy
-pub record IsTarget (files : Files) (to : List ℕ) (target : Disk) (old : State) (course : List Taken) : Type 0 where
+pub record IsTarget (to : List ℕ) (target : Disk) (files : Files) (old : State) (course : List Taken) : Type 0 where
   pub image : IsImageOf (Some files) to target
   pub regular : IsRegularDisk target
   pub tidy : AreTidy old course
 
 -- where there is a log, the other diskette is such a one
-abbrev pub HasTarget : Option (List LogLine) → Files → List ℕ → Disk → State → List Taken → Type 0
-HasTarget None files to target old course = Unit {0}
-HasTarget (Some lines) files to target old course = IsTarget files to target old course
+abbrev pub HasTarget : Option (List LogLine) → List ℕ → Disk → Files → State → List Taken → Type 0
+HasTarget None to target files old course = Unit {0}
+HasTarget (Some lines) to target files old course = IsTarget to target files old course
 
 -- ---- What became of a record.
 

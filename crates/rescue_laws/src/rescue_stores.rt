@@ -28,6 +28,6 @@ pub fn rescue_settles_each_record(_from: &str, _to: &str, _log: &str)
         → length old.state.station.memory ≡ user_bytes
         → IsFaultless 1 old.state.station.counters new.state.station.counters
         → ((found : Option (List LogLine)) → IsLogFound (Some files) _log.now (sectors_at disk.rate) found
-        → HasTarget found files _to.now target old.state course)
+        → HasTarget found _to.now target files old.state course)
         → IsRescue disk target _to.now _log.now files old course new ended }
 {}

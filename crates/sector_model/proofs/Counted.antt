@@ -15,7 +15,7 @@ not-first bay = grind (arith, nat_tests)
 
 -- counters with a spare in a bay go on
 module _ (old : Counters) (new : Counters) (next : DriveCounts) (direct : old.direct ≤ new.direct) (commands : new.data_commands ≡ old.data_commands) where
-  spare_goes : (bay : ℕ) → TakesSpare old bay new → DriveGoesOn next (in_bay new.drives bay) → GoesOn (with_spare old bay (next ∷ new.spares)) new
+  spare_goes : (bay : ℕ) → TakesSpare bay old new → DriveGoesOn next (in_bay new.drives bay) → GoesOn (with_spare old bay (next ∷ new.spares)) new
   spare_goes zero takes comes = record {
     first = comes;
     second = drive_same old.drives.second new.drives.second takes.other;
@@ -43,7 +43,7 @@ module _ (old : Counters) (new : Counters) (next : DriveCounts) (direct : old.di
       subst (λ (b : Bool). GoesOn (record old { drives = (if b then record old.drives { first = next } else record old.drives { second = next }); spares = new.spares }) new) (sym (not-first bay)) goes
 
 -- where a spare takes the place of a drive, the counters go on from those with the spare in the bay
-pub exchange_goes : (old new : Counters) (bay : ℕ) → TakesSpare old bay new → new.data_commands ≡ old.data_commands → GoesOn (with_spare old bay old.spares) new
+pub exchange_goes : (old new : Counters) (bay : ℕ) → TakesSpare bay old new → new.data_commands ≡ old.data_commands → GoesOn (with_spare old bay old.spares) new
 exchange_goes old new bay takes commands =
     subst (λ (spares : List DriveCounts). GoesOn (with_spare old bay spares) new) (sym takes.spare.1)
     (spare_goes old new takes.spare.0 takes.direct commands bay takes takes.spare.2)

@@ -61,10 +61,10 @@ taken_well : (P : Type 0) (Q : Reason → Type 0) (good : Bool) (next : Option R
 taken_well P Q true next holds none = refl
 taken_well P Q false next holds none = absurd (none (reason.Driver BadRequest) holds)
 
-not_refused : (old : State) (told : Option Files) (cause : Reason) (new : State) (after : Option Files) → IsRefused old told cause reply.Done new after → ⊥
+not_refused : (old : State) (told : Option Files) (cause : Reason) (new : State) (after : Option Files) → IsRefused cause old told reply.Done new after → ⊥
 not_refused old told cause new after refused = let e = refused.answered in absurd (cc)
 
-done_bay : (old : State) (told after : Option Files) (new : State) (bay : ℕ) → Step old told (request.Unit bay) reply.Done new after → bay ≤ 1
+done_bay : (old : State) (told after : Option Files) (new : State) (bay : ℕ) → Step (request.Unit bay) old told reply.Done new after → bay ≤ 1
 done_bay old told after new bay step =
     leb-true bay 1 (taken_well _ _ (is_bay bay) _ step (λ cause refused. not_refused old told cause new after refused))
 
@@ -80,7 +80,7 @@ spare_elsewhere counters (next ∷ later) (suc exchanged) (suc bay) one two apar
     let other = eqb-false (suc exchanged) (suc bay) apart in absurd (other (omega arith))
 
 -- a step that exchanges no drive of the bay finds the one that was there
-entered_same : (old : State) (told after : Option Files) (asked : Request) (answer : Reply) (new : State) (bay : ℕ) → Step old told asked answer new after → bay ≤ 1 → is_exchange_by bay asked answer ≡ false → faults_of (entered_by old.station.counters asked answer) bay ≡ faults_of old.station.counters bay
+entered_same : (old : State) (told after : Option Files) (asked : Request) (answer : Reply) (new : State) (bay : ℕ) → Step asked old told answer new after → bay ≤ 1 → is_exchange_by bay asked answer ≡ false → faults_of (entered_by old.station.counters asked answer) bay ≡ faults_of old.station.counters bay
 entered_same old told after (request.Unit exchanged) reply.Done new bay step one apart =
     spare_elsewhere old.station.counters old.station.counters.spares exchanged bay (done_bay old told after new exchanged step) one apart
 entered_same old told after (request.Unit exchanged) reply.DoneDeleted new bay step one apart = refl
@@ -101,7 +101,7 @@ entered_same old told after (request.SetRate at rate) answer new bay step one ap
 entered_same old told after (request.Tries tries) answer new bay step one apart = refl
 
 -- one step more, before steps of which it holds
-module _ (bay : ℕ) (is : bay ≤ 1) (old : State) (told mid_told : Option Files) (taken : Taken) (later : List Taken) (new : Counters) (count sum : ℕ) (step : Step old told taken.asked taken.answer taken.after mid_told) (within : count + sum ≤ faults_of old.station.counters bay) where
+module _ (bay : ℕ) (is : bay ≤ 1) (old : State) (told mid_told : Option Files) (taken : Taken) (later : List Taken) (new : Counters) (count sum : ℕ) (step : Step taken.asked old told taken.answer taken.after mid_told) (within : count + sum ≤ faults_of old.station.counters bay) where
   rose_in : faults_of (entered old.station.counters taken) bay ≤ faults_of (left_by taken) bay
   rose_in = faults_go_on (entered old.station.counters taken) (left_by taken) bay (step_goes old taken.after told mid_told taken.asked taken.answer step)
 

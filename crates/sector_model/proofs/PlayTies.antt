@@ -65,7 +65,7 @@ up_to_last before last requests later all =
     let run = ap (sum_by accesses_of) (requests_more before last) ∙ sum_by-append accesses_of (requests_of before) (last.asked ∷ []) ∙ ap (λ n. sum_by accesses_of (requests_of before) + n) (sum_by-cons accesses_of last.asked []) in
     omega (arith, one, run)
 
-pub requests_tied : (old new : World) (requests : List Request) (course : List Taken) (ended : Status) → PlaysRequests old requests course new ended → PlayTied (counters_of old) requests course (counters_of new)
+pub requests_tied : (old new : World) (requests : List Request) (course : List Taken) (ended : Status) → PlaysRequests requests old course new ended → PlayTied (counters_of old) requests course (counters_of new)
 requests_tied old new requests course ended (Played p) =
     play_tied old.state p.mid old.files p.files course requests (counters_of new) 2 p.run (ends_goes p.mid new.state p.files new.files p.stored) (ends_tied p.mid new.state p.files new.files p.stored) (to_the_end course requests p.all)
 requests_tied old new requests course ended (Stopped p) =
@@ -83,7 +83,7 @@ pub ran_ties : (old new : State) (told after : Option Files) (course : List Take
 ran_ties old new told after course run = (play_tied old new told after course (requests_of course) new.station.counters 0 run (goes_on_itself _) (tied_none _) (omega arith)).ties
 
 -- a run that a request stopped
-pub stopped_ties : (old mid new : State) (told mid_told after : Option Files) (course : List Taken) (asked : Request) (cause : Stop) → Run old told course mid mid_told → StopsAt mid mid_told asked cause new after → TiesCounts old.station.counters course new.station.counters
+pub stopped_ties : (old mid new : State) (told mid_told after : Option Files) (course : List Taken) (asked : Request) (cause : Stop) → Run old told course mid mid_told → StopsAt asked mid mid_told cause new after → TiesCounts old.station.counters course new.station.counters
 stopped_ties old mid new told mid_told after course asked cause run stops =
     (play_tied old mid told mid_told course (requests_of course ++ asked ∷ []) new.station.counters (accesses_of asked) run (stop_goes mid new mid_told after asked cause stops) (stop_tied mid new mid_told after asked cause stops) (up_to_one course (requests_of course ++ asked ∷ []) [] asked refl)).ties
 
@@ -95,15 +95,15 @@ stays_tied old new requests course nothing same =
     (play_tied old.state old.state old.files old.files [] requests (counters_of old) 0 (refl, refl) (goes_on_itself _) (tied_none _) (omega arith)))
 
 -- a line alone
-pub alone_ties : (old new : World) (line : List ℕ) (wanted : Status) (course : List Taken) (ended : Status) → TellsAlone old line wanted course new ended → TiesCounts (counters_of old) course (counters_of new)
+pub alone_ties : (old new : World) (line : List ℕ) (wanted : Status) (course : List Taken) (ended : Status) → TellsAlone line wanted old course new ended → TiesCounts (counters_of old) course (counters_of new)
 alone_ties old new line wanted course ended alone = (stays_tied old new [] course alone.nothing alone.tells.state).ties
 
-parsed_ties : (old new : World) (parsed : Result (List Request) ℕ) (course : List Taken) (ended : Status) → PlaysParsed old parsed course new ended → TiesCounts (counters_of old) course (counters_of new)
+parsed_ties : (old new : World) (parsed : Result (List Request) ℕ) (course : List Taken) (ended : Status) → PlaysParsed parsed old course new ended → TiesCounts (counters_of old) course (counters_of new)
 parsed_ties old new (Ok requests) course ended plays = (requests_tied old new requests course ended plays).ties
 parsed_ties old new (Err line) course ended alone = (stays_tied old new [] course alone.nothing alone.tells.state).ties
 
 -- a play ties its counts
-pub play_ties : (old new : World) (job : List ℕ) (course : List Taken) (ended : Status) → Plays old job course new ended → TiesCounts (counters_of old) course (counters_of new)
+pub play_ties : (old new : World) (job : List ℕ) (course : List Taken) (ended : Status) → Plays job old course new ended → TiesCounts (counters_of old) course (counters_of new)
 play_ties old new job course ended (There p) = parsed_ties old new (job_of p.text) course ended p.plays
 play_ties old new job course ended (Missing absent alone) = (stays_tied old new [] course alone.nothing alone.tells.state).ties
 play_ties old new job course ended (TooLong longer alone) = (stays_tied old new [] course alone.nothing alone.tells.state).ties
@@ -118,9 +118,9 @@ one_text told job text requests is read =
     sym here.0
 
 -- a play of a job with these requests makes no more accesses than they say
-pub play_accesses : (old new : World) (job : List ℕ) (course : List Taken) (ended : Status) (requests : List Request) → Plays old job course new ended → IsJob old.files job requests → (counters_of new).direct ≤ (counters_of old).direct + accesses_of_job requests
+pub play_accesses : (old new : World) (job : List ℕ) (course : List Taken) (ended : Status) (requests : List Request) → Plays job old course new ended → IsJob old.files job requests → (counters_of new).direct ≤ (counters_of old).direct + accesses_of_job requests
 play_accesses old new job course ended requests (There p) is =
-    (requests_tied old new requests course ended (subst (λ (parsed : Result (List Request) ℕ). PlaysParsed old parsed course new ended) (ap job_of (one_text old.files job p.text requests is p.told) ∙ is.spells) p.plays)).accesses
+    (requests_tied old new requests course ended (subst (λ (parsed : Result (List Request) ℕ). PlaysParsed parsed old course new ended) (ap job_of (one_text old.files job p.text requests is p.told) ∙ is.spells) p.plays)).accesses
 play_accesses old new job course ended requests (Missing absent alone) is = (stays_tied old new requests course alone.nothing alone.tells.state).accesses
 play_accesses old new job course ended requests (TooLong longer alone) is = (stays_tied old new requests course alone.nothing alone.tells.state).accesses
 play_accesses old new job course ended requests (Faulty nothing idle) is = (stays_tied old new requests course nothing (ap (λ (w : World). w.state) idle.same)).accesses

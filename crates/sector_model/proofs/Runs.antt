@@ -8,10 +8,10 @@ use Rattle.sector_model.specs.Steps.{Step}
 use Rattle.sector_model.specs.Texts.{reply_text, is_refusal}
 use Rattle.sector_model.specs.Runs.{Taken, Run, requests_of, course_text, has_refusal}
 
-pub run_more : (old mid : State) (told mid_told after : Option Files) (course : List Taken) (taken : Taken) → Run old told course mid mid_told → Step mid mid_told taken.asked taken.answer taken.after after → Run old told (course ++ taken ∷ []) taken.after after
+pub run_more : (old mid : State) (told mid_told after : Option Files) (course : List Taken) (taken : Taken) → Run old told course mid mid_told → Step taken.asked mid mid_told taken.answer taken.after after → Run old told (course ++ taken ∷ []) taken.after after
 run_more old mid told mid_told after [] taken run step =
-    let here : Step old mid_told taken.asked taken.answer taken.after after = subst (λ (s : State). Step s mid_told taken.asked taken.answer taken.after after) run.0 step in
-    (after, subst (λ (f : Option Files). Step old f taken.asked taken.answer taken.after after) run.1 here, (refl, refl))
+    let here : Step taken.asked old mid_told taken.answer taken.after after = subst (λ (s : State). Step taken.asked s mid_told taken.answer taken.after after) run.0 step in
+    (after, subst (λ (f : Option Files). Step taken.asked old f taken.answer taken.after after) run.1 here, (refl, refl))
 run_more old mid told mid_told after (first ∷ later) taken run step =
     (run.0, run.1, run_more first.after mid run.0 mid_told after later taken run.2 step)
 

@@ -78,19 +78,19 @@ tied_more n m old new more tied = record {
 same_tied : (old new : State) → IsSame old new → Tied 0 old.station.counters new.station.counters
 same_tied old new same = past_tied 0 _ _ same.counts same.idle
 
-changed_tied : (old new : State) (bay : ℕ) (name : Option (List ℕ)) (medium : Option _) → ChangesMedium old bay name medium new → Tied 1 old.station.counters new.station.counters
+changed_tied : (old new : State) (bay : ℕ) (name : Option (List ℕ)) (medium : Option _) → ChangesMedium bay name medium old new → Tied 1 old.station.counters new.station.counters
 changed_tied old new bay name medium changes = past_tied 1 _ _ changes.counts changes.exchanged.access
 
 -- a call of the driver that may be refused at once is the driver's
-called_driven : {A : Type 0} {P : Type 0} (refusal : Option Code) (answer : Result A Code) (most : ℕ) (old new : StationState) → MatchOption refusal P (λ code. IsRefusedAtOnce old code answer new) → (P → IsDriven most old.counters new.counters) → GoesOn old.counters new.counters → Tied 0 old.counters new.counters
+called_driven : {A : Type 0} {P : Type 0} (refusal : Option Code) (answer : Result A Code) (most : ℕ) (old new : StationState) → MatchOption refusal P (λ code. IsRefusedAtOnce code old answer new) → (P → IsDriven most old.counters new.counters) → GoesOn old.counters new.counters → Tied 0 old.counters new.counters
 called_driven refusal answer most old new called reached goes =
     either refusal called (λ p. driven_tied most old.counters new.counters goes (reached p)) (λ code refused. driven_tied 0 old.counters new.counters goes refused.idle)
 
-acks_driven : {P : Type 0} (good : Bool) (old new : StationState) (answer : Result (Unit {0}) Code) (code : Code) → MatchBool good P (IsRefusedAtOnce old code answer new) → (P → IsDriven 6 old.counters new.counters) → GoesOn old.counters new.counters → Tied 0 old.counters new.counters
+acks_driven : {P : Type 0} (good : Bool) (old new : StationState) (answer : Result (Unit {0}) Code) (code : Code) → MatchBool good P (IsRefusedAtOnce code old answer new) → (P → IsDriven 6 old.counters new.counters) → GoesOn old.counters new.counters → Tied 0 old.counters new.counters
 acks_driven true old new answer code called reached goes = driven_tied 6 old.counters new.counters goes (reached called)
 acks_driven false old new answer code called reached goes = driven_tied 0 old.counters new.counters goes called.idle
 
-does_tied : (old new : State) (told after : Option Files) (asked : Request) (answer : Reply) → Does old told asked answer new after → Tied (accesses_of asked) old.station.counters new.station.counters
+does_tied : (old new : State) (told after : Option Files) (asked : Request) (answer : Reply) → Does asked old told answer new after → Tied (accesses_of asked) old.station.counters new.station.counters
 does_tied old new told after (request.Insert bay name) answer does = changed_tied old new bay _ _ does.2.2
 does_tied old new told after (request.Blank bay name cylinders) answer does = changed_tied old new bay _ _ does.2
 does_tied old new told after (request.BlankDd bay name cylinders) answer does = changed_tied old new bay _ _ does.2
@@ -113,7 +113,7 @@ does_tied old new told after (request.SetRate bay rate) answer does = called_dri
 does_tied old new told after (request.Tries tries) answer does = driven_tied 0 _ _ does.0.counts does.2.idle
 
 -- a step
-pub step_tied : (old new : State) (told after : Option Files) (asked : Request) (answer : Reply) → Step old told asked answer new after → Tied (accesses_of asked) old.station.counters new.station.counters
+pub step_tied : (old new : State) (told after : Option Files) (asked : Request) (answer : Reply) → Step asked old told answer new after → Tied (accesses_of asked) old.station.counters new.station.counters
 step_tied old new told after asked answer step =
     either (refusal_of old asked) step (does_tied old new told after asked answer) (λ cause refused. tied_more 0 (accesses_of asked) _ _ (omega arith) (same_tied old new refused.same))
 
@@ -124,7 +124,7 @@ run_tied old new told after (taken ∷ later) run =
     subst (λ (n : ℕ). Tied n old.station.counters new.station.counters) (sym (sum_by-cons accesses_of taken.asked (requests_of later))) (tied_after (accesses_of taken.asked) (sum_by accesses_of (requests_of later)) _ _ _ (step_tied old taken.after told run.0 taken.asked taken.answer run.1) (run_tied taken.after new run.0 after later run.2))
 
 -- what stands after a stop
-stopped_tied : (old new : State) (asked : Request) → AfterStop old asked new → Tied (accesses_of asked) old.station.counters new.station.counters
+stopped_tied : (old new : State) (asked : Request) → AfterStop asked old new → Tied (accesses_of asked) old.station.counters new.station.counters
 stopped_tied old new (request.Eject bay) stopped = changed_tied old new bay _ _ stopped
 stopped_tied old new (request.Insert bay name) stopped = tied_more 0 1 _ _ (omega arith) (same_tied old new stopped)
 stopped_tied old new (request.Blank bay name cylinders) stopped = tied_more 0 1 _ _ (omega arith) (same_tied old new stopped)
@@ -141,10 +141,10 @@ stopped_tied old new (request.SetRate bay rate) stopped = same_tied old new stop
 stopped_tied old new (request.Tries tries) stopped = same_tied old new stopped
 
 -- a request that stopped the run
-pub stop_tied : (old new : State) (told after : Option Files) (asked : Request) (cause : Stop) → StopsAt old told asked cause new after → Tied (accesses_of asked) old.station.counters new.station.counters
+pub stop_tied : (old new : State) (told after : Option Files) (asked : Request) (cause : Stop) → StopsAt asked old told cause new after → Tied (accesses_of asked) old.station.counters new.station.counters
 stop_tied old new told after asked cause stops = stopped_tied old new asked stops.after
 
-bay_tied : (old new : State) (told after : Option Files) (bay : ℕ) → EndsBay old told bay new after → Tied 1 old.station.counters new.station.counters
+bay_tied : (old new : State) (told after : Option Files) (bay : ℕ) → EndsBay bay old told new after → Tied 1 old.station.counters new.station.counters
 bay_tied old new told after bay (Stored stores) = changed_tied old new bay _ _ stores.4
 bay_tied old new told after bay (Left left) = tied_more 0 1 _ _ (omega arith) (same_tied old new left.same)
 
@@ -159,7 +159,7 @@ end_stop_tied old new told after (AtSecond mid ends drops) = tied_after 1 1 _ _ 
 
 -- ---- How counters go on in a step, from the drives that stand in the bays in it.
 
-does_goes : (old new : State) (told after : Option Files) (asked : Request) (answer : Reply) → Does old told asked answer new after → GoesOn (entered_by old.station.counters asked answer) new.station.counters
+does_goes : (old new : State) (told after : Option Files) (asked : Request) (answer : Reply) → Does asked old told answer new after → GoesOn (entered_by old.station.counters asked answer) new.station.counters
 does_goes old new told after (request.Insert bay name) answer does = does.2.2.counts
 does_goes old new told after (request.Blank bay name cylinders) answer does = does.2.counts
 does_goes old new told after (request.BlankDd bay name cylinders) answer does = does.2.counts
@@ -195,7 +195,7 @@ refused_enters counters (request.SetRate bay rate) cause = refl
 refused_enters counters (request.Tries tries) cause = refl
 
 -- a step
-pub step_goes : (old new : State) (told after : Option Files) (asked : Request) (answer : Reply) → Step old told asked answer new after → GoesOn (entered_by old.station.counters asked answer) new.station.counters
+pub step_goes : (old new : State) (told after : Option Files) (asked : Request) (answer : Reply) → Step asked old told answer new after → GoesOn (entered_by old.station.counters asked answer) new.station.counters
 step_goes old new told after asked answer step =
     either (refusal_of old asked) step (does_goes old new told after asked answer)
     (λ cause refused.
@@ -203,7 +203,7 @@ step_goes old new told after asked answer step =
     (subst (λ (c : Counters). GoesOn c new.station.counters) (sym (refused_enters old.station.counters asked cause)) refused.same.counts))
 
 -- what stands after a stop
-stopped_goes : (old new : State) (asked : Request) → AfterStop old asked new → GoesOn old.station.counters new.station.counters
+stopped_goes : (old new : State) (asked : Request) → AfterStop asked old new → GoesOn old.station.counters new.station.counters
 stopped_goes old new (request.Eject bay) stopped = stopped.counts
 stopped_goes old new (request.Insert bay name) stopped = stopped.counts
 stopped_goes old new (request.Blank bay name cylinders) stopped = stopped.counts
@@ -220,10 +220,10 @@ stopped_goes old new (request.SetRate bay rate) stopped = stopped.counts
 stopped_goes old new (request.Tries tries) stopped = stopped.counts
 
 -- a request that stopped the run
-pub stop_goes : (old new : State) (told after : Option Files) (asked : Request) (cause : Stop) → StopsAt old told asked cause new after → GoesOn old.station.counters new.station.counters
+pub stop_goes : (old new : State) (told after : Option Files) (asked : Request) (cause : Stop) → StopsAt asked old told cause new after → GoesOn old.station.counters new.station.counters
 stop_goes old new told after asked cause stops = stopped_goes old new asked stops.after
 
-bay_goes : (old new : State) (told after : Option Files) (bay : ℕ) → EndsBay old told bay new after → GoesOn old.station.counters new.station.counters
+bay_goes : (old new : State) (told after : Option Files) (bay : ℕ) → EndsBay bay old told new after → GoesOn old.station.counters new.station.counters
 bay_goes old new told after bay (Stored stores) = stores.4.counts
 bay_goes old new told after bay (Left left) = left.same.counts
 

@@ -20,7 +20,7 @@ abbrev pub HasNoStart : Disk → Type 0
 HasNoStart disk = (p : ℕ) → IsAddress (track_of disk 0 0) p → ⊥
 
 -- a bay was acknowledged: its drive's count is kept, and its rate comes from the track of cylinder 0 and head 0
-pub record IsAcknowledged (old : StationState) (bay : ℕ) (new : StationState) : Type 0 where
+pub record IsAcknowledged (bay : ℕ) (old new : StationState) : Type 0 where
   pub disk : Disk
   pub rate : Rate
   pub medium : (bay_of old bay).medium ≡ Some disk
@@ -34,40 +34,40 @@ pub record IsAcknowledged (old : StationState) (bay : ℕ) (new : StationState) 
   pub untold : FaultsRoseLess 3 bay old.counters new.counters → HasNoStart disk → rate ≡ R500
 
 -- a bay could not be acknowledged: no medium is in, or its drive lost pulse after pulse
-pub record IsUnready (old : StationState) (bay : ℕ) (code : Code) (new : StationState) : Type 0 where
+pub record IsUnready (bay : ℕ) (old : StationState) (code : Code) (new : StationState) : Type 0 where
   pub unready : code ≡ NotReady
   pub cause : ((bay_of old bay).medium ≡ None) ⊎ FaultsRoseBy 3 bay old.counters new.counters
   pub becomes : Becomes (set_bay old bay (fresh_bay (bay_of old bay).medium)) new
 
 -- an acknowledgement that reached the drive
-pub record AcksDrive (old : StationState) (bay : ℕ) (answer : Result (Unit {0}) Code) (new : StationState) : Type 0 where
-  pub done : IsOk answer → IsAcknowledged old bay new
-  pub refused : IfErr answer (λ code. IsUnready old bay code new)
+pub record AcksDrive (bay : ℕ) (old : StationState) (answer : Result (Unit {0}) Code) (new : StationState) : Type 0 where
+  pub done : IsOk answer → IsAcknowledged bay old new
+  pub refused : IfErr answer (λ code. IsUnready bay old code new)
   pub driven : IsDriven 6 old.counters new.counters
 
 -- the step of an acknowledgement
-abbrev pub Acks : StationState → ℕ → Result (Unit {0}) Code → StationState → Type 0
-Acks old bay answer new =
-    MatchBool (is_bay bay) (AcksDrive old bay answer new) (IsRefusedAtOnce old BadRequest answer new)
+abbrev pub Acks : ℕ → StationState → Result (Unit {0}) Code → StationState → Type 0
+Acks bay old answer new =
+    MatchBool (is_bay bay) (AcksDrive bay old answer new) (IsRefusedAtOnce BadRequest old answer new)
 
 -- the rate of a bay was set
-pub record SetsRate (old : StationState) (bay : ℕ) (rate : Rate) (answer : Result (Unit {0}) Code) (new : StationState) : Type 0 where
+pub record SetsRate (bay : ℕ) (rate : Rate) (old : StationState) (answer : Result (Unit {0}) Code) (new : StationState) : Type 0 where
   pub done : IsOk answer
   pub becomes : Becomes (set_bay old bay (record (bay_of old bay) { rate = rate })) new
   pub idle : IsDriven 0 old.counters new.counters
 
 -- the step of a change of the rate
-abbrev pub RatesTo : StationState → ℕ → Rate → Result (Unit {0}) Code → StationState → Type 0
-RatesTo old bay rate answer new =
-    MatchOption (rate_refusal old bay) (SetsRate old bay rate answer new) (λ code. IsRefusedAtOnce old code answer new)
+abbrev pub RatesTo : ℕ → Rate → StationState → Result (Unit {0}) Code → StationState → Type 0
+RatesTo bay rate old answer new =
+    MatchOption (rate_refusal old bay) (SetsRate bay rate old answer new) (λ code. IsRefusedAtOnce code old answer new)
 
 -- the number of attempts was set
-pub record SetsTries (old : StationState) (tries : ℕ) (new : StationState) : Type 0 where
+pub record SetsTries (tries : ℕ) (old new : StationState) : Type 0 where
   pub becomes : Becomes (record old { tries = tries }) new
   pub idle : IsDriven 0 old.counters new.counters
 
 -- it was told whether the medium was exchanged since the bay was acknowledged
-pub record TellsChange (old : StationState) (bay : ℕ) (answer : Bool) (new : StationState) : Type 0 where
+pub record TellsChange (bay : ℕ) (old : StationState) (answer : Bool) (new : StationState) : Type 0 where
   pub changed : answer ≡ not (is_acknowledged old bay)
   pub stays : Stays old new
   pub idle : IsDriven 0 old.counters new.counters
@@ -78,26 +78,26 @@ pub record IsUnmoved (old new : StationState) : Type 0 where
   pub access : IsPastDriver 1 old.counters new.counters
 
 -- a medium was put in, or taken out
-pub record Exchanges (old : StationState) (bay : ℕ) (medium : Option Disk) (new : StationState) : Type 0 where
+pub record Exchanges (bay : ℕ) (medium : Option Disk) (old new : StationState) : Type 0 where
   pub becomes : Becomes (set_bay old bay (fresh_bay medium)) new
   pub access : IsPastDriver 1 old.counters new.counters
 
 -- a medium is put in where none is; else it is given back
-abbrev pub Inserts : StationState → ℕ → Disk → Result (Unit {0}) Disk → StationState → Type 0
-Inserts old bay disk (Ok _) new = ((bay_of old bay).medium ≡ None) × Exchanges old bay (Some disk) new
-Inserts old bay disk (Err back) new = IsSome (bay_of old bay).medium × (back ≡ disk) × IsUnmoved old new
+abbrev pub Inserts : ℕ → Disk → StationState → Result (Unit {0}) Disk → StationState → Type 0
+Inserts bay disk old (Ok _) new = ((bay_of old bay).medium ≡ None) × Exchanges bay (Some disk) old new
+Inserts bay disk old (Err back) new = IsSome (bay_of old bay).medium × (back ≡ disk) × IsUnmoved old new
 
 -- the medium is taken out, if one is in
-pub record Ejects (old : StationState) (bay : ℕ) (answer : Option Disk) (new : StationState) : Type 0 where
+pub record Ejects (bay : ℕ) (old : StationState) (answer : Option Disk) (new : StationState) : Type 0 where
   pub medium : answer ≡ (bay_of old bay).medium
-  pub exchanged : IsSome answer → Exchanges old bay None new
+  pub exchanged : IsSome answer → Exchanges bay None old new
   pub unmoved : answer ≡ None → IsUnmoved old new
 
 -- the drive of a bay was exchanged for the next spare; the old one is dropped, with the medium in it
-pub record IsExchanged (old : StationState) (bay : ℕ) (new : StationState) : Type 0 where
+pub record IsExchanged (bay : ℕ) (old new : StationState) : Type 0 where
   pub becomes : Becomes (record (set_bay old bay (fresh_bay None)) { spares = old.spares - 1 }) new
   pub some : 1 ≤ old.spares
-  pub counts : TakesSpare old.counters bay new.counters
+  pub counts : TakesSpare bay old.counters new.counters
   pub access : IsPastDriver 1 old.counters new.counters
 
 -- no spare is left
@@ -108,10 +108,10 @@ pub record HasNoSpare (old new : StationState) : Type 0 where
   pub counts : GoesOn old.counters new.counters
 
 -- the next spare takes a drive's place, if one is left
-abbrev pub TakesUnit : StationState → ℕ → Bool → StationState → Type 0
-TakesUnit old bay taken new = MatchBool taken (IsExchanged old bay new) (HasNoSpare old new)
+abbrev pub TakesUnit : ℕ → StationState → Bool → StationState → Type 0
+TakesUnit bay old taken new = MatchBool taken (IsExchanged bay old new) (HasNoSpare old new)
 
 -- a byte of user memory was set
-pub record SetsMemory (old : StationState) (address byte : ℕ) (new : StationState) : Type 0 where
+pub record SetsMemory (address byte : ℕ) (old new : StationState) : Type 0 where
   pub becomes : Becomes (record old { memory = slice_set old.memory address byte }) new
   pub access : IsPastDriver 1 old.counters new.counters

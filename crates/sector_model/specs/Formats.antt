@@ -36,7 +36,7 @@ IsUnformatted format before after =
     ((disk : Disk) → before ≡ Some disk → HasTrack disk format.c format.h → disk.rate ≡ format.rate → ⊥) → after ≡ before
 
 -- why a format was refused by the drive
-pub record IsFormatCause (format : Format) (medium : Option Disk) (bay : ℕ) (code : Code) (old new : StationState) : Type 0 where
+pub record IsFormatCause (format : Format) (medium : Option Disk) (bay : ℕ) (old : StationState) (code : Code) (new : StationState) : Type 0 where
   pub device : IsDeviceRefusal code
   pub undisturbed : IsUndisturbed bay old.counters new.counters → code ≡ NoMark
   pub overrun : code ≡ Overrun → RoseBy 1 old.counters.stalls new.counters.stalls
@@ -44,7 +44,7 @@ pub record IsFormatCause (format : Format) (medium : Option Disk) (bay : ℕ) (c
   pub never : IsFormattable format medium → DisturbedLess (spoilable old.tries) bay old.counters new.counters → ⊥
 
 -- a format that reached the drive: all that it changes is the medium in the bay, by a few layouts from the index on
-pub record FormatsDrive (format : Format) (bay : ℕ) (answer : Result (Unit {0}) Code) (old new : StationState) : Type 0 where
+pub record FormatsDrive (format : Format) (bay : ℕ) (old : StationState) (answer : Result (Unit {0}) Code) (new : StationState) : Type 0 where
   pub layings : List Laying
   pub few : length layings ≤ old.tries
   pub lays : Lays format (bay_of old bay).medium layings (bay_of new bay).medium
@@ -59,12 +59,12 @@ pub record FormatsDrive (format : Format) (bay : ℕ) (answer : Result (Unit {0}
   pub commands : IsOk answer → RoseBy (1 + sectors_at format.rate) old.counters.data_commands new.counters.data_commands
   pub formatted_track : IsOk answer → IsFaultless bay old.counters new.counters
       → IsFormattable format (bay_of old bay).medium × IsFormatted format (bay_of old bay).medium (bay_of new bay).medium
-  pub refused : IfErr answer (λ code. IsFormatCause format (bay_of old bay).medium bay code old new)
+  pub refused : IfErr answer (λ code. IsFormatCause format (bay_of old bay).medium bay old code new)
   pub driven : IsDriven (old.tries * (1 + sectors_at format.rate)) old.counters new.counters
 
 -- the step of a format
-abbrev pub FormatsTo : StationState → ℕ → ℕ → ℕ → ℕ → ℕ → Result (Unit {0}) Code → StationState → Type 0
-FormatsTo old bay c h gap3 fill answer new =
+abbrev pub FormatsTo : ℕ → ℕ → ℕ → ℕ → ℕ → StationState → Result (Unit {0}) Code → StationState → Type 0
+FormatsTo bay c h gap3 fill old answer new =
     MatchOption (format_refusal old bay c h gap3)
-    (FormatsDrive (record { c = c; h = h; rate = (bay_of old bay).rate; gap3 = gap3; fill = fill }) bay answer old new)
-    (λ code. IsRefusedAtOnce old code answer new)
+    (FormatsDrive (record { c = c; h = h; rate = (bay_of old bay).rate; gap3 = gap3; fill = fill }) bay old answer new)
+    (λ code. IsRefusedAtOnce code old answer new)

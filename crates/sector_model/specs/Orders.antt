@@ -80,7 +80,7 @@ rate_refusal station bay =
     else (if not (is_acknowledged station bay) then Some Changed else None)
 
 -- a call that such a refusal ended: nothing changed, and no data command was sent
-pub record IsRefusedAtOnce {A : Type 0} (old : StationState) (code : Code) (answer : Result A Code) (new : StationState) : Type 0 where
+pub record IsRefusedAtOnce {A : Type 0} (code : Code) (old : StationState) (answer : Result A Code) (new : StationState) : Type 0 where
   pub refused : answer ≡ Err code
   pub stays : Stays old new
   pub idle : IsDriven 0 old.counters new.counters

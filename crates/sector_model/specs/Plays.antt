@@ -25,15 +25,15 @@ IsPutFault status.SinkFault = Unit {0}
 IsPutFault _ = ⊥
 
 -- a last line was put, and the status is the wanted one; or it couldn't be put whole
-pub data Prints (report : Option (List ℕ)) (line : List ℕ) (wanted : Status) (after : Option (List ℕ)) (ended : Status) : Type 0 where
-  Whole : after ≡ grown report line → ended ≡ wanted → Prints report line wanted after ended
-  Part : GrowsByPart report line after → IsPutFault ended → Prints report line wanted after ended
+pub data Prints (line : List ℕ) (wanted : Status) (report after : Option (List ℕ)) (ended : Status) : Type 0 where
+  Whole : after ≡ grown report line → ended ≡ wanted → Prints line wanted report after ended
+  Part : GrowsByPart report line after → IsPutFault ended → Prints line wanted report after ended
 
 -- nothing was done but to print a line
-pub record Tells (old : World) (line : List ℕ) (wanted : Status) (new : World) (ended : Status) : Type 0 where
+pub record Tells (line : List ℕ) (wanted : Status) (old new : World) (ended : Status) : Type 0 where
   pub state : new.state ≡ old.state
   pub files : new.files ≡ old.files
-  pub prints : Prints old.report line wanted new.report ended
+  pub prints : Prints line wanted old.report new.report ended
 
 -- nothing was done
 pub record IsIdle (old new : World) (cause ended : Status) : Type 0 where
@@ -45,7 +45,7 @@ abbrev pub whole_status : Bool → Status
 whole_status refused = if refused then status.SomeRefused else status.AllOk
 
 -- all requests were run and told, and the media that were left in were stored
-pub record IsPlayed (old : World) (requests : List Request) (course : List Taken) (new : World) (ended : Status) : Type 0 where
+pub record IsPlayed (requests : List Request) (old : World) (course : List Taken) (new : World) (ended : Status) : Type 0 where
   pub mid : State
   pub files : Option Files
   pub run : Run old.state old.files course mid files
@@ -55,7 +55,7 @@ pub record IsPlayed (old : World) (requests : List Request) (course : List Taken
   pub status : ended ≡ whole_status (has_refusal course)
 
 -- a request stopped the run, after all before it were run and told
-pub record IsStopped (old : World) (requests : List Request) (course : List Taken) (new : World) (ended : Status) : Type 0 where
+pub record IsStopped (requests : List Request) (old : World) (course : List Taken) (new : World) (ended : Status) : Type 0 where
   pub asked : Request
   pub later : List Request
   pub mid : State
@@ -63,18 +63,18 @@ pub record IsStopped (old : World) (requests : List Request) (course : List Take
   pub cause : Stop
   pub run : Run old.state old.files course mid files
   pub all : requests ≡ requests_of course ++ asked ∷ later
-  pub stops : StopsAt mid files asked cause new.state new.files
-  pub prints : Prints (grown old.report (course_text course)) (stop_text cause) (stop_status cause) new.report ended
+  pub stops : StopsAt asked mid files cause new.state new.files
+  pub prints : Prints (stop_text cause) (stop_status cause) (grown old.report (course_text course)) new.report ended
 
 -- the answer to a request couldn't be told whole, after all before it were run and told
-pub record IsUnfinished (old : World) (requests : List Request) (course : List Taken) (new : World) (ended : Status) : Type 0 where
+pub record IsUnfinished (requests : List Request) (old : World) (course : List Taken) (new : World) (ended : Status) : Type 0 where
   pub before : List Taken
   pub last : Taken
   pub later : List Request
   pub mid : State
   pub files : Option Files
   pub run : Run old.state old.files before mid files
-  pub step : Step mid files last.asked last.answer last.after new.files
+  pub step : Step last.asked mid files last.answer last.after new.files
   pub after : new.state ≡ last.after
   pub course_is : course ≡ before ++ last ∷ []
   pub all : requests ≡ requests_of before ++ last.asked ∷ later
@@ -82,7 +82,7 @@ pub record IsUnfinished (old : World) (requests : List Request) (course : List T
   pub fault : IsPutFault ended
 
 -- all requests were run and told, and the end couldn't store what was left in
-pub record IsEndStopped (old : World) (requests : List Request) (course : List Taken) (new : World) (ended : Status) : Type 0 where
+pub record IsEndStopped (requests : List Request) (old : World) (course : List Taken) (new : World) (ended : Status) : Type 0 where
   pub mid : State
   pub files : Option Files
   pub cause : Stop
@@ -94,21 +94,21 @@ pub record IsEndStopped (old : World) (requests : List Request) (course : List T
   pub status : ended ≡ stop_status cause
 
 -- how the requests of a job are played, and the course of their run
-pub data PlaysRequests (old : World) (requests : List Request) (course : List Taken) (new : World) (ended : Status) : Type 0 where
-  Played : IsPlayed old requests course new ended → PlaysRequests old requests course new ended
-  Stopped : IsStopped old requests course new ended → PlaysRequests old requests course new ended
-  BrokenOff : IsUnfinished old requests course new ended → PlaysRequests old requests course new ended
-  EndStopped : IsEndStopped old requests course new ended → PlaysRequests old requests course new ended
+pub data PlaysRequests (requests : List Request) (old : World) (course : List Taken) (new : World) (ended : Status) : Type 0 where
+  Played : IsPlayed requests old course new ended → PlaysRequests requests old course new ended
+  Stopped : IsStopped requests old course new ended → PlaysRequests requests old course new ended
+  BrokenOff : IsUnfinished requests old course new ended → PlaysRequests requests old course new ended
+  EndStopped : IsEndStopped requests old course new ended → PlaysRequests requests old course new ended
 
 -- nothing was run, and a line told why
-pub record TellsAlone (old : World) (line : List ℕ) (wanted : Status) (course : List Taken) (new : World) (ended : Status) : Type 0 where
+pub record TellsAlone (line : List ℕ) (wanted : Status) (old : World) (course : List Taken) (new : World) (ended : Status) : Type 0 where
   pub nothing : course ≡ []
-  pub tells : Tells old line wanted new ended
+  pub tells : Tells line wanted old new ended
 
 -- a text in the grammar of jobs has requests, and any other a first bad line
-abbrev pub PlaysParsed : World → Result (List Request) ℕ → List Taken → World → Status → Type 0
-PlaysParsed old (Ok requests) course new ended = PlaysRequests old requests course new ended
-PlaysParsed old (Err line) course new ended = TellsAlone old (bad_line_text line) status.BadJob course new ended
+abbrev pub PlaysParsed : Result (List Request) ℕ → World → List Taken → World → Status → Type 0
+PlaysParsed (Ok requests) old course new ended = PlaysRequests requests old course new ended
+PlaysParsed (Err line) old course new ended = TellsAlone (bad_line_text line) status.BadJob old course new ended
 
 -- the most bytes of a job's text
 abbrev pub most_job_bytes : ℕ
@@ -120,18 +120,18 @@ IsText told name text =
     IfSome told (λ files. IsSomeAnd (file_at files name) (λ bytes. (bytes ≡ text) × (length bytes ≤ most_job_bytes)))
 
 -- a job's text is there, and is played as it is parsed
-pub record PlaysText (old : World) (job : List ℕ) (course : List Taken) (new : World) (ended : Status) : Type 0 where
+pub record PlaysText (job : List ℕ) (old : World) (course : List Taken) (new : World) (ended : Status) : Type 0 where
   pub text : List ℕ
   pub told : IsText old.files job text
-  pub plays : PlaysParsed old (job_of text) course new ended
+  pub plays : PlaysParsed (job_of text) old course new ended
 
 -- how a job is played: its text is there; no file has its name; the file is too long; the shelf failed; or memory
 -- couldn't be had before the first request
-pub data Plays (old : World) (job : List ℕ) (course : List Taken) (new : World) (ended : Status) : Type 0 where
-  There : PlaysText old job course new ended → Plays old job course new ended
-  Missing : IsAbsent old.files job → TellsAlone old (absent_text job) status.Absent course new ended
-      → Plays old job course new ended
-  TooLong : IsLonger old.files job most_job_bytes → TellsAlone old (bad_line_text 0) status.BadJob course new ended
-      → Plays old job course new ended
-  Faulty : course ≡ [] → IsIdle old new status.FileFault ended → Plays old job course new ended
-  Starved : course ≡ [] → IsIdle old new status.NoMemory ended → Plays old job course new ended
+pub data Plays (job : List ℕ) (old : World) (course : List Taken) (new : World) (ended : Status) : Type 0 where
+  There : PlaysText job old course new ended → Plays job old course new ended
+  Missing : IsAbsent old.files job → TellsAlone (absent_text job) status.Absent old course new ended
+      → Plays job old course new ended
+  TooLong : IsLonger old.files job most_job_bytes → TellsAlone (bad_line_text 0) status.BadJob old course new ended
+      → Plays job old course new ended
+  Faulty : course ≡ [] → IsIdle old new status.FileFault ended → Plays job old course new ended
+  Starved : course ≡ [] → IsIdle old new status.NoMemory ended → Plays job old course new ended

@@ -21,7 +21,7 @@ abbrev pub spoilable : ℕ → ℕ
 spoilable tries = max 1 (tries - 1)
 
 -- a field of the key was read: where it is, and what is known of it
-pub record IsRead (old : StationState) (bay : ℕ) (key : Chrn) (address : ℕ) (deleted : Bool) (new : StationState) : Type 0 where
+pub record IsRead (bay : ℕ) (key : Chrn) (address : ℕ) (old : StationState) (deleted : Bool) (new : StationState) : Type 0 where
   pub disk : Disk
   pub cylinder : ℕ
   pub place : ℕ
@@ -33,14 +33,14 @@ pub record IsRead (old : StationState) (bay : ℕ) (key : Chrn) (address : ℕ) 
   pub address_field : IsAddressAt (track_of disk cylinder key.h) place key
   pub data_mark : IsDataMark (track_of disk cylinder key.h) place mark deleted
   pub whole : IsWhole (track_of disk cylinder key.h) mark key.n content
-  pub steady : IsSteady old bay new → cylinder ≡ key.c
+  pub steady : IsSteady bay old new → cylinder ≡ key.c
   pub sector : (IsFaultless bay old.counters new.counters ⊎ IsLone (track_of disk cylinder key.h) place)
       → IsSector (track_of disk cylinder key.h) key deleted content
   pub becomes : Becomes (record old { memory = with_items old.memory address content }) new
   pub commands : RoseBy 1 old.counters.data_commands new.counters.data_commands
 
 -- why a read of what is met on the track was refused
-pub record IsReadCause (track : List ℕ) (key : Chrn) (tries bay : ℕ) (code : Code) (old new : StationState) : Type 0 where
+pub record IsReadCause (track : List ℕ) (key : Chrn) (tries bay : ℕ) (old : StationState) (code : Code) (new : StationState) : Type 0 where
   pub device : IsDeviceRefusal code
   pub no_mark : code ≡ NoMark → IsUndisturbed bay old.counters new.counters
       → (HasNoClearMark track ⊎ HasLook track key look.NoData)
@@ -53,19 +53,19 @@ pub record IsReadCause (track : List ℕ) (key : Chrn) (tries bay : ℕ) (code :
       → DisturbedLess (spoilable tries) bay old.counters new.counters → ⊥
 
 -- a read was refused by the drive: its range of memory may hold anything
-pub record IsReadRefused (old : StationState) (bay : ℕ) (key : Chrn) (address : ℕ) (code : Code) (new : StationState) : Type 0 where
-  pub cause : IsReadCause (met (bay_of old bay) key.c key.h) key old.tries bay code old new
-  pub memory : SameOutside old.memory address (content_size key.n) new.memory
+pub record IsReadRefused (bay : ℕ) (key : Chrn) (address : ℕ) (old : StationState) (code : Code) (new : StationState) : Type 0 where
+  pub cause : IsReadCause (met (bay_of old bay) key.c key.h) key old.tries bay old code new
+  pub memory : SameOutside address (content_size key.n) old.memory new.memory
   pub becomes : Becomes (record old { memory = new.memory }) new
 
 -- a read that reached the drive
-pub record ReadsDrive (old : StationState) (bay : ℕ) (key : Chrn) (address : ℕ) (answer : Result Bool Code) (new : StationState) : Type 0 where
-  pub found : IfOk answer (λ deleted. IsRead old bay key address deleted new)
-  pub refused : IfErr answer (λ code. IsReadRefused old bay key address code new)
+pub record ReadsDrive (bay : ℕ) (key : Chrn) (address : ℕ) (old : StationState) (answer : Result Bool Code) (new : StationState) : Type 0 where
+  pub found : IfOk answer (λ deleted. IsRead bay key address old deleted new)
+  pub refused : IfErr answer (λ code. IsReadRefused bay key address old code new)
   pub driven : IsDriven old.tries old.counters new.counters
 
 -- the step of a read; the answer says whether the field is marked deleted
-abbrev pub Reads : StationState → ℕ → Chrn → ℕ → Result Bool Code → StationState → Type 0
-Reads old bay key address answer new =
-    MatchOption (read_refusal old bay key address) (ReadsDrive old bay key address answer new)
-    (λ code. IsRefusedAtOnce old code answer new)
+abbrev pub Reads : ℕ → Chrn → ℕ → StationState → Result Bool Code → StationState → Type 0
+Reads bay key address old answer new =
+    MatchOption (read_refusal old bay key address) (ReadsDrive bay key address old answer new)
+    (λ code. IsRefusedAtOnce code old answer new)

@@ -19,7 +19,7 @@ pub record Taken : Type 0 where
 abbrev pub Run : State → Option Files → List Taken → State → Option Files → Type 0
 Run old told [] new told_after = (new ≡ old) × (told_after ≡ told)
 Run old told (taken ∷ later) new told_after =
-    (mid_told : Option Files) × Step old told taken.asked taken.answer taken.after mid_told
+    (mid_told : Option Files) × Step taken.asked old told taken.answer taken.after mid_told
     × Run taken.after mid_told later new told_after
 
 -- the requests of a course
@@ -37,30 +37,30 @@ has_refusal [] = false
 has_refusal (taken ∷ later) = is_refusal taken.answer || has_refusal later
 
 -- a bay without a medium at the end of a run
-pub record IsLeft (old : State) (told : Option Files) (bay : ℕ) (new : State) (told_after : Option Files) : Type 0 where
+pub record IsLeft (bay : ℕ) (old : State) (told : Option Files) (new : State) (told_after : Option Files) : Type 0 where
   pub empty : is_loaded old bay ≡ false
   pub same : IsSame old new
   pub files : told_after ≡ told
 
 -- the end of a bay: its medium is stored, if one is in
-pub data EndsBay (old : State) (told : Option Files) (bay : ℕ) (new : State) (told_after : Option Files) : Type 0 where
-  Stored : StoresMedium old told bay new told_after → EndsBay old told bay new told_after
-  Left : IsLeft old told bay new told_after → EndsBay old told bay new told_after
+pub data EndsBay (bay : ℕ) (old : State) (told : Option Files) (new : State) (told_after : Option Files) : Type 0 where
+  Stored : StoresMedium bay old told new told_after → EndsBay bay old told new told_after
+  Left : IsLeft bay old told new told_after → EndsBay bay old told new told_after
 
 -- the end of a run: bay 0, then bay 1
 abbrev pub Ends : State → Option Files → State → Option Files → Type 0
 Ends old told new told_after =
-    (mid : State) × (mid_told : Option Files) × EndsBay old told 0 mid mid_told × EndsBay mid mid_told 1 new told_after
+    (mid : State) × (mid_told : Option Files) × EndsBay 0 old told mid mid_told × EndsBay 1 mid mid_told new told_after
 
 -- the medium of a bay couldn't be stored, and is dropped
-pub record DropsMedium (old : State) (bay : ℕ) (new : State) : Type 0 where
+pub record DropsMedium (bay : ℕ) (old new : State) : Type 0 where
   pub loaded : is_loaded old bay ≡ true
-  pub changes : ChangesMedium old bay None None new
+  pub changes : ChangesMedium bay None None old new
 
 -- where the end of a run stopped: at the store of bay 0, or at that of bay 1 after the end of bay 0
 pub data EndStopsAt (old : State) (told : Option Files) (new : State) (told_after : Option Files) : Type 0 where
-  AtFirst : DropsMedium old 0 new → told_after ≡ told → EndStopsAt old told new told_after
-  AtSecond : (mid : State) → EndsBay old told 0 mid told_after → DropsMedium mid 1 new → EndStopsAt old told new told_after
+  AtFirst : DropsMedium 0 old new → told_after ≡ told → EndStopsAt old told new told_after
+  AtSecond : (mid : State) → EndsBay 0 old told mid told_after → DropsMedium 1 mid new → EndStopsAt old told new told_after
 
 -- what can stop the end of a run: a fault of the shelf, or want of memory
 abbrev pub IsEndStop : Stop → Type 0

@@ -28,7 +28,7 @@ pub record IsSame (old new : State) : Type 0 where
   pub counts : GoesOn old.station.counters new.station.counters
 
 -- a bay has this medium under this name from now on, or none; it is unacknowledged
-pub record ChangesMedium (old : State) (bay : ℕ) (name : Option (List ℕ)) (medium : Option Disk) (new : State) : Type 0 where
+pub record ChangesMedium (bay : ℕ) (name : Option (List ℕ)) (medium : Option Disk) (old new : State) : Type 0 where
   pub names : new.names ≡ with_bay old.names bay name
-  pub exchanged : Exchanges old.station bay medium new.station
+  pub exchanged : Exchanges bay medium old.station new.station
   pub counts : GoesOn old.station.counters new.station.counters

@@ -57,7 +57,7 @@ met bay c h = met_in bay.medium bay.rate c h
 
 -- Steady: at the end of a call the bay's drive has the count that it had when the bay was acknowledged, so its heads
 -- stand where the driver takes them to stand
-pub record IsSteady (old : StationState) (bay : ℕ) (new : StationState) : Type 0 where
+pub record IsSteady (bay : ℕ) (old new : StationState) : Type 0 where
   pub kept : ℕ
   pub acknowledged : (bay_of old bay).acknowledged ≡ Some kept
   pub count : faults_of new.counters bay ≡ kept

@@ -100,72 +100,72 @@ pub record IsDriverCall (old : State) (told : Option Files) (new : State) (told_
   pub counts : GoesOn old.station.counters new.station.counters
 
 -- the file of a medium was stored under its name, and the medium is out
-abbrev pub StoresMedium : State → Option Files → ℕ → State → Option Files → Type 0
-StoresMedium old told bay new told_after =
+abbrev pub StoresMedium : ℕ → State → Option Files → State → Option Files → Type 0
+StoresMedium bay old told new told_after =
     (disk : Disk) × (name : List ℕ) × ((bay_of old.station bay).medium ≡ Some disk) × (in_bay old.names bay ≡ Some name)
-    × ChangesMedium old bay None None new × (told_after ≡ stored told name (file_of disk))
+    × ChangesMedium bay None None old new × (told_after ≡ stored told name (file_of disk))
 
 -- memory was filled
-pub record Fills (old : State) (address count byte : ℕ) (new : State) : Type 0 where
+pub record Fills (address count byte : ℕ) (old new : State) : Type 0 where
   pub names : new.names ≡ old.names
   pub becomes : Becomes (record old.station { memory = with_items old.station.memory address (replicate count byte) }) new.station
   pub access : IsPastDriver count old.station.counters new.station.counters
   pub counts : GoesOn old.station.counters new.station.counters
 
 -- what a request that the session doesn't refuse does
-abbrev pub Does : State → Option Files → Request → Reply → State → Option Files → Type 0
-Does old told (request.Insert bay name) answer new told_after =
+abbrev pub Does : Request → State → Option Files → Reply → State → Option Files → Type 0
+Does (request.Insert bay name) old told answer new told_after =
     (answer ≡ reply.Done) × (told_after ≡ told)
-    × ((disk : Disk) × IsImageOf told name disk × ChangesMedium old bay (Some name) (Some disk) new)
-Does old told (request.Blank bay name cylinders) answer new told_after =
+    × ((disk : Disk) × IsImageOf told name disk × ChangesMedium bay (Some name) (Some disk) old new)
+Does (request.Blank bay name cylinders) old told answer new told_after =
     (answer ≡ reply.Done) × (told_after ≡ told)
-    × ChangesMedium old bay (Some name) (Some (blank_of cylinders R500)) new
-Does old told (request.BlankDd bay name cylinders) answer new told_after =
+    × ChangesMedium bay (Some name) (Some (blank_of cylinders R500)) old new
+Does (request.BlankDd bay name cylinders) old told answer new told_after =
     (answer ≡ reply.Done) × (told_after ≡ told)
-    × ChangesMedium old bay (Some name) (Some (blank_of cylinders R250)) new
-Does old told (request.Eject bay) answer new told_after =
-    (answer ≡ reply.Done) × StoresMedium old told bay new told_after
-Does old told (request.Ack bay) answer new told_after =
+    × ChangesMedium bay (Some name) (Some (blank_of cylinders R250)) old new
+Does (request.Eject bay) old told answer new told_after =
+    (answer ≡ reply.Done) × StoresMedium bay old told new told_after
+Does (request.Ack bay) old told answer new told_after =
     IsDriverCall old told new told_after
-    × ((called : Result (Unit {0}) Code) × (answer ≡ reply_of called) × Acks old.station bay called new.station)
-Does old told (request.Read bay key address) answer new told_after =
+    × ((called : Result (Unit {0}) Code) × (answer ≡ reply_of called) × Acks bay old.station called new.station)
+Does (request.Read bay key address) old told answer new told_after =
     IsDriverCall old told new told_after
-    × ((called : Result Bool Code) × (answer ≡ read_reply called) × Reads old.station bay key address called new.station)
-Does old told (request.Write bay key address) answer new told_after =
+    × ((called : Result Bool Code) × (answer ≡ read_reply called) × Reads bay key address old.station called new.station)
+Does (request.Write bay key address) old told answer new told_after =
     IsDriverCall old told new told_after
     × ((called : Result (Unit {0}) Code) × (answer ≡ reply_of called)
-    × WritesTo old.station bay key address false called new.station)
-Does old told (request.WriteDeleted bay key address) answer new told_after =
+    × WritesTo bay key address false old.station called new.station)
+Does (request.WriteDeleted bay key address) old told answer new told_after =
     IsDriverCall old told new told_after
     × ((called : Result (Unit {0}) Code) × (answer ≡ reply_of called)
-    × WritesTo old.station bay key address true called new.station)
-Does old told (request.Format bay c h) answer new told_after =
+    × WritesTo bay key address true old.station called new.station)
+Does (request.Format bay c h) old told answer new told_after =
     IsDriverCall old told new told_after
     × ((called : Result (Unit {0}) Code) × (answer ≡ reply_of called)
-    × FormatsTo old.station bay c h (gap_at (bay_of old.station bay).rate) standard_fill called new.station)
-Does old told (request.Fill address count byte) answer new told_after =
-    (answer ≡ reply.Done) × (told_after ≡ told) × Fills old address count byte new
-Does old told (request.Dump address count) answer new told_after =
+    × FormatsTo bay c h (gap_at (bay_of old.station bay).rate) standard_fill old.station called new.station)
+Does (request.Fill address count byte) old told answer new told_after =
+    (answer ≡ reply.Done) × (told_after ≡ told) × Fills address count byte old new
+Does (request.Dump address count) old told answer new told_after =
     (answer ≡ reply.Bytes address (bytes_from old.station.memory address count)) × (told_after ≡ told) × IsSame old new
-Does old told (request.Unit bay) answer new told_after =
-    (answer ≡ reply.Done) × (told_after ≡ told) × (new.names ≡ old.names) × IsExchanged old.station bay new.station
-Does old told (request.SetRate bay rate) answer new told_after =
+Does (request.Unit bay) old told answer new told_after =
+    (answer ≡ reply.Done) × (told_after ≡ told) × (new.names ≡ old.names) × IsExchanged bay old.station new.station
+Does (request.SetRate bay rate) old told answer new told_after =
     IsDriverCall old told new told_after
-    × ((called : Result (Unit {0}) Code) × (answer ≡ reply_of called) × RatesTo old.station bay rate called new.station)
-Does old told (request.Tries tries) answer new told_after =
-    IsDriverCall old told new told_after × (answer ≡ reply.Done) × SetsTries old.station tries new.station
+    × ((called : Result (Unit {0}) Code) × (answer ≡ reply_of called) × RatesTo bay rate old.station called new.station)
+Does (request.Tries tries) old told answer new told_after =
+    IsDriverCall old told new told_after × (answer ≡ reply.Done) × SetsTries tries old.station new.station
 
 -- a request that the session refused
-pub record IsRefused (old : State) (told : Option Files) (cause : Reason) (answer : Reply) (new : State) (told_after : Option Files) : Type 0 where
+pub record IsRefused (cause : Reason) (old : State) (told : Option Files) (answer : Reply) (new : State) (told_after : Option Files) : Type 0 where
   pub answered : answer ≡ reply.Refused cause
   pub same : IsSame old new
   pub files : told_after ≡ told
 
 -- the step of a request
-abbrev pub Step : State → Option Files → Request → Reply → State → Option Files → Type 0
-Step old told asked answer new told_after =
-    MatchOption (refusal_of old asked) (Does old told asked answer new told_after)
-    (λ cause. IsRefused old told cause answer new told_after)
+abbrev pub Step : Request → State → Option Files → Reply → State → Option Files → Type 0
+Step asked old told answer new told_after =
+    MatchOption (refusal_of old asked) (Does asked old told answer new told_after)
+    (λ cause. IsRefused cause old told answer new told_after)
 
 -- the request loads or stores a file
 abbrev pub uses_files : Request → Bool
@@ -206,13 +206,13 @@ StopCause told asked stop.FileFault = uses_files asked ≡ true
 StopCause told asked stop.NoMemory = takes_memory asked ≡ true
 
 -- what stands after a stop: an eject dropped the medium, and all else is as it was
-abbrev pub AfterStop : State → Request → State → Type 0
-AfterStop old (request.Eject bay) new = ChangesMedium old bay None None new
-AfterStop old _ new = IsSame old new
+abbrev pub AfterStop : Request → State → State → Type 0
+AfterStop (request.Eject bay) old new = ChangesMedium bay None None old new
+AfterStop _ old new = IsSame old new
 
 -- a request that the session didn't refuse stopped the run
-pub record StopsAt (old : State) (told : Option Files) (asked : Request) (ended : Stop) (new : State) (told_after : Option Files) : Type 0 where
+pub record StopsAt (asked : Request) (old : State) (told : Option Files) (ended : Stop) (new : State) (told_after : Option Files) : Type 0 where
   pub taken : refusal_of old asked ≡ None
   pub cause : StopCause told asked ended
-  pub after : AfterStop old asked new
+  pub after : AfterStop asked old new
   pub files : told_after ≡ told

@@ -67,7 +67,7 @@ HasOtherContent track written =
     × ((deleted ≡ written.deleted) × (content_at track place written.key.n ≡ written.content) → ⊥)
 
 -- why a write was refused, by what is met on the track before and after it
-pub record IsWriteCause (written : Written) (before track : List ℕ) (changes : List Change) (bay : ℕ) (code : Code) (old new : StationState) : Type 0 where
+pub record IsWriteCause (written : Written) (before track : List ℕ) (changes : List Change) (bay : ℕ) (old : StationState) (code : Code) (new : StationState) : Type 0 where
   pub device : IsDeviceRefusal code
   pub no_mark : code ≡ NoMark → IsUndisturbed bay old.counters new.counters
       → (HasNoClearMark track ⊎ HasWindowCut track written.key
@@ -84,7 +84,7 @@ pub record IsWriteCause (written : Written) (before track : List ℕ) (changes :
       → DisturbedLess (spoilable old.tries) bay old.counters new.counters → ⊥
 
 -- a regular disk after a write behind the one address field of the key, at p: that field alone changed
-pub record ChangesAlone (written : Written) (bay p : ℕ) (disk : Disk) (answer : Result (Unit {0}) Code) (old new : StationState) : Type 0 where
+pub record ChangesAlone (written : Written) (bay p : ℕ) (disk : Disk) (old : StationState) (answer : Result (Unit {0}) Code) (new : StationState) : Type 0 where
   pub after : Disk
   pub words : ℕ
   pub medium : (bay_of new bay).medium ≡ Some after
@@ -98,26 +98,26 @@ pub record ChangesAlone (written : Written) (bay p : ℕ) (disk : Disk) (answer 
       → IsOnMap after (entry_of written p)
 
 -- what a write does to a regular disk
-pub record KeepsRegular (written : Written) (bay : ℕ) (disk : Disk) (answer : Result (Unit {0}) Code) (old new : StationState) : Type 0 where
+pub record KeepsRegular (written : Written) (bay : ℕ) (disk : Disk) (old : StationState) (answer : Result (Unit {0}) Code) (new : StationState) : Type 0 where
   pub none : ((p : ℕ) → IsAddressAt (met (bay_of old bay) written.key.c written.key.h) p written.key → ⊥)
       → (bay_of new bay).medium ≡ Some disk
   pub one : (p : ℕ) → IsAddressAt (met (bay_of old bay) written.key.c written.key.h) p written.key
       → (IsTidy (met (bay_of old bay) written.key.c written.key.h) p written.deleted written.content
       ⊎ IsUndisturbed bay old.counters new.counters)
-      → ChangesAlone written bay p disk answer old new
+      → ChangesAlone written bay p disk old answer new
 
 -- a write that reached the drive: all that it changes is the medium in the bay, by a few cuts
-pub record WritesDrive (written : Written) (bay : ℕ) (answer : Result (Unit {0}) Code) (old new : StationState) : Type 0 where
+pub record WritesDrive (written : Written) (bay : ℕ) (old : StationState) (answer : Result (Unit {0}) Code) (new : StationState) : Type 0 where
   pub changes : List Change
   pub few : length changes ≤ old.tries
   pub reach : Reaches written (bay_of old bay).medium changes (bay_of new bay).medium
   pub becomes : Becomes (set_bay old bay (record (bay_of old bay) { medium = (bay_of new bay).medium })) new
-  pub steady : IsSteady old bay new → All (λ change. change.cylinder ≡ written.key.c) changes
+  pub steady : IsSteady bay old new → All (λ change. change.cylinder ≡ written.key.c) changes
   pub done : IsOk answer → IsWritten written bay changes old new
   pub refused : IfErr answer (λ code. IsWriteCause written (met (bay_of old bay) written.key.c written.key.h)
-      (met (bay_of new bay) written.key.c written.key.h) changes bay code old new)
+      (met (bay_of new bay) written.key.c written.key.h) changes bay old code new)
   pub regular : (disk : Disk) → (bay_of old bay).medium ≡ Some disk → IsRegularDisk disk
-      → KeepsRegular written bay disk answer old new
+      → KeepsRegular written bay disk old answer new
   pub driven : IsDriven (2 * old.tries) old.counters new.counters
 
 -- what a write from this address writes
@@ -126,8 +126,8 @@ written_from station key address deleted =
     record { key = key; deleted = deleted; content = bytes_from station.memory address (content_size key.n) }
 
 -- the step of a write
-abbrev pub WritesTo : StationState → ℕ → Chrn → ℕ → Bool → Result (Unit {0}) Code → StationState → Type 0
-WritesTo old bay key address deleted answer new =
+abbrev pub WritesTo : ℕ → Chrn → ℕ → Bool → StationState → Result (Unit {0}) Code → StationState → Type 0
+WritesTo bay key address deleted old answer new =
     MatchOption (write_refusal old bay key address)
-    (WritesDrive (written_from old key address deleted) bay answer old new)
-    (λ code. IsRefusedAtOnce old code answer new)
+    (WritesDrive (written_from old key address deleted) bay old answer new)
+    (λ code. IsRefusedAtOnce code old answer new)

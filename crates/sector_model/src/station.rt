@@ -27,7 +27,7 @@ pub trait Station: Drop {
     fn insert(&mut self, bay: u8, medium: Medium) -> Result<(), Medium>
         requires ready { is_ready self.old }
         requires bay { bay ≤ 1 }
-        ensures step { Inserts (shown self.old) bay medium result (shown self.new) }
+        ensures step { Inserts bay medium (shown self.old) result (shown self.new) }
         ensures counts { GoesOn (shown self.old).counters (shown self.new).counters }
         ensures ready { is_ready self.new };
 
@@ -35,7 +35,7 @@ pub trait Station: Drop {
     fn eject(&mut self, bay: u8) -> Option<Medium>
         requires ready { is_ready self.old }
         requires bay { bay ≤ 1 }
-        ensures step { Ejects (shown self.old) bay result (shown self.new) }
+        ensures step { Ejects bay (shown self.old) result (shown self.new) }
         ensures counts { GoesOn (shown self.old).counters (shown self.new).counters }
         ensures ready { is_ready self.new };
 
@@ -43,7 +43,7 @@ pub trait Station: Drop {
     fn take_unit(&mut self, bay: u8) -> bool
         requires ready { is_ready self.old }
         requires bay { bay ≤ 1 }
-        ensures step { TakesUnit (shown self.old) bay result (shown self.new) }
+        ensures step { TakesUnit bay (shown self.old) result (shown self.new) }
         ensures ready { is_ready self.new };
 
     /// Whether a medium is in.
@@ -68,7 +68,7 @@ pub trait Station: Drop {
     fn set_memory(&mut self, address: u32, byte: u8)
         requires ready { is_ready self.old }
         requires address { address < user_bytes }
-        ensures step { SetsMemory (shown self.old) address byte (shown self.new) }
+        ensures step { SetsMemory address byte (shown self.old) (shown self.new) }
         ensures size { length (shown self.old).memory ≡ user_bytes }
         ensures counts { GoesOn (shown self.old).counters (shown self.new).counters }
         ensures ready { is_ready self.new };
@@ -77,7 +77,7 @@ pub trait Station: Drop {
     /// 1; `NotReady` where no medium is in, or its drive lost pulse after pulse, and the bay then isn't acknowledged.
     fn ack(&mut self, bay: u8) -> Result<(), Code>
         requires ready { is_ready self.old }
-        ensures step { Acks (shown self.old) bay result (shown self.new) }
+        ensures step { Acks bay (shown self.old) result (shown self.new) }
         ensures counts { GoesOn (shown self.old).counters (shown self.new).counters }
         ensures ready { is_ready self.new };
 
@@ -85,7 +85,7 @@ pub trait Station: Drop {
     fn changed(&mut self, bay: u8) -> bool
         requires ready { is_ready self.old }
         requires bay { bay ≤ 1 }
-        ensures step { TellsChange (shown self.old) bay result (shown self.new) }
+        ensures step { TellsChange bay (shown self.old) result (shown self.new) }
         ensures counts { GoesOn (shown self.old).counters (shown self.new).counters }
         ensures ready { is_ready self.new };
 
@@ -94,7 +94,7 @@ pub trait Station: Drop {
     /// bay isn't acknowledged, and then the drive's.
     fn read(&mut self, bay: u8, key: Chrn, address: u32) -> Result<bool, Code>
         requires ready { is_ready self.old }
-        ensures step { Reads (shown self.old) bay key address result (shown self.new) }
+        ensures step { Reads bay key address (shown self.old) result (shown self.new) }
         ensures counts { GoesOn (shown self.old).counters (shown self.new).counters }
         ensures ready { is_ready self.new };
 
@@ -102,7 +102,7 @@ pub trait Station: Drop {
     /// with `Protected` before the drive's.
     fn write(&mut self, bay: u8, key: Chrn, address: u32, deleted: bool) -> Result<(), Code>
         requires ready { is_ready self.old }
-        ensures step { WritesTo (shown self.old) bay key address deleted result (shown self.new) }
+        ensures step { WritesTo bay key address deleted (shown self.old) result (shown self.new) }
         ensures counts { GoesOn (shown self.old).counters (shown self.new).counters }
         ensures ready { is_ready self.new };
 
@@ -111,7 +111,7 @@ pub trait Station: Drop {
     /// `Changed`, `Protected`, and then the drive's.
     fn format(&mut self, bay: u8, c: u8, h: u8, gap3: u8, fill: u8) -> Result<(), Code>
         requires ready { is_ready self.old }
-        ensures step { FormatsTo (shown self.old) bay c h gap3 fill result (shown self.new) }
+        ensures step { FormatsTo bay c h gap3 fill (shown self.old) result (shown self.new) }
         ensures counts { GoesOn (shown self.old).counters (shown self.new).counters }
         ensures ready { is_ready self.new };
 
@@ -119,7 +119,7 @@ pub trait Station: Drop {
     /// acknowledged.
     fn set_rate(&mut self, bay: u8, rate: Rate) -> Result<(), Code>
         requires ready { is_ready self.old }
-        ensures step { RatesTo (shown self.old) bay rate result (shown self.new) }
+        ensures step { RatesTo bay rate (shown self.old) result (shown self.new) }
         ensures counts { GoesOn (shown self.old).counters (shown self.new).counters }
         ensures ready { is_ready self.new };
 
@@ -128,7 +128,7 @@ pub trait Station: Drop {
         requires ready { is_ready self.old }
         requires least { 1 ≤ tries }
         requires most { tries ≤ 10 }
-        ensures step { SetsTries (shown self.old) tries (shown self.new) }
+        ensures step { SetsTries tries (shown self.old) (shown self.new) }
         ensures counts { GoesOn (shown self.old).counters (shown self.new).counters }
         ensures ready { is_ready self.new };
 

@@ -6,7 +6,7 @@ use Rattle.single_commands.specs.Rigs.{Rig, StaysSpun}
 
 -- the heads of one drive were moved, or not, and nothing else changed but its change line, which a pulse clears where a
 -- medium is in
-pub record MovesHeads (old : Rig) (bay : ℕ) (new : Rig) : Type 0 where
+pub record MovesHeads (bay : ℕ) (old new : Rig) : Type 0 where
   pub media : new.media ≡ old.media
   pub memory : new.memory ≡ old.memory
   pub page : new.page ≡ old.page
@@ -19,8 +19,8 @@ pub record MovesHeads (old : Rig) (bay : ℕ) (new : Rig) : Type 0 where
   pub driven : IsDriven 0 old.counters new.counters
 
 -- RECALIBRATE: at most 79 pulses outward, and the answer says whether track 0 was reached
-pub record Recalibrates (old : Rig) (bay : ℕ) (reached : Bool) (new : Rig) : Type 0 where
-  pub moves : MovesHeads old bay new
+pub record Recalibrates (bay : ℕ) (old : Rig) (reached : Bool) (new : Rig) : Type 0 where
+  pub moves : MovesHeads bay old new
   pub number : in_bay new.numbers bay ≡ 0
   pub arrives : reached ≡ true → in_bay new.cylinders bay ≡ 0
   pub away : reached ≡ false → 1 ≤ in_bay new.cylinders bay
@@ -29,8 +29,8 @@ pub record Recalibrates (old : Rig) (bay : ℕ) (reached : Bool) (new : Rig) : T
       → FaultsRoseBy (in_bay new.cylinders bay + 79 - in_bay old.cylinders bay) bay old.counters new.counters
 
 -- SEEK: a pulse for each cylinder that the target is away by the controller's number
-pub record Seeks (old : Rig) (bay target : ℕ) (new : Rig) : Type 0 where
-  pub moves : MovesHeads old bay new
+pub record Seeks (bay target : ℕ) (old new : Rig) : Type 0 where
+  pub moves : MovesHeads bay old new
   pub number : in_bay new.numbers bay ≡ target
   pub arrives : in_bay old.cylinders bay ≡ in_bay old.numbers bay → FaultsRoseLess 1 bay old.counters new.counters
       → in_bay new.cylinders bay ≡ target

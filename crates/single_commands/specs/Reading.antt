@@ -33,13 +33,13 @@ IsReadCode Overrun = Unit {0}
 IsReadCode _ = ⊥
 
 -- a read of the key from this track was refused
-pub record IsReadMiss (track : List ℕ) (key : Chrn) (bay : ℕ) (code : Code) (old new : Counters) : Type 0 where
+pub record IsReadMiss (track : List ℕ) (key : Chrn) (bay : ℕ) (old : Counters) (code : Code) (new : Counters) : Type 0 where
   pub coded : IsReadCode code
   pub reason : IsUndisturbed bay old new → IsReadReason track key code
   pub overrun : code ≡ Overrun → RoseBy 1 old.stalls new.stalls
 
 -- a field of the key with this mark and content was found on the track under the head
-pub record FindsField (old : Rig) (bay : ℕ) (key : Chrn) (rate : Rate) (deleted : Bool) (content : List ℕ) (new : Rig) : Type 0 where
+pub record FindsField (bay : ℕ) (key : Chrn) (rate : Rate) (old : Rig) (deleted : Bool) (content : List ℕ) (new : Rig) : Type 0 where
   pub disk : Disk
   pub place : ℕ
   pub mark : ℕ
@@ -62,24 +62,24 @@ pub record SendsRead (old new : Rig) : Type 0 where
   pub command : RoseBy 1 old.counters.data_commands new.counters.data_commands
 
 -- READ DATA to user memory
-pub record ReadsData (old : Rig) (bay : ℕ) (key : Chrn) (rate : Rate) (address : ℕ) (answer : Result Bool Code) (new : Rig) : Type 0 where
+pub record ReadsData (bay : ℕ) (key : Chrn) (rate : Rate) (address : ℕ) (old : Rig) (answer : Result Bool Code) (new : Rig) : Type 0 where
   pub sends : SendsRead old new
-  pub found : IfOk answer (λ deleted. (content : List ℕ) × FindsField old bay key rate deleted content new
+  pub found : IfOk answer (λ deleted. (content : List ℕ) × FindsField bay key rate old deleted content new
       × (new.memory ≡ with_items old.memory address content))
-  pub refused : IfErr answer (λ code. IsReadMiss (track_under old bay rate key.h) key bay code old.counters new.counters)
-  pub outside : SameOutside old.memory address (content_size key.n) new.memory
+  pub refused : IfErr answer (λ code. IsReadMiss (track_under old bay rate key.h) key bay old.counters code new.counters)
+  pub outside : SameOutside address (content_size key.n) old.memory new.memory
   pub page : new.page ≡ old.page
 
 -- READ DATA to the driver's page
-pub record ReadsBack (old : Rig) (bay : ℕ) (key : Chrn) (rate : Rate) (answer : Result Bool Code) (new : Rig) : Type 0 where
+pub record ReadsBack (bay : ℕ) (key : Chrn) (rate : Rate) (old : Rig) (answer : Result Bool Code) (new : Rig) : Type 0 where
   pub sends : SendsRead old new
-  pub found : IfOk answer (λ deleted. (content : List ℕ) × FindsField old bay key rate deleted content new
+  pub found : IfOk answer (λ deleted. (content : List ℕ) × FindsField bay key rate old deleted content new
       × (new.page ≡ with_items old.page 0 content))
-  pub refused : IfErr answer (λ code. IsReadMiss (track_under old bay rate key.h) key bay code old.counters new.counters)
+  pub refused : IfErr answer (λ code. IsReadMiss (track_under old bay rate key.h) key bay old.counters code new.counters)
   pub memory : new.memory ≡ old.memory
 
 -- READ ID: the key of some address field of the track under the head
-pub record ReadsId (old : Rig) (bay head : ℕ) (rate : Rate) (answer : Result Chrn Code) (new : Rig) : Type 0 where
+pub record ReadsId (bay head : ℕ) (rate : Rate) (old : Rig) (answer : Result Chrn Code) (new : Rig) : Type 0 where
   pub sends : SendsRead old new
   pub found : IfOk answer (λ key. (p : ℕ) × IsAddressAt (track_under old bay rate head) p key)
   pub refused : IfErr answer (λ code. IsFaultless bay old.counters new.counters

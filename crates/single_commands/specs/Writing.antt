@@ -19,7 +19,7 @@ use Rattle.sector_map.specs.Layings.{Format, Laying, IsLaying, format_keys}
 use Rattle.single_commands.specs.Rigs.{Rig, track_under, HeadsStay}
 
 -- one data command that changed no memory but the driver's page, and no medium but that of a bay
-pub record SendsWrite (old : Rig) (bay : ℕ) (new : Rig) : Type 0 where
+pub record SendsWrite (bay : ℕ) (old new : Rig) : Type 0 where
   pub heads : HeadsStay old new
   pub other_medium : in_bay new.media (1 - bay) ≡ in_bay old.media (1 - bay)
   pub memory : new.memory ≡ old.memory
@@ -30,7 +30,7 @@ pub record SendsWrite (old : Rig) (bay : ℕ) (new : Rig) : Type 0 where
 -- ---- WRITE DATA and WRITE DELETED DATA
 
 -- the medium was changed behind an address field of the key, on the track under the head
-pub record ChangesMedium (old : Rig) (bay : ℕ) (rate : Rate) (written : Written) (change : Change) (new : Rig) : Type 0 where
+pub record ChangesMedium (bay : ℕ) (rate : Rate) (written : Written) (change : Change) (old new : Rig) : Type 0 where
   pub before : Disk
   pub after : Disk
   pub was : in_bay old.media bay ≡ Some before
@@ -60,24 +60,24 @@ IsWriteCode Overrun = Unit {0}
 IsWriteCode _ = ⊥
 
 -- a write of the key was refused
-pub record IsWriteMiss (track : List ℕ) (key : Chrn) (bay : ℕ) (code : Code) (old new : Counters) : Type 0 where
+pub record IsWriteMiss (track : List ℕ) (key : Chrn) (bay : ℕ) (old : Counters) (code : Code) (new : Counters) : Type 0 where
   pub coded : IsWriteCode code
   pub reason : IsUndisturbed bay old new → IsWriteReason track key code
   pub overrun : code ≡ Overrun → RoseBy 1 old.stalls new.stalls
 
 -- the medium in the bay was changed so, or not at all
-pub record WritesData (old : Rig) (bay : ℕ) (rate : Rate) (written : Written) (change : Option Change) (answer : Result (Unit {0}) Code) (new : Rig) : Type 0 where
-  pub sends : SendsWrite old bay new
-  pub does : MatchOption change (new.media ≡ old.media) (λ one. ChangesMedium old bay rate written one new)
+pub record WritesData (bay : ℕ) (rate : Rate) (written : Written) (change : Option Change) (old : Rig) (answer : Result (Unit {0}) Code) (new : Rig) : Type 0 where
+  pub sends : SendsWrite bay old new
+  pub does : MatchOption change (new.media ≡ old.media) (λ one. ChangesMedium bay rate written one old new)
   pub done : IsOk answer → IsFaultless bay old.counters new.counters
       → MatchOption change ⊥ (λ one. one.words ≡ length (window_of written))
-  pub refused : IfErr answer (λ code. IsWriteMiss (track_under new bay rate written.key.h) written.key bay code old.counters new.counters)
+  pub refused : IfErr answer (λ code. IsWriteMiss (track_under new bay rate written.key.h) written.key bay old.counters code new.counters)
   pub page : new.page ≡ old.page
 
 -- ---- FORMAT TRACK
 
 -- the track under the head was laid
-pub record LaysMedium (old : Rig) (bay : ℕ) (format : Format) (laying : Laying) (new : Rig) : Type 0 where
+pub record LaysMedium (bay : ℕ) (format : Format) (laying : Laying) (old new : Rig) : Type 0 where
   pub before : Disk
   pub after : Disk
   pub was : in_bay old.media bay ≡ Some before
@@ -104,19 +104,19 @@ IsFormatCode Overrun = Unit {0}
 IsFormatCode _ = ⊥
 
 -- a format was refused
-pub record IsFormatMiss (old : Rig) (bay : ℕ) (format : Format) (code : Code) (new : Rig) : Type 0 where
+pub record IsFormatMiss (bay : ℕ) (format : Format) (old : Rig) (code : Code) (new : Rig) : Type 0 where
   pub coded : IsFormatCode code
   pub reason : IsUndisturbed bay old.counters new.counters → (code ≡ NoMark) × (CanFormatUnder old bay format → ⊥)
   pub overrun : code ≡ Overrun → RoseBy 1 old.counters.stalls new.counters.stalls
 
 -- the track under the head was laid so, or the medium is as it was
-pub record FormatsTrack (old : Rig) (bay : ℕ) (format : Format) (laying : Option Laying) (answer : Result (Unit {0}) Code) (new : Rig) : Type 0 where
-  pub sends : SendsWrite old bay new
-  pub does : MatchOption laying (new.media ≡ old.media) (λ one. LaysMedium old bay format one new)
+pub record FormatsTrack (bay : ℕ) (format : Format) (laying : Option Laying) (old : Rig) (answer : Result (Unit {0}) Code) (new : Rig) : Type 0 where
+  pub sends : SendsWrite bay old new
+  pub does : MatchOption laying (new.media ≡ old.media) (λ one. LaysMedium bay format one old new)
   -- undisturbed, or done with no fault, all words of a track that is there are laid
   pub turn : (IsUndisturbed bay old.counters new.counters ⊎ (IsOk answer × IsFaultless bay old.counters new.counters))
       → (disk : Disk) → HasTrackUnder old bay format disk
       → MatchOption laying ⊥ (λ one. one.words ≡ disk.words_per_track)
   pub fits : IsOk answer → IsFaultless bay old.counters new.counters → (disk : Disk) → HasTrackUnder old bay format disk
       → Fits (format_keys format) standard_code format.gap3 disk.words_per_track
-  pub refused : IfErr answer (λ code. IsFormatMiss old bay format code new)
+  pub refused : IfErr answer (λ code. IsFormatMiss bay format old code new)

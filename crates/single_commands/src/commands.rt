@@ -61,7 +61,7 @@ pub trait Commands: Drop {
     fn recalibrate(&mut self, bay: u8) -> bool
         requires idle { is_idle self.old }
         requires bay { bay ≤ 1 }
-        ensures step { Recalibrates (rig self.old) bay result (rig self.new) }
+        ensures step { Recalibrates bay (rig self.old) result (rig self.new) }
         ensures sound { IsSound (rig self.new) }
         ensures idle { is_idle self.new };
 
@@ -71,7 +71,7 @@ pub trait Commands: Drop {
         requires idle { is_idle self.old }
         requires bay { bay ≤ 1 }
         requires target { target ≤ 79 }
-        ensures step { Seeks (rig self.old) bay target (rig self.new) }
+        ensures step { Seeks bay target (rig self.old) (rig self.new) }
         ensures sound { IsSound (rig self.new) }
         ensures idle { is_idle self.new };
 
@@ -81,7 +81,7 @@ pub trait Commands: Drop {
         requires bay { bay ≤ 1 }
         requires head { head ≤ 1 }
         requires spun { in_bay (rig self.old).spun bay ≡ true }
-        ensures step { ReadsId (rig self.old) bay head rate result (rig self.new) }
+        ensures step { ReadsId bay head rate (rig self.old) result (rig self.new) }
         ensures sound { IsSound (rig self.new) }
         ensures idle { is_idle self.new };
 
@@ -95,7 +95,7 @@ pub trait Commands: Drop {
         requires range { address + content_size key.n ≤ user_bytes }
         requires page { address / 65536 ≡ (address + content_size key.n - 1) / 65536 }
         requires spun { in_bay (rig self.old).spun bay ≡ true }
-        ensures step { ReadsData (rig self.old) bay key rate address result (rig self.new) }
+        ensures step { ReadsData bay key rate address (rig self.old) result (rig self.new) }
         ensures sound { IsSound (rig self.new) }
         ensures idle { is_idle self.new };
 
@@ -106,7 +106,7 @@ pub trait Commands: Drop {
         requires head { key.h ≤ 1 }
         requires coded { IsSizeCode key.n }
         requires spun { in_bay (rig self.old).spun bay ≡ true }
-        ensures step { ReadsBack (rig self.old) bay key rate result (rig self.new) }
+        ensures step { ReadsBack bay key rate (rig self.old) result (rig self.new) }
         ensures sound { IsSound (rig self.new) }
         ensures idle { is_idle self.new };
 
@@ -128,9 +128,9 @@ pub trait Commands: Drop {
         requires page { address / 65536 ≡ (address + content_size key.n - 1) / 65536 }
         requires spun { in_bay (rig self.old).spun bay ≡ true }
         requires unprotected { option_map_or (λ disk. disk.protected) (in_bay (rig self.old).media bay) false ≡ false }
-        ensures step { (change : Option Change) × WritesData (rig self.old) bay rate
-            (record { key = key; deleted = deleted; content = bytes_from (rig self.old).memory address (content_size key.n) })
-            change result (rig self.new) }
+        ensures step { (change : Option Change) × WritesData bay rate (record { key = key; deleted = deleted; content = bytes_from (rig self.old).memory address (content_size key.n) })
+            change
+            (rig self.old) result (rig self.new) }
         ensures sound { IsSound (rig self.new) }
         ensures idle { is_idle self.new };
 
@@ -143,8 +143,8 @@ pub trait Commands: Drop {
         requires gap { 16 ≤ gap3 }
         requires spun { in_bay (rig self.old).spun bay ≡ true }
         requires unprotected { option_map_or (λ disk. disk.protected) (in_bay (rig self.old).media bay) false ≡ false }
-        ensures step { (laying : Option Laying) × FormatsTrack (rig self.old) bay
-            (record { c = c; h = h; rate = rate; gap3 = gap3; fill = fill }) laying result (rig self.new) }
+        ensures step { (laying : Option Laying) × FormatsTrack bay (record { c = c; h = h; rate = rate; gap3 = gap3; fill = fill })
+            laying (rig self.old) result (rig self.new) }
         ensures sound { IsSound (rig self.new) }
         ensures idle { is_idle self.new };
 

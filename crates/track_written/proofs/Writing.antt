@@ -136,7 +136,7 @@ stands_less disk c h start words count now word was =
 -- ---- the drive
 
 pub gate_opens : (disk : Disk) (c h start faults : ℕ) (before after : DriveState) → IsDisk disk → HasTrack disk c h → start < disk.words_per_track
-    → before.medium ≡ Some disk → Becomes before (with_gate true before) after → IsPutOpen disk c h start [] faults after
+    → before.medium ≡ Some disk → Becomes (with_gate true before) before after → IsPutOpen disk c h start [] faults after
 gate_opens disk c h start faults before after whole has room is becomes = record {
   put = record {
     now = disk;
@@ -158,7 +158,7 @@ gate_opens disk c h start faults before after whole has room is becomes = record
     closed same = absurd cc
 
 pub gate_closes : (disk : Disk) (c h start : ℕ) (words : List ℕ) (faults : ℕ) (before after : DriveState)
-    → IsPut disk c h start words faults before → Becomes before (with_gate false before) after → IsPut disk c h start words faults after
+    → IsPut disk c h start words faults before → Becomes (with_gate false before) before after → IsPut disk c h start words faults after
 gate_closes disk c h start words faults before after was becomes = record {
   now = was.now;
   count = was.count;
@@ -265,7 +265,7 @@ module _ (disk : Disk) (c h start : ℕ) (words : List ℕ) (faults : ℕ) (befo
       not_both true p q = absurd cc
       not_both false p q = absurd cc
 
-  by_cut : faults ≤ before.faults → (cut : Bool) → before.cut ≡ cut → Writes before h word after → IsPutOpen disk c h start (words ++ word ∷ []) faults after
+  by_cut : faults ≤ before.faults → (cut : Bool) → before.cut ≡ cut → Writes h word before after → IsPutOpen disk c h start (words ++ word ∷ []) faults after
   by_cut falls true is (inl wrote) =
       let can = can_is before was.put.now c (start + length words) was.put.medium over was.gate true is in
       lost is (ap (λ s. s.medium) wrote.becomes ∙ ap (λ b. if b then rewritten before.medium before.cylinder h before.place word else before.medium) can)
@@ -279,7 +279,7 @@ module _ (disk : Disk) (c h start : ℕ) (words : List ℕ) (faults : ℕ) (befo
 
 pub word_written : (disk : Disk) (c h start : ℕ) (words : List ℕ) (faults : ℕ) (before after : DriveState) (word : ℕ) → IsDisk disk → HasTrack disk c h
     → disk.protected ≡ false → start + length words < disk.words_per_track → faults ≤ before.faults → IsOver c (start + length words) before
-    → IsPutOpen disk c h start words faults before → Writes before h word after → IfSome after.medium IsDisk
+    → IsPutOpen disk c h start words faults before → Writes h word before after → IfSome after.medium IsDisk
     → IsPutOpen disk c h start (words ++ word ∷ []) faults after
 word_written disk c h start words faults before after word whole has unprotected room falls over was writes range =
     by_cut disk c h start words faults before after word whole has unprotected room over was range falls before.cut refl writes

@@ -30,7 +30,7 @@ pub fn a_write_goes_on()
     ensures runs { (scene : Scene) (deleted : Bool) (n : ℕ) (start old new : Board) → Runs n (stirred old) new → WriteGoes scene deleted start old → WriteGoes scene deleted start new }
     ensures waits { (scene : Scene) (deleted : Bool) (most : ℕ) (set : Bool) (start old new : Board) → Waits most old set new → WriteGoes scene deleted start old
         → WriteGoes scene deleted start new }
-    ensures status { (scene : Scene) (deleted : Bool) (value : ℕ) (start old new : Board) → Inputs 0x3F4 value old new → WriteGoes scene deleted start old
+    ensures status { (scene : Scene) (deleted : Bool) (value : ℕ) (start old new : Board) → Inputs 0x3F4 old value new → WriteGoes scene deleted start old
         → WriteGoes scene deleted start new }
     ensures strays { (scene : Scene) (deleted : Bool) (start old : Board) → is_executing (controller_of old).phase ≡ true → WriteGoes scene deleted start old
         → WriteGoes scene deleted start (record old { bus = irq_taken old.bus }) }
@@ -49,7 +49,7 @@ pub fn a_format_goes_on()
     ensures runs { (scene : Scene) (numbers : Numbers) (n : ℕ) (start old new : Board) → Runs n (stirred old) new → FormatGoes scene numbers start old → FormatGoes scene numbers start new }
     ensures waits { (scene : Scene) (numbers : Numbers) (most : ℕ) (set : Bool) (start old new : Board) → Waits most old set new → FormatGoes scene numbers start old
         → FormatGoes scene numbers start new }
-    ensures status { (scene : Scene) (numbers : Numbers) (value : ℕ) (start old new : Board) → Inputs 0x3F4 value old new → FormatGoes scene numbers start old
+    ensures status { (scene : Scene) (numbers : Numbers) (value : ℕ) (start old new : Board) → Inputs 0x3F4 old value new → FormatGoes scene numbers start old
         → FormatGoes scene numbers start new }
     ensures strays { (scene : Scene) (numbers : Numbers) (start old : Board) → is_executing (controller_of old).phase ≡ true → FormatGoes scene numbers start old
         → FormatGoes scene numbers start (record old { bus = irq_taken old.bus }) }

@@ -26,8 +26,8 @@ pub fn an_idle_machine_stays()
 /// A read of a port moves no heads and leaves an idle machine; and so does a write, where the controller stays idle: then no
 /// request is left for the next command.
 pub fn port_accesses_leave_an_idle_machine()
-    ensures still { (port value : ℕ) (old new : Board) → Inputs port value old new → HasNoSeek old → StaysStill old new }
-    ensures others { (port value : ℕ) (old new : Board) → Inputs port value old new → LeavesOthers old new }
-    ensures inputs { (port value : ℕ) (old new : Board) → Inputs port value old new → IsIdle old → RestsIdle old new }
+    ensures still { (port value : ℕ) (old new : Board) → Inputs port old value new → HasNoSeek old → StaysStill old new }
+    ensures others { (port value : ℕ) (old new : Board) → Inputs port old value new → LeavesOthers old new }
+    ensures inputs { (port value : ℕ) (old new : Board) → Inputs port old value new → IsIdle old → RestsIdle old new }
     ensures outputs { (port value : ℕ) (old new : Board) (access : Outputs port value old new) → IsIdle old → IsIdle access.between → RestsIdle old new }
 {}

@@ -7,4 +7,4 @@ use Rattle.bios_commands.specs.Rounds.{Breaks}
 use Rattle.bios_commands.proofs.line.serve_line.Goals as goal
 
 pub returns-in-Job-clause-breaks : goal.returns-in-Job-clause-breaks
-returns-in-Job-clause-breaks g c = subst (λ (l : CallLine). IfErr c.ask.result (λ ended. (last : List Taken) × Breaks (world_of g.D.Station.shown g.S.Shelf.told g.K.Sink.told c.args.session.now c.args.shelf.now c.args.out.now) c.args.front.now l last (world_of g.D.Station.shown g.S.Shelf.told g.K.Sink.told c.ask.new.session c.ask.new.shelf c.ask.new.out) ended)) (sym c.in-Job.is) (c.ask.ensures.breaks c.args.front.now)
+returns-in-Job-clause-breaks g c = subst (λ (l : CallLine). IfErr c.ask.result (λ ended. (last : List Taken) × Breaks c.args.front.now l (world_of g.D.Station.shown g.S.Shelf.told g.K.Sink.told c.args.session.now c.args.shelf.now c.args.out.now) last (world_of g.D.Station.shown g.S.Shelf.told g.K.Sink.told c.ask.new.session c.ask.new.shelf c.ask.new.out) ended)) (sym c.in-Job.is) (c.ask.ensures.breaks c.args.front.now)

@@ -28,4 +28,4 @@ loop-r-preserved g c = record {
 pub returns-clause-reads : goal.returns-clause-reads
 returns-clause-reads g c =
     let all : c.loop-r.r - 1 ≡ c.args.sectors = omega arith in
-    subst (λ (k : ℕ). ReadsMarks k (each 1 k (λ (n : ℕ). Asks (request.Read 0 (key_of c.args.c c.args.h n) (record_address n)) ∷ [])) c.loop-r.marks (stage_of g.D.Station.shown g.S.Shelf.told c.args.session.now c.args.shelf.now) (stage_of g.D.Station.shown g.S.Shelf.told c.loop-r.session c.loop-r.shelf)) all c.loop-r.invariant.reads
+    subst (λ (k : ℕ). ReadsMarks k (each 1 k (λ (n : ℕ). Asks (request.Read 0 (key_of c.args.c c.args.h n) (record_address n)) ∷ [])) (stage_of g.D.Station.shown g.S.Shelf.told c.args.session.now c.args.shelf.now) c.loop-r.marks (stage_of g.D.Station.shown g.S.Shelf.told c.loop-r.session c.loop-r.shelf)) all c.loop-r.invariant.reads

@@ -11,7 +11,7 @@ pub returns-in-Ok-make_disk-clause-exercises : goal.returns-in-Ok-make_disk-clau
 returns-in-Ok-make_disk-clause-exercises g c =
     exercise_runs c.args.seed c.args.count (told_of (stage_of g.D.Station.shown g.S.Shelf.told c.args.session.now c.args.shelf.now) (g.K.Sink.told c.args.out.now)) (told_of (stage_of g.D.Station.shown g.S.Shelf.told c.run_work-tally.new.session c.run_work-tally.new.shelf) (g.K.Sink.told c.put_last_line.new.out)) c.put_last_line.result
     (exercised c.args.seed c.args.count c.run_work-tally.result (stage_of g.D.Station.shown g.S.Shelf.told c.args.session.now c.args.shelf.now) (stage_of g.D.Station.shown g.S.Shelf.told c.make_disk.new.session c.make_disk.new.shelf) (stage_of g.D.Station.shown g.S.Shelf.told c.run_work-tally.new.session c.run_work-tally.new.shelf) (g.K.Sink.told c.args.out.now) (g.K.Sink.told c.put_last_line.new.out) c.put_last_line.result c.in-Ok-make_disk.ensures.goes c.run_work-tally.ensures.works
-    (subst (λ (wanted : Status). Prints (g.K.Sink.told c.args.out.now) (exercise_text c.args.seed c.args.count c.run_work-tally.result.done c.run_work-tally.result.refused c.run_work-tally.result.sum) wanted (g.K.Sink.told c.put_last_line.new.out) c.put_last_line.result) c.whole_status.ensures.value
+    (subst (λ (wanted : Status). Prints (exercise_text c.args.seed c.args.count c.run_work-tally.result.done c.run_work-tally.result.refused c.run_work-tally.result.sum) wanted (g.K.Sink.told c.args.out.now) (g.K.Sink.told c.put_last_line.new.out) c.put_last_line.result) c.whole_status.ensures.value
     (c.put_last_line.ensures.prints (exercise_text c.args.seed c.args.count c.run_work-tally.result.done c.run_work-tally.result.refused c.run_work-tally.result.sum) c.exercise_line-line.ensures)))
 
 pub returns-in-Err-make_disk-clause-exercises : goal.returns-in-Err-make_disk-clause-exercises

@@ -16,4 +16,4 @@ pub returns-clause-finds : goal.returns-clause-finds
 returns-clause-finds g c =
     let all : c.loop-attempt._attempt ≡ 3 = omega arith in
     found_no_rate (g.C.Commands.rig c.args.machine.now) c.args.bay (g.C.Commands.rig c.loop-attempt.machine)
-    (subst (λ (n : ℕ). HasFoundNone (g.C.Commands.rig c.args.machine.now) c.args.bay n (g.C.Commands.rig c.loop-attempt.machine)) all c.loop-attempt.invariant.none)
+    (subst (λ (n : ℕ). HasFoundNone c.args.bay n (g.C.Commands.rig c.args.machine.now) (g.C.Commands.rig c.loop-attempt.machine)) all c.loop-attempt.invariant.none)

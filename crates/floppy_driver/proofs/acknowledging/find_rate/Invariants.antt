@@ -4,5 +4,5 @@ use Rattle.floppy_driver.proofs.acknowledging.find_rate.Given as goal
 abbrev pub invariant-loop-attempt : goal.invariant-loop-attempt
 invariant-loop-attempt g l = record {
   idle : g.C.Commands.is_idle l.machine;
-  none : HasFoundNone (g.C.Commands.rig l.initial.machine) l.bay l._attempt (g.C.Commands.rig l.machine);
+  none : HasFoundNone l.bay l._attempt (g.C.Commands.rig l.initial.machine) (g.C.Commands.rig l.machine);
 }

@@ -10,8 +10,8 @@ invariant-loop-r g l = record {
   sound : IsSound (g.C.Commands.rig l.machine);
   idle : g.C.Commands.is_idle l.machine;
   spun : in_bay (g.C.Commands.rig l.machine).spun l.bay ≡ true;
-  reads : ReadsRecords (g.C.Commands.rig l.initial.machine) l.bay (l.r - 1)
-      (IsBlankUnder (g.C.Commands.rig l.initial.machine) l.bay l.asked.rate l.asked.h)
+  reads : ReadsRecords l.bay (l.r - 1) (IsBlankUnder (g.C.Commands.rig l.initial.machine) l.bay l.asked.rate l.asked.h)
       (HoldsRecords (track_under (g.C.Commands.rig l.initial.machine) l.bay l.asked.rate l.asked.h) l.asked.c l.asked.h (sectors_at l.asked.rate) l.asked.fill)
+      (g.C.Commands.rig l.initial.machine)
       (Ok tt) (g.C.Commands.rig l.machine);
 }

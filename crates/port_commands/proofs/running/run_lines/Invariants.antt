@@ -6,7 +6,7 @@ use Rattle.port_commands.proofs.running.run_lines.Given as goal
 
 abbrev pub invariant-loop-line : goal.invariant-loop-line
 invariant-loop-line g l = record {
-  run : HasRun (world_of g.D.Drive.state g.S.Shelf.told g.K.Sink.told l.fn.machine l.fn.names l.fn.shelf l.fn.out) (take l.line-index l.lines) l.refused (world_of g.D.Drive.state g.S.Shelf.told g.K.Sink.told l.machine l.names l.shelf l.out);
+  run : HasRun (take l.line-index l.lines) (world_of g.D.Drive.state g.S.Shelf.told g.K.Sink.told l.fn.machine l.fn.names l.fn.shelf l.fn.out) l.refused (world_of g.D.Drive.state g.S.Shelf.told g.K.Sink.told l.machine l.names l.shelf l.out);
   named : AreNamed l.names (board g.D.Drive.state l.machine);
   shelf_counts : g.S.Shelf.fault_count l.fn.shelf ≤ g.S.Shelf.fault_count l.shelf;
   sink_counts : g.K.Sink.fault_count l.fn.out ≤ g.K.Sink.fault_count l.out;

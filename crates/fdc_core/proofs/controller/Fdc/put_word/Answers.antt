@@ -19,7 +19,7 @@ returns g c = record {
     lead = λ due. c.after-next.ensures.lead (lead_of c.args.writing.stage) (c.write-given.ensures.lead due);
   });
   opens_it = subst (λ first. Opens first (g.D.Drive.state c.args.drive.now) (g.D.Drive.state c.open_before.new.drive)) c.opens.ensures c.open_before.ensures;
-  puts = subst (λ head. Writes (g.D.Drive.state c.open_before.new.drive) head c.write-given.result.word (g.D.Drive.state c.write_word-index.new.self)) c.head_of.ensures c.write_word-index.ensures.writes;
+  puts = subst (λ head. Writes head c.write-given.result.word (g.D.Drive.state c.open_before.new.drive) (g.D.Drive.state c.write_word-index.new.self)) c.head_of.ensures c.write_word-index.ensures.writes;
   range_from = c.write_word-index.ensures.range_before;
   range_mid = c.write_word-index.ensures.range;
   closes = subst (λ last. Closes last (g.D.Drive.state c.write_word-index.new.self) (g.D.Drive.state c.close_behind.new.drive)) c.is_ended.ensures c.close_behind.ensures;

@@ -5,4 +5,4 @@ use Rattle.fdc_core.proofs.controller.Fdc.step_empty.Goals as goal
 
 pub returns-clause-reads : goal.returns-clause-reads
 returns-clause-reads c =
-    subst (λ polls. ListensToNone c.args.self.now polls c.advance_empty.new.self) c.poll.ensures.state (polled_follows false 0 c.args.self.now c.poll.new.self c.advance_empty.new.self c.poll.ensures.state c.advance_empty.ensures.reads)
+    subst (λ polls. ListensToNone polls c.args.self.now c.advance_empty.new.self) c.poll.ensures.state (polled_follows false 0 c.args.self.now c.poll.new.self c.advance_empty.new.self c.poll.ensures.state c.advance_empty.ensures.reads)

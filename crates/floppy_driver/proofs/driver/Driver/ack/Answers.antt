@@ -27,7 +27,7 @@ returns-clause-step g c =
     acks_unready c.args.self.now c.set_notes.new.self (g.C.Commands.rig c.args.machine.now) c.args.bay (g.C.Commands.rig c.loop-attempt.machine) c.new.result c.if-bay-gt1.false
     (c.set_notes.ensures ∙ ap (λ (d : Driver). with_notes d c.args.bay c.new.result) c.loop-attempt.invariant.same)
     c.new.ensures.gate c.new.ensures.known c.requires.attached
-    (subst (λ (n : ℕ). HasStayedSet (g.C.Commands.rig c.args.machine.now) c.args.bay n (g.C.Commands.rig c.loop-attempt.machine)) all c.loop-attempt.invariant.stayed)
+    (subst (λ (n : ℕ). HasStayedSet c.args.bay n (g.C.Commands.rig c.args.machine.now) (g.C.Commands.rig c.loop-attempt.machine)) all c.loop-attempt.invariant.stayed)
 
 pub returns-clause-attached : goal.returns-clause-attached
 returns-clause-attached g c =
@@ -35,4 +35,4 @@ returns-clause-attached g c =
     attached_unready c.args.self.now c.set_notes.new.self (g.C.Commands.rig c.args.machine.now) c.args.bay (g.C.Commands.rig c.loop-attempt.machine) c.new.result c.if-bay-gt1.false
     (c.set_notes.ensures ∙ ap (λ (d : Driver). with_notes d c.args.bay c.new.result) c.loop-attempt.invariant.same)
     c.new.ensures.gate c.new.ensures.known c.requires.attached
-    (subst (λ (n : ℕ). HasStayedSet (g.C.Commands.rig c.args.machine.now) c.args.bay n (g.C.Commands.rig c.loop-attempt.machine)) all c.loop-attempt.invariant.stayed)
+    (subst (λ (n : ℕ). HasStayedSet c.args.bay n (g.C.Commands.rig c.args.machine.now) (g.C.Commands.rig c.loop-attempt.machine)) all c.loop-attempt.invariant.stayed)

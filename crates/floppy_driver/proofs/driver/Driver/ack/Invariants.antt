@@ -8,5 +8,5 @@ invariant-loop-attempt g l = record {
   same : l.self ≡ l.fn.self;
   idle : g.C.Commands.is_idle l.machine;
   sound : IsSound (g.C.Commands.rig l.machine);
-  stayed : HasStayedSet (g.C.Commands.rig l.fn.machine) l.bay l._attempt (g.C.Commands.rig l.machine);
+  stayed : HasStayedSet l.bay l._attempt (g.C.Commands.rig l.fn.machine) (g.C.Commands.rig l.machine);
 }

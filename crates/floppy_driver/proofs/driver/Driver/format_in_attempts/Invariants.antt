@@ -12,10 +12,10 @@ invariant-loop g l = record {
   can : CanWrite l.self (g.C.Commands.rig l.machine) l.bay;
   tries : l.self.tries ≡ l.initial.self.tries;
   counts : GoesOn (g.C.Commands.rig l.initial.machine).counters (g.C.Commands.rig l.machine).counters;
-  formats : FormatsIn l.counter (format_of l.asked) l.bay (Err l.last)
-      (in_bay (g.C.Commands.rig l.initial.machine).media l.bay) (in_bay (g.C.Commands.rig l.machine).media l.bay)
-      (g.C.Commands.rig l.initial.machine).counters (g.C.Commands.rig l.machine).counters;
+  formats : FormatsIn l.counter (format_of l.asked) l.bay (in_bay (g.C.Commands.rig l.initial.machine).media l.bay)
+      (in_bay (g.C.Commands.rig l.machine).media l.bay) (g.C.Commands.rig l.initial.machine).counters
+      (Err l.last) (g.C.Commands.rig l.machine).counters;
   medium : (spares : ℕ) (waiting : List DriveCounts) → HasOnlyMedium
-      (shown l.initial.self (g.C.Commands.rig l.initial.machine) spares waiting) l.bay (in_bay (g.C.Commands.rig l.machine).media l.bay)
+      l.bay (in_bay (g.C.Commands.rig l.machine).media l.bay) (shown l.initial.self (g.C.Commands.rig l.initial.machine) spares waiting)
       (shown l.self (g.C.Commands.rig l.machine) spares waiting);
 }

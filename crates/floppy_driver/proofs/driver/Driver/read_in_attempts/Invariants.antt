@@ -12,5 +12,5 @@ invariant-loop-attempt g l = record {
   ready : CanTry l.self (g.C.Commands.rig l.machine) l.bay;
   tries : l.self.tries ≡ l.initial.self.tries;
   counts : GoesOn (g.C.Commands.rig l.initial.machine).counters (g.C.Commands.rig l.machine).counters;
-  tried : (start : StationState) (spares : ℕ) (waiting : List DriveCounts) → HasAsked start (shown l.initial.self (g.C.Commands.rig l.initial.machine) spares waiting) → HasTriedRead start l.bay l.key l.address (l.attempt - 1) l.last (shown l.self (g.C.Commands.rig l.machine) spares waiting);
+  tried : (start : StationState) (spares : ℕ) (waiting : List DriveCounts) → HasAsked start (shown l.initial.self (g.C.Commands.rig l.initial.machine) spares waiting) → HasTriedRead l.bay l.key l.address (l.attempt - 1) start l.last (shown l.self (g.C.Commands.rig l.machine) spares waiting);
 }

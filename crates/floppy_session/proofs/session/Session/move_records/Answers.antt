@@ -26,7 +26,7 @@ loop-i-preserved g c = record {
       );
   outside = λ verify room.
       let before = c.loop-i.invariant.outside verify room in
-      outside_after _ _ _ c.args.address 512 before (subst (λ (a : ℕ). SameOutside (g.D.Station.shown c.loop-i.self.station).memory a 512 (g.D.Station.shown c.move_record.new.self.station).memory) (c.place_of_record.ensures ∙ ap (λ (k : Kind). place_of_record k c.args.address c.loop-i.i) verify) (c.move_record.ensures.outside verify c.requires.size (omega (arith, room, before.length, c.place_of_record.ensures ∙ ap (λ (k : Kind). place_of_record k c.args.address c.loop-i.i) verify))));
+      outside_after _ _ _ c.args.address 512 before (subst (λ (a : ℕ). SameOutside a 512 (g.D.Station.shown c.loop-i.self.station).memory (g.D.Station.shown c.move_record.new.self.station).memory) (c.place_of_record.ensures ∙ ap (λ (k : Kind). place_of_record k c.args.address c.loop-i.i) verify) (c.move_record.ensures.outside verify c.requires.size (omega (arith, room, before.length, c.place_of_record.ensures ∙ ap (λ (k : Kind). place_of_record k c.args.address c.loop-i.i) verify))));
   running = c.move_record.ensures.running;
 }
 
@@ -60,4 +60,4 @@ returns-clause-moves g c = λ told.
 pub returns-in-Err-clause-outside : goal.returns-in-Err-clause-outside
 returns-in-Err-clause-outside g c = λ verify room.
     let before = c.loop-i.invariant.outside verify room in
-    outside_after _ _ _ c.args.address 512 before (subst (λ (a : ℕ). SameOutside (g.D.Station.shown c.loop-i.self.station).memory a 512 (g.D.Station.shown c.move_record.new.self.station).memory) (c.place_of_record.ensures ∙ ap (λ (k : Kind). place_of_record k c.args.address c.loop-i.i) verify) (c.move_record.ensures.outside verify c.requires.size (omega (arith, room, before.length, c.place_of_record.ensures ∙ ap (λ (k : Kind). place_of_record k c.args.address c.loop-i.i) verify))))
+    outside_after _ _ _ c.args.address 512 before (subst (λ (a : ℕ). SameOutside a 512 (g.D.Station.shown c.loop-i.self.station).memory (g.D.Station.shown c.move_record.new.self.station).memory) (c.place_of_record.ensures ∙ ap (λ (k : Kind). place_of_record k c.args.address c.loop-i.i) verify) (c.move_record.ensures.outside verify c.requires.size (omega (arith, room, before.length, c.place_of_record.ensures ∙ ap (λ (k : Kind). place_of_record k c.args.address c.loop-i.i) verify))))

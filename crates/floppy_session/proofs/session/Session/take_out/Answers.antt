@@ -14,5 +14,5 @@ returns-clause-ok g c =
     } in
     let disk : (bay_of old.station c.args.bay).medium ≡ Some c.unwrap-medium.result =
     ap (λ (station : g.row.D.Denot). (bay_of (g.D.Station.shown station) c.args.bay).medium) (sym c.take_name.ensures.station) ∙ sym c.eject.ensures.step.medium ∙ c.unwrap-medium.ensures in
-    let changes : ChangesMedium old c.args.bay None None new = search rules in
+    let changes : ChangesMedium c.args.bay None None old new = search rules in
     stores_out c.store_medium.result old new (g.S.Shelf.told c.args.shelf.now) (g.S.Shelf.told c.store_medium.new.shelf) c.args.bay c.unwrap-medium.result c.unwrap-name.result disk (sym c.take_name.ensures.name ∙ c.unwrap-name.ensures) changes c.store_medium.ensures.ok

@@ -8,7 +8,7 @@ use Rattle.machine_commands.proofs.commands.CommandedMachineCommands.read.Goals 
 pub returns-clause-step : goal.returns-clause-step
 returns-clause-step g c =
     let range = size_range c.args.key.n c.requires.coded in
-    subst (λ told. ReadsData (rig_shown g.D.Drive.state c.args.self.now) c.args.bay c.args.key c.args.rate c.args.address told (rig_shown g.D.Drive.state c.read_to-outcome.new.self)) (sym c.mark_of.ensures)
+    subst (λ told. ReadsData c.args.bay c.args.key c.args.rate c.args.address (rig_shown g.D.Drive.state c.args.self.now) told (rig_shown g.D.Drive.state c.read_to-outcome.new.self)) (sym c.mark_of.ensures)
     (c.a_read_is_done.ensures.user c.args.self.now.motors c.args.bay c.args.key c.args.rate c.args.address c.read_to-outcome.result (board_of g.D.Drive.state c.args.self.now)
     (board_of g.D.Drive.state c.read_to-outcome.new.self) c.requires.idle c.requires.bay c.requires.head c.requires.coded c.requires.spun c.requires.range
     (in_page c.args.address (content_size c.args.key.n) range.0 c.requires.page) c.read_to-outcome.ensures.sends)

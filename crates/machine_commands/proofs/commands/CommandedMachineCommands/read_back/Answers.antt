@@ -7,7 +7,7 @@ use Rattle.machine_commands.proofs.commands.CommandedMachineCommands.read_back.G
 
 pub returns-clause-step : goal.returns-clause-step
 returns-clause-step g c =
-    subst (λ told. ReadsBack (rig_shown g.D.Drive.state c.args.self.now) c.args.bay c.args.key c.args.rate told (rig_shown g.D.Drive.state c.read_to-outcome.new.self)) (sym c.mark_of.ensures)
+    subst (λ told. ReadsBack c.args.bay c.args.key c.args.rate (rig_shown g.D.Drive.state c.args.self.now) told (rig_shown g.D.Drive.state c.read_to-outcome.new.self)) (sym c.mark_of.ensures)
     (c.a_read_is_done.ensures.page c.args.self.now.motors c.args.bay c.args.key c.args.rate c.read_to-outcome.result (board_of g.D.Drive.state c.args.self.now)
     (board_of g.D.Drive.state c.read_to-outcome.new.self) c.requires.idle c.requires.bay c.requires.head c.requires.coded c.requires.spun c.read_to-outcome.ensures.sends)
 

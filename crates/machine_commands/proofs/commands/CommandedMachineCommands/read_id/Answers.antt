@@ -5,7 +5,7 @@ use Rattle.machine_commands.proofs.commands.CommandedMachineCommands.read_id.Goa
 
 pub returns-clause-step : goal.returns-clause-step
 returns-clause-step g c =
-    subst (λ told. ReadsId (rig_shown g.D.Drive.state c.args.self.now) c.args.bay c.args.head c.args.rate told (rig_shown g.D.Drive.state c.identify-outcome.new.self)) (sym c.key_of.ensures)
+    subst (λ told. ReadsId c.args.bay c.args.head c.args.rate (rig_shown g.D.Drive.state c.args.self.now) told (rig_shown g.D.Drive.state c.identify-outcome.new.self)) (sym c.key_of.ensures)
     (c.a_read_id_is_done.ensures.reads c.args.self.now.motors c.args.bay c.args.head c.args.rate c.identify-outcome.result (board_of g.D.Drive.state c.args.self.now)
     (board_of g.D.Drive.state c.identify-outcome.new.self) c.requires.idle c.requires.bay c.requires.head c.requires.spun c.identify-outcome.ensures.sends)
 

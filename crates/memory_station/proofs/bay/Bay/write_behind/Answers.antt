@@ -29,7 +29,7 @@ read_back-requires-clause-address c =
     let before = bay_shown c.args.self.now in
     let medium = c.in-Some.medium in
     let after = c.put_window.new.medium in
-    let Put : List ℕ → Type 0 = λ words. IsCutTo medium c.args.key.c c.args.key.h c.args.place (length words) words after in
+    let Put : List ℕ → Type 0 = λ words. IsCutTo c.args.key.c c.args.key.h c.args.place (length words) words medium after in
     let here = field_here before c.args.key c.args.place medium c.requires.field c.in-Some.is in
     let is = change_here written c.args.place _ medium after before here (subst Put c.fill_field_words.ensures c.if-not-put_window.ensures) in (
       c.args.key,
@@ -42,7 +42,7 @@ returns c = λ n old new drives.
     let fits : FitsKey written = record { size = c.requires.content; bytes = λ j. let byte = c.type_inv.content j in omega (arith, byte) } in
     let before = bay_shown c.args.self.now in
     let after = c.put_window.new.medium in
-    let Put : List ℕ → Type 0 = λ words. IsCutTo c.in-Some.medium c.args.key.c c.args.key.h c.args.place (length words) words after in
+    let Put : List ℕ → Type 0 = λ words. IsCutTo c.args.key.c c.args.key.h c.args.place (length words) words c.in-Some.medium after in
     let Back : List ℕ → Type 0 = λ row. ReadsBack row c.args.place c.args.key.n c.args.deleted c.args.content.now c.read_back.result in
     wrote_whole written fits n c.args.place 2 c.in-Some.medium after before old new
     (field_here before c.args.key c.args.place c.in-Some.medium c.requires.field c.in-Some.is) drives

@@ -12,7 +12,7 @@ returns-clause-step c =
     let self = c.args.self.now in
     let old = station (bays_shown self.bays) self.memory.items self.spares self.tries (counters_of self.spares self.counts) in
     let new = station (bays_shown c.set.new.self) self.memory.items self.spares self.tries (counters_of self.spares c.send.new.self) in
-    let Formats : Rate → Type 0 = λ rate. FormatsDrive (record { c = c.args.c; h = c.args.h; rate = rate; gap3 = c.args.gap3; fill = c.args.fill }) c.args.bay c.format-outcome.result.answer old new in
+    let Formats : Rate → Type 0 = λ rate. FormatsDrive (record { c = c.args.c; h = c.args.h; rate = rate; gap3 = c.args.gap3; fill = c.args.fill }) c.args.bay old c.format-outcome.result.answer new in
     no_refusal _ c.format_refusal.result _ _ c.format_refusal.ensures.value c.in_default.is
     (subst Formats (ap (λ (b : Bay). b.rate) c.take-slot.ensures.taken)
     (c.format-outcome.ensures c.args.bay old new

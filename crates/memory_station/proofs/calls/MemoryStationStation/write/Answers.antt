@@ -11,7 +11,7 @@ returns-clause-step c =
     let self = c.args.self.now in
     let old = station (bays_shown self.bays) self.memory.items self.spares self.tries (counters_of self.spares self.counts) in
     let new = station (bays_shown c.set.new.self) self.memory.items self.spares self.tries (counters_of self.spares c.send.new.self) in
-    let Writes : List ℕ → Type 0 = λ bytes. WritesDrive (record { key = c.args.key; deleted = c.args.deleted; content = bytes }) c.args.bay c.write-outcome.result.answer old new in
+    let Writes : List ℕ → Type 0 = λ bytes. WritesDrive (record { key = c.args.key; deleted = c.args.deleted; content = bytes }) c.args.bay old c.write-outcome.result.answer new in
     no_refusal _ c.write_refusal.result _ _ c.write_refusal.ensures.value c.in_default.is
     (subst Writes (bytes_part self.memory.items c.deref.result.now c.args.address c.sector_size-size.result (content_size c.args.key.n) c.deref.ensures.value c.sector_size-size.ensures.size)
     (c.write-outcome.ensures c.args.bay old new
