@@ -21,18 +21,23 @@ fn nothing_is_done_before_a_diskette_is_acknowledged(rt: HostRuntime) -> Result<
         driver.write(&mut bench, 0, key(0, 0, 1), 0, false),
         Err(Code::Changed)
     );
-    assert_eq!(rt;
-        driver.format(&mut bench, 0, 0, 0, 0x54, 0xF6),
-        Err(Code::Changed)
-    );
-    assert_eq!(rt;
-        driver.set_rate(&mut bench, 0, Rate::R250),
-        Err(Code::Changed)
-    );
     assert_eq!(rt; bench.commands(), 0);
     assert_eq!(rt; driver.ack(&mut bench, 0), Ok(()));
     assert!(rt; !driver.changed(&mut bench, 0));
     assert_eq!(rt; driver.read(&mut bench, 0, key(0, 0, 1), 0), Ok(false));
+    Ok(())
+}
+
+#[test]
+fn nothing_is_formatted_before_a_diskette_is_acknowledged(rt: HostRuntime) -> Result<(), Fail> {
+    let mut bench = Bench::new(rt.alloc())?;
+    let mut driver = Driver::set_up(&mut bench);
+    bench.exchange(0, Some(small(rt.alloc(), Rate::R500)?));
+    assert_eq!(rt;
+        driver.format(&mut bench, 0, 0, 0, 0x54, 0xF6),
+        Err(Code::Changed)
+    );
+    assert_eq!(rt; bench.commands(), 0);
     Ok(())
 }
 
@@ -92,19 +97,26 @@ fn another_diskette_is_acknowledged_first(rt: HostRuntime) -> Result<(), Fail> {
     let mut driver = Driver::set_up(&mut bench);
     bench.exchange(0, Some(small(rt.alloc(), Rate::R500)?));
     assert_eq!(rt; driver.ack(&mut bench, 0), Ok(()));
-    assert_eq!(rt; driver.read(&mut bench, 0, key(0, 0, 1), 0), Ok(false));
     bench.exchange(0, Some(small(rt.alloc(), Rate::R250)?));
     let commands = bench.commands();
     assert_eq!(rt;
         driver.read(&mut bench, 0, key(0, 0, 1), 0),
         Err(Code::Changed)
     );
-    assert!(rt; driver.changed(&mut bench, 0));
     assert_eq!(rt; bench.commands(), commands);
     assert_eq!(rt; driver.ack(&mut bench, 0), Ok(()));
-    assert_eq!(rt; driver.rate(0), Rate::R250);
     assert_eq!(rt; driver.read(&mut bench, 0, key(0, 0, 1), 0), Ok(false));
+    Ok(())
+}
+
+#[test]
+fn an_emptied_bay_is_not_read(rt: HostRuntime) -> Result<(), Fail> {
+    let mut bench = Bench::new(rt.alloc())?;
+    let mut driver = Driver::set_up(&mut bench);
+    bench.exchange(0, Some(small(rt.alloc(), Rate::R250)?));
+    assert_eq!(rt; driver.ack(&mut bench, 0), Ok(()));
     bench.exchange(0, None);
+    assert!(rt; driver.changed(&mut bench, 0));
     assert_eq!(rt;
         driver.read(&mut bench, 0, key(0, 0, 1), 0),
         Err(Code::Changed)

@@ -21,9 +21,6 @@ fn a_read_is_done_at_the_first_attempt(rt: HostRuntime) -> Result<(), Fail> {
     assert_eq!(rt; bench.memory(0x1000), 0x11);
     assert_eq!(rt; bench.memory(0x10FF), 0x11);
     assert_eq!(rt; bench.memory(0x1100), 0);
-    assert_eq!(rt; driver.read(&mut bench, 0, key(1, 1, 2), 0x1000), Ok(false));
-    assert_eq!(rt; bench.memory(0x10FF), 0x44);
-    assert_eq!(rt; bench.commands(), 3);
     Ok(())
 }
 

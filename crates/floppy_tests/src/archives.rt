@@ -1,27 +1,31 @@
 // The commands on files alone: ImageDisk files, surveys, and disks laid out anew.
 use crate::disks::{formatted, with_words};
+use crate::runs::{asked, words_of};
 use crate::whole::answers;
 use flop_base::{MemShelf, MemSink, Rate, Status};
-use floppy_forms::run_words as floppy;
-use memory_station::MemoryStation;
 use std::alloc::{AllocError, Global};
+use std::process::Abort;
 use std::test::Fail;
 
 /// The ImageDisk file of a formatted disk of two cylinders and two heads: each sector is filled by one byte.
 fn imagedisk_file(alloc: Global) -> Result<Vec<u8>, AllocError> {
     let mut file = Vec::from_slice(alloc, b"IMD 1.18: 01/01/2000 00:00:00\r\n\x1A")?;
-    for c in 0..2 {
-        for h in 0..2 {
-            file.extend_from_slice(&[3, c, h, 18, 2])?;
-            for r in 1..19 {
-                file.push(r)?;
-            }
-            for _ in 0..18 {
-                file.extend_from_slice(&[2, 0xF6])?;
-            }
-        }
+    for (c, h) in [(0, 0), (0, 1), (1, 0), (1, 1)] {
+        push_imagedisk_track(&mut file, c, h)?;
     }
     Ok(file)
+}
+
+/// Adds a track of 18 sectors of 512 bytes at 500 kbit/s.
+fn push_imagedisk_track(file: &mut Vec<u8>, c: u8, h: u8) -> Result<(), AllocError> {
+    file.extend_from_slice(&[3, c, h, 18, 2])?;
+    for r in 1..19 {
+        file.push(r)?;
+    }
+    for _ in 0..18 {
+        file.extend_from_slice(&[2, 0xF6])?;
+    }
+    Ok(())
 }
 
 #[test]
@@ -60,28 +64,41 @@ fn a_disk_laid_out_anew(rt: HostRuntime) -> Result<(), Fail> {
     Ok(())
 }
 
+/// Lays a.rt out anew as b.rt, where the calls of the shelf and of the sink with these numbers fail: the status, and whether
+/// b.rt was stored. Nothing is printed.
+fn remastered(
+    rt: &impl Abort,
+    alloc: Global,
+    disk: &[u8],
+    shelf_fails: u64,
+    sink_fails: u64,
+) -> Result<(Status, bool), Fail> {
+    let mut shelf = MemShelf::new(alloc, vec![in alloc; shelf_fails]?);
+    shelf.put_file("a.rt", disk)?;
+    let mut sink = MemSink::new(alloc, vec![in alloc; sink_fails]?);
+    let words = words_of(alloc, "remaster a.rt b.rt")?;
+    let (status, _) = asked(alloc, &words, &mut shelf, &mut sink)?;
+    assert!(rt; sink.bytes().is_empty());
+    Ok((status, shelf.file("b.rt").is_some()))
+}
+
 #[test]
 fn a_failing_outside(rt: HostRuntime) -> Result<(), Fail> {
     let alloc = rt.alloc();
     let disk = formatted(alloc, Rate::R500)?;
-    let mut words: Vec<String> = Vec::new(alloc);
-    for word in ["remaster", "a.rt", "b.rt"] {
-        words.push(String::from_str(alloc, word)?)?;
-    }
+    let disk = disk.as_slice();
     // The load fails, then the store, then the sink.
-    for (shelf_fails, sink_fails, wanted) in [
-        (1, 0, Status::FileFault),
-        (2, 0, Status::FileFault),
-        (0, 1, Status::SinkFault),
-    ] {
-        let mut shelf = MemShelf::new(alloc, vec![in alloc; shelf_fails]?);
-        shelf.put_file("a.rt", &disk)?;
-        let mut sink = MemSink::new(alloc, vec![in alloc; sink_fails]?);
-        let station = MemoryStation::new(alloc, 2)?;
-        let (status, _) = floppy(alloc, &words, &mut shelf, &mut sink, station);
-        assert_eq!(rt; status, wanted);
-        assert_eq!(rt; sink.bytes(), b"".as_slice());
-        assert_eq!(rt; shelf.file("b.rt").is_some(), wanted == Status::SinkFault);
-    }
+    assert_eq!(rt;
+        remastered(&rt, alloc, disk, 1, 0)?,
+        (Status::FileFault, false)
+    );
+    assert_eq!(rt;
+        remastered(&rt, alloc, disk, 2, 0)?,
+        (Status::FileFault, false)
+    );
+    assert_eq!(rt;
+        remastered(&rt, alloc, disk, 0, 1)?,
+        (Status::SinkFault, true)
+    );
     Ok(())
 }

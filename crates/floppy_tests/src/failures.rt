@@ -1,6 +1,6 @@
 // Shelves and sinks that fail, and what the station that comes back has counted.
 use crate::disks::{formatted, patched};
-use crate::runs::{report, run};
+use crate::runs::{report, run, same_bytes};
 use flop_base::{Rate, Status};
 use sector_model::Station;
 use std::test::Fail;
@@ -20,15 +20,11 @@ fn each_call_of_the_shelf_fails_in_turn(rt: HostRuntime) -> Result<(), Fail> {
     ];
     for (call, lines, status, left) in rows {
         let played = run(alloc, "insert 0 a.rt;eject 0", ("a.rt", &first), call, 0)?;
-        let lines = report(alloc, lines)?;
-        assert_eq!(rt; played.report.as_slice(), lines.as_slice(), "call {call}");
-        assert_eq!(rt; played.status, status, "call {call}");
-        assert!(rt;
-            played.shelf.file("a.rt") == Some(left.as_slice()),
-            "call {call}"
-        );
+        same_bytes(&rt, &played.report, &report(alloc, lines)?, lines);
+        assert_eq!(rt; played.status, status);
+        assert!(rt; played.shelf.file("a.rt") == Some(left.as_slice()));
         // A medium that couldn't be stored is dropped.
-        assert!(rt; !played.station.is_loaded(0), "call {call}");
+        assert!(rt; !played.station.is_loaded(0));
     }
     Ok(())
 }
@@ -45,14 +41,10 @@ fn each_call_of_the_sink_fails_in_turn(rt: HostRuntime) -> Result<(), Fail> {
     ];
     for (call, lines, status, left, is_loaded) in rows {
         let played = run(alloc, "insert 0 a.rt;eject 0", ("a.rt", &first), 0, call)?;
-        let lines = report(alloc, lines)?;
-        assert_eq!(rt; played.report.as_slice(), lines.as_slice(), "call {call}");
-        assert_eq!(rt; played.status, status, "call {call}");
-        assert!(rt;
-            played.shelf.file("a.rt") == Some(left.as_slice()),
-            "call {call}"
-        );
-        assert_eq!(rt; played.station.is_loaded(0), is_loaded, "call {call}");
+        same_bytes(&rt, &played.report, &report(alloc, lines)?, lines);
+        assert_eq!(rt; played.status, status);
+        assert!(rt; played.shelf.file("a.rt") == Some(left.as_slice()));
+        assert_eq!(rt; played.station.is_loaded(0), is_loaded);
     }
     Ok(())
 }
@@ -79,11 +71,11 @@ fn the_station_counts_commands_and_accesses(rt: HostRuntime) -> Result<(), Fail>
     ];
     for (job, commands, accesses) in rows {
         let station = run(alloc, job, ("a.rt", &disk), 0, 0)?.station;
-        assert_eq!(rt; station.data_commands(), commands, "{job}");
-        assert_eq!(rt; station.taken(), commands, "{job}");
-        assert_eq!(rt; station.direct(), accesses, "{job}");
-        assert_eq!(rt; station.stalls(), 0, "{job}");
-        assert_eq!(rt; (station.faults(0), station.faults(1)), (0, 0), "{job}");
+        assert_eq!(rt; station.data_commands(), commands);
+        assert_eq!(rt; station.taken(), commands);
+        assert_eq!(rt; station.direct(), accesses);
+        assert_eq!(rt; station.stalls(), 0);
+        assert_eq!(rt; (station.faults(0), station.faults(1)), (0, 0));
     }
     Ok(())
 }

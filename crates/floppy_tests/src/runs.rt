@@ -16,6 +16,15 @@ pub(crate) struct Played {
     pub(crate) station: MemoryStation,
 }
 
+/// The words of a line.
+pub(crate) fn words_of(alloc: Global, text: &str) -> Result<Vec<String>, AllocError> {
+    let mut words: Vec<String> = Vec::new(alloc);
+    for word in text.split_whitespace() {
+        words.push(String::from_str(alloc, word)?)?;
+    }
+    Ok(words)
+}
+
 /// The text with line feeds in place of `;`.
 pub(crate) fn lines(alloc: Global, text: &str) -> Result<Vec<u8>, AllocError> {
     let mut bytes = text.as_bytes().to_vec(alloc)?;
@@ -36,6 +45,22 @@ pub(crate) fn report(alloc: Global, text: &str) -> Result<Vec<u8>, AllocError> {
     Ok(bytes)
 }
 
+/// The program over a fresh station with two spare drives.
+pub(crate) fn asked(
+    alloc: Global,
+    words: &[String],
+    shelf: &mut MemShelf,
+    sink: &mut MemSink,
+) -> Result<(Status, MemoryStation), Fail> {
+    let station = MemoryStation::new(alloc, 2)?;
+    Ok(floppy(alloc, words, shelf, sink, station))
+}
+
+/// The bytes are as wanted.
+pub(crate) fn same_bytes(rt: &impl Abort, bytes: &[u8], wanted: &[u8], of: &str) {
+    assert!(rt; bytes == wanted, "{of}");
+}
+
 /// Runs `play job` with this job and a file of this name. The calls of the shelf and of the sink with these numbers fail.
 pub(crate) fn run(
     alloc: Global,
@@ -47,13 +72,9 @@ pub(crate) fn run(
     let mut shelf = MemShelf::new(alloc, vec![in alloc; shelf_fails]?);
     shelf.put_file("job", &lines(alloc, job)?)?;
     shelf.put_file(file.0, file.1)?;
-    let words = vec![in alloc;
-        String::from_str(alloc, "play")?,
-        String::from_str(alloc, "job")?,
-    ]?;
+    let words = words_of(alloc, "play job")?;
     let mut sink = MemSink::new(alloc, vec![in alloc; sink_fails]?);
-    let station = MemoryStation::new(alloc, 2)?;
-    let (status, station) = floppy(alloc, &words, &mut shelf, &mut sink, station);
+    let (status, station) = asked(alloc, &words, &mut shelf, &mut sink)?;
     let report = sink.bytes().to_vec(alloc)?;
     Ok(Played {
         report,
@@ -74,13 +95,9 @@ pub(crate) fn plays(
 ) -> Result<(), Fail> {
     let played = run(alloc, job, file, 0, 0)?;
     let lines = report(alloc, wanted.0)?;
-    assert_eq!(rt;
-        played.report.as_slice(),
-        lines.as_slice(),
-        "report of {job}"
-    );
-    assert_eq!(rt; played.status, wanted.1, "status of {job}");
+    same_bytes(rt, &played.report, &lines, job);
+    assert_eq!(rt; played.status, wanted.1);
     let left = played.shelf.file(file.0).ok_or("the file is there")?;
-    assert!(rt; left == stored, "file behind {job}");
+    same_bytes(rt, left, stored, job);
     Ok(())
 }

@@ -1,6 +1,6 @@
 // The commands on whole disks, over a shelf and a sink in memory.
 use crate::disks::{formatted, patched, push_track, push_zeros, with_words};
-use crate::runs::{plays, report};
+use crate::runs::{asked, plays, report, same_bytes, words_of};
 use flop_base::{MemShelf, MemSink, Rate, Status};
 use floppy_forms::run_words as floppy;
 use memory_station::MemoryStation;
@@ -16,16 +16,12 @@ pub(crate) fn answers(
     text: &str,
     wanted: (&str, Status),
 ) -> Result<(), Fail> {
-    let mut words: Vec<String> = Vec::new(alloc);
-    for word in text.split_whitespace() {
-        words.push(String::from_str(alloc, word)?)?;
-    }
+    let words = words_of(alloc, text)?;
     let mut sink = MemSink::new(alloc, Vec::new(alloc));
-    let station = MemoryStation::new(alloc, 2)?;
-    let (status, _) = floppy(alloc, &words, shelf, &mut sink, station);
+    let (status, _) = asked(alloc, &words, shelf, &mut sink)?;
     let lines = report(alloc, wanted.0)?;
-    assert_eq!(rt; sink.bytes(), lines.as_slice(), "report of {text}");
-    assert_eq!(rt; status, wanted.1, "status of {text}");
+    same_bytes(rt, sink.bytes(), &lines, text);
+    assert_eq!(rt; status, wanted.1);
     Ok(())
 }
 

@@ -8,7 +8,7 @@ use Rattle.fdc_core.specs.Waiting.{CanWait, Feeds}
 use Rattle.fdc_core.specs.declared.controller.Fdc.{Fdc}
 use Rattle.fdc_core.specs.declared.phases.Phase.TheVariants.{Command}
 use Rattle.machine_counts.specs.Counts.{CountsGoOn}
-use Rattle.machine_holds.specs.Timely.{Stalled}
+use Rattle.machine_reads.specs.Timely.{Stalled}
 use Rattle.machine_pace.specs.Entries.{next_entry}
 use Rattle.machine_pace.specs.Holds.{Holds, counted, shown}
 use Rattle.machine_reads.proofs.Accesses.{read_board}

@@ -5,7 +5,7 @@ use Rattle.fdc_core.specs.State.{data_commands_of}
 use Rattle.fdc_writing.specs.Formats.{Numbers}
 use Rattle.machine_counts.specs.Counts.{long_holds}
 use Rattle.machine_formats.specs.Underway.{FormatUnderway}
-use Rattle.machine_holds.specs.Timely.{Stalled}
+use Rattle.machine_reads.specs.Timely.{Stalled}
 use Rattle.machine_pace.specs.Holds.{counted}
 use Rattle.machine_reads.specs.Scenes.{Scene}
 use Rattle.machine_writes.specs.Guards.{LeavesOthers}

@@ -20,7 +20,7 @@ use Rattle.fdc_stages.specs.declared.ending.Ending.TheVariants as ending
 use Rattle.fdc_writing.specs.Formats.{Numbers}
 use Rattle.machine_formats.specs.Results.{EndsAs, FitsOn, HasLaying, LaysTo, LaysTurn}
 use Rattle.machine_formats.specs.Underway.{IsThere}
-use Rattle.machine_holds.specs.Timely.{Stalled}
+use Rattle.machine_reads.specs.Timely.{Stalled}
 use Rattle.machine_reads.specs.Begins.{IsDriveOf}
 use Rattle.machine_reads.specs.Scenes.{Scene, data_rate, head_sent}
 use Rattle.machine_writes.specs.Results.{IsUnchanged}

@@ -30,8 +30,8 @@ use Rattle.fdc_core.specs.declared.controller.Fdc.{Fdc}
 use Rattle.machine_awaits.specs.Awaits.{IsAwaited, IsLetOut, HoldsSet, TurnsOn}
 use Rattle.machine_awaits.proofs.Awaiting.{runs_await}
 use Rattle.machine_counts.specs.Counts.{CountsGoOn, counts_of}
-use Rattle.machine_ids.specs.Ids.{IdUnderway, IdEnded, IdEndedIn, IdEndsAs, KeepsId, CanBeginId, id_scene}
-use Rattle.machine_ids.proofs.Accesses.{inputs_keep, outputs_begin, begins_quietly, can_begin}
+use Rattle.machine_reads.specs.Ids.{IdUnderway, IdEnded, IdEndedIn, IdEndsAs, KeepsId, CanBeginId, id_scene}
+use Rattle.machine_reads.proofs.IdAccesses.{inputs_keep, outputs_begin, begins_quietly, can_begin}
 use Rattle.machine_pace.specs.Entries.{next_entry}
 use Rattle.machine_pace.specs.Holds.{counted}
 use Rattle.machine_quiet.specs.Quiet.{StandsStill, Turned, HaveTurned}

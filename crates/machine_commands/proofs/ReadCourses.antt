@@ -12,8 +12,8 @@ use Rattle.fdc_core.specs.State.{is_held, is_gated, data_commands_of}
 use Rattle.fdc_core.specs.declared.phases.Phase.TheVariants.{Command}
 use Rattle.machine_awaits.specs.Awaits.{IsAwaited, IsLetOut}
 use Rattle.machine_counts.specs.Counts.{CountsGoOn}
-use Rattle.machine_ends.specs.Ends.{ReadPrompt}
-use Rattle.machine_holds.specs.Timely.{Stalled}
+use Rattle.machine_reads.specs.Ends.{ReadPrompt}
+use Rattle.machine_reads.specs.Timely.{Stalled}
 use Rattle.machine_pace.specs.Holds.{counted}
 use Rattle.machine_quiet.specs.Quiet.{StandsStill, GoesQuietly, IsHushed}
 use Rattle.machine_quiet.specs.Settings.{Setting, Stands, with_byte, with_write}

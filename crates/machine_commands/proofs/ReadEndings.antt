@@ -23,8 +23,8 @@ use Rattle.fdc_core.specs.Heard.{Sent, results_sent}
 use Rattle.fdc_core.specs.Phases.{is_overrun}
 use Rattle.fdc_core.specs.declared.answers.Answer.TheVariants.{Long}
 use Rattle.fdc_core.specs.declared.phases.Phase.TheVariants.{Result}
-use Rattle.machine_ends.specs.Ends.{ReadPrompt, is_late}
-use Rattle.machine_holds.specs.Timely.{Stalled}
+use Rattle.machine_reads.specs.Ends.{ReadPrompt, is_late}
+use Rattle.machine_reads.specs.Timely.{Stalled}
 use Rattle.machine_quiet.specs.Settings.{Setting, setting_of, with_rate}
 use Rattle.machine_reads.specs.Begins.{CanBegin, scene_of}
 use Rattle.machine_reads.specs.Results as heard

@@ -12,7 +12,7 @@ use Rattle.fdc_core.specs.State.{data_commands_of}
 use Rattle.machine_awaits.specs.Awaits.{IsAwaited, TurnsOn}
 use Rattle.machine_awaits.specs.Goes.{CountsOn}
 use Rattle.machine_counts.specs.Counts.{long_holds}
-use Rattle.machine_holds.specs.Timely.{Stalled}
+use Rattle.machine_reads.specs.Timely.{Stalled}
 use Rattle.machine_pace.specs.Holds.{counted}
 use Rattle.machine_writes.specs.Guards.{LeavesOthers}
 use Rattle.pc_bus.specs.Boards.{Board, controller_of, drive_in, holds_of, memory_of, selected_of}

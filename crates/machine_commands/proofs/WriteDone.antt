@@ -30,7 +30,7 @@ use Rattle.fdc_stages.specs.declared.ending.Ending.{Ending}
 use Rattle.fdc_stages.specs.declared.ending.Ending.TheVariants as ending
 use Rattle.machine_awaits.specs.Awaits.{IsLetOut}
 use Rattle.machine_awaits.specs.Goes.{WriteGoes}
-use Rattle.machine_holds.specs.Timely.{Stalled}
+use Rattle.machine_reads.specs.Timely.{Stalled}
 use Rattle.machine_pace.specs.declared.holding.Request.TheVariants.{Low}
 use Rattle.machine_quiet.specs.Quiet.{IsHushed}
 use Rattle.machine_reads.specs.Begins.{scene_of}

@@ -25,7 +25,7 @@ use Rattle.fdc_core.specs.Rates.{rate_fits}
 use Rattle.fdc_stages.specs.Searches.{HasNoClear}
 use Rattle.fdc_stages.specs.declared.ending.Ending.{Ending}
 use Rattle.fdc_stages.specs.declared.ending.Ending.TheVariants as ending
-use Rattle.machine_holds.specs.Timely.{Stalled}
+use Rattle.machine_reads.specs.Timely.{Stalled}
 use Rattle.machine_reads.specs.Begins.{IsDriveOf}
 use Rattle.machine_reads.specs.Scenes.{Scene, IsScene, data_rate, head_sent, track_met}
 use Rattle.machine_writes.specs.Results.{ChangesTo, EndsAs, HasChanged, IsInsideTrack, IsUnchanged, IsWholeWindow, written_in}

@@ -11,7 +11,7 @@ use drive_model::Drive;
 use flop_base::{Chrn, Code, Rate};
 use machine_awaits::laws::{a_format_goes_on, a_write_goes_on};
 use machine_formats::laws::a_format_tells_of_the_medium;
-use machine_holds::laws::a_data_command_ends;
+use machine_reads::laws::a_data_command_ends;
 use machine_writes::laws::a_write_tells_of_the_medium;
 use single_commands::Commands;
 use spelled_commands::laws::writes_are_spelled;

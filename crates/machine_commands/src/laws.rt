@@ -18,12 +18,10 @@ ghost use Rattle.machine_commands.specs.declared.results.Done.{Done};
 use dma_8237::laws::channel_is_set;
 use machine_awaits::laws::a_data_command_is_awaited;
 use machine_counts::laws::counts_go_on;
-use machine_ends::laws::a_read_ends_in_time;
-use machine_holds::laws::a_data_command_ends;
-use machine_ids::laws::{a_read_id_goes_on, a_read_id_tells_of_the_track};
 use machine_reads::laws::{
-    a_read_begins, a_read_tells_of_the_track, device_steps_keep_a_read, port_accesses_keep_a_read,
-    the_track_is_met,
+    a_data_command_ends, a_read_begins, a_read_ends_in_time, a_read_id_goes_on,
+    a_read_id_tells_of_the_track, a_read_tells_of_the_track, device_steps_keep_a_read,
+    port_accesses_keep_a_read, the_track_is_met,
 };
 use spelled_commands::laws::reads_are_spelled;
 

@@ -21,7 +21,16 @@ ghost use Rattle.machine_reads.specs.Scenes.{IsRecorded, Scene, data_rate, head_
 ghost use Rattle.sector_map.specs.Met.{met_in};
 ghost use Rattle.machine_reads.specs.Underway.{IsSet, KeepsRead, ReadUnderway};
 
+mod ending;
+mod holding;
+mod identifying;
+mod signalling;
+
+pub use ending::a_read_ends_in_time;
 use fdc_core::laws::read_data_tells;
+pub use holding::{a_data_command_ends, a_read_overruns_only_by_a_stall, a_served_request_falls};
+pub use identifying::{a_read_id_begins, a_read_id_goes_on, a_read_id_tells_of_the_track};
+pub use signalling::a_command_signals_its_end;
 
 /// Each device step keeps what is known of a READ DATA, whatever holds, strays and gaps there are; and so does each call that
 /// leaves the chips and the drives, as one that takes the latch.

@@ -14,7 +14,7 @@ use Rattle.fdc_core.specs.declared.phases.Task.TheVariants.{ReadId, Read, Write,
 use Rattle.machine_pace.specs.Entries.{next_entry}
 use Rattle.machine_pace.specs.Holds.{Holds, shown}
 use Rattle.machine_pace.specs.declared.holding.Request.TheVariants.{Low}
-use Rattle.machine_holds.specs.Timely.{Stalled}
+use Rattle.machine_reads.specs.Timely.{Stalled}
 use Rattle.pc_bus.specs.Boards.{Board, controller_of, holds_of, lines_of, selected_of}
 use Rattle.pc_bus.specs.Ports.{Outputs}
 use Rattle.pc_bus.specs.Transfers.{shown_again}

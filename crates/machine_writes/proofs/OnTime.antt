@@ -37,8 +37,8 @@ use Rattle.machine_pace.specs.Holds.{Holds, IsInTime, IsReady, counted, is_due, 
 use Rattle.machine_pace.specs.declared.holding.Request.{Request}
 use Rattle.machine_pace.specs.declared.holding.Request.TheVariants.{Low, High}
 use Rattle.machine_pace.proofs.InTime.{in_time}
-use Rattle.machine_holds.specs.Served.{IsRuled, moves_left}
-use Rattle.machine_holds.specs.Timely.{Stalled}
+use Rattle.machine_reads.specs.Served.{IsRuled, moves_left}
+use Rattle.machine_reads.specs.Timely.{Stalled}
 use Rattle.pc_bus.specs.Boards.{Board, holds_of, selected_of}
 use Rattle.pc_bus.specs.Steps.{Works, Step, Runs, RunsUnset}
 use Rattle.pc_bus.specs.Transfers.{can_move, moved, moved_from_memory, moved_to_memory, moved_up_to, looked_at, shown_again, granted, dma_stepped}

@@ -1,5 +1,5 @@
 // Shelves and sinks that fail under a machine.
-use crate::machines::{is_stored, lines, run, shelf_with_disk};
+use crate::machines::{is_stored, lines, run, same_bytes, shelf_with_disk};
 use flop_base::{MemShelf, Status};
 use std::alloc::Global;
 use std::test::Fail;
@@ -23,9 +23,9 @@ fn each_call_of_the_shelf_fails_in_turn(rt: HostRuntime) -> Result<(), Fail> {
     ] {
         let mut shelf = shelf(alloc, call)?;
         let ran = run(alloc, "play job", &mut shelf, 0)?;
-        assert_eq!(rt; ran.report.as_slice(), report.as_bytes(), "call {call}");
-        assert_eq!(rt; ran.status, status, "call {call}");
-        assert_eq!(rt; is_stored(&shelf), stored, "call {call}");
+        same_bytes(&rt, &ran.report, report.as_bytes(), report);
+        assert_eq!(rt; ran.status, status);
+        assert_eq!(rt; is_stored(&shelf), stored);
     }
     Ok(())
 }
@@ -40,9 +40,9 @@ fn each_call_of_the_sink_fails_in_turn(rt: HostRuntime) -> Result<(), Fail> {
     ] {
         let mut shelf = shelf(alloc, 0)?;
         let ran = run(alloc, "play job", &mut shelf, call)?;
-        assert_eq!(rt; ran.report.as_slice(), report.as_bytes(), "call {call}");
-        assert_eq!(rt; ran.status, status, "call {call}");
-        assert_eq!(rt; is_stored(&shelf), stored, "call {call}");
+        same_bytes(&rt, &ran.report, report.as_bytes(), report);
+        assert_eq!(rt; ran.status, status);
+        assert_eq!(rt; is_stored(&shelf), stored);
     }
     Ok(())
 }

@@ -10,6 +10,7 @@ use floppy_tools::floppy;
 use irq_events::Pace;
 use pc_bus::MachineOf;
 use std::alloc::{AllocError, Global};
+use std::process::Abort;
 use std::test::Fail;
 
 /// The words of a text.
@@ -66,6 +67,23 @@ pub(crate) struct Ran {
     pub machine: MachineOf<PlainDrive>,
 }
 
+/// The program on a machine with drives that have no faults, and two such spare drives.
+fn asked(
+    alloc: Global,
+    words: &[String],
+    shelf: &mut MemShelf,
+    sink: &mut MemSink,
+) -> Result<(Status, MachineOf<PlainDrive>), Fail> {
+    let machine = machine_with(alloc, plain(), plain())?;
+    let spare = vec![in alloc; plain(), plain()]?;
+    Ok(floppy(alloc, words, shelf, sink, machine, spare))
+}
+
+/// The bytes are as wanted.
+pub(crate) fn same_bytes(rt: &impl Abort, bytes: &[u8], wanted: &[u8], of: &str) {
+    assert!(rt; bytes == wanted, "{of}");
+}
+
 /// Runs the program with these words on a machine with drives that have no faults. The calls of the sink with this number fail.
 pub(crate) fn run(
     alloc: Global,
@@ -74,16 +92,8 @@ pub(crate) fn run(
     sink_fails: u64,
 ) -> Result<Ran, Fail> {
     let mut sink = MemSink::new(alloc, vec![in alloc; sink_fails]?);
-    let machine = machine_with(alloc, plain(), plain())?;
-    let spare = vec![in alloc; plain(), plain()]?;
-    let (status, machine) = floppy(
-        alloc,
-        &words(alloc, text)?,
-        shelf,
-        &mut sink,
-        machine,
-        spare,
-    );
+    let words = words(alloc, text)?;
+    let (status, machine) = asked(alloc, &words, shelf, &mut sink)?;
     let report = sink.bytes().to_vec(alloc)?;
     Ok(Ran {
         report,

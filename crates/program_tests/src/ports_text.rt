@@ -1,5 +1,5 @@
 // Texts of port accesses, run on the bare machine. In the texts and the reports `;` stands for the end of a line.
-use crate::machines::{Ran, is_stored, lines, run, shelf_with_disk};
+use crate::machines::{Ran, is_stored, lines, run, same_bytes, shelf_with_disk};
 use flop_base::{MemShelf, Status};
 use std::alloc::Global;
 use std::process::Abort;
@@ -17,8 +17,8 @@ fn prints(
     shelf.put_file("text", &lines(alloc, text)?)?;
     let ran = run(alloc, "ports text", shelf, 0)?;
     let report = lines(alloc, report)?;
-    assert_eq!(rt; ran.report.as_slice(), report.as_slice(), "{text}");
-    assert_eq!(rt; ran.status, status, "{text}");
+    same_bytes(rt, &ran.report, &report, text);
+    assert_eq!(rt; ran.status, status);
     Ok(ran)
 }
 

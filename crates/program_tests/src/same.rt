@@ -1,5 +1,5 @@
 // The same words on a machine and on the station in memory.
-use crate::machines::{lines, run, words};
+use crate::machines::{lines, run, same_bytes, words};
 use flop_base::{MemShelf, MemSink, Status};
 use floppy_forms::run_words;
 use memory_station::MemoryStation;
@@ -7,6 +7,18 @@ use sector_model::Station;
 use std::alloc::Global;
 use std::process::Abort;
 use std::test::Fail;
+
+/// The program over media in memory, and two spare drives.
+fn in_memory(
+    alloc: Global,
+    text: &str,
+    shelf: &mut MemShelf,
+    sink: &mut MemSink,
+) -> Result<(Status, MemoryStation), Fail> {
+    let words = words(alloc, text)?;
+    let station = MemoryStation::new(alloc, 2)?;
+    Ok(run_words(alloc, &words, shelf, sink, station))
+}
 
 /// A shelf for each of the two stations.
 #[derive(Drop)]
@@ -27,9 +39,7 @@ fn bare_shelves(alloc: Global) -> Shelves {
 fn shelves_with(alloc: Global, format: &str, disk: &str, job: &str) -> Result<Shelves, Fail> {
     let mut both = bare_shelves(alloc);
     let mut sink = MemSink::new(alloc, Vec::new(alloc));
-    let station = MemoryStation::new(alloc, 0)?;
-    let asked = words(alloc, format)?;
-    let _ = run_words(alloc, &asked, &mut both.in_memory, &mut sink, station);
+    let _ = in_memory(alloc, format, &mut both.in_memory, &mut sink)?;
     let image = both
         .in_memory
         .file(disk)
@@ -51,22 +61,13 @@ fn alike(
     name: &str,
 ) -> Result<Status, Fail> {
     let mut sink = MemSink::new(alloc, Vec::new(alloc));
-    let station = MemoryStation::new(alloc, 2)?;
-    let asked = words(alloc, text)?;
-    let (status, station) = run_words(alloc, &asked, &mut both.in_memory, &mut sink, station);
+    let (status, station) = in_memory(alloc, text, &mut both.in_memory, &mut sink)?;
     let ran = run(alloc, text, &mut both.on_disks, 0)?;
-    assert_eq!(rt; ran.report.as_slice(), sink.bytes(), "{text}");
-    assert_eq!(rt; ran.status, status, "{text}");
-    assert_eq!(rt;
-        ran.machine.data_commands(),
-        station.data_commands(),
-        "{text}"
-    );
-    assert!(rt;
-        both.on_disks.file(name) == both.in_memory.file(name),
-        "{name} behind {text}"
-    );
-    assert!(rt; both.on_disks.file(name).is_some(), "{name} is there");
+    same_bytes(rt, &ran.report, sink.bytes(), text);
+    assert_eq!(rt; ran.status, status);
+    assert_eq!(rt; ran.machine.data_commands(), station.data_commands());
+    let stored = both.on_disks.file(name).ok_or("a disk is stored")?;
+    assert!(rt; both.in_memory.file(name) == Some(stored));
     Ok(status)
 }
 

@@ -24,6 +24,20 @@ fn file(alloc: Global, header: [u8; 14], len: usize) -> Result<Vec<u8>, AllocErr
     Ok(bytes)
 }
 
+// The medium of an image.
+fn read(alloc: Global, bytes: &[u8]) -> Result<Medium, Fail> {
+    Ok(
+        read_image(alloc, bytes)
+            .ok()
+            .ok_or("the bytes are an image")?,
+    )
+}
+
+// The image of a medium.
+fn written(alloc: Global, medium: &Medium) -> Result<Vec<u8>, Fail> {
+    Ok(write_image(alloc, medium).ok().ok_or("memory")?)
+}
+
 // What is wrong with the large header, with one byte changed.
 fn fault(alloc: Global, version: u8, offset: usize, byte: u8) -> Option<ImageError> {
     let mut header = LARGE;
@@ -112,16 +126,14 @@ fn headers(rt: HostRuntime) {
 #[test]
 fn whole_file(rt: HostRuntime) -> Result<(), Fail> {
     let alloc = rt.alloc();
-    let mut bytes = file(alloc, SMALL, 142)?;
-    assert_eq!(rt; bytes.len(), 142);
-    bytes[7] = 0x32;
-    bytes[8] = 0x01;
-    bytes[11] = 0x02;
-    bytes[14] = 0x44;
-    bytes[15] = 0x89;
-    let medium = read_image(alloc, &bytes)
-        .ok()
-        .ok_or("the bytes are an image")?;
+    // version 2, protected, 250 kbit/s, and the first word
+    let header = [
+        0x52, 0x54, 0x49, 0x4D, 0x41, 0x47, 0x45, 0x32, 0x01, 0x01, 0x01, 0x02, 0x00, 0x40,
+    ];
+    let mut bytes = Vec::from_slice(alloc, &header)?;
+    bytes.extend_from_slice(&[0x44, 0x89])?;
+    bytes.extend_from_slice(&[0; 126])?;
+    let medium = read(alloc, &bytes)?;
     assert!(rt; medium.protected());
     assert_eq!(rt; medium.cylinders(), 1);
     assert_eq!(rt; medium.heads(), 1);
@@ -130,8 +142,7 @@ fn whole_file(rt: HostRuntime) -> Result<(), Fail> {
     let track = medium.track(0, 0).ok_or("the medium has this track")?;
     assert_eq!(rt; track.first().copied(), Some(0x4489));
     assert!(rt; medium.track(0, 1).is_none());
-    let written = write_image(alloc, &medium).ok().ok_or("memory")?;
-    assert_eq!(rt; written.as_slice(), bytes.as_slice());
+    assert_eq!(rt; written(alloc, &medium)?.as_slice(), bytes.as_slice());
     Ok(())
 }
 
@@ -139,16 +150,12 @@ fn whole_file(rt: HostRuntime) -> Result<(), Fail> {
 #[test]
 fn version(rt: HostRuntime) -> Result<(), Fail> {
     let alloc = rt.alloc();
-    let bytes = file(alloc, SMALL, 142)?;
-    let medium = read_image(alloc, &bytes)
-        .ok()
-        .ok_or("the bytes are an image")?;
-    let written = write_image(alloc, &medium).ok().ok_or("memory")?;
+    let medium = read(alloc, &file(alloc, SMALL, 142)?)?;
+    let second = written(alloc, &medium)?;
+    assert_eq!(rt; second.len(), 142);
+    assert_eq!(rt; second[7], 0x32);
     let blank = Medium::blank(alloc, 1, 1, 64).ok().ok_or("memory")?;
-    let first = write_image(alloc, &blank).ok().ok_or("memory")?;
-    assert_eq!(rt; written.as_slice(), first.as_slice());
-    assert_eq!(rt; written.len(), 142);
-    assert_eq!(rt; written[7], 0x32);
+    assert_eq!(rt; written(alloc, &blank)?.as_slice(), second.as_slice());
     Ok(())
 }
 
@@ -159,14 +166,10 @@ fn one_word(rt: HostRuntime) -> Result<(), Fail> {
         .ok()
         .ok_or("memory")?;
     medium.set_word(1, 0, 63, 0xA1FE);
-    let written = write_image(alloc, &medium).ok().ok_or("memory")?;
+    let bytes = written(alloc, &medium)?;
     let place = 14 + 2 * (2 * 64 + 63);
-    assert_eq!(rt; written.get(place).copied(), Some(0xA1));
-    assert_eq!(rt; written.get(place + 1).copied(), Some(0xFE));
-    assert_eq!(rt;
-        written.iter().skip(14).filter(|byte| **byte != 0).count(),
-        2
-    );
+    assert_eq!(rt; bytes.get(place..place + 2), Some([0xA1, 0xFE].as_slice()));
+    assert_eq!(rt; bytes.iter().skip(14).filter(|byte| **byte != 0).count(), 2);
     Ok(())
 }
 

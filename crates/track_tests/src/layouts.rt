@@ -92,22 +92,31 @@ fn sums(rt: HostRuntime) -> Result<(), Fail> {
     Ok(())
 }
 
+// The keys are 0 0 1 2 and 0 0 2 2, in the words from 162 on and a sector of 590 words later.
+fn is_key_word(i: usize) -> bool {
+    match i {
+        162..166 | 752..756 => true,
+        _ => false,
+    }
+}
+
+fn key_byte(i: usize) -> u8 {
+    match i {
+        164 => 1,
+        754 | 165 | 755 => 2,
+        _ => 0,
+    }
+}
+
 #[test]
 fn one_by_one(rt: HostRuntime) -> Result<(), Fail> {
     let keys = keys(rt.alloc(), 2)?;
     let track = layout(rt.alloc(), keys.as_slice(), 2, 16, 0xF6, 1_400)?;
     let mut stream = FormatStream::new(2, 2, 16, 0xF6);
     for (i, word) in track.iter().enumerate() {
-        // the keys are 0 0 1 2 and 0 0 2 2, behind the words of the first sector 590 words later
-        let byte = match i {
-            164 => 1,
-            754 | 165 | 755 => 2,
-            _ => 0,
-        };
-        let is_key = (i >= 162 && i < 166) || (i >= 752 && i < 756);
-        assert_eq!(rt; stream.needs_byte(), is_key);
+        assert_eq!(rt; stream.needs_byte(), is_key_word(i));
         assert_eq!(rt; stream.is_whole(), i >= 146 + 2 * 590);
-        assert_eq!(rt; stream.next(byte), *word);
+        assert_eq!(rt; stream.next(key_byte(i)), *word);
     }
     assert_eq!(rt; stream.next(0), GAP);
     Ok(())
@@ -115,15 +124,19 @@ fn one_by_one(rt: HostRuntime) -> Result<(), Fail> {
 
 #[test]
 fn gaps(rt: HostRuntime) -> Result<(), Fail> {
-    // 146 + 18 * (574 + gap) words up to the last gap
-    assert_eq!(rt; choose_gap(2, 18, Rate::R500), Some(0x6C));
-    assert_eq!(rt; choose_gap(2, 9, Rate::R250), Some(0x50));
-    // 146 + 19 * (574 + 76) = 12,496, and 76 + 4 words behind the last sector
-    assert_eq!(rt; choose_gap(2, 19, Rate::R500), Some(76));
-    // 146 + 21 * (574 + 14) is too little for 16
-    assert_eq!(rt; choose_gap(2, 21, Rate::R500), None);
-    // 146 + 10 * (574 + 36) = 6,246
-    assert_eq!(rt; choose_gap(2, 10, Rate::R250), Some(36));
-    assert_eq!(rt; choose_gap(2, 11, Rate::R250), None);
+    for (sectors, rate, gap) in [
+        // 146 + 18 * (574 + gap) words up to the last gap
+        (18, Rate::R500, Some(0x6C)),
+        (9, Rate::R250, Some(0x50)),
+        // 146 + 19 * (574 + 76) = 12,496, and 76 + 4 words behind the last sector
+        (19, Rate::R500, Some(76)),
+        // 146 + 21 * (574 + 14) is too little for 16
+        (21, Rate::R500, None),
+        // 146 + 10 * (574 + 36) = 6,246
+        (10, Rate::R250, Some(36)),
+        (11, Rate::R250, None),
+    ] {
+        assert_eq!(rt; choose_gap(2, sectors, rate), gap);
+    }
     Ok(())
 }

@@ -3,14 +3,14 @@ ghost use Rattle.std.specs.Prelude.{◌≡◌, ◌⊎◌, ℕ, true};
 ghost use Rattle.fdc_core.specs.State.{is_gated};
 ghost use Rattle.fdc_writing.specs.Formats.{Numbers};
 ghost use Rattle.machine_formats.specs.Begins.{CanBegin};
-ghost use Rattle.machine_holds.specs.Timely.{Stalled};
+ghost use Rattle.machine_reads.specs.Timely.{Stalled};
 ghost use Rattle.machine_pace.specs.declared.holding.Request.TheVariants.{Low};
 ghost use Rattle.machine_reads.specs.Scenes.{Scene};
 ghost use Rattle.machine_writes.specs.Timely.{IsOnTime};
 ghost use Rattle.pc_bus.specs.Boards.{Board, controller_of, holds_of};
 ghost use Rattle.pc_bus.specs.Ports.{Outputs};
 
-use machine_holds::laws::a_served_request_falls;
+use machine_reads::laws::a_served_request_falls;
 
 /// A FORMAT TRACK that begins with the FIFO on, threshold 8, DRQ let out and no request left from before is on time.
 pub fn a_format_begins_on_time()

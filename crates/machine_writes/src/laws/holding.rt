@@ -1,7 +1,7 @@
 // What follows of requests that are granted in time. The bodies are empty.
 ghost use Rattle.std.specs.Prelude.{◌≡◌, ◌⊎◌, Bool, ℕ, true};
 ghost use Rattle.fdc_core.specs.State.{is_gated};
-ghost use Rattle.machine_holds.specs.Timely.{Stalled};
+ghost use Rattle.machine_reads.specs.Timely.{Stalled};
 ghost use Rattle.machine_pace.specs.declared.holding.Request.TheVariants.{Low};
 ghost use Rattle.machine_reads.specs.Scenes.{Scene};
 ghost use Rattle.machine_writes.specs.Begins.{CanBegin};
@@ -10,7 +10,7 @@ ghost use Rattle.pc_bus.specs.Boards.{Board, controller_of, holds_of};
 ghost use Rattle.pc_bus.specs.Ports.{Outputs};
 ghost use Rattle.pc_bus.specs.Steps.{Runs, RunsUnset, Step};
 
-use machine_holds::laws::a_served_request_falls;
+use machine_reads::laws::a_served_request_falls;
 
 /// A WRITE DATA, WRITE DELETED or FORMAT TRACK on time stays so, and doesn't end with OR, or a stall is counted: in each device
 /// step one or the other.

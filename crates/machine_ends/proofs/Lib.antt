@@ -1,4 +1,0 @@
-pub mod Words
-mod Moves
-mod Steps
-pub mod Calls

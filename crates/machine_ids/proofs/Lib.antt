@@ -1,4 +1,0 @@
-pub mod Words
-mod Steps
-pub mod Accesses
-mod Results

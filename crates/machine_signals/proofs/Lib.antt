@@ -1,3 +1,0 @@
-mod Words
-mod Signalling
-mod Accesses
