@@ -15,10 +15,10 @@ const LARGE: [u8; 14] = [
     0x52, 0x54, 0x49, 0x4D, 0x41, 0x47, 0x45, 0x31, 0x00, 0x02, 0x02, 0x00, 0x30, 0xD4,
 ];
 
-// A header, and zeros up to a length.
-fn file(alloc: Global, header: [u8; 14], len: usize) -> Result<Vec<u8>, AllocError> {
-    let mut bytes = Vec::from_slice(alloc, &header)?;
-    for _ in header.len()..len {
+// The first bytes of a file, and zeros up to a length.
+fn file(alloc: Global, first: &[u8], len: usize) -> Result<Vec<u8>, AllocError> {
+    let mut bytes = Vec::from_slice(alloc, first)?;
+    for _ in first.len()..len {
         bytes.push(0)?;
     }
     Ok(bytes)
@@ -66,7 +66,7 @@ fn fed_by_bytes(alloc: Global, bytes: &[u8]) -> Option<ImageError> {
 fn prefixes(rt: HostRuntime) -> Result<(), Fail> {
     let alloc = rt.alloc();
     for len in 0..144usize {
-        let bytes = file(alloc, SMALL, len)?;
+        let bytes = file(alloc, &SMALL, len)?;
         let bytes = &bytes[..len.min(bytes.len())];
         let wanted = match len {
             0..14 => Some(ImageError::TooShort {
@@ -127,12 +127,11 @@ fn headers(rt: HostRuntime) {
 fn whole_file(rt: HostRuntime) -> Result<(), Fail> {
     let alloc = rt.alloc();
     // version 2, protected, 250 kbit/s, and the first word
-    let header = [
-        0x52, 0x54, 0x49, 0x4D, 0x41, 0x47, 0x45, 0x32, 0x01, 0x01, 0x01, 0x02, 0x00, 0x40,
+    let first = [
+        0x52, 0x54, 0x49, 0x4D, 0x41, 0x47, 0x45, 0x32, 0x01, 0x01, 0x01, 0x02, 0x00, 0x40, 0x44,
+        0x89,
     ];
-    let mut bytes = Vec::from_slice(alloc, &header)?;
-    bytes.extend_from_slice(&[0x44, 0x89])?;
-    bytes.extend_from_slice(&[0; 126])?;
+    let bytes = file(alloc, &first, 142)?;
     let medium = read(alloc, &bytes)?;
     assert!(rt; medium.protected());
     assert_eq!(rt; medium.cylinders(), 1);
@@ -150,7 +149,7 @@ fn whole_file(rt: HostRuntime) -> Result<(), Fail> {
 #[test]
 fn version(rt: HostRuntime) -> Result<(), Fail> {
     let alloc = rt.alloc();
-    let medium = read(alloc, &file(alloc, SMALL, 142)?)?;
+    let medium = read(alloc, &file(alloc, &SMALL, 142)?)?;
     let second = written(alloc, &medium)?;
     assert_eq!(rt; second.len(), 142);
     assert_eq!(rt; second[7], 0x32);
