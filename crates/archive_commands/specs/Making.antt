@@ -7,9 +7,9 @@ use Rattle.flop_base.specs.declared.answers.Status.TheVariants as status
 use Rattle.raw_image.specs.Disk.{Disk}
 use Rattle.raw_image.specs.Image.{image_of, file_of}
 use Rattle.raw_image.specs.declared.error.ImageError.{ImageError}
-use Rattle.imd_files.specs.declared.image.ImdImage.{ImdImage}
-use Rattle.imd_files.specs.Reading.{image_of as imd_of}
-use Rattle.imd_files.specs.Writing.{file_of as imd_file_of}
+use Rattle.imagedisk.specs.declared.image.ImdImage.{ImdImage}
+use Rattle.imagedisk.specs.Reading.{image_of as imd_of}
+use Rattle.imagedisk.specs.Writing.{file_of as imd_file_of}
 use Rattle.imagedisk.specs.declared.error.ImdError.TheVariants as imd
 use Rattle.imagedisk.specs.Made.{MakesDisk}
 use Rattle.imagedisk.specs.Taken.{TakesDisk}

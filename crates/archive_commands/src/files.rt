@@ -2,8 +2,8 @@
 ghost use Rattle.std.specs.Prelude.{◌≡◌, ◌≤◌, Ok, Some, IfOk, IfErr, IfSome, OnOk, OnErr, IsErrOf, length};
 ghost use Rattle.flop_base.specs.Shelf.{file_at, stored};
 ghost use Rattle.raw_image.specs.Image.{image_of};
-ghost use Rattle.imd_files.specs.Images.{IsImdImage};
-ghost use Rattle.imd_files.specs.Reading.{image_of as imd_of};
+ghost use Rattle.imagedisk.specs.Images.{IsImdImage};
+ghost use Rattle.imagedisk.specs.Reading.{image_of as imd_of};
 ghost use Rattle.sector_model.specs.Faults.{Blames};
 ghost use Rattle.sector_model.specs.Runs.{IsEndStop};
 ghost use Rattle.sector_model.specs.Steps.{most_image_bytes};

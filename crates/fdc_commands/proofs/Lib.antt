@@ -1,1 +1,3 @@
+mod ReadSpellings
+mod WriteSpellings
 pub mod Answering

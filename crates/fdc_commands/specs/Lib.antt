@@ -1,2 +1,4 @@
+pub mod Reads
+pub mod Writes
 pub mod Table
 pub mod Results

@@ -11,9 +11,9 @@ use Rattle.fdc_stages.specs.Readings as heard
 use Rattle.fdc_stages.specs.declared.searching.Search.{Search}
 use Rattle.fdc_stages.specs.Searches.{SearchOutcome}
 use Rattle.fdc_stages.specs.Searches as searched
-use Rattle.fdc_windows.specs.declared.window.Part.{Part}
-use Rattle.fdc_windows.specs.declared.window.Part.TheVariants as parts
-use Rattle.fdc_windows.specs.Windows.{is_content, lead_from}
+use Rattle.fdc_writing.specs.declared.window.Part.{Part}
+use Rattle.fdc_writing.specs.declared.window.Part.TheVariants as parts
+use Rattle.fdc_writing.specs.Windows.{is_content, lead_from}
 use Rattle.fdc_writing.specs.Leads as format_leads
 use Rattle.fdc_writing.specs.Writings as writings
 use Rattle.fdc_writing.specs.Writings.{lead_of, needs_byte}

@@ -1,3 +1,4 @@
+pub mod Words
 mod Gaps
 mod Windowed
 mod Keyed

@@ -6,10 +6,10 @@ use Rattle.flop_base.specs.declared.key.Chrn.{Chrn}
 use Rattle.track_model.specs.Fields.{content_size}
 use Rattle.track_model.specs.Writing.{window}
 use Rattle.track_separator.specs.Parts.{with_word}
-use Rattle.fdc_windows.specs.declared.window.Part.{Part}
-use Rattle.fdc_windows.specs.declared.window.Part.TheVariants as part
-use Rattle.fdc_windows.specs.declared.window.Window.{Window}
-use Rattle.fdc_windows.specs.Windows.{words_left, bytes_left, count_left, lead_left, count_from, is_content, with_byte, needs_byte, words_behind, bytes_behind, Gives}
+use Rattle.fdc_writing.specs.declared.window.Part.{Part}
+use Rattle.fdc_writing.specs.declared.window.Part.TheVariants as part
+use Rattle.fdc_writing.specs.declared.window.Window.{Window}
+use Rattle.fdc_writing.specs.Windows.{words_left, bytes_left, count_left, lead_left, count_from, is_content, with_byte, needs_byte, words_behind, bytes_behind, Gives}
 use Rattle.fdc_stages.specs.declared.ending.Ending.TheVariants.{Done, NoField, NoCount}
 use Rattle.fdc_stages.specs.History.{Past, wrote}
 use Rattle.fdc_writing.specs.declared.writing.WriteStage.{WriteStage}

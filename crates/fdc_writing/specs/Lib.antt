@@ -1,3 +1,4 @@
+pub mod Windows
 pub mod Writings
 pub mod Formats
 pub mod Leads

@@ -7,9 +7,9 @@ use Rattle.track_model.specs.Windows.{window_word, window_words, IsFieldFor, IsC
 use Rattle.track_model.specs.Laid.{with_window}
 use Rattle.track_model.specs.Writing.{window}
 use Rattle.track_separator.specs.Parts.{with_word, IsPart}
-use Rattle.fdc_windows.specs.declared.window.Window.{Window}
-use Rattle.fdc_windows.specs.Windows as windowed
-use Rattle.fdc_windows.specs.Windows.{words_behind, bytes_behind, count_behind, lead_left}
+use Rattle.fdc_writing.specs.declared.window.Window.{Window}
+use Rattle.fdc_writing.specs.Windows as windowed
+use Rattle.fdc_writing.specs.Windows.{words_behind, bytes_behind, count_behind, lead_left}
 use Rattle.fdc_stages.specs.declared.ending.Ending.{Ending}
 use Rattle.fdc_stages.specs.declared.ending.Ending.TheVariants.{Done, NoMark, NoSector, NoField, BadCheck, Overrun, NoCount, Protected, Late}
 use Rattle.fdc_stages.specs.History.{Past, heard, kept_out, IsJustOver}

@@ -6,7 +6,9 @@
 
 mod formatting;
 pub mod laws;
+mod window;
 mod writing;
 
 pub use formatting::{FormatNext, FormatPart, FormatStage, FormatWord};
+pub use window::{Given, Part, Window};
 pub use writing::{WriteNext, WriteStage, WriteWord};

@@ -3,14 +3,14 @@ ghost use Rattle.std.specs.Prelude.{◌≡◌, ◌+◌, ◌≤◌, ℕ, Bool, tr
 ghost use Rattle.track_separator.specs.declared.state.Separator.{Separator};
 ghost use Rattle.flop_base.specs.declared.key.Chrn.{Chrn};
 ghost use Rattle.track_model.specs.Fields.{IsSizeCode};
-ghost use Rattle.fdc_windows.specs.Windows as windows;
-ghost use Rattle.fdc_windows.specs.Windows.{lead_left, lead_behind};
+ghost use Rattle.fdc_writing.specs.Windows as windows;
+ghost use Rattle.fdc_writing.specs.Windows.{lead_left, lead_behind};
 ghost use Rattle.fdc_stages.specs.History.{Past, begun, heard, wrote};
 ghost use Rattle.fdc_stages.specs.Searches.{IsMet};
 ghost use Rattle.fdc_writing.specs.Writings.{is_open, opens, is_due, needs_byte, lead_of, handed_with, heard_where, IsInWindow, IsWriting, IsNextWord, HasBegun, HasWhole, HasWritten, HasNext, FailsWell, EndsWell, IsEnd, LeadsOn, write_heard};
 
 use fdc_stages::{Ending, Search, Searched};
-use fdc_windows::Window;
+use crate::Window;
 use flop_base::{Chrn, sector_size};
 
 /// The words between an address field and its window.

@@ -18,11 +18,11 @@ use Rattle.track_model.proofs.Written.{length-window}
 use Rattle.track_model.proofs.Kept.{cut_kept, cut_found, cut_content, damaged_all, damaged_kept, damaged_bad, empty_kept, empty_none}
 use Rattle.track_format.specs.Gaps.{IsLargestGap}
 use Rattle.track_format.proofs.Read.{read_fields, read_spaced}
-use Rattle.imd_files.specs.declared.sector.ImdKind.{ImdKind}
-use Rattle.imd_files.specs.declared.sector.ImdKind.TheVariants.{Absent, Good, Deleted, Bad, BadDeleted}
-use Rattle.imd_files.specs.declared.sector.ImdSector.{ImdSector}
-use Rattle.imd_files.specs.declared.track.ImdTrack.{ImdTrack}
-use Rattle.imd_files.specs.Images.{kept_size, IsImdSector, IsImdTrack}
+use Rattle.imagedisk.specs.declared.sector.ImdKind.{ImdKind}
+use Rattle.imagedisk.specs.declared.sector.ImdKind.TheVariants.{Absent, Good, Deleted, Bad, BadDeleted}
+use Rattle.imagedisk.specs.declared.sector.ImdSector.{ImdSector}
+use Rattle.imagedisk.specs.declared.track.ImdTrack.{ImdTrack}
+use Rattle.imagedisk.specs.Images.{kept_size, IsImdSector, IsImdTrack}
 use Rattle.imagedisk.specs.Made.{keys_of, window_of, with_sectors, laid_track, empty_words, IsMadeTrack}
 use Rattle.imagedisk.specs.Found.{IsFoundAs, HasBytes, HasSectors}
 use Rattle.imagedisk.proofs.Windowed.{laid_before}

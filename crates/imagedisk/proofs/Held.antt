@@ -12,10 +12,10 @@ use Rattle.track_model.specs.Cells.{IsInside}
 use Rattle.track_model.specs.Fields.{AreAddresses, content_size, content_at}
 use Rattle.track_model.specs.Looks.{IsFirstDataMark, LookAt}
 use Rattle.track_model.proofs.Unique.{one_first}
-use Rattle.imd_files.specs.declared.sector.ImdKind.{ImdKind}
-use Rattle.imd_files.specs.declared.sector.ImdKind.TheVariants.{Absent, Good, Deleted, Bad, BadDeleted}
-use Rattle.imd_files.specs.declared.sector.ImdSector.{ImdSector}
-use Rattle.imd_files.specs.Images.{kept_size, IsImdSector}
+use Rattle.imagedisk.specs.declared.sector.ImdKind.{ImdKind}
+use Rattle.imagedisk.specs.declared.sector.ImdKind.TheVariants.{Absent, Good, Deleted, Bad, BadDeleted}
+use Rattle.imagedisk.specs.declared.sector.ImdSector.{ImdSector}
+use Rattle.imagedisk.specs.Images.{kept_size, IsImdSector}
 use Rattle.imagedisk.specs.Taken.{intact_kind, damaged_kind, Holds, IsSectorAt, AreUniform, IsFit, HasNoAddress}
 
 pub one_more_byte : (track : List ℕ) (p i : ℕ) → bytes_at track p (i + 1) ≡ bytes_at track p i ++ byte_at track (p + 16 * i) ∷ []

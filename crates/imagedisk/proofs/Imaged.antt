@@ -6,11 +6,11 @@ use Rattle.flop_base.specs.declared.key.Chrn.{Chrn}
 use Rattle.raw_image.specs.Disk.{Disk, track_of}
 use Rattle.track_model.specs.declared.Field.{Field}
 use Rattle.track_model.specs.Fields.{IsAddressAt}
-use Rattle.imd_files.specs.declared.sector.ImdKind.{ImdKind}
-use Rattle.imd_files.specs.declared.sector.ImdKind.TheVariants.{Absent, Good, Deleted, Bad, BadDeleted}
-use Rattle.imd_files.specs.declared.track.ImdTrack.{ImdTrack}
-use Rattle.imd_files.specs.declared.image.ImdImage.{ImdImage}
-use Rattle.imd_files.specs.Images.{IsImdImage}
+use Rattle.imagedisk.specs.declared.sector.ImdKind.{ImdKind}
+use Rattle.imagedisk.specs.declared.sector.ImdKind.TheVariants.{Absent, Good, Deleted, Bad, BadDeleted}
+use Rattle.imagedisk.specs.declared.track.ImdTrack.{ImdTrack}
+use Rattle.imagedisk.specs.declared.image.ImdImage.{ImdImage}
+use Rattle.imagedisk.specs.Images.{IsImdImage}
 use Rattle.imagedisk.specs.Taken.{Holds, IsTrackOf, HasTrackAt, IsImageOf}
 use Rattle.imagedisk.specs.Made.{IsMediumOf}
 use Rattle.imagedisk.specs.Found.{IsFoundAs, HasSectors, AreBytes, HasImage}

@@ -1,3 +1,6 @@
+pub mod Loops
+pub mod Again
+pub mod AgainTracks
 pub mod Held
 pub mod Places
 pub mod Windowed

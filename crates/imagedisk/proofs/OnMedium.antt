@@ -9,9 +9,9 @@ use Rattle.std.proofs.lemmas.List.Folds.{list_any_at}
 use Rattle.flop_base.specs.declared.answers.Rate.{Rate}
 use Rattle.flop_base.specs.Standard.{words_at}
 use Rattle.raw_image.specs.Disk.{Disk, IsDisk, HasTrack, IsWithTrack, track_of, track_start, blank_disk}
-use Rattle.imd_files.specs.declared.track.ImdTrack.{ImdTrack}
-use Rattle.imd_files.specs.declared.image.ImdImage.{ImdImage}
-use Rattle.imd_files.specs.Images.{IsImdImage}
+use Rattle.imagedisk.specs.declared.track.ImdTrack.{ImdTrack}
+use Rattle.imagedisk.specs.declared.image.ImdImage.{ImdImage}
+use Rattle.imagedisk.specs.Images.{IsImdImage}
 use Rattle.imagedisk.specs.declared.error.ImdError.{ImdError}
 use Rattle.imagedisk.specs.declared.error.ImdError.TheVariants.{Unfit, NoMemory}
 use Rattle.imagedisk.proofs.Places.{last_number}

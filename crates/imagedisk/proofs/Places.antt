@@ -8,8 +8,8 @@ use Rattle.std.proofs.Math.Seq.{get_or-append_seam}
 use Rattle.flop_base.specs.declared.answers.Rate.{Rate}
 use Rattle.flop_base.specs.declared.answers.Rate.TheVariants.{R500}
 use Rattle.raw_image.specs.Disk.{Disk, HasTrack, track_of}
-use Rattle.imd_files.specs.declared.track.ImdTrack.{ImdTrack}
-use Rattle.imd_files.specs.Images.{IsImdTrack, AreApart, IsImdImage}
+use Rattle.imagedisk.specs.declared.track.ImdTrack.{ImdTrack}
+use Rattle.imagedisk.specs.Images.{IsImdTrack, AreApart, IsImdImage}
 use Rattle.imagedisk.specs.declared.error.ImdError.{ImdError}
 use Rattle.imagedisk.specs.declared.error.ImdError.TheVariants.{Unfit, NoMemory}
 use Rattle.imagedisk.specs.Taken.{IsFit, IsUnfit, HasNoAddress, IsTrackOf, IsBefore, HasTrackAt, IsFirstUnfit, IsTakenBelow, AreTakenBelow, TakesTrack, TakesPlace, TakesDisk}

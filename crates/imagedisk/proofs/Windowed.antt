@@ -11,10 +11,10 @@ use Rattle.track_model.proofs.Legals.{legal-cons, legal-nil}
 use Rattle.track_model.proofs.Written.{length-window}
 use Rattle.track_model.proofs.Kept.{damaged_all}
 use Rattle.track_model.proofs.EmptyWindow.{length-empty_window}
-use Rattle.imd_files.specs.declared.sector.ImdKind.{ImdKind}
-use Rattle.imd_files.specs.declared.sector.ImdKind.TheVariants.{Absent, Good, Deleted, Bad, BadDeleted}
-use Rattle.imd_files.specs.declared.sector.ImdSector.{ImdSector}
-use Rattle.imd_files.specs.Images.{kept_size}
+use Rattle.imagedisk.specs.declared.sector.ImdKind.{ImdKind}
+use Rattle.imagedisk.specs.declared.sector.ImdKind.TheVariants.{Absent, Good, Deleted, Bad, BadDeleted}
+use Rattle.imagedisk.specs.declared.sector.ImdSector.{ImdSector}
+use Rattle.imagedisk.specs.Images.{kept_size}
 use Rattle.imagedisk.specs.Made.{window_of, sector_window, with_sectors}
 
 -- one byte more goes on

@@ -5,11 +5,11 @@ use Rattle.track_model.specs.declared.Look.TheVariants.{Found, NoData, BadCrc}
 use Rattle.track_model.specs.Fields.{IsAddressAt, content_at}
 use Rattle.track_model.specs.Looks.{LookAt}
 use Rattle.track_model.specs.LaidFields.{IsKey}
-use Rattle.imd_files.specs.declared.sector.ImdKind.{ImdKind}
-use Rattle.imd_files.specs.declared.sector.ImdKind.TheVariants.{Absent, Good, Deleted, Bad, BadDeleted}
-use Rattle.imd_files.specs.declared.sector.ImdSector.{ImdSector}
-use Rattle.imd_files.specs.declared.track.ImdTrack.{ImdTrack}
-use Rattle.imd_files.specs.declared.image.ImdImage.{ImdImage}
+use Rattle.imagedisk.specs.declared.sector.ImdKind.{ImdKind}
+use Rattle.imagedisk.specs.declared.sector.ImdKind.TheVariants.{Absent, Good, Deleted, Bad, BadDeleted}
+use Rattle.imagedisk.specs.declared.sector.ImdSector.{ImdSector}
+use Rattle.imagedisk.specs.declared.track.ImdTrack.{ImdTrack}
+use Rattle.imagedisk.specs.declared.image.ImdImage.{ImdImage}
 use Rattle.raw_image.specs.Disk.{Disk, HasTrack, track_of}
 use Rattle.imagedisk.specs.Taken.{HasTrackAt, HasNoAddress}
 

@@ -1,3 +1,8 @@
+pub mod Images
+pub mod Left
+pub mod Headers
+pub mod Reading
+pub mod Writing
 pub mod Taken
 pub mod Made
 pub mod Found

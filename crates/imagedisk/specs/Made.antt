@@ -11,11 +11,11 @@ use Rattle.track_model.specs.Windows.{window_words, damaged_window, empty_window
 use Rattle.track_model.specs.Layouts.{lay}
 use Rattle.track_model.specs.LaidFields.{sector_place}
 use Rattle.track_format.specs.Gaps.{Suits, IsLargestGap}
-use Rattle.imd_files.specs.declared.sector.ImdKind.{ImdKind}
-use Rattle.imd_files.specs.declared.sector.ImdKind.TheVariants.{Absent, Good, Deleted, Bad, BadDeleted}
-use Rattle.imd_files.specs.declared.sector.ImdSector.{ImdSector}
-use Rattle.imd_files.specs.declared.track.ImdTrack.{ImdTrack}
-use Rattle.imd_files.specs.declared.image.ImdImage.{ImdImage}
+use Rattle.imagedisk.specs.declared.sector.ImdKind.{ImdKind}
+use Rattle.imagedisk.specs.declared.sector.ImdKind.TheVariants.{Absent, Good, Deleted, Bad, BadDeleted}
+use Rattle.imagedisk.specs.declared.sector.ImdSector.{ImdSector}
+use Rattle.imagedisk.specs.declared.track.ImdTrack.{ImdTrack}
+use Rattle.imagedisk.specs.declared.image.ImdImage.{ImdImage}
 use Rattle.imagedisk.specs.declared.error.ImdError.{ImdError}
 use Rattle.imagedisk.specs.declared.error.ImdError.TheVariants.{Unfit, NoMemory}
 

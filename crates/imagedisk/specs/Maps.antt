@@ -5,11 +5,11 @@ use Rattle.raw_image.specs.Disk.{Disk, HasTrack, track_of}
 use Rattle.track_model.specs.declared.Look.TheVariants.{Found}
 use Rattle.track_model.specs.Fields.{IsAddressAt, content_at}
 use Rattle.track_model.specs.Looks.{LookAt}
-use Rattle.imd_files.specs.declared.sector.ImdKind.{ImdKind}
-use Rattle.imd_files.specs.declared.sector.ImdKind.TheVariants.{Absent, Good, Deleted, Bad, BadDeleted}
-use Rattle.imd_files.specs.declared.sector.ImdSector.{ImdSector}
-use Rattle.imd_files.specs.declared.track.ImdTrack.{ImdTrack}
-use Rattle.imd_files.specs.declared.image.ImdImage.{ImdImage}
+use Rattle.imagedisk.specs.declared.sector.ImdKind.{ImdKind}
+use Rattle.imagedisk.specs.declared.sector.ImdKind.TheVariants.{Absent, Good, Deleted, Bad, BadDeleted}
+use Rattle.imagedisk.specs.declared.sector.ImdSector.{ImdSector}
+use Rattle.imagedisk.specs.declared.track.ImdTrack.{ImdTrack}
+use Rattle.imagedisk.specs.declared.image.ImdImage.{ImdImage}
 
 -- an entry of the map
 pub record Entry : Type 0 where

@@ -5,11 +5,11 @@ ghost use Rattle.track_model.specs.Cells.{IsTrackSized, IsInside};
 ghost use Rattle.track_model.specs.Fields.{IsAddressAt, IsSizeCode, AreAddresses, content_size, content_at};
 ghost use Rattle.track_model.specs.Looks.{LookAt};
 ghost use Rattle.track_model.specs.declared.Look.TheVariants.{BadCrc};
-ghost use Rattle.imd_files.specs.Images.{IsImdSector};
+ghost use Rattle.imagedisk.specs.Images.{IsImdSector};
 ghost use Rattle.imagedisk.specs.Taken.{intact_kind, damaged_kind, Holds, IsSectorAt, AreSectorsAt, AreUniform};
 
 use flop_base::{Bytes, NoMemory, sector_size};
-use imd_files::{ImdKind, ImdSector, ImdSectors};
+use crate::{ImdKind, ImdSector, ImdSectors};
 use std::alloc::Global;
 use track_fields::{Field, Look, content_byte, data_at, look_at};
 

@@ -1,13 +1,13 @@
 // What is found on the tracks that an image makes.
 ghost use Rattle.std.specs.Prelude.{All};
-ghost use Rattle.imd_files.specs.Images.{IsImdTrack, IsImdImage};
+ghost use Rattle.imagedisk.specs.Images.{IsImdTrack, IsImdImage};
 ghost use Rattle.imagedisk.specs.Made.{IsMadeTrack, IsMediumOf};
 ghost use Rattle.imagedisk.specs.Maps.{HasMapOf};
 ghost use Rattle.imagedisk.specs.Found.{HasBytes, HasSectors, AreBytes, HasImage};
 ghost use Rattle.imagedisk.specs.Taken.{IsImageOf};
 
 use flop_base::Rate;
-use imd_files::{ImdImage, ImdTrack};
+use crate::{ImdImage, ImdTrack};
 use raw_image::Medium;
 
 /// A law: on a track that an image makes are the address fields of its sectors and no others, in their order. Good and

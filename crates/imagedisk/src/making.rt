@@ -1,13 +1,13 @@
 // The diskette of an image.
 ghost use Rattle.std.specs.Prelude.{◌≡◌, ◌<◌, ◌≤◌, All, IfOk, length};
 ghost use Rattle.raw_image.specs.Disk.{HasTrack, IsWithTrack};
-ghost use Rattle.imd_files.specs.Images.{IsImdTrack, IsImdImage};
+ghost use Rattle.imagedisk.specs.Images.{IsImdTrack, IsImdImage};
 ghost use Rattle.imagedisk.specs.Made.{cylinder_count, has_other_side, head_count, HasShape, HasFirst, PutsTrack, MakesDisk};
 
 use crate::error::ImdError;
 use crate::tracks::track_words;
 use flop_base::NoMemory;
-use imd_files::{ImdImage, ImdTrack};
+use crate::{ImdImage, ImdTrack};
 use raw_image::Medium;
 use std::alloc::Global;
 

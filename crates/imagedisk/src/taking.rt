@@ -2,13 +2,13 @@
 ghost use Rattle.std.specs.Prelude.{◌≡◌, ◌*◌, ◌<◌, ◌≤◌, IfOk};
 ghost use Rattle.raw_image.specs.Disk.{HasTrack, track_of};
 ghost use Rattle.track_model.specs.Cells.{IsTrackSized};
-ghost use Rattle.imd_files.specs.Images.{IsImdTrack, IsImdImage};
+ghost use Rattle.imagedisk.specs.Images.{IsImdTrack, IsImdImage};
 ghost use Rattle.imagedisk.specs.Taken.{told_rate, AreTakenBelow, TakesTrack, TakesPlace, TakesDisk};
 
 use crate::error::ImdError;
 use crate::fields::{sectors_of, size_code_of};
 use flop_base::Rate;
-use imd_files::{ImdImage, ImdTrack, ImdTracks};
+use crate::{ImdImage, ImdTrack, ImdTracks};
 use raw_image::Medium;
 use std::alloc::Global;
 use track_fields::list_fields;

@@ -7,14 +7,14 @@ ghost use Rattle.track_model.specs.Layouts.{laid_words, lay, Fits};
 ghost use Rattle.track_model.specs.LaidFields.{sector_place};
 ghost use Rattle.track_model.specs.Windows.{window_word, window_words, cut_of};
 ghost use Rattle.track_format.specs.Gaps.{IsLargestGap};
-ghost use Rattle.imd_files.specs.Images.{IsImdSector, IsImdTrack};
+ghost use Rattle.imagedisk.specs.Images.{IsImdSector, IsImdTrack};
 ghost use Rattle.imagedisk.specs.Made.{keys_of, sector_window, laid_track, with_sectors, MakesTrack};
 
 use crate::error::ImdError;
 use crate::windows::sector_window;
 use flop_base::standard::FILL;
 use flop_base::{Chrn, NoMemory, Rate, sector_size};
-use imd_files::{ImdSector, ImdTrack};
+use crate::{ImdSector, ImdTrack};
 use sector_map::place_window;
 use std::alloc::Global;
 use track_format::{choose_gap, layout};

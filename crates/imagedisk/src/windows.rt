@@ -2,11 +2,11 @@
 ghost use Rattle.std.specs.Prelude.{◌≡◌, ◌++◌, ◌≤◌, OnOk, IfOk, length};
 ghost use Rattle.track_model.specs.Bytes.{legal};
 ghost use Rattle.track_model.specs.Windows.{window_words, damaged_window};
-ghost use Rattle.imd_files.specs.Images.{IsImdSector};
+ghost use Rattle.imagedisk.specs.Images.{IsImdSector};
 ghost use Rattle.imagedisk.specs.Made.{sector_window};
 
 use flop_base::{NoMemory, sector_size};
-use imd_files::{ImdKind, ImdSector};
+use crate::{ImdKind, ImdSector};
 use mfm_cells::encode_byte;
 use std::alloc::Global;
 use track_fields::{field_crc, field_words};

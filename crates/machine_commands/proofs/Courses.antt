@@ -14,12 +14,12 @@ use Rattle.fdc_core.specs.Steps.{steps_left}
 use Rattle.fdc_core.specs.declared.controller.Fdc.{Fdc}
 use Rattle.fdc_core.specs.declared.phases.Phase.{Phase}
 use Rattle.fdc_core.specs.declared.phases.Phase.TheVariants.{Command, Execute, Result}
-use Rattle.machine_counts.specs.Counts.{CountsGoOn, long_holds}
+use Rattle.machine_laws.specs.OnCounts.Counts.{CountsGoOn, long_holds}
 use Rattle.machine_pace.specs.Holds.{counted}
-use Rattle.machine_quiet.specs.Quiet.{GoesQuietly, StandsStill}
-use Rattle.machine_quiet.proofs.Steps.{runs_quietly, still_quietly, waits_quietly}
-use Rattle.machine_awaits.specs.Awaits.{IsAwaited, is_unread}
-use Rattle.machine_awaits.proofs.Awaiting.{runs_await, waits_await}
+use Rattle.machine_laws.specs.OnQuiet.Quiet.{GoesQuietly, StandsStill}
+use Rattle.machine_laws.proofs.OnQuiet.Steps.{runs_quietly, still_quietly, waits_quietly}
+use Rattle.machine_laws.specs.OnAwaits.Awaits.{IsAwaited, is_unread}
+use Rattle.machine_laws.proofs.OnAwaits.Awaiting.{runs_await, waits_await}
 use Rattle.pc_bus.specs.Boards.{Board, controller_of, holds_of}
 use Rattle.pc_bus.specs.Ports.{Inputs}
 use Rattle.pc_bus.specs.Steps.{Step, Runs, RunsUnset, Waits, stirred}

@@ -16,7 +16,7 @@ use Rattle.fdc_core.specs.declared.controller.Fdc.{Fdc}
 use Rattle.fdc_core.specs.declared.phases.Phase.{Phase}
 use Rattle.fdc_core.specs.declared.phases.Phase.TheVariants.{Command, Execute, Result}
 use Rattle.machine_pace.specs.Holds.{counted}
-use Rattle.machine_awaits.specs.Awaits.{is_unread}
+use Rattle.machine_laws.specs.OnAwaits.Awaits.{is_unread}
 use Rattle.pc_bus.specs.Boards.{Board, controller_of}
 use Rattle.pc_bus.specs.Ports.{Inputs}
 use Rattle.machine_commands.specs.Awaited.{TakesResults, Finishes, outcome_of}

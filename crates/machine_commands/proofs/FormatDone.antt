@@ -27,23 +27,23 @@ use Rattle.fdc_core.specs.declared.phases.Task.TheVariants as task
 use Rattle.fdc_fifo.specs.Fifo.{Fifo}
 use Rattle.fdc_stages.specs.History.{Past}
 use Rattle.fdc_stages.specs.declared.ending.Ending.TheVariants as ending
-use Rattle.machine_awaits.specs.Awaits.{IsLetOut}
-use Rattle.machine_awaits.specs.Goes.{FormatGoes}
-use Rattle.machine_reads.specs.Timely.{Stalled}
+use Rattle.machine_laws.specs.OnAwaits.Awaits.{IsLetOut}
+use Rattle.machine_laws.specs.OnAwaits.Goes.{FormatGoes}
+use Rattle.machine_laws.specs.OnReads.Timely.{Stalled}
 use Rattle.machine_pace.specs.declared.holding.Request.TheVariants.{Low}
-use Rattle.machine_quiet.specs.Quiet.{IsHushed}
-use Rattle.machine_reads.specs.Begins.{scene_of}
-use Rattle.machine_reads.specs.Scenes.{Scene, head_sent}
-use Rattle.machine_formats.specs.Begins as format
-use Rattle.machine_formats.specs.Results.{AreKeysOf, EndedIn, FormatEnded, FormatsOnly, LaysTo}
-use Rattle.machine_formats.specs.Underway.{FormatUnderway}
+use Rattle.machine_laws.specs.OnQuiet.Quiet.{IsHushed}
+use Rattle.machine_laws.specs.OnReads.Begins.{scene_of}
+use Rattle.machine_laws.specs.OnReads.Scenes.{Scene, head_sent}
+use Rattle.machine_laws.specs.OnFormats.Begins as format
+use Rattle.machine_laws.specs.OnFormats.Results.{AreKeysOf, EndedIn, FormatEnded, FormatsOnly, LaysTo}
+use Rattle.machine_laws.specs.OnFormats.Underway.{FormatUnderway}
 use Rattle.pc_bus.specs.Boards.{Board, controller_of, drive_in, holds_of, memory_of}
 use Rattle.pc_bus.specs.Ports.{Inputs, Outputs}
 use Rattle.pc_bus.specs.Steps.{Runs, RunsUnset, Waits, stirred}
 use Rattle.raw_image.specs.Disk.{Disk}
 use Rattle.sector_map.specs.Layings.{Format, IsLaying, Laying, format_keys}
 use Rattle.single_commands.specs.Writing.{FormatsTrack}
-use Rattle.spelled_commands.specs.Writes.{SpellsFormat}
+use Rattle.fdc_commands.specs.Writes.{SpellsFormat}
 use Rattle.machine_commands.specs.Ready.{AreSeeksOver, IsIdle, IsReady}
 use Rattle.machine_commands.specs.Sending.{latch_taken}
 use Rattle.machine_commands.specs.Shown.{rig_of}

@@ -32,7 +32,7 @@ use Rattle.single_commands.specs.Rigs.{Rig}
 use Rattle.single_commands.specs.Writing.{FormatsTrack, HasTrackUnder, IsFormatMiss, LaysMedium}
 use Rattle.machine_commands.specs.Ready.{IsIdle, IsReady}
 use Rattle.machine_commands.specs.Sending.{Sends}
-use Rattle.machine_counts.specs.Counts.{counts_of}
+use Rattle.machine_laws.specs.OnCounts.Counts.{counts_of}
 use Rattle.machine_commands.specs.Shown.{is_spun, page_part, rig_of, stalls_left, user_part}
 use Rattle.machine_commands.specs.WriteSent.{SendsFormatBytes, told_of}
 use Rattle.machine_commands.specs.declared.motors.Motors.{Motors}

@@ -13,17 +13,17 @@ use Rattle.raw_image.specs.Disk.{Disk, HasTrack}
 use Rattle.sector_map.specs.Layings.{Format, IsLaying, Laying, format_keys}
 use Rattle.sector_map.proofs.MetTracks.{same_rates}
 use Rattle.track_model.specs.Layouts.{Fits}
-use Rattle.track_written.specs.Written.{IsCalm}
+use Rattle.machine_laws.specs.OnWritten.Written.{IsCalm}
 use Rattle.fdc_core.specs.Rates.{rate_fits}
 use Rattle.fdc_stages.specs.declared.ending.Ending.{Ending}
 use Rattle.fdc_stages.specs.declared.ending.Ending.TheVariants as ending
 use Rattle.fdc_writing.specs.Formats.{Numbers}
-use Rattle.machine_formats.specs.Results.{EndsAs, FitsOn, HasLaying, LaysTo, LaysTurn}
-use Rattle.machine_formats.specs.Underway.{IsThere}
-use Rattle.machine_reads.specs.Timely.{Stalled}
-use Rattle.machine_reads.specs.Begins.{IsDriveOf}
-use Rattle.machine_reads.specs.Scenes.{Scene, data_rate, head_sent}
-use Rattle.machine_writes.specs.Results.{IsUnchanged}
+use Rattle.machine_laws.specs.OnFormats.Results.{EndsAs, FitsOn, HasLaying, LaysTo, LaysTurn}
+use Rattle.machine_laws.specs.OnFormats.Underway.{IsThere}
+use Rattle.machine_laws.specs.OnReads.Timely.{Stalled}
+use Rattle.machine_laws.specs.OnReads.Begins.{IsDriveOf}
+use Rattle.machine_laws.specs.OnReads.Scenes.{Scene, data_rate, head_sent}
+use Rattle.machine_laws.specs.OnWrites.Results.{IsUnchanged}
 use Rattle.pc_bus.specs.Boards.{Board, drive_in, memory_of}
 use Rattle.single_commands.specs.Writing.{FormatsTrack, HasTrackUnder, IsFormatMiss, LaysMedium}
 use Rattle.machine_commands.specs.Shown.{counters_of, rig_of}

@@ -27,20 +27,20 @@ use Rattle.fdc_core.specs.Listening.{is_executing}
 use Rattle.fdc_core.specs.Rates.{rate_chosen}
 use Rattle.fdc_core.specs.State.{data_commands_of}
 use Rattle.fdc_core.specs.declared.controller.Fdc.{Fdc}
-use Rattle.machine_awaits.specs.Awaits.{IsAwaited, IsLetOut, HoldsSet, TurnsOn}
-use Rattle.machine_awaits.proofs.Awaiting.{runs_await}
-use Rattle.machine_counts.specs.Counts.{CountsGoOn, counts_of}
-use Rattle.machine_reads.specs.Ids.{IdUnderway, IdEnded, IdEndedIn, IdEndsAs, KeepsId, CanBeginId, id_scene}
-use Rattle.machine_reads.proofs.IdAccesses.{inputs_keep, outputs_begin, begins_quietly, can_begin}
+use Rattle.machine_laws.specs.OnAwaits.Awaits.{IsAwaited, IsLetOut, HoldsSet, TurnsOn}
+use Rattle.machine_laws.proofs.OnAwaits.Awaiting.{runs_await}
+use Rattle.machine_laws.specs.OnCounts.Counts.{CountsGoOn, counts_of}
+use Rattle.machine_laws.specs.OnReads.Ids.{IdUnderway, IdEnded, IdEndedIn, IdEndsAs, KeepsId, CanBeginId, id_scene}
+use Rattle.machine_laws.proofs.OnReads.IdAccesses.{inputs_keep, outputs_begin, begins_quietly, can_begin}
 use Rattle.machine_pace.specs.Entries.{next_entry}
 use Rattle.machine_pace.specs.Holds.{counted}
-use Rattle.machine_quiet.specs.Quiet.{StandsStill, Turned, HaveTurned}
+use Rattle.machine_laws.specs.OnQuiet.Quiet.{StandsStill, Turned, HaveTurned}
 use Rattle.raw_image.specs.Disk.{Disk}
-use Rattle.machine_quiet.specs.Settings.{Setting, Stands, setting_of, with_rate, with_byte}
-use Rattle.machine_quiet.proofs.Accesses.{byte_stands}
-use Rattle.machine_quiet.proofs.Steps.{starts_quietly}
-use Rattle.machine_reads.specs.Scenes.{Scene, data_rate, head_sent, track_met}
-use Rattle.machine_reads.specs.Underway.{IsCalm}
+use Rattle.machine_laws.specs.OnQuiet.Settings.{Setting, Stands, setting_of, with_rate, with_byte}
+use Rattle.machine_laws.proofs.OnQuiet.Accesses.{byte_stands}
+use Rattle.machine_laws.proofs.OnQuiet.Steps.{starts_quietly}
+use Rattle.machine_laws.specs.OnReads.Scenes.{Scene, data_rate, head_sent, track_met}
+use Rattle.machine_laws.specs.OnReads.Underway.{IsCalm}
 use Rattle.pc_bus.specs.Boards.{Board, controller_of, drive_in, memory_of, lines_of}
 use Rattle.pc_bus.specs.Ports.{Outputs}
 use Rattle.pc_bus.specs.Steps.{Runs, Waits, stirred}

@@ -4,7 +4,7 @@ use Rattle.std.proofs.lemmas.List.{ext_get_or, get_or_past, get_or-take, get_or-
 use Rattle.flop_base.specs.Lists.{with_items}
 use Rattle.bay_model.specs.Memory.{user_bytes, SameOutside}
 use Rattle.track_model.proofs.Splices.{length-with_items, with_items_before, with_items_at, with_items_behind}
-use Rattle.machine_reads.specs.Underway.{HasBytes}
+use Rattle.machine_laws.specs.OnReads.Underway.{HasBytes}
 use Rattle.drive_model.specs.Drive.{InRange}
 use Rattle.pc_bus.specs.Boards.{Board, memory_of}
 use Rattle.single_commands.specs.Rigs.{IsSound}

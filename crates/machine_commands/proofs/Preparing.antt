@@ -10,12 +10,12 @@ use Rattle.drive_model.specs.Drive.{DriveState, InRange, turns, track_words}
 use Rattle.fdc_core.specs.Ports.{Writes, ccr_written}
 use Rattle.fdc_core.specs.State.{is_held, is_gated, dor_of, data_commands_of}
 use Rattle.fdc_core.specs.declared.controller.Fdc.{Fdc}
-use Rattle.machine_awaits.specs.Awaits.{IsLetOut}
-use Rattle.machine_quiet.specs.Quiet.{IsQuiet, IsHushed, only_listens}
-use Rattle.machine_quiet.specs.Settings.{Stands, setting_of, with_rate}
-use Rattle.machine_quiet.proofs.Standing.{starts_standing}
-use Rattle.machine_quiet.proofs.Accesses.{rate_stands}
-use Rattle.machine_reads.specs.Begins.{IsReadyIn}
+use Rattle.machine_laws.specs.OnAwaits.Awaits.{IsLetOut}
+use Rattle.machine_laws.specs.OnQuiet.Quiet.{IsQuiet, IsHushed, only_listens}
+use Rattle.machine_laws.specs.OnQuiet.Settings.{Stands, setting_of, with_rate}
+use Rattle.machine_laws.proofs.OnQuiet.Standing.{starts_standing}
+use Rattle.machine_laws.proofs.OnQuiet.Accesses.{rate_stands}
+use Rattle.machine_laws.specs.OnReads.Begins.{IsReadyIn}
 use Rattle.pc_bus.specs.Boards.{Board, controller_of, drive_in, lines_of}
 use Rattle.machine_commands.specs.Awaited.{Prepares}
 use Rattle.machine_commands.specs.Codes.{rate_byte}

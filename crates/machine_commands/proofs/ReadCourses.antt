@@ -10,23 +10,23 @@ use Rattle.fdc_commands.specs.Table.{answer}
 use Rattle.fdc_core.specs.Heard.{Sent}
 use Rattle.fdc_core.specs.State.{is_held, is_gated, data_commands_of}
 use Rattle.fdc_core.specs.declared.phases.Phase.TheVariants.{Command}
-use Rattle.machine_awaits.specs.Awaits.{IsAwaited, IsLetOut}
-use Rattle.machine_counts.specs.Counts.{CountsGoOn}
-use Rattle.machine_reads.specs.Ends.{ReadPrompt}
-use Rattle.machine_reads.specs.Timely.{Stalled}
+use Rattle.machine_laws.specs.OnAwaits.Awaits.{IsAwaited, IsLetOut}
+use Rattle.machine_laws.specs.OnCounts.Counts.{CountsGoOn}
+use Rattle.machine_laws.specs.OnReads.Ends.{ReadPrompt}
+use Rattle.machine_laws.specs.OnReads.Timely.{Stalled}
 use Rattle.machine_pace.specs.Holds.{counted}
-use Rattle.machine_quiet.specs.Quiet.{StandsStill, GoesQuietly, IsHushed}
-use Rattle.machine_quiet.specs.Settings.{Setting, Stands, with_byte, with_write}
-use Rattle.machine_quiet.proofs.Accesses.{byte_stands, channel_stands}
-use Rattle.machine_quiet.proofs.Steps.{starts_quietly}
-use Rattle.machine_reads.specs.Begins.{CanBegin, IsReadyIn, IsSetFor, scene_of}
-use Rattle.machine_reads.specs.Scenes.{Scene}
-use Rattle.machine_reads.specs.Underway.{IsSet, KeepsRead, ReadUnderway}
+use Rattle.machine_laws.specs.OnQuiet.Quiet.{StandsStill, GoesQuietly, IsHushed}
+use Rattle.machine_laws.specs.OnQuiet.Settings.{Setting, Stands, with_byte, with_write}
+use Rattle.machine_laws.proofs.OnQuiet.Accesses.{byte_stands, channel_stands}
+use Rattle.machine_laws.proofs.OnQuiet.Steps.{starts_quietly}
+use Rattle.machine_laws.specs.OnReads.Begins.{CanBegin, IsReadyIn, IsSetFor, scene_of}
+use Rattle.machine_laws.specs.OnReads.Scenes.{Scene}
+use Rattle.machine_laws.specs.OnReads.Underway.{IsSet, KeepsRead, ReadUnderway}
 use Rattle.pc_bus.specs.Boards.{Board, controller_of, holds_of, memory_of}
 use Rattle.pc_bus.specs.Ports.{Inputs, Outputs, is_controllers}
 use Rattle.pc_bus.specs.Steps.{Runs, Waits, stirred}
 use Rattle.pc_bus.specs.declared.bus.Bus.{Bus}
-use Rattle.spelled_commands.specs.Reads.{SpellsRead}
+use Rattle.fdc_commands.specs.Reads.{SpellsRead}
 use Rattle.machine_commands.specs.Awaited.{SetsChannel}
 use Rattle.machine_commands.specs.Idling.{IsResting, StaysIdle}
 use Rattle.machine_commands.specs.Sending.{Sends, latch_taken}

@@ -23,15 +23,15 @@ use Rattle.fdc_core.specs.Heard.{Sent, results_sent}
 use Rattle.fdc_core.specs.Phases.{is_overrun}
 use Rattle.fdc_core.specs.declared.answers.Answer.TheVariants.{Long}
 use Rattle.fdc_core.specs.declared.phases.Phase.TheVariants.{Result}
-use Rattle.machine_reads.specs.Ends.{ReadPrompt, is_late}
-use Rattle.machine_reads.specs.Timely.{Stalled}
-use Rattle.machine_quiet.specs.Settings.{Setting, setting_of, with_rate}
-use Rattle.machine_reads.specs.Begins.{CanBegin, scene_of}
-use Rattle.machine_reads.specs.Results as heard
-use Rattle.machine_reads.specs.Scenes.{Scene, IsRecorded, data_rate, head_sent, track_met}
-use Rattle.machine_reads.specs.Underway.{IsCalm, HasBytes, ReadUnderway}
+use Rattle.machine_laws.specs.OnReads.Ends.{ReadPrompt, is_late}
+use Rattle.machine_laws.specs.OnReads.Timely.{Stalled}
+use Rattle.machine_laws.specs.OnQuiet.Settings.{Setting, setting_of, with_rate}
+use Rattle.machine_laws.specs.OnReads.Begins.{CanBegin, scene_of}
+use Rattle.machine_laws.specs.OnReads.Results as heard
+use Rattle.machine_laws.specs.OnReads.Scenes.{Scene, IsRecorded, data_rate, head_sent, track_met}
+use Rattle.machine_laws.specs.OnReads.Underway.{IsCalm, HasBytes, ReadUnderway}
 use Rattle.pc_bus.specs.Boards.{Board, controller_of, drive_in, holds_of, memory_of}
-use Rattle.spelled_commands.specs.Reads.{SpellsRead}
+use Rattle.fdc_commands.specs.Reads.{SpellsRead}
 use Rattle.single_commands.specs.Reading.{FindsField, IsReadReason, IsReadCode, IsReadMiss, ReadsData, ReadsBack}
 use Rattle.single_commands.specs.Rigs.{track_under}
 use Rattle.machine_commands.specs.Awaited.{SendsRead, mark_told}

@@ -8,9 +8,9 @@ use Rattle.bay_model.specs.Counters.{GoesOn, IsDriven}
 use Rattle.bay_model.proofs.Counted.{spends_twice}
 use Rattle.drive_model.specs.Drive.{DriveState}
 use Rattle.fdc_core.specs.State.{data_commands_of}
-use Rattle.machine_counts.specs.Counts.{long_holds}
+use Rattle.machine_laws.specs.OnCounts.Counts.{long_holds}
 use Rattle.machine_pace.specs.Holds.{counted}
-use Rattle.machine_quiet.specs.Quiet.{Turned}
+use Rattle.machine_laws.specs.OnQuiet.Quiet.{Turned}
 use Rattle.pc_bus.specs.Boards.{Board, controller_of, holds_of}
 use Rattle.single_commands.specs.Reading.{SendsRead}
 use Rattle.machine_commands.specs.Awaited.{AreCounts}

@@ -25,7 +25,7 @@ use Rattle.machine_commands.specs.Ready.{dor_with, IsReady, IsIdle, AreSeeksOver
 use Rattle.machine_commands.specs.Shown.{user_part, page_part, stalls_left, counters_of, number_of, rig_of}
 use Rattle.machine_commands.specs.declared.motors.Motors.{Motors}
 use Rattle.machine_commands.proofs.Bytes.{AreMore}
-use Rattle.machine_counts.specs.Counts.{counts_of}
+use Rattle.machine_laws.specs.OnCounts.Counts.{counts_of}
 use Rattle.machine_commands.proofs.Moving.{MovesDrive, OutwardWay, OutwardOver, TowardWay, TowardOver, turns_move, outward_rule, toward_rule}
 use Rattle.machine_commands.proofs.Seeking.{on_way, at_end}
 use Rattle.machine_commands.proofs.SeekEnds.{Leaves, SeekCommand, SeekDone, after_sense_of, seek_done}

@@ -18,16 +18,16 @@ use Rattle.fdc_core.specs.declared.controller.Fdc.{Fdc}
 use Rattle.fdc_writing.specs.Formats.{Numbers}
 use Rattle.flop_base.specs.declared.answers.Rate.{Rate}
 use Rattle.flop_base.specs.declared.answers.Rate.TheVariants.{R500, R250}
-use Rattle.machine_awaits.specs.Awaits.{IsLetOut}
-use Rattle.machine_formats.specs.Begins as format
+use Rattle.machine_laws.specs.OnAwaits.Awaits.{IsLetOut}
+use Rattle.machine_laws.specs.OnFormats.Begins as format
 use Rattle.machine_pace.specs.declared.holding.Request.TheVariants.{Low}
 use Rattle.fdc_seek.specs.Seeking.{seek_bits}
-use Rattle.machine_quiet.specs.Quiet.{HaveTurned, IsHushed, IsQuiet, only_listens}
-use Rattle.machine_reads.specs.Begins.{IsDriveOf, scene_of}
-use Rattle.machine_reads.specs.Scenes.{IsScene, data_rate}
-use Rattle.machine_reads.proofs.Beginnings.{turned_in}
-use Rattle.machine_writes.specs.Begins as write
-use Rattle.machine_writes.specs.Underway.{IsReadSet}
+use Rattle.machine_laws.specs.OnQuiet.Quiet.{HaveTurned, IsHushed, IsQuiet, only_listens}
+use Rattle.machine_laws.specs.OnReads.Begins.{IsDriveOf, scene_of}
+use Rattle.machine_laws.specs.OnReads.Scenes.{IsScene, data_rate}
+use Rattle.machine_laws.proofs.OnReads.Beginnings.{turned_in}
+use Rattle.machine_laws.specs.OnWrites.Begins as write
+use Rattle.machine_laws.specs.OnWrites.Underway.{IsReadSet}
 use Rattle.pc_bus.specs.Boards.{Board, channel_of, controller_of, drive_in, holds_of, memory_of}
 use Rattle.pc_bus.specs.Ports.{Outputs}
 use Rattle.raw_image.specs.Disk.{Disk, IsDisk}

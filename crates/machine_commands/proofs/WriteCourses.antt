@@ -9,16 +9,16 @@ use Rattle.bay_model.proofs.Counted.{spends_twice}
 use Rattle.bay_model.specs.Counters.{GoesOn, IsDriven, IsFaultless, IsUndisturbed, faults_of}
 use Rattle.drive_model.specs.Drive.{DriveState}
 use Rattle.fdc_core.specs.State.{data_commands_of}
-use Rattle.machine_awaits.specs.Awaits.{IsAwaited, TurnsOn}
-use Rattle.machine_awaits.specs.Goes.{CountsOn}
-use Rattle.machine_counts.specs.Counts.{long_holds}
-use Rattle.machine_reads.specs.Timely.{Stalled}
+use Rattle.machine_laws.specs.OnAwaits.Awaits.{IsAwaited, TurnsOn}
+use Rattle.machine_laws.specs.OnAwaits.Goes.{CountsOn}
+use Rattle.machine_laws.specs.OnCounts.Counts.{long_holds}
+use Rattle.machine_laws.specs.OnReads.Timely.{Stalled}
 use Rattle.machine_pace.specs.Holds.{counted}
-use Rattle.machine_writes.specs.Guards.{LeavesOthers}
+use Rattle.machine_laws.specs.OnWrites.Guards.{LeavesOthers}
 use Rattle.pc_bus.specs.Boards.{Board, controller_of, drive_in, holds_of, memory_of, selected_of}
 use Rattle.single_commands.specs.Rigs.{HeadsStay}
 use Rattle.single_commands.specs.Writing.{SendsWrite}
-use Rattle.track_written.specs.Written.{IsCalm}
+use Rattle.machine_laws.specs.OnWritten.Written.{IsCalm}
 use Rattle.machine_commands.specs.Idling.{KeepsAll, KeepsDrive, KeepsSpeed}
 use Rattle.machine_commands.specs.Sending.{latch_taken}
 use Rattle.machine_commands.specs.Shown.{counters_of, is_spun, page_part, rig_of, stalls_left, user_part}

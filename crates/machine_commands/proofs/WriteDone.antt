@@ -28,16 +28,16 @@ use Rattle.fdc_fifo.specs.Fifo.{Fifo}
 use Rattle.fdc_stages.specs.History.{Past}
 use Rattle.fdc_stages.specs.declared.ending.Ending.{Ending}
 use Rattle.fdc_stages.specs.declared.ending.Ending.TheVariants as ending
-use Rattle.machine_awaits.specs.Awaits.{IsLetOut}
-use Rattle.machine_awaits.specs.Goes.{WriteGoes}
-use Rattle.machine_reads.specs.Timely.{Stalled}
+use Rattle.machine_laws.specs.OnAwaits.Awaits.{IsLetOut}
+use Rattle.machine_laws.specs.OnAwaits.Goes.{WriteGoes}
+use Rattle.machine_laws.specs.OnReads.Timely.{Stalled}
 use Rattle.machine_pace.specs.declared.holding.Request.TheVariants.{Low}
-use Rattle.machine_quiet.specs.Quiet.{IsHushed}
-use Rattle.machine_reads.specs.Begins.{scene_of}
-use Rattle.machine_reads.specs.Scenes.{Scene}
-use Rattle.machine_writes.specs.Begins as write
-use Rattle.machine_writes.specs.Results.{EndedIn, WriteEnded, WritesOnly}
-use Rattle.machine_writes.specs.Underway.{WriteUnderway}
+use Rattle.machine_laws.specs.OnQuiet.Quiet.{IsHushed}
+use Rattle.machine_laws.specs.OnReads.Begins.{scene_of}
+use Rattle.machine_laws.specs.OnReads.Scenes.{Scene}
+use Rattle.machine_laws.specs.OnWrites.Begins as write
+use Rattle.machine_laws.specs.OnWrites.Results.{EndedIn, WriteEnded, WritesOnly}
+use Rattle.machine_laws.specs.OnWrites.Underway.{WriteUnderway}
 use Rattle.pc_bus.specs.Boards.{Board, controller_of, drive_in, holds_of, memory_of}
 use Rattle.pc_bus.specs.Ports.{Inputs, Outputs}
 use Rattle.pc_bus.specs.Steps.{Runs, RunsUnset, Waits, stirred}
@@ -45,7 +45,7 @@ use Rattle.raw_image.specs.Disk.{Disk}
 use Rattle.sector_map.specs.Changes.{Change}
 use Rattle.single_commands.specs.Writing.{WritesData}
 use Rattle.track_model.specs.Fields.{IsSizeCode, content_size}
-use Rattle.spelled_commands.specs.Writes.{SpellsWrite, write_code, write_command}
+use Rattle.fdc_commands.specs.Writes.{SpellsWrite, write_code, write_command}
 use Rattle.machine_commands.specs.Awaited.{outcome_of, sector_bytes}
 use Rattle.machine_commands.specs.Codes.{has_set, refusal_of}
 use Rattle.machine_commands.specs.Ready.{AreSeeksOver, IsIdle, IsReady}

@@ -21,11 +21,11 @@ use Rattle.fdc_core.specs.declared.phases.Phase.TheVariants as phase
 use Rattle.fdc_registers.specs.declared.drive_lines.Dor.{Dor}
 use Rattle.fdc_seek.specs.Seeking.{has_ended, seek_bits}
 use Rattle.fdc_stages.specs.declared.ending.Ending.{Ending}
-use Rattle.machine_awaits.specs.Awaits.{is_unread}
-use Rattle.machine_awaits.specs.Goes.{GoesOn}
+use Rattle.machine_laws.specs.OnAwaits.Awaits.{is_unread}
+use Rattle.machine_laws.specs.OnAwaits.Goes.{GoesOn}
 use Rattle.machine_pace.specs.Entries.{next_entry}
 use Rattle.machine_pace.specs.Holds.{counted}
-use Rattle.machine_reads.proofs.Accesses.{read_board}
+use Rattle.machine_laws.proofs.OnReads.Accesses.{read_board}
 use Rattle.pc_bus.specs.Boards.{Board, controller_of}
 use Rattle.pc_bus.specs.Ports.{Inputs}
 use Rattle.pc_bus.specs.Steps.{Runs, RunsUnset, Waits, stirred}

@@ -19,18 +19,18 @@ use Rattle.sector_map.specs.MetTracks.{MeetsTrack}
 use Rattle.sector_map.proofs.MetTracks.{length-met_track, met_track, nothing_from, rates_same}
 use Rattle.track_model.specs.Fields.{IsAddressAt, content_size}
 use Rattle.track_model.specs.Looks.{HasAddressMark}
-use Rattle.track_written.specs.Written.{IsCalm}
+use Rattle.machine_laws.specs.OnWritten.Written.{IsCalm}
 use Rattle.fdc_core.specs.Answers.{st0_of, st1_of}
 use Rattle.fdc_core.specs.Rates.{rate_fits}
 use Rattle.fdc_stages.specs.Searches.{HasNoClear}
 use Rattle.fdc_stages.specs.declared.ending.Ending.{Ending}
 use Rattle.fdc_stages.specs.declared.ending.Ending.TheVariants as ending
-use Rattle.machine_reads.specs.Timely.{Stalled}
-use Rattle.machine_reads.specs.Begins.{IsDriveOf}
-use Rattle.machine_reads.specs.Scenes.{Scene, IsScene, data_rate, head_sent, track_met}
-use Rattle.machine_writes.specs.Results.{ChangesTo, EndsAs, HasChanged, IsInsideTrack, IsUnchanged, IsWholeWindow, written_in}
-use Rattle.machine_writes.specs.Results as write
-use Rattle.machine_writes.proofs.Results.{changes_disk}
+use Rattle.machine_laws.specs.OnReads.Timely.{Stalled}
+use Rattle.machine_laws.specs.OnReads.Begins.{IsDriveOf}
+use Rattle.machine_laws.specs.OnReads.Scenes.{Scene, IsScene, data_rate, head_sent, track_met}
+use Rattle.machine_laws.specs.OnWrites.Results.{ChangesTo, EndsAs, HasChanged, IsInsideTrack, IsUnchanged, IsWholeWindow, written_in}
+use Rattle.machine_laws.specs.OnWrites.Results as write
+use Rattle.machine_laws.proofs.OnWrites.Results.{changes_disk}
 use Rattle.pc_bus.specs.Boards.{Board, drive_in, memory_of}
 use Rattle.single_commands.specs.Rigs.{track_under}
 use Rattle.single_commands.specs.Writing.{ChangesMedium, HasWindowOut, IsWriteMiss, WritesData}

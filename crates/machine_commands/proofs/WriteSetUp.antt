@@ -20,7 +20,7 @@ use Rattle.pc_bus.specs.Steps.{Step, Runs}
 use Rattle.pc_bus.specs.Transfers.{shown_again}
 use Rattle.pc_bus.specs.declared.bus.Bus.{Bus}
 use Rattle.pc_bus.specs.declared.chips.Chips.{Chips}
-use Rattle.machine_quiet.proofs.Steps.{first_second_or_none}
+use Rattle.machine_laws.proofs.OnQuiet.Steps.{first_second_or_none}
 use Rattle.machine_commands.specs.Awaited.{Prepares, SetsChannel}
 use Rattle.machine_commands.specs.Codes.{rate_byte}
 use Rattle.machine_commands.specs.Idling.{IsResting, StaysIdle, Idles}

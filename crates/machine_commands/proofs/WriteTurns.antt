@@ -6,9 +6,9 @@ use Rattle.fdc_core.specs.Commands.{TakesAs}
 use Rattle.fdc_core.specs.Ports.{is_taking, takes_in}
 use Rattle.fdc_core.specs.State.{is_held}
 use Rattle.machine_pace.specs.Entries.{next_entry}
-use Rattle.machine_quiet.specs.Quiet.{HaveTurned, IsQuiet, only_listens}
-use Rattle.machine_quiet.proofs.Steps.{drives_on, runs_quietly, starts_quietly}
-use Rattle.machine_quiet.proofs.Turning.{turned_still}
+use Rattle.machine_laws.specs.OnQuiet.Quiet.{HaveTurned, IsQuiet, only_listens}
+use Rattle.machine_laws.proofs.OnQuiet.Steps.{drives_on, runs_quietly, starts_quietly}
+use Rattle.machine_laws.proofs.OnQuiet.Turning.{turned_still}
 use Rattle.pc_bus.specs.Boards.{Board, controller_of, lines_of}
 use Rattle.pc_bus.specs.Ports.{Outputs, is_controllers}
 use Rattle.machine_commands.specs.Awaited.{SetsChannel}

@@ -7,7 +7,7 @@ use Rattle.flop_base.specs.declared.answers.Code.{Code}
 use Rattle.pc_bus.specs.Boards.{Board, channel_of, controller_of, holds_of, latch_of, memory_of}
 use Rattle.sector_map.specs.Layings.{Format}
 use Rattle.track_model.specs.Fields.{content_size}
-use Rattle.spelled_commands.specs.Writes.{write_code}
+use Rattle.fdc_commands.specs.Writes.{write_code}
 use Rattle.machine_commands.specs.Awaited.{Finishes, Prepares, SetsChannel, sector_bytes}
 use Rattle.machine_commands.specs.Sending.{Sends}
 use Rattle.machine_commands.specs.declared.motors.Motors.{Motors}

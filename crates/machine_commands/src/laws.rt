@@ -16,14 +16,14 @@ ghost use Rattle.machine_commands.specs.declared.motors.Motors.{Motors};
 ghost use Rattle.machine_commands.specs.declared.results.Done.{Done};
 
 use dma_8237::laws::channel_is_set;
-use machine_awaits::laws::a_data_command_is_awaited;
-use machine_counts::laws::counts_go_on;
-use machine_reads::laws::{
+use machine_laws::laws::onawaits::a_data_command_is_awaited;
+use machine_laws::laws::oncounts::counts_go_on;
+use machine_laws::laws::onreads::{
     a_data_command_ends, a_read_begins, a_read_ends_in_time, a_read_id_goes_on,
     a_read_id_tells_of_the_track, a_read_tells_of_the_track, device_steps_keep_a_read,
     port_accesses_keep_a_read, the_track_is_met,
 };
-use spelled_commands::laws::reads_are_spelled;
+use fdc_commands::laws::reads_are_spelled;
 
 /// READ ID at the ports of an idle machine tells of the track under the head, and the machine is idle again.
 pub(crate) fn a_read_id_is_done()

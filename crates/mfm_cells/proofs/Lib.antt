@@ -1,2 +1,3 @@
+mod CrcTable
 pub mod CellTables
 pub mod Pairs

@@ -1,4 +1,4 @@
-//! Bytes as the cells of an MFM track, and back.
+//! Bytes as the cells of an MFM track, and back, and the check of a field.
 //!
 //! A bit is a clock cell and a data cell. The data cell is the bit; the clock cell is 1 exactly where the bit and the
 //! bit before it are both 0. Bits go most significant first, so a byte is a word of sixteen cells, the first cell in
@@ -9,8 +9,11 @@ ghost use Rattle.std.specs.Prelude.{◌≡◌, ◌+◌, [], ◌∷◌};
 ghost use Rattle.track_model.specs.Cells.{cells_at, IsInside};
 ghost use Rattle.track_model.specs.Bytes.{byte_at, legal};
 
+mod crc;
 pub mod laws;
 mod tables;
+
+pub use crc::{MARKS_CRC, crc_step, field_crc, mark_crc};
 
 use tables::{CELLS, DATA_CELLS};
 

@@ -12,7 +12,7 @@ use Rattle.floppy_jobs.specs.Texts.{ports_of}
 use Rattle.floppy_jobs.specs.declared.ports.PortLine.{PortLine}
 use Rattle.floppy_jobs.specs.declared.ports.PortLine.TheVariants as line
 use Rattle.machine_pace.specs.Entries.{next_entry}
-use Rattle.machine_writes.proofs.Guards.{step_guards, runs_guard}
+use Rattle.machine_laws.proofs.OnWrites.Guards.{step_guards, runs_guard}
 use Rattle.pc_bus.specs.Boards.{Board, drive_in}
 use Rattle.pc_bus.specs.Handling.{Touches}
 use Rattle.pc_bus.specs.Ports.{Inputs, Outputs}

@@ -5,8 +5,8 @@ use Rattle.raw_image.specs.Disk.{Disk}
 use Rattle.drive_model.specs.Drive.{DriveState}
 use Rattle.fdc_core.specs.declared.controller.Fdc.{Fdc}
 use Rattle.machine_pace.specs.Entries.{next_entry, rest_of}
-use Rattle.machine_writes.specs.Guards.{IsGuarded}
-use Rattle.machine_writes.proofs.Guards.{step_guards}
+use Rattle.machine_laws.specs.OnWrites.Guards.{IsGuarded}
+use Rattle.machine_laws.proofs.OnWrites.Guards.{step_guards}
 use Rattle.pc_bus.specs.Boards.{Board}
 use Rattle.pc_bus.specs.Ports.{FollowsMotor, SetsMotors, WritesPort, Inputs, Outputs, port_read}
 use Rattle.pc_bus.specs.Steps.{Runs, stirred}

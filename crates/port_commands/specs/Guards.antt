@@ -4,7 +4,7 @@ use Rattle.flop_base.specs.Counts.{RoseBy}
 use Rattle.flop_base.specs.declared.answers.Status.{Status}
 use Rattle.drive_model.specs.Drive.{is_protected}
 use Rattle.pc_bus.specs.Boards.{Board, drive_in}
-use Rattle.machine_writes.specs.Guards.{GuardsMedia}
+use Rattle.machine_laws.specs.OnWrites.Guards.{GuardsMedia}
 use Rattle.port_commands.specs.Benches.{Bench}
 use Rattle.port_commands.specs.Courses.{Taken, waits_of}
 use Rattle.port_commands.specs.Lines.{leaves_bay}

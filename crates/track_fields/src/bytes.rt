@@ -6,7 +6,7 @@ ghost use Rattle.track_model.specs.Crc.{crc};
 ghost use Rattle.track_model.specs.Fields.{HasCheck, after_marks};
 
 use mfm_cells::{cells16, decode_word};
-use track_check::{MARKS_CRC, crc_step};
+use mfm_cells::{MARKS_CRC, crc_step};
 
 /// The byte whose first cell is `p`.
 pub(crate) fn byte_at_cell(words: &[u16], p: usize) -> u8

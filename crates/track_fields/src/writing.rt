@@ -8,7 +8,7 @@ ghost use Rattle.track_model.specs.Writing.{sync_and_marks, address_field, windo
 use flop_base::{Chrn, NoMemory};
 use mfm_cells::encode_byte;
 use std::alloc::Global;
-use track_check::{crc_step, field_crc, mark_crc};
+use mfm_cells::{crc_step, field_crc, mark_crc};
 
 /// The three marks A1 in a row.
 const MARKS: [u16; 3] = [0x4489; 3];

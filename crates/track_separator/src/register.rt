@@ -6,7 +6,7 @@ ghost use Rattle.track_separator.specs.Register.{IsShifted, IsNext, HasRunBits, 
 
 use flop_base::Chrn;
 use mfm_cells::decode_word;
-use track_check::field_crc;
+use mfm_cells::field_crc;
 
 /// No cell of which anything is known.
 pub(crate) const BLANK: u128 = u128::MAX;

@@ -1,0 +1,18 @@
+// What follows of the command table. The bodies are empty.
+ghost use Rattle.std.specs.Prelude.{◌≤◌, ℕ, Bool};
+ghost use Rattle.flop_base.specs.declared.key.Chrn.{Chrn};
+ghost use Rattle.fdc_commands.specs.Reads.{SpellsRead, SpellsReadId};
+ghost use Rattle.fdc_commands.specs.Writes.{SpellsWrite, SpellsFormat};
+
+/// The nine bytes of a READ DATA of a size code from 1 to 6, and the two of a READ ID.
+pub fn reads_are_spelled()
+    ensures data { (head_drive : ℕ) (key : Chrn) (last_sector gap length_code : ℕ) → 1 ≤ key.n → key.n ≤ 6 → SpellsRead head_drive key last_sector gap length_code }
+    ensures id { (head_drive : ℕ) → SpellsReadId head_drive }
+{}
+
+/// The nine bytes of a WRITE DATA or WRITE DELETED DATA, and the six of a FORMAT TRACK, of a size code from 1 to 6.
+pub fn writes_are_spelled()
+    ensures data { (deleted : Bool) (head_drive : ℕ) (key : Chrn) (last_sector gap length_code : ℕ) → 1 ≤ key.n → key.n ≤ 6
+        → SpellsWrite deleted head_drive key last_sector gap length_code }
+    ensures format { (head_drive n sectors gap3 fill : ℕ) → 1 ≤ n → n ≤ 6 → SpellsFormat head_drive n sectors gap3 fill }
+{}

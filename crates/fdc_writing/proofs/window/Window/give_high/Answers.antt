@@ -1,0 +1,12 @@
+use Rattle.std.proofs.Common.{arith}
+use Rattle.std.proofs.Common.{[], ◌∷◌, ◌/◌, ◌%◌}
+use Rattle.fdc_writing.proofs.Words.{byte_first}
+use Rattle.fdc_writing.proofs.window.Window.give_high.Goals as goal
+
+pub returns : goal.returns
+returns c = λ byte. record {
+  words = λ rest long. byte_first c.args.self.last (c.args.self.check / 256) c.encode_byte.result (c.args.self.check % 256 ∷ []) c.encode_byte.ensures;
+  bytes = λ rest long. long;
+  count = omega arith;
+  lead = omega arith;
+}

@@ -1,0 +1,39 @@
+-- The images that ImageDisk files hold.
+use Rattle.std.specs.Prelude.{◌≡◌, ℕ, ◌*◌, ◌^◌, ◌≤◌, [], length, All, AllPairs}
+use Rattle.flop_base.specs.declared.answers.Rate.TheVariants.{R500}
+use Rattle.imagedisk.specs.declared.sector.ImdKind.{ImdKind}
+use Rattle.imagedisk.specs.declared.sector.ImdKind.TheVariants.{Absent, Good, Deleted, Bad, BadDeleted}
+use Rattle.imagedisk.specs.declared.sector.ImdSector.{ImdSector}
+use Rattle.imagedisk.specs.declared.track.ImdTrack.{ImdTrack}
+use Rattle.imagedisk.specs.declared.image.ImdImage.{ImdImage}
+
+-- how many bytes are there of a sector of size code n
+abbrev pub kept_size : ImdKind → ℕ → ℕ
+kept_size Absent n = 0
+kept_size Good n = 128 * 2 ^ n
+kept_size Deleted n = 128 * 2 ^ n
+kept_size Bad n = 128 * 2 ^ n
+kept_size BadDeleted n = 128 * 2 ^ n
+
+-- a sector of a track of size code n
+pub record IsImdSector (n : ℕ) (sector : ImdSector) : Type 0 where
+  pub coded : sector.key.n ≡ n
+  pub size : length sector.content ≡ kept_size sector.kind n
+
+-- a track of an ImageDisk file
+pub record IsImdTrack (track : ImdTrack) : Type 0 where
+  pub cylinder : track.c ≤ 79
+  pub head : track.h ≤ 1
+  pub coded : (1 ≤ track.n) × (track.n ≤ 6)
+  pub count : length track.sectors ≤ 255
+  pub sectors : All (IsImdSector track.n) track.sectors
+
+-- the tracks are of different places
+abbrev pub AreApart : ImdTrack → ImdTrack → Type 0
+AreApart one two = one.c ≡ two.c → one.h ≡ two.h → ⊥
+
+-- an image that an ImageDisk file holds: no cylinder and head come twice, and no track tells of no rate but 500 kbit/s
+pub record IsImdImage (image : ImdImage) : Type 0 where
+  pub tracks : All IsImdTrack image.tracks
+  pub apart : AllPairs AreApart image.tracks
+  pub rate : image.tracks ≡ [] → image.rate ≡ R500

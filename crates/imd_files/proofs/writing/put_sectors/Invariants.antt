@@ -1,7 +1,0 @@
-use Rattle.std.proofs.Common.{◌≡◌, ◌++◌, take}
-use Rattle.std.specs.List.{flat_map}
-use Rattle.imd_files.specs.Writing.{sector_bytes}
-use Rattle.imd_files.proofs.writing.put_sectors.Given as goal
-
-abbrev pub invariant-loop-sector : goal.invariant-loop-sector
-invariant-loop-sector l = l.out.items ≡ l.initial.out.items ++ flat_map sector_bytes (take l.sector-index l.sectors)

@@ -1,8 +1,0 @@
-mod Transfers
-mod Words
-mod Covered
-mod Steps
-mod Accesses
-mod Results
-mod Beginning
-mod Begun

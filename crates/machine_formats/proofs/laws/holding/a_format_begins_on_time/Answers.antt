@@ -1,5 +1,0 @@
-use Rattle.machine_formats.proofs.Beginning.{format_on_time}
-use Rattle.machine_formats.proofs.laws.holding.a_format_begins_on_time.Goals as goal
-
-pub returns : goal.returns
-returns c = format_on_time c.a_served_request_falls.ensures.falls

@@ -1,0 +1,60 @@
+-- A FORMAT that begins is on time.
+use Rattle.std.proofs.Common.{◌≡◌, ◌⊎◌, inl, inr, ℕ, ◌%◌, ◌∷◌, ◌++◌, [], Bool, true, false, refl, sym, ◌∙◌, ap, subst, arith}
+use Rattle.flop_base.specs.Counts.{Rose}
+use Rattle.fdc_fifo.specs.Fifo.{emptied}
+use Rattle.fdc_commands.specs.Table.{kept}
+use Rattle.fdc_commands.specs.declared.bytes.Accepted.{Accepted}
+use Rattle.fdc_commands.specs.declared.bytes.Accepted.TheVariants.{Ready}
+use Rattle.fdc_core.specs.Commands.{IsFormattingTrack, TakesAs}
+use Rattle.fdc_core.specs.State.{dor_of, is_gated}
+use Rattle.fdc_core.specs.declared.controller.Fdc.{Fdc}
+use Rattle.fdc_core.specs.declared.phases.Task.{Task}
+use Rattle.fdc_core.specs.declared.phases.Task.TheVariants.{ReadId, Read, Write, Format}
+use Rattle.machine_pace.specs.Entries.{next_entry}
+use Rattle.machine_pace.specs.Holds.{Holds, shown}
+use Rattle.machine_pace.specs.declared.holding.Request.TheVariants.{Low}
+use Rattle.machine_laws.specs.OnReads.Timely.{Stalled}
+use Rattle.pc_bus.specs.Boards.{Board, controller_of, holds_of, lines_of, selected_of}
+use Rattle.pc_bus.specs.Ports.{Outputs}
+use Rattle.pc_bus.specs.Transfers.{shown_again}
+use Rattle.machine_laws.specs.OnReads.Scenes.{Scene}
+use Rattle.machine_laws.proofs.OnReads.Accesses.{gapped}
+use Rattle.fdc_writing.specs.Formats.{Numbers}
+use Rattle.fdc_commands.specs.declared.command.Command.TheVariants.{FormatTrack}
+use Rattle.machine_laws.specs.OnFormats.Begins.{CanBegin}
+use Rattle.machine_laws.specs.OnWrites.Timely.{fills_task, IsOnTime, IsPunctual}
+use Rattle.machine_laws.proofs.OnWrites.OnTime.{Falls, begun_punctual, runs_on_time}
+
+filling_task : (head_drive : ℕ) (numbers : Numbers) (task : Task) → IsFormattingTrack head_drive numbers task → fills_task task ≡ true
+filling_task head_drive numbers (Write writing) is = absurd (is (emptied true 8) false refl)
+filling_task head_drive numbers (Format formatting) is = refl
+filling_task head_drive numbers (Read reading) is = absurd (is (emptied true 8) false refl)
+filling_task head_drive numbers (ReadId search) is = absurd (is (emptied true 8) false refl)
+
+same_stalls : (line : Bool) (holding : Holds) → (shown line holding).stalls ≡ holding.stalls
+same_stalls true holding = refl
+same_stalls false holding = refl
+
+pub format_on_time : Falls → (scene : Scene) (numbers : Numbers) (byte : ℕ) (old new : Board) → Outputs 0x3F5 byte old new → CanBegin scene numbers byte old
+    → (controller_of old).fifo.on ≡ true → (controller_of old).fifo.threshold ≡ 8 → is_gated (controller_of old) ≡ true
+    → (holds_of old).request ≡ Low → IsOnTime new ⊎ Stalled old new
+format_on_time falls scene numbers byte old new access can on threshold gated low =
+    let (controller, writes, chips_are) = access.writes.writes.controllers refl in
+    let fdc = controller_of old in
+    let bytes = fdc.command ++ byte ∷ [] in
+    let whole : Accepted = Ready (FormatTrack scene.sent.head_drive numbers.n numbers.sectors numbers.gap3 numbers.fill) in
+    let from : Fdc = record fdc { command = kept whole bytes } in
+    let takes = subst (λ accepted. TakesAs accepted (lines_of old) (record fdc { command = kept accepted bytes }) controller) can.last.whole ((writes.bytes refl).0 can.last.taking) in
+    let (task, is, waits, after) = (takes.0 can.last.no_seek).1 can.last.dma in
+    let at : access.between.bus.chips ≡ shown_again (record old.bus.chips { controller = controller }) = ap (λ bus. bus.chips) access.writes.bus ∙ chips_are in
+    let punctual : IsPunctual access.between.bus.chips = subst IsPunctual (sym at)
+    (subst (λ c. IsPunctual (shown_again (record old.bus.chips { controller = c }))) (sym after)
+    (begun_punctual old.bus.chips scene.sent.head_drive task from (filling_task scene.sent.head_drive numbers task is) waits on threshold gated can.channel.granting low)) in
+    let same : (holds_of access.between).stalls ≡ (holds_of old).stalls = ap (λ chips. chips.holding.stalls) at ∙ same_stalls _ old.bus.chips.holding in
+    let dor : dor_of (controller_of access.between) ≡ scene.dor = ap (λ chips. dor_of chips.controller) at ∙ (ap dor_of after ∙ can.dor) in
+    let selected : selected_of access.between ≡ scene.bay = ap (λ byte. byte % 4) dor ∙ can.scene_is.selects in
+    let small = can.scene_is.bay in
+    elim (runs_on_time falls (next_entry access.between.bus.gaps) (gapped access.between) new access.gap.runs (record { selects = omega arith; punctual = punctual })) [
+      | inl on_time ↦ inl on_time
+      | inr rose ↦ inr (subst (λ stalls. Rose stalls (holds_of new).stalls) same rose)
+    ]

@@ -1,2 +1,0 @@
-mod ReadSpellings
-mod WriteSpellings
