@@ -166,9 +166,6 @@ pub goes_then : (plan next : List Planned) (old mid new : Stage) (result : Resul
 goes_then plan next old mid new (Ok u) one two = then_any plan next old mid new one two
 goes_then plan next old mid new (Err cause) one two = then_halts plan next old mid new cause one two
 
-pub goes_none : (stage : Stage) → Carries Any [] stage stage
-goes_none stage = none_carried Any stage
-
 -- all numbers
 pub all_carried : (start i n : ℕ) (plan : ℕ → List Planned) (old new : Stage) → i ≡ n → Carries Any (each start i plan) old new → Carries Any (each start n plan) old new
 all_carried start i n plan old new same carried = subst (λ k. Carries Any (each start k plan) old new) same carried

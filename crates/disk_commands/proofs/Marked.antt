@@ -15,9 +15,6 @@ use Rattle.disk_commands.specs.Carried.{Stage, Any, IsTaken, HaltsAt, Carries, I
 use Rattle.disk_commands.specs.Marks.{TellsMarks, ReadsMarks, HasMarks}
 use Rattle.disk_commands.proofs.Carrying.{run_join, fine_join, asked_join, next_number, taken_carried, taken_halted, carries_then, halts_then, more_fits, stop_fits}
 
-answers_of : List Taken → List Reply
-answers_of course = map (λ taken. taken.answer) course
-
 -- a course is as long as its plan
 pub asked_length : (earlier : List Taken) (plan : List Planned) (course : List Taken) → Asked earlier plan course → length course ≡ length plan
 asked_length earlier [] [] asked = refl

@@ -80,9 +80,6 @@ verified_then plan next old mid new first second both one two well refused = rec
   refused = refused ∙ ap (λ (b : Bool). b || second.refused) one.refused ∙ ap (λ (b : Bool). has_refusal one.course || b) two.refused ∙ sym (refusal_join one.course two.course);
 }
 
-no_tally : Tally
-no_tally = record { well = 0; refused = false }
-
 pub broken_one : (asked : Request) (old new : World) (ended : Status) (last : List Taken) → Breaks asked old last new ended → IsBroken (Asks asked ∷ []) old new ended
 broken_one asked old new ended last breaks = record {
   done = [];

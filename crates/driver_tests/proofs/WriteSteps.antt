@@ -15,7 +15,8 @@ use Rattle.bay_model.proofs.Counted.{drive_same}
 use Rattle.sector_map.specs.Met.{met_in}
 use Rattle.sector_map.specs.MetTracks.{MeetsTrack}
 use Rattle.sector_map.specs.Changes.{Change, Written, window_of, IsChange}
-use Rattle.sector_map.specs.ChangedDisks.{FitsKey, change_at}
+use Rattle.sector_map.specs.ChangedDisks.{change_at}
+use Rattle.sector_map.proofs.Writable.{FitsKey}
 use Rattle.sector_map.specs.KeptDisks.{KeepsTracks}
 use Rattle.sector_map.proofs.MetTracks.{nothing_from, met_track, one_met}
 use Rattle.sector_map.proofs.KeptTracks.{still_meets, length-alike}

@@ -39,9 +39,6 @@ reads_shut head raw before mid after shut (inr (none, rose)) = inr (none, rose_b
 pub rate_kept : (on : Bool) (before mid : DriveState) → Becomes (with_gate on before) before mid → rate_of mid.medium ≡ rate_of before.medium
 rate_kept on before mid shut = ap (λ s. rate_of s.medium) shut.becomes
 
-pub index_kept : (on : Bool) (before mid : DriveState) → Becomes (with_gate on before) before mid → at_index mid ≡ at_index before
-index_kept on before mid shut = ap at_index shut.becomes
-
 -- at another rate 0000 is seen
 pub kept_from : (rate : DataRate) (head raw : ℕ) (before mid after : DriveState) → Becomes (with_gate false before) before mid → rate_fits rate (rate_of mid.medium) ≡ false → Reads head mid raw after → SeesUnder rate head before 0 after
 kept_from rate head raw before mid after shut unfit reads = (

@@ -32,10 +32,6 @@ RestsIn _ track0 old new = new ≡ seek_stepped track0 old
 abbrev pub Rests : Bool → Fdc → Fdc → Type 0
 Rests track0 old new = RestsIn old.phase track0 old new
 
--- the command took too many steps: it ends with MA
-abbrev pub late : Execution → Fdc → Fdc
-late execution old = finished Late execution.head_drive (key_as_sent execution.task) old
-
 -- one word time in which no word is written: the gate is closed
 abbrev pub let_pass : DriveState → DriveState
 let_pass drive = passed (with_gate false drive)

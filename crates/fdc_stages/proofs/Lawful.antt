@@ -132,20 +132,6 @@ over_full past key told deleted good (turn, among, (p, q, over)) =
 
 -- ---- the bytes given, or in the FIFO
 
--- a byte more
-pub start_more : (counted : Bool) (bytes told : List ℕ) (value : ℕ) → IsStart counted bytes told → counted ≡ false → IsStart counted (bytes ++ value ∷ []) (told ++ value ∷ [])
-start_more false bytes told value is open_yet = ap (λ list. list ++ value ∷ []) is
-start_more true bytes told value is open_yet = absurd (false≢true (sym open_yet))
-
--- behind the terminal count none is taken
-pub start_stays : (bytes told : List ℕ) (value : ℕ) → IsStart true bytes told → IsStart true bytes (told ++ value ∷ [])
-start_stays bytes told value (rest, is) = (rest ++ value ∷ [], ap (λ list. list ++ value ∷ []) is ∙ append_assoc bytes rest (value ∷ []))
-
--- the terminal count comes, and what was not given is dropped
-pub start_counted : (counted : Bool) (given fifo told : List ℕ) → IsStart counted (given ++ fifo) told → IsStart true given told
-start_counted false given fifo told is = (fifo, sym is)
-start_counted true given fifo told (rest, is) = (fifo ++ rest, is ∙ append_assoc given fifo rest)
-
 -- as many bytes as were told are all of them
 pub start_full : (counted : Bool) (bytes told : List ℕ) → IsStart counted bytes told → length bytes ≡ length told → bytes ≡ told
 start_full false bytes told is same = is
@@ -184,10 +170,3 @@ searching_few past wanted searching is = turned_few searching.turned past.turns 
 pub heard_few : (index : Bool) (word : ℕ) (past : Past) → HasFewTurns past → length (heard index word past).turns ≤ 2
 heard_few true word past few = omega arith
 heard_few false word past few = omega arith
-
--- while the field is not over, one index has passed at most
-pub reading_few : (past : Past) (key : Chrn) (told : List ℕ) (stage : ReadStage) → IsReading past key told stage → ((deleted good : Bool) → stage ≡ Over deleted good → ⊥) → HasFewTurns past
-reading_few past key told (Search searching) reads on = searching_few past (Some key) searching reads.0
-reading_few past key told (Wait separator) reads on = reads.0.1.few
-reading_few past key told (Content separator deleted) (p, q, taken, was) on = was.few
-reading_few past key told (Over deleted good) reads on = absurd (on deleted good refl)

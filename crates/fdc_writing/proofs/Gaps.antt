@@ -63,11 +63,6 @@ met_within true past key deleted separator is at none met = absurd (false≢true
 
 -- ---- the words before the window
 
--- the first of the window was due
-pub gap_barred : (left : ℕ) (index : Bool) (word : ℕ) (past : Past) (key : Chrn) (deleted : Bool) (handed : List ℕ) → left ≡ 0 → IsWriting past key deleted handed (stage.Gap left) → HasWritten (heard_where (opens (stage.Gap left)) index word past) key deleted handed NoField
-gap_barred zero index word past key deleted handed is (at, (before, none)) = record { begun = inl none; cause = inr (inr (none.0, refl)) }
-gap_barred (suc left) index word past key deleted handed is was = absurd (omega arith)
-
 -- the index came
 pub gap_over : (left : ℕ) (index : Bool) (word : ℕ) (past : Past) (key : Chrn) (deleted : Bool) (handed : List ℕ) → 1 ≤ left → index ≡ true → IsWriting past key deleted handed (stage.Gap left) → HasWritten (heard_where (opens (stage.Gap left)) index word past) key deleted handed NoField
 gap_over zero index word past key deleted handed some is was = absurd (omega arith)

@@ -19,14 +19,6 @@ use Rattle.fdc_writing.proofs.Laying.{Goes, next_laid, same_takes, laid_words_ar
 
 -- ---- the index is awaited
 
-pub await_over : (index : Bool) (word : ℕ) (past : Past) → index ≡ true → IsAtPart past.turns past.seen past.place past.words past.barred Await → IsAtPart (heard index word past).turns (heard index word past).seen (heard index word past).place (heard index word past).words (heard index word past).barred Due
-await_over true word past is (turns, none) = (record { first = with_word past.seen word; turns_are = ap (λ xs. with_word past.seen word ∷ xs) turns; nothing = refl }, refl, none)
-await_over false word past is was = absurd (false≢true is)
-
-pub await_on : (index : Bool) (word : ℕ) (past : Past) → index ≡ false → IsAtPart past.turns past.seen past.place past.words past.barred Await → IsAtPart (heard index word past).turns (heard index word past).seen (heard index word past).place (heard index word past).words (heard index word past).barred Await
-await_on false word past is was = was
-await_on true word past is was = absurd (false≢true (sym is))
-
 -- ---- no gate was opened
 
 pub due_unopened : (index : Bool) (word : ℕ) (past : Past) → IsAtPart past.turns past.seen past.place past.words past.barred Due → IsUnopened index (kept_out index word past)
@@ -80,12 +72,6 @@ write_laid past numbers handed now new key byte word takes given due (at, laid, 
     (due_behind now.part past due at, next, shifts last)
 
 -- ---- behind a word of the layout
-
-pub laid_on : (index : Bool) (word : ℕ) (past : Past) (numbers : Numbers) (handed : List ℕ) (stream : FormatStream) (key : Chrn) → index ≡ false → IsNextLaid past numbers handed word stream key → IsFormatting (wrote index word past) numbers handed (record { part = Lay; stream = stream; key = key })
-laid_on true word past numbers handed stream key is was = absurd (false≢true (sym is))
-laid_on false word past numbers handed stream key is ((behind, place), laid, last) =
-    let long = length-append past.words (word ∷ []) in
-    ((behind, omega (arith, place, long), omega (arith, long)), laid, last)
 
 pub too_short : (index : Bool) (word : ℕ) (past : Past) (numbers : Numbers) (handed : List ℕ) (stream : FormatStream) (key : Chrn) → index ≡ true → StreamIsWhole stream false → IsNextLaid past numbers handed word stream key → HasFormatted (wrote index word past) numbers handed NoField
 too_short false word past numbers handed stream key is whole was = absurd (false≢true is)

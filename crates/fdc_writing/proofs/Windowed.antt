@@ -19,34 +19,6 @@ use Rattle.fdc_writing.specs.Writings.{handed_with, IsBefore, IsInWindow, IsBegu
 
 -- ---- the window that the next word belongs to
 
--- the first word is due: the window is a new one
-window_begins : (seen words : List ℕ) (key : Chrn) (deleted : Bool) (handed : List ℕ) (now : Window) (p : ℕ) → ((content : List ℕ) → words_left now content ≡ window deleted content) → bytes_left now ≡ content_size key.n → count_left now ≡ content_size key.n + 18 → IsBefore seen key 0 p → words ≡ [] → handed ≡ [] → IsInWindow seen words key deleted handed (Some now) p
-window_begins seen words key deleted handed now p all bytes count before unwritten none = record {
-  address = before.address;
-  place = omega (arith, before.place);
-  count = omega (arith, ap length unwritten, count);
-  bytes = omega (arith, ap length none, bytes);
-  goes_on = λ rest long. ap (λ xs. xs ++ words_left now rest) unwritten ∙ all rest ∙ ap (λ xs. window deleted (xs ++ rest)) (sym none);
-}
-
-pub new_window : (now : WriteStage) (past : Past) (key : Chrn) (deleted : Bool) (handed : List ℕ) (fresh : Window) → ((opened : Window) → now ≡ stage.Window opened → ⊥) → ((content : List ℕ) → words_left fresh content ≡ window deleted content) → bytes_left fresh ≡ content_size key.n → count_left fresh ≡ content_size key.n + 18 → is_due now ≡ true → IsWriting past key deleted handed now → (p : ℕ) × IsInWindow past.seen past.words key deleted handed (Some fresh) p
-new_window (stage.Search searching) past key deleted handed fresh closed all bytes count due was = absurd (false≢true due)
-new_window (stage.Gap zero) past key deleted handed fresh closed all bytes count due (at, ((p, before), none)) =
-    (p, window_begins past.seen past.words key deleted handed fresh p all bytes count before none.0 none.1)
-new_window (stage.Gap (suc left)) past key deleted handed fresh closed all bytes count due was = absurd (false≢true due)
-new_window (stage.Window opened) past key deleted handed fresh closed all bytes count due was = absurd (closed opened refl)
-
-pub new_needs : (now : WriteStage) (fresh : Window) → ((opened : Window) → now ≡ stage.Window opened → ⊥) → needs_byte fresh ≡ false → needs_byte fresh ≡ writing.needs_byte now
-new_needs (stage.Search searching) fresh closed begins = begins
-new_needs (stage.Gap left) fresh closed begins = begins
-new_needs (stage.Window opened) fresh closed begins = absurd (closed opened refl)
-
-pub new_lead : (now : WriteStage) (fresh : Window) → ((opened : Window) → now ≡ stage.Window opened → ⊥) → lead_left fresh ≡ 16 → is_due now ≡ true → lead_left fresh ≡ lead_of now
-new_lead (stage.Search searching) fresh closed lead due = absurd (false≢true due)
-new_lead (stage.Gap zero) fresh closed lead due = omega arith
-new_lead (stage.Gap (suc left)) fresh closed lead due = absurd (false≢true due)
-new_lead (stage.Window opened) fresh closed lead due = absurd (closed opened refl)
-
 pub open_window : (now : WriteStage) (past : Past) (key : Chrn) (deleted : Bool) (handed : List ℕ) (opened : Window) → now ≡ stage.Window opened → IsWriting past key deleted handed now → (p : ℕ) × IsInWindow past.seen past.words key deleted handed (Some opened) p
 open_window now past key deleted handed opened is was = (subst (IsWriting past key deleted handed) is was).1.0
 
@@ -123,9 +95,6 @@ begun_next index word past key deleted handed behind (at, (p, was)) =
 pub whole_written : (past : Past) (key : Chrn) (deleted : Bool) (handed : List ℕ) → past.counted ≡ true → HasWhole past key deleted handed → HasBegun past key deleted handed → HasWritten past key deleted handed (Done false)
 whole_written past key deleted handed counted whole begun = record { begun = begun; cause = (refl, counted, whole) }
 
-pub whole_uncounted : (past : Past) (key : Chrn) (deleted : Bool) (handed : List ℕ) → past.counted ≡ false → HasWhole past key deleted handed → HasBegun past key deleted handed → HasWritten past key deleted handed NoCount
-whole_uncounted past key deleted handed counted whole begun = record { begun = begun; cause = (counted, whole) }
-
 -- the index came and the window isn't whole
 pub cut_next : (index : Bool) (word : ℕ) (past : Past) (key : Chrn) (deleted : Bool) (handed : List ℕ) (behind : Option Window) (now : Window) → index ≡ true → behind ≡ Some now → IsNextWord past key deleted handed word behind → HasWritten (wrote index word past) key deleted handed NoField
 cut_next false word past key deleted handed behind now is more was = absurd (false≢true is)
@@ -137,12 +106,3 @@ cut_next true word past key deleted handed behind now is more was =
       begun = begun_next true word past key deleted handed behind was;
       cause = inr (inl (was.1.0, record { index = refl; some = some; address = at.address; few = omega (arith, at.count, left) }));
     }
-
--- the window goes on
-pub on_next : (index : Bool) (word : ℕ) (past : Past) (key : Chrn) (deleted : Bool) (handed : List ℕ) (behind : Option Window) (now : Window) → index ≡ false → behind ≡ Some now → IsNextWord past key deleted handed word behind → IsWriting (wrote index word past) key deleted handed (stage.Window now)
-on_next true word past key deleted handed behind now is more was = absurd (false≢true (sym is))
-on_next false word past key deleted handed behind now is more (at, (p, was)) =
-    let long = length-append past.words (word ∷ []) in (
-      omega (arith, at, long),
-      ((p, subst (λ b. IsInWindow past.seen (with_word past.words word) key deleted handed b p) more was), omega (arith, long)),
-    )

@@ -110,11 +110,6 @@ each_one : (start : ℕ) (ask : ℕ → List Request) → each start 1 ask ≡ a
 unfolding each
 each_one start ask = append-nil (ask start)
 
--- no number
-pub each_none : (start : ℕ) (ask : ℕ → List Request) → each start 0 ask ≡ []
-unfolding each
-each_none start ask = refl
-
 pub no_number : (start : ℕ) (ask : ℕ → List Request) (stage : Stage) → Carries (each start 0 ask) stage stage
 unfolding each
 no_number start ask stage = none_carried stage

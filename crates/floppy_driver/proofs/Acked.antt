@@ -23,7 +23,8 @@ use Rattle.floppy_driver.specs.declared.driver.Notes.{Notes}
 use Rattle.floppy_driver.specs.declared.driver.Driver.{Driver}
 use Rattle.floppy_driver.specs.Shown.{is_held, bay_shown, with_waiting, shown, with_notes}
 use Rattle.floppy_driver.specs.Attached.{IsAttached}
-use Rattle.floppy_driver.specs.Acknowledged.{Works, ClearsChange, HasStayedSet, OnlyReads, HasStart, IsHeldSince}
+use Rattle.floppy_driver.specs.Acknowledged.{Works, ClearsChange, OnlyReads, HasStart, IsHeldSince}
+use Rattle.floppy_driver.proofs.Rounds.{HasStayedSet}
 use Rattle.floppy_driver.proofs.Shows.{noted_at, bay_shown_at, held_bay, held_shown, spun_at, attached_with, waiting_driven, driven_after, driven_within}
 use Rattle.floppy_driver.proofs.Worked.{works_read, works_after, works_round, driven_round, spun_round, clear_is_full, noted_worked, worked_shown}
 

@@ -15,7 +15,8 @@ use Rattle.floppy_driver.specs.declared.driver.Driver.{Driver}
 use Rattle.floppy_driver.specs.Shown.{notes_of, is_held, shown, with_notes, HasAsked}
 use Rattle.floppy_driver.specs.Attached.{IsAttached}
 use Rattle.floppy_driver.specs.Prepared.{IsPrepared}
-use Rattle.floppy_driver.specs.Attempts.{CanTry, IsSure, sure_attempts}
+use Rattle.floppy_driver.specs.Attempts.{CanTry, IsSure}
+use Rattle.floppy_driver.proofs.SureAttempts.{sure_attempts}
 use Rattle.floppy_driver.proofs.Shows.{held_bay_shown, held_lines_stay, moved_shown, known_shown, waiting_goes_on, waiting_driven, noted_at, attached_asked, attached_read, disturbed_less_more}
 use Rattle.floppy_driver.proofs.Prepared.{prepared_stands}
 
@@ -62,9 +63,6 @@ last_sure tries some =
     ]
 
 -- ---- a bay in which an attempt can be made
-
-pub held_spun : (driver : Driver) (rig : Rig) (bay : ℕ) → CanTry driver rig bay → in_bay rig.spun bay ≡ true
-held_spun driver rig bay can = (noted_at driver rig bay can.attached).spun can.held
 
 pub can_try_asked : (driver : Driver) (old new : Rig) (bay : ℕ) → CanTry driver old bay → OnlyAsks old new → IsSound new → CanTry driver new bay
 can_try_asked driver old new bay can asks sound = record {

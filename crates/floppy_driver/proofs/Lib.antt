@@ -1,3 +1,7 @@
+pub mod TriedWrites
+pub mod TriedReads
+pub mod SureAttempts
+pub mod Rounds
 mod Acked
 mod Asking
 mod Attempts

@@ -13,7 +13,8 @@ use Rattle.bay_model.proofs.Counted.{goes_on_after, faults_go_on}
 use Rattle.sector_map.specs.Met.{met_in, HasClearAddress}
 use Rattle.single_commands.specs.Rigs.{Rig, StaysSpun, track_under}
 use Rattle.single_commands.specs.Reading.{SendsRead, ReadsId}
-use Rattle.floppy_driver.specs.Acknowledged.{OnlyReads, HasFoundNone, FindsRate}
+use Rattle.floppy_driver.specs.Acknowledged.{OnlyReads, FindsRate}
+use Rattle.floppy_driver.proofs.Rounds.{HasFoundNone}
 use Rattle.floppy_driver.proofs.Shows.{driven_after, driven_within}
 
 pub spun_after : (a b c : Two Bool) → StaysSpun a b → StaysSpun b c → StaysSpun a c

@@ -19,7 +19,8 @@ use Rattle.sector_model.specs.Stations.{StationState, bay_of, met}
 use Rattle.sector_model.specs.Reads.{IsRead, ReadsDrive}
 use Rattle.floppy_driver.specs.Shown.{HasAsked}
 use Rattle.floppy_driver.specs.Attempts.{IsSure}
-use Rattle.floppy_driver.specs.Readings.{IsReadWhole, IsReadFailed, TriesRead, HasTriedRead}
+use Rattle.floppy_driver.specs.Readings.{IsReadWhole, IsReadFailed, TriesRead}
+use Rattle.floppy_driver.proofs.TriedReads.{HasTriedRead}
 use Rattle.floppy_driver.proofs.Shows.{driven_after, driven_within, undisturbed_part}
 use Rattle.floppy_driver.proofs.Attempts.{spoilt_none, spoilt_more, all_sure, last_sure}
 

@@ -11,7 +11,8 @@ use Rattle.floppy_driver.specs.declared.driver.Notes.{Notes}
 use Rattle.floppy_driver.specs.declared.driver.Driver.{Driver}
 use Rattle.floppy_driver.specs.Shown.{notes_of, bay_shown, with_waiting, shown, with_notes}
 use Rattle.floppy_driver.specs.Attached.{IsAttached}
-use Rattle.floppy_driver.specs.Acknowledged.{Works, ClearsChange, HasStayedSet, OnlyReads}
+use Rattle.floppy_driver.specs.Acknowledged.{Works, ClearsChange, OnlyReads}
+use Rattle.floppy_driver.proofs.Rounds.{HasStayedSet}
 use Rattle.floppy_driver.proofs.Shows.{IsNotedAt, noted_at, noted_later, spun_at, driven_after}
 use Rattle.floppy_driver.proofs.RateFound.{spun_after}
 

@@ -10,7 +10,8 @@ use Rattle.sector_map.proofs.KeptTracks.{alike_itself, alike_both}
 use Rattle.sector_map.proofs.Changed.{change_keeps_tracks}
 use Rattle.sector_model.specs.Stations.{Bay, StationState, Becomes, bay_of, set_bay}
 use Rattle.sector_model.specs.Writes.{ChangesDisk, Reaches, IsLastWhole}
-use Rattle.floppy_driver.specs.Writings.{ChangesBay, with_change, WroteWhole}
+use Rattle.floppy_driver.specs.Writings.{ChangesBay, WroteWhole}
+use Rattle.floppy_driver.proofs.TriedWrites.{with_change}
 
 pub same_disks : (a b : Disk) → Some a ≡ Some b → a ≡ b
 same_disks a b e = cc e

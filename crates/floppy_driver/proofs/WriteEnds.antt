@@ -14,7 +14,8 @@ use Rattle.bay_model.specs.Bays.{Two}
 use Rattle.bay_model.specs.Counters.{faults_of, IsFaultless, FaultsRoseLess, DisturbedLess}
 use Rattle.sector_map.specs.Disks.{IsRegularDisk, IsOnMap}
 use Rattle.sector_map.specs.Changes.{Change, Written, IsChange}
-use Rattle.sector_map.specs.ChangedDisks.{HasWritten, IsSameOrChanged, change_at, entry_of}
+use Rattle.sector_map.specs.ChangedDisks.{HasWritten, change_at, entry_of}
+use Rattle.sector_map.proofs.Writable.{IsSameOrChanged}
 use Rattle.sector_map.proofs.MetTracks.{met_track}
 use Rattle.sector_map.proofs.RegularTracks.{key_cylinder, one_address}
 use Rattle.sector_map.proofs.Joined.{change_of_none_regular}
@@ -22,7 +23,8 @@ use Rattle.sector_map.proofs.Rewritten.{rewritten_keeps_sectors, rewritten_keeps
 use Rattle.sector_model.specs.Stations.{Bay, StationState, Becomes, bay_of, set_bay, met}
 use Rattle.sector_model.specs.Writes.{IsLastRead, IsWritten, KeepsRegular, WritesDrive}
 use Rattle.floppy_driver.specs.Shown.{HasAsked}
-use Rattle.floppy_driver.specs.Writings.{IsReadBack, TriesWrite, WroteWhole, IsWriteStart, IsSpared, with_change, KeptSoFar, HasTriedWrite}
+use Rattle.floppy_driver.specs.Writings.{IsReadBack, TriesWrite, WroteWhole}
+use Rattle.floppy_driver.proofs.TriedWrites.{IsWriteStart, IsSpared, with_change, KeptSoFar, HasTriedWrite}
 use Rattle.floppy_driver.proofs.Shows.{driven_within}
 use Rattle.floppy_driver.proofs.Attempts.{spoilt_none, all_sure, last_sure}
 use Rattle.floppy_driver.proofs.Rising.{less_later, commands_later}

@@ -12,7 +12,7 @@ use Rattle.bay_model.specs.Counters.{DriveCounts, faults_of, GoesOn}
 use Rattle.bay_model.specs.Memory.{user_bytes, bytes_from}
 use Rattle.bay_model.proofs.Counted.{goes_on_after, goes_on_itself}
 use Rattle.sector_map.specs.Changes.{Written}
-use Rattle.sector_map.specs.ChangedDisks.{FitsKey}
+use Rattle.sector_map.proofs.Writable.{FitsKey}
 use Rattle.sector_model.specs.Stations.{Bay, StationState, bay_of}
 use Rattle.sector_model.specs.Asked.{IsAsked}
 use Rattle.sector_model.specs.Writes.{WritesDrive, written_from}
@@ -20,7 +20,8 @@ use Rattle.single_commands.specs.Rigs.{Rig, AreBytes, IsSound}
 use Rattle.floppy_driver.specs.declared.driver.Driver.{Driver}
 use Rattle.floppy_driver.specs.Shown.{notes_of, shown, HasAsked}
 use Rattle.floppy_driver.specs.Attempts.{IsSure}
-use Rattle.floppy_driver.specs.Writings.{CanWrite, TriesWrite, IsWriteStart, HasTriedWrite, BetweenWrites}
+use Rattle.floppy_driver.specs.Writings.{CanWrite, TriesWrite}
+use Rattle.floppy_driver.proofs.TriedWrites.{IsWriteStart, HasTriedWrite, BetweenWrites}
 use Rattle.floppy_driver.proofs.Shows.{bay_shown_at, held_bay_shown, noted_at}
 use Rattle.floppy_driver.proofs.WriteSteps.{tried_more}
 use Rattle.floppy_driver.proofs.WriteEnds.{tried_none, ends_tried, ends_done}

@@ -15,7 +15,8 @@ use Rattle.sector_map.specs.MetTracks.{MeetsTrack}
 use Rattle.sector_map.specs.Disks.{IsRegularDisk}
 use Rattle.sector_map.specs.Changes.{Change, Written, window_of, IsChange}
 use Rattle.sector_map.specs.KeptDisks.{AreAlike}
-use Rattle.sector_map.specs.ChangedDisks.{HasWritten, IsWholeChange, IsSameOrChanged, change_at}
+use Rattle.sector_map.specs.ChangedDisks.{HasWritten, IsWholeChange, change_at}
+use Rattle.sector_map.proofs.Writable.{IsSameOrChanged}
 use Rattle.sector_map.proofs.MetTracks.{met_track, length-met_track, met_from_mark, one_met}
 use Rattle.sector_map.proofs.KeptTracks.{still_meets}
 use Rattle.sector_map.proofs.RegularTracks.{window_inside, window_in_disk, key_cylinder}
@@ -23,7 +24,8 @@ use Rattle.sector_map.proofs.Changed.{change_keeps_tracks, change_is_written}
 use Rattle.sector_map.proofs.Rewritten.{rewritten_keeps_tracks, rewritten_keeps_sectors, rewritten_more, rewritten_cylinder, rewritten_whole}
 use Rattle.sector_model.specs.Stations.{Bay, StationState, bay_of, met, IsSteady}
 use Rattle.floppy_driver.specs.Attempts.{IsSure}
-use Rattle.floppy_driver.specs.Writings.{IsMissCause, ChangesBay, TriesWrite, WroteWhole, IsWriteStart, IsSpared, IsSameOrCut, with_change, KeptSoFar, WroteSoFar, IsLastCause, HasTriedWrite}
+use Rattle.floppy_driver.specs.Writings.{IsMissCause, ChangesBay, TriesWrite, WroteWhole}
+use Rattle.floppy_driver.proofs.TriedWrites.{IsWriteStart, IsSpared, IsSameOrCut, with_change, KeptSoFar, WroteSoFar, IsLastCause, HasTriedWrite}
 use Rattle.floppy_driver.proofs.Shows.{driven_after, undisturbed_faultless}
 use Rattle.floppy_driver.proofs.Attempts.{spoilt_more}
 use Rattle.floppy_driver.proofs.Rising.{disturbed_first, disturbed_later, stalls_later, rose_later}

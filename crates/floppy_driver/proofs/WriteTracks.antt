@@ -12,12 +12,14 @@ use Rattle.track_model.proofs.Kept as cuts
 use Rattle.bay_model.specs.Counters.{Counters, IsUndisturbed, GoesOn}
 use Rattle.sector_map.specs.Met.{HasLook}
 use Rattle.sector_map.specs.Changes.{Change, Written, window_of}
-use Rattle.sector_map.specs.ChangedDisks.{FitsKey, HasWritten}
+use Rattle.sector_map.specs.ChangedDisks.{HasWritten}
+use Rattle.sector_map.proofs.Writable.{FitsKey}
 use Rattle.sector_map.proofs.RegularTracks.{spaced_from, window_inside, regular_writable}
 use Rattle.sector_map.proofs.Changed.{length-window_of}
 use Rattle.sector_model.specs.Orders.{IsDeviceRefusal}
 use Rattle.sector_model.specs.Writes.{HasOtherContent}
-use Rattle.floppy_driver.specs.Writings.{IsMissCause, IsSameOrCut, WroteWhole}
+use Rattle.floppy_driver.specs.Writings.{IsMissCause, WroteWhole}
+use Rattle.floppy_driver.proofs.TriedWrites.{IsSameOrCut}
 use Rattle.floppy_driver.proofs.Rising.{quiet_stalls, quiet_lost}
 
 module _ (written : Written) (track : List ℕ) (c h p : ℕ) (regular : IsRegular track c h) (here : IsAddressAt track p written.key) (fits : FitsKey written) where

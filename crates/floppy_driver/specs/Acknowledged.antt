@@ -30,13 +30,6 @@ pub record ClearsChange (bay : ℕ) (old : Rig) (reached : Bool) (new : Rig) : T
   pub lost : reached ≡ false → FaultsRoseBy 77 bay old.counters new.counters
   pub clears : IsSome (in_bay old.media bay) → in_bay new.changes bay ≡ true → FaultsRoseBy 1 bay old.counters new.counters
 
--- the change line stayed set in so many rounds of steps: with a medium in, which is at speed, a pulse of each was lost
-pub record HasStayedSet (bay count : ℕ) (old new : Rig) : Type 0 where
-  pub works : Works bay old new
-  pub driven : IsDriven 0 old.counters new.counters
-  pub spun : IsSome (in_bay old.media bay) → in_bay new.spun bay ≡ true
-  pub lost : IsSome (in_bay old.media bay) → FaultsRoseBy count bay old.counters new.counters
-
 -- at most so many data commands that read, and changed neither media nor memory
 pub record OnlyReads (most : ℕ) (old new : Rig) : Type 0 where
   pub heads : HeadsStay old new
@@ -53,11 +46,6 @@ HasStart rig bay rate = (p : ℕ) × IsAddress (track_under rig bay rate 0) p
 abbrev pub IsSpoilt : ℕ → ℕ → Rig → Rig → Type 0
 IsSpoilt bay count old new =
     (key : Chrn) → HasClearAddress (track_under old bay R250 0) key → FaultsRoseBy count bay old.counters new.counters
-
--- no address field was found in so many rounds, each at both rates
-pub record HasFoundNone (bay count : ℕ) (old new : Rig) : Type 0 where
-  pub reads : OnlyReads (2 * count) old new
-  pub spoilt : IsSpoilt bay count old new
 
 -- a rate was looked for: R250 where an address field was found at it, and R500 where one was found at that, or none at all
 pub record FindsRate (bay : ℕ) (old : Rig) (rate : Rate) (new : Rig) : Type 0 where

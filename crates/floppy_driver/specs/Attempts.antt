@@ -16,7 +16,3 @@ pub record CanTry (driver : Driver) (rig : Rig) (bay : ℕ) : Type 0 where
 -- an attempt, counted from 1, that goes by track 0: each but the first of two or more
 abbrev pub IsSure : ℕ → ℕ → Type 0
 IsSure tries attempt = (tries ≡ 1) ⊎ (2 ≤ attempt)
-
--- so many of the first attempts go by track 0
-abbrev pub sure_attempts : ℕ → ℕ → ℕ
-sure_attempts tries count = count - min 1 (tries - 1)

@@ -12,7 +12,7 @@ use Rattle.single_commands.specs.Reading.{IsReadReason}
 use Rattle.sector_model.specs.Stations.{StationState, Becomes, bay_of, met}
 use Rattle.sector_model.specs.Orders.{IsDeviceRefusal}
 use Rattle.sector_model.specs.Reads.{IsRead}
-use Rattle.floppy_driver.specs.Attempts.{IsSure, sure_attempts}
+use Rattle.floppy_driver.specs.Attempts.{IsSure}
 
 -- a field of the key was read, and its content fills the range of memory
 pub record IsReadWhole (bay : ℕ) (key : Chrn) (address : ℕ) (old : StationState) (deleted : Bool) (new : StationState) : Type 0 where
@@ -34,14 +34,3 @@ pub record TriesRead (sure : Type 0) (bay : ℕ) (key : Chrn) (address : ℕ) (o
   pub becomes : Becomes (record old { memory = new.memory }) new
   pub counts : GoesOn old.counters new.counters
   pub driven : IsDriven 1 old.counters new.counters
-
--- so many attempts failed since the start of the call, the last one with this code
-pub record HasTriedRead (bay : ℕ) (key : Chrn) (address count : ℕ) (start : StationState) (code : Code) (now : StationState) : Type 0 where
-  pub memory : SameOutside address (content_size key.n) start.memory now.memory
-  pub becomes : Becomes (record start { memory = now.memory }) now
-  pub counts : GoesOn start.counters now.counters
-  pub driven : IsDriven count start.counters now.counters
-  -- on a good track each attempt that goes by track 0 was disturbed
-  pub spoilt : HasClearAddress (met (bay_of start bay) key.c key.h) key → AllFound (met (bay_of start bay) key.c key.h) key
-      → DisturbedLess (sure_attempts start.tries count) bay start.counters now.counters → ⊥
-  pub last : 1 ≤ count → IsReadFailed (IsSure start.tries count) bay key start code now

@@ -145,9 +145,6 @@ has_tries (request.Dump address length) valid = tt
 has_tries (request.Unit bay) valid = tt
 has_tries (request.SetRate bay rate) valid = tt
 
-pub all_have_tries : (requests : List Request) → All IsRequest requests → All HasTries requests
-all_have_tries requests valid = λ k d within. has_tries (get_or requests k d) (valid k d within)
-
 -- a text that spells requests
 pub parsed_plays : (old new : World) (text : List ℕ) (given requests : List Request) (ended : Status) → parsed_of text ≡ Ok requests → given ≡ requests → HasPlayed given old new ended → PlaysOrStarves text old new ended
 parsed_plays old new text given requests ended spelled same played =

@@ -252,11 +252,7 @@ text-valid P spelled each most text items h = fits (nat_lt 4194304 (length text)
     fits true k = cc
     fits false k = All-from_recursion P items (lines-valid P spelled each most 1 (lines_of text) items k)
 
-pub job-valid : (text : List ℕ) (items : List Request) → job_of text ≡ Ok items → All IsRequest items
-unfolding job_of
-job-valid text items h = text-valid IsRequest request_of request-valid 100000 text items h
-
--- the same of what a call returned
+-- what holds of each item of a text holds of what a call returned
 pub kept-valid : {A T : Type 0} (P : T → Type 0) (items : A → List T) (r : Result A JobError) (said : Result (List T) ℕ)
     → ((xs : List T) → said ≡ Ok xs → All P xs) → ReadsText items r said → IfOk r (λ kept. All P (items kept))
 kept-valid P items (Ok kept) said f h = f (items kept) h

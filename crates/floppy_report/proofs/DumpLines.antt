@@ -31,11 +31,6 @@ part-behind None new first second rest grows = grows
 part-behind (Some told) new first second rest grows =
     (first ++ grows.0, grows.1 ++ rest, ap (λ s. first ++ (s ++ rest)) grows.2 ∙ ap (λ s. first ++ s) (append_assoc grows.0 grows.1 rest) ∙ sym (append_assoc first grows.0 (grows.1 ++ rest)), grows.3 ∙ ap (λ s. Some s) (append_assoc told first grows.0))
 
--- nothing put is a part of any text
-pub no-part : (told : Option (List ℕ)) (text : List ℕ) → GrowsByPart told text told
-no-part None text = refl
-no-part (Some told) text = ([], text, refl, ap (λ s. Some s) (sym (append-nil told)))
-
 -- the digits of an address depend on its last twenty bits alone
 pub hex5-wraps : (n m : ℕ) → m ≡ n % 4294967296 → hex5 m ≡ hex5 n
 hex5-wraps n m same =

@@ -311,6 +311,3 @@ work_changed work bay old new told code is code_is same = (
 
 pub work_moves : (work : Work) (kind : Kind) (bay c h r count address : ℕ) (old new : State) (told : Option Files) (code moved : ℕ) → work ≡ Move kind bay c h r count address → ((course : List Taken) × Transfers kind bay (record { c = c; h = h; r = r; n = 2 }) count address old told course code moved new) → (course : List Taken) × DoesWork work old told course code moved new
 work_moves work kind bay c h r count address old new told code moved is transfers = (transfers.0, subst (λ (w : Work). DoesWork w old told transfers.0 code moved new) (sym is) transfers.1)
-
-pub work_answered : (work : Work) (planned : ℕ) (old : State) (told : Option Files) → work ≡ Answer planned → (course : List Taken) × DoesWork work old told course planned 0 old
-work_answered work planned old told is = ([], subst (λ (w : Work). DoesWork w old told [] planned 0 old) (sym is) (record { nothing = refl; same = refl; code_is = refl; none = refl }))

@@ -21,14 +21,6 @@ use Rattle.imagedisk.specs.Taken.{intact_kind, damaged_kind, Holds, IsSectorAt, 
 pub one_more_byte : (track : List ℕ) (p i : ℕ) → bytes_at track p (i + 1) ≡ bytes_at track p i ++ byte_at track (p + 16 * i) ∷ []
 one_more_byte track p i = map-range_with_len_more (λ j. byte_at track (p + 16 * j)) 0 i i (omega arith)
 
-pub intact_holds : (track : List ℕ) (p n : ℕ) (deleted : Bool) (place : ℕ) (content : List ℕ) → LookAt track p n (Found deleted place) → content ≡ content_at track place n → Holds track p n (intact_kind deleted) content
-intact_holds track p n true place content look is = (place, look, is)
-intact_holds track p n false place content look is = (place, look, is)
-
-pub damaged_holds : (track : List ℕ) (p n : ℕ) (deleted : Bool) (q : ℕ) (content : List ℕ) → LookAt track p n BadCrc → IsFirstDataMark track p q deleted → content ≡ content_at track (q + 64) n → Holds track p n (damaged_kind deleted) content
-damaged_holds track p n true q content look first is = (look, q, first, is)
-damaged_holds track p n false q content look first is = (look, q, first, is)
-
 pub damaged_inside : (track : List ℕ) (p n : ℕ) (deleted : Bool) (q : ℕ) → LookAt track p n BadCrc → IsFirstDataMark track p q deleted → IsInside track (q + 64) (16 * content_size n)
 damaged_inside track p n deleted q look first =
     let same = one_first track p look.0 q look.1.0 deleted look.1.1.first first in

@@ -23,12 +23,6 @@ pub some_cylinders : (tracks : List ImdTrack) → 1 ≤ cylinder_count tracks
 some_cylinders [] = omega arith
 some_cylinders (track ∷ tracks) = let ih = some_cylinders tracks in omega (arith, ih)
 
-pub next_count : (count : ℕ) (tracks : List ImdTrack) (i : ℕ) (d : ImdTrack) → i < length tracks
-    → max (max count ((get_or tracks i d).c + 1)) (cylinder_count (drop (i + 1) tracks)) ≡ max count (cylinder_count (drop i tracks))
-next_count count tracks i d lt =
-    let opened : cylinder_count (drop i tracks) ≡ max ((get_or tracks i d).c + 1) (cylinder_count (drop (i + 1) tracks)) = ap cylinder_count (drop_more tracks i d lt) in
-    omega (arith, opened)
-
 pub last_count : (count : ℕ) (tracks : List ImdTrack) (i : ℕ) → length tracks ≤ i → 1 ≤ count → max count (cylinder_count (drop i tracks)) ≡ count
 last_count count tracks i le least = let none : cylinder_count (drop i tracks) ≡ 1 = ap cylinder_count (drop_all i tracks le) in omega (arith, none)
 

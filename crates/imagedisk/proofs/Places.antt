@@ -148,10 +148,6 @@ failed_place disk c h place old new NoMemory one has number taken failed = tt
 failed_place disk c h place old new (Unfit d g) one has number taken failed =
     subst (λ (x : ℕ). IsFirstUnfit disk x g) (sym failed.0) (subst (λ (x : ℕ). IsFirstUnfit disk c x) (sym failed.1) (first_unfit disk c h old one has failed.2 (subst (λ (k : ℕ). AreTakenBelow disk k old) (sym number) taken)))
 
-pub failed_disk : (disk : Disk) (place : ℕ) (new : List ImdTrack) (error : ImdError) → TakesPlace disk place new (Err error) → TakesDisk disk (Err error)
-failed_disk disk place new NoMemory failed = tt
-failed_disk disk place new (Unfit c h) failed = failed
-
 pub all_taken : (disk : Disk) (limit : ℕ) (tracks : List ImdTrack) (rate : Rate) → (1 ≤ disk.heads) × (disk.heads ≤ 2) → disk.cylinders * disk.heads ≤ limit
     → rate ≡ cond (eqb (length tracks) 0) R500 disk.rate → AreTakenBelow disk limit tracks → TakesDisk disk (Ok (record { rate = rate; tracks = tracks })) × IsImdImage (record { rate = rate; tracks = tracks })
 all_taken disk limit tracks rate one all is taken = (

@@ -50,9 +50,6 @@ laid_before count i n gap3 lt =
 pub window_inside : (count i n gap3 words : ℕ) → i < count → laid_words count n gap3 ≤ words → window_word (sector_place n gap3 i) + window_words n ≤ words
 window_inside count i n gap3 words lt fits = let before = laid_before count i n gap3 lt in omega (arith, before)
 
-pub starts_inside : (count i n gap3 words : ℕ) → i < count → laid_words count n gap3 ≤ words → words ≤ 16384 → laid_words i n gap3 ≤ 16384
-starts_inside count i n gap3 words lt fits most = let before = laid_before count i n gap3 lt in omega (arith, before)
-
 pub next_put : (n gap3 : ℕ) (sectors : List ImdSector) (i : ℕ) (d : ImdSector) (track : List ℕ) → i < length sectors
     → with_sectors n gap3 i (drop i sectors) track ≡ with_sectors n gap3 (i + 1) (drop (i + 1) sectors) (cut_of track (sector_place n gap3 i) (window_words n) (sector_window n (get_or sectors i d)))
 unfolding with_sectors

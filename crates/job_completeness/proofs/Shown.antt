@@ -35,14 +35,6 @@ show_itself track = record {
 pub same_show : (one two : List ℕ) → two ≡ one → ShowSame one two
 same_show one two same = subst (λ (track : List ℕ). ShowSame one track) (sym same) (show_itself one)
 
-pub show_back : (one two : List ℕ) → ShowSame one two → ShowSame two one
-show_back one two same = record {
-  regular = λ c h. ((same.regular c h).1, (same.regular c h).0);
-  marks = (same.marks.1, same.marks.0);
-  addresses = λ p key. ((same.addresses p key).1, (same.addresses p key).0);
-  looks = λ p key look at. let here = (same.addresses p key).1 at in ((same.looks p key look here).1, (same.looks p key look here).0);
-}
-
 -- tracks with nothing recorded are regular, and show the same
 pub none_regular : (track : List ℕ) (c h : ℕ) → HasNothing track → IsRegular track c h
 none_regular track c h none = record {

@@ -15,7 +15,7 @@ use Rattle.pc_bus.specs.Ports.{is_controllers, port_read, Inputs, Outputs, RunsG
 use Rattle.pc_bus.specs.Transfers.{shown_again}
 use Rattle.pc_bus.specs.declared.bus.Bus.{Bus}
 use Rattle.pc_bus.specs.declared.chips.Chips.{Chips}
-use Rattle.machine_commands.specs.Idling.{IsResting, KeepsDrive, KeepsSpeed, KeepsAll, Idles}
+use Rattle.machine_commands.proofs.Idling.{IsResting, KeepsDrive, KeepsSpeed, KeepsAll, Idles}
 use Rattle.machine_commands.proofs.Steps.{drive_none, speed_none, runs_idle, idles_then}
 
 -- ---- the gap

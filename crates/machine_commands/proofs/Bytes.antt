@@ -14,7 +14,7 @@ use Rattle.fdc_core.specs.declared.phases.Phase.{Phase}
 use Rattle.fdc_core.specs.declared.phases.Phase.TheVariants as phase
 use Rattle.pc_bus.specs.Boards.{Board, controller_of, lines_of, lines_of_drive, absent_lines}
 use Rattle.pc_bus.specs.Ports.{Outputs}
-use Rattle.machine_commands.specs.Idling.{IsResting, KeepsDrive, KeepsAll, Idles}
+use Rattle.machine_commands.proofs.Idling.{IsResting, KeepsDrive, KeepsAll, Idles}
 use Rattle.machine_commands.specs.Sending.{Sends}
 use Rattle.machine_commands.proofs.Steps.{idles_then, idles_none, idles_as}
 use Rattle.machine_commands.proofs.Accesses.{Quiets, output_idles}

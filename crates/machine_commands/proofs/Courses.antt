@@ -24,7 +24,7 @@ use Rattle.pc_bus.specs.Boards.{Board, controller_of, holds_of}
 use Rattle.pc_bus.specs.Ports.{Inputs}
 use Rattle.pc_bus.specs.Steps.{Step, Runs, RunsUnset, Waits, stirred}
 use Rattle.machine_commands.specs.Awaited.{Watch, Watches, AwaitsResults}
-use Rattle.machine_commands.specs.Idling.{IsResting}
+use Rattle.machine_commands.proofs.Idling.{IsResting}
 use Rattle.machine_commands.specs.Sending.{latch_taken}
 use Rattle.machine_pace.specs.Entries.{next_entry}
 use Rattle.fdc_core.specs.Steps.{EndsIn}

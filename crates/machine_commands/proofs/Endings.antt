@@ -20,8 +20,8 @@ use Rattle.machine_laws.specs.OnAwaits.Awaits.{is_unread}
 use Rattle.pc_bus.specs.Boards.{Board, controller_of}
 use Rattle.pc_bus.specs.Ports.{Inputs}
 use Rattle.machine_commands.specs.Awaited.{TakesResults, Finishes, outcome_of}
-use Rattle.machine_commands.specs.Idling.{IsResting, KeepsSpeed, KeepsAll, Idles, is_up}
-use Rattle.machine_commands.specs.Ready.{dor_with, IsReady, AreSeeksOver, IsIdle}
+use Rattle.machine_commands.proofs.Idling.{IsResting, KeepsSpeed, KeepsAll, Idles}
+use Rattle.machine_commands.specs.Ready.{dor_with, IsReady, AreSeeksOver, IsIdle, is_up}
 use Rattle.machine_commands.specs.Sending.{latch_taken}
 use Rattle.machine_commands.specs.declared.motors.Motors.{Motors}
 use Rattle.machine_commands.specs.declared.results.Done.{Done}

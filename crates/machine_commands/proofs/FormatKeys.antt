@@ -71,9 +71,6 @@ only_then a b c one two = record {
   second = two.second ∙ one.second;
 }
 
-only_none : (board : Board) → OnlyMemory board board
-only_none board = record { controller = refl; channel = refl; holding = refl; latch = refl; direct = refl; taken = refl; first = refl; second = refl }
-
 -- ---- memory with a byte
 
 set_here : (memory : List ℕ) (a v : ℕ) → a < length memory → slice_index (slice_set memory a v) a ≡ v
@@ -123,26 +120,12 @@ puts_key address c h r old one two three new inside first second third fourth =
 
 -- ---- one key more
 
-pub no_keys : (c h : ℕ) (board : Board) → PutsKeys c h 0 board board
-no_keys c h board = record { only = only_none board; size = refl; below = λ k low. refl; keys = λ k few. absurd (omega arith) }
-
 key_stays : (memory new : List ℕ) (a b c h r : ℕ) → a + 4 ≤ b → ((k : ℕ) → ((k < b) ⊎ (b + 4 ≤ k)) → slice_index new k ≡ slice_index memory k) → IsKeyAt memory a c h r → IsKeyAt new a c h r
 key_stays memory new a b c h r before same was = record {
   first = same a (inl (omega arith)) ∙ was.first;
   second = same (a + 1) (inl (omega arith)) ∙ was.second;
   third = same (a + 2) (inl (omega arith)) ∙ was.third;
   fourth = same (a + 3) (inl (omega arith)) ∙ was.fourth;
-}
-
-pub one_key_more : (c h many : ℕ) (old between new : Board) → PutsKeys c h many old between → PutsKey (keys_at + many * 4) c h (many + 1) between new → PutsKeys c h (many + 1) old new
-one_key_more c h many old between new was puts = record {
-  only = only_then old between new was.only puts.only;
-  size = puts.size ∙ was.size;
-  below = λ k low. puts.others k (inl (omega arith)) ∙ was.below k low;
-  keys = λ k few. elim (cases_lt k many) [
-    | inl less ↦ key_stays (memory_of between) (memory_of new) (keys_at + k * 4) (keys_at + many * 4) c h (k + 1) (omega arith) puts.others (was.keys k less)
-    | inr last ↦ let same : many ≡ k = omega arith in subst (λ n. IsKeyAt (memory_of new) (keys_at + n * 4) c h (n + 1)) same puts.key
-  ];
 }
 
 -- ---- all of them, as a list
@@ -325,12 +308,6 @@ format_whole laws motors bay asked outcome old put new idle small low spun free 
     }
 
 -- ---- for the code
-
-pub keys_next : (c h many : ℕ) (old between new : Board) → PutsKeys c h many old between → PutsKey (keys_at + many * 4) c h (many + 1) between new → PutsKeys c h (many + 1) old new
-keys_next c h many old between new was puts = one_key_more c h many old between new was puts
-
-pub keys_as : (c h many other : ℕ) (old new : Board) → many ≡ other → PutsKeys c h many old new → PutsKeys c h other old new
-keys_as c h many other old new same keys = subst (λ n. PutsKeys c h n old new) same keys
 
 pub few_at : (rate : Rate) → sectors_at rate ≤ 18
 few_at R500 = omega arith

@@ -48,7 +48,7 @@ use Rattle.single_commands.specs.Reading.{ReadsId}
 use Rattle.single_commands.specs.Rigs.{track_under}
 use Rattle.machine_commands.specs.Awaited.{SendsReadId, key_told}
 use Rattle.machine_commands.specs.Codes.{rate_byte}
-use Rattle.machine_commands.specs.Idling.{KeepsAll, StaysIdle, Idles}
+use Rattle.machine_commands.proofs.Idling.{KeepsAll, StaysIdle, Idles}
 use Rattle.machine_commands.specs.Ready.{IsIdle}
 use Rattle.machine_commands.specs.Sending.{latch_taken}
 use Rattle.machine_commands.specs.Shown.{rig_of, user_part, page_part}

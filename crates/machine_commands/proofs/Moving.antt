@@ -9,7 +9,7 @@ use Rattle.fdc_seek.specs.Seeking.{ended, with_motion, has_ended, neighbour, sou
 use Rattle.fdc_seek.specs.declared.motion.Motion.{Motion}
 use Rattle.fdc_seek.specs.declared.motion.Motion.TheVariants.{Outward, Toward, Ended}
 use Rattle.fdc_core.specs.Steps.{Moves}
-use Rattle.machine_commands.specs.Idling.{KeepsDrive, KeepsSpeed}
+use Rattle.machine_commands.proofs.Idling.{KeepsDrive, KeepsSpeed}
 use Rattle.machine_commands.proofs.Seeking.{EndsNow, GivesPulse, IsRule}
 use Rattle.machine_commands.proofs.Steps.{gate_turns}
 

@@ -20,8 +20,7 @@ use Rattle.pc_bus.specs.Handling.{Touches, byte_set, touched}
 use Rattle.pc_bus.specs.Ports.{FollowsMotor}
 use Rattle.pc_bus.specs.declared.bus.Bus.{Bus}
 use Rattle.machine_commands.specs.Handled.{Exchanged, ExchangesDrive, PutsIn, PutsMemory, TakesDrive, TakesOut, Untouched}
-use Rattle.machine_commands.specs.Idling.{is_up}
-use Rattle.machine_commands.specs.Ready.{IsIdle, IsReady}
+use Rattle.machine_commands.specs.Ready.{IsIdle, IsReady, is_up}
 use Rattle.machine_laws.specs.OnCounts.Counts.{counts_of}
 use Rattle.machine_commands.specs.Shown.{counters_of, is_spun, page_part, rig_of, stalls_left, user_part}
 use Rattle.machine_commands.specs.declared.motors.Motors.{Motors}

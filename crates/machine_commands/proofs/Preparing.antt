@@ -19,7 +19,7 @@ use Rattle.machine_laws.specs.OnReads.Begins.{IsReadyIn}
 use Rattle.pc_bus.specs.Boards.{Board, controller_of, drive_in, lines_of}
 use Rattle.machine_commands.specs.Awaited.{Prepares}
 use Rattle.machine_commands.specs.Codes.{rate_byte}
-use Rattle.machine_commands.specs.Idling.{KeepsSpeed, StaysIdle}
+use Rattle.machine_commands.proofs.Idling.{KeepsSpeed, StaysIdle}
 use Rattle.machine_commands.specs.Ready.{dor_with, IsReady, AreSeeksOver, IsIdle}
 use Rattle.machine_commands.specs.Shown.{is_spun, rig_of}
 use Rattle.machine_commands.specs.declared.motors.Motors.{Motors}

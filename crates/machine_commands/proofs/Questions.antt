@@ -12,7 +12,7 @@ use Rattle.fdc_core.specs.declared.controller.Fdc.{Fdc}
 use Rattle.pc_bus.specs.Boards.{Board, controller_of, drive_in, lines_of, lines_of_drive, absent_lines}
 use Rattle.single_commands.specs.Rigs.{OnlyAsks}
 use Rattle.machine_commands.specs.Asked.{ReadsLine}
-use Rattle.machine_commands.specs.Idling.{IsResting, KeepsDrive, KeepsAll, Idles}
+use Rattle.machine_commands.proofs.Idling.{IsResting, KeepsDrive, KeepsAll, Idles}
 use Rattle.machine_commands.specs.Ready.{dor_with, IsReady, IsIdle}
 use Rattle.machine_commands.specs.Shown.{rig_of}
 use Rattle.machine_commands.specs.declared.motors.Motors.{Motors}

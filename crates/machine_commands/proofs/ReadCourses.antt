@@ -28,7 +28,7 @@ use Rattle.pc_bus.specs.Steps.{Runs, Waits, stirred}
 use Rattle.pc_bus.specs.declared.bus.Bus.{Bus}
 use Rattle.fdc_commands.specs.Reads.{SpellsRead}
 use Rattle.machine_commands.specs.Awaited.{SetsChannel}
-use Rattle.machine_commands.specs.Idling.{IsResting, StaysIdle}
+use Rattle.machine_commands.proofs.Idling.{IsResting, StaysIdle}
 use Rattle.machine_commands.specs.Sending.{Sends, latch_taken}
 use Rattle.machine_commands.specs.declared.motors.Motors.{Motors}
 use Rattle.machine_commands.proofs.Accesses.{gap_idles, same_drive, same_speed}

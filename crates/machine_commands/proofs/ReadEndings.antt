@@ -36,7 +36,7 @@ use Rattle.single_commands.specs.Reading.{FindsField, IsReadReason, IsReadCode, 
 use Rattle.single_commands.specs.Rigs.{track_under}
 use Rattle.machine_commands.specs.Awaited.{SendsRead, mark_told}
 use Rattle.machine_commands.specs.Codes.{rate_byte}
-use Rattle.machine_commands.specs.Idling.{StaysIdle, Idles}
+use Rattle.machine_commands.proofs.Idling.{StaysIdle, Idles}
 use Rattle.machine_commands.specs.Ready.{IsIdle}
 use Rattle.machine_commands.specs.Sending.{Sends, latch_taken}
 use Rattle.machine_commands.specs.Shown.{rig_of, user_part, page_part}

@@ -14,7 +14,7 @@ use Rattle.machine_laws.specs.OnQuiet.Quiet.{Turned}
 use Rattle.pc_bus.specs.Boards.{Board, controller_of, holds_of}
 use Rattle.single_commands.specs.Reading.{SendsRead}
 use Rattle.machine_commands.specs.Awaited.{AreCounts}
-use Rattle.machine_commands.specs.Idling.{KeepsDrive, KeepsSpeed, KeepsAll}
+use Rattle.machine_commands.proofs.Idling.{KeepsDrive, KeepsSpeed, KeepsAll}
 use Rattle.machine_commands.specs.Sending.{latch_taken}
 use Rattle.machine_commands.specs.Shown.{is_spun, stalls_left, counters_of, rig_of}
 use Rattle.machine_commands.specs.declared.motors.Motors.{Motors}

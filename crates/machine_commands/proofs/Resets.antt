@@ -14,8 +14,8 @@ use Rattle.machine_pace.specs.Entries.{next_entry}
 use Rattle.pc_bus.specs.Boards.{Board, controller_of, lines_of}
 use Rattle.single_commands.specs.Rigs.{IsReset}
 use Rattle.machine_commands.specs.Asked.{Resets, none_on}
-use Rattle.machine_commands.specs.Idling.{IsResting, KeepsSpeed, KeepsAll, Idles, is_up}
-use Rattle.machine_commands.specs.Ready.{IsReady, IsIdle}
+use Rattle.machine_commands.proofs.Idling.{IsResting, KeepsSpeed, KeepsAll, Idles}
+use Rattle.machine_commands.specs.Ready.{IsReady, IsIdle, is_up}
 use Rattle.machine_commands.specs.Shown.{rig_of}
 use Rattle.machine_commands.proofs.Accesses.{accessed_keeps, gap_idles, gapped, gap_taken, output_idles}
 use Rattle.machine_commands.proofs.Bytes.{IsListening, AreMore, with_bytes, whole_at}

@@ -17,8 +17,8 @@ use Rattle.pc_bus.specs.Ports.{Outputs, RunsGap}
 use Rattle.pc_bus.specs.Steps.{stirred}
 use Rattle.pc_bus.specs.declared.bus.Bus.{Bus}
 use Rattle.machine_commands.specs.Asked.{EndsSeek}
-use Rattle.machine_commands.specs.Idling.{IsResting, KeepsDrive, KeepsSpeed, KeepsAll, Idles, is_up}
-use Rattle.machine_commands.specs.Ready.{dor_with, none_pending, IsIdle}
+use Rattle.machine_commands.proofs.Idling.{IsResting, KeepsDrive, KeepsSpeed, KeepsAll, Idles}
+use Rattle.machine_commands.specs.Ready.{dor_with, none_pending, IsIdle, is_up}
 use Rattle.machine_commands.specs.Sending.{Sends}
 use Rattle.machine_commands.specs.declared.motors.Motors.{Motors}
 use Rattle.machine_commands.proofs.Accesses.{accessed, accessed_keeps, gapped, same_drive, same_speed}

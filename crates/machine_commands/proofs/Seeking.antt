@@ -11,7 +11,7 @@ use Rattle.machine_pace.specs.declared.holding.Request.TheVariants.{Low}
 use Rattle.pc_bus.specs.Boards.{Board, controller_of, memory_of, holds_of, drive_in, selected_of}
 use Rattle.pc_bus.specs.Steps.{PassesWordTime, Step, Runs}
 use Rattle.pc_bus.specs.declared.chips.Chips.{Chips}
-use Rattle.machine_commands.specs.Idling.{IsResting, KeepsDrive, KeepsSpeed}
+use Rattle.machine_commands.proofs.Idling.{IsResting, KeepsDrive, KeepsSpeed}
 use Rattle.machine_commands.proofs.Steps.{OnlyTurns, passes_turn, calm_asks, calm_dma, unpolled, rests_in, moves_in, or_false, still_seeks, gate_turns, drive_none, drive_then, speed_none, speed_then}
 
 -- ---- one device step

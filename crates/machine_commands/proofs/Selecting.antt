@@ -10,7 +10,7 @@ use Rattle.fdc_core.specs.declared.controller.Fdc.{Fdc}
 use Rattle.pc_bus.specs.Boards.{Board, controller_of}
 use Rattle.pc_bus.specs.Ports.{Outputs}
 use Rattle.pc_bus.specs.declared.bus.Bus.{Bus}
-use Rattle.machine_commands.specs.Idling.{IsResting, KeepsDrive, KeepsSpeed, Idles}
+use Rattle.machine_commands.proofs.Idling.{IsResting, KeepsDrive, KeepsSpeed, Idles}
 use Rattle.machine_commands.specs.Ready.{dor_with, HasMotors}
 use Rattle.machine_commands.proofs.Accesses.{accessed, accessed_keeps, gap_idles}
 use Rattle.machine_commands.proofs.Steps.{idles_then}
@@ -92,16 +92,6 @@ pub switched : (k byte : ℕ) (want : Bool) (before after : DriveState) → (IsT
     → (on : Bool) × (IsTrue on ↔ IsBitSet byte k) × Becomes (with_motor on before) before after → IsSwitched want before after
 switched k byte want before after is (on, follows, becomes) =
     subst (λ b. IsSwitched b before after) (same_truth on want (IsBitSet byte k) follows is) (switched_by on before after becomes)
-
-pub switched_speed : (on : Bool) (old new : DriveState) → IsSwitched on old new → (old.motor ≡ true → on ≡ true) → (old.motor ≡ false → on ≡ false) → KeepsSpeed old new
-switched_speed on old new is up down = record {
-  motor = is.motor ∙ same_switch old.motor on up down;
-  spin = λ was. let same = is.spin (up was) in omega arith;
-}
-  where
-    same_switch : (a b : Bool) → (a ≡ true → b ≡ true) → (a ≡ false → b ≡ false) → b ≡ a
-    same_switch true b up down = up refl
-    same_switch false b up down = down refl
 
 -- ---- a write of DOR
 

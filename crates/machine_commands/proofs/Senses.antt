@@ -9,7 +9,7 @@ use Rattle.fdc_core.specs.Ports.{given, result_byte}
 use Rattle.fdc_core.specs.declared.controller.Fdc.{Fdc}
 use Rattle.fdc_core.specs.declared.phases.Phase.TheVariants.{Command}
 use Rattle.pc_bus.specs.Boards.{Board, controller_of}
-use Rattle.machine_commands.specs.Idling.{IsResting, Idles}
+use Rattle.machine_commands.proofs.Idling.{IsResting, Idles}
 use Rattle.machine_commands.specs.Sending.{Senses, TakesNumber}
 use Rattle.machine_commands.proofs.Accesses.{input_idles}
 use Rattle.machine_commands.proofs.Bytes.{IsListening, with_bytes, whole_at}

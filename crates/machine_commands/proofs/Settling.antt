@@ -7,7 +7,8 @@ use Rattle.pc_bus.specs.Boards.{Board, controller_of}
 use Rattle.pc_bus.specs.Steps.{Step, Runs, stirred}
 use Rattle.flop_base.specs.Counts.{Spends}
 use Rattle.drive_model.specs.Drive.{DriveState}
-use Rattle.machine_commands.specs.Idling.{IsResting, KeepsSpeed, KeepsAll, is_up}
+use Rattle.machine_commands.proofs.Idling.{IsResting, KeepsSpeed, KeepsAll}
+use Rattle.machine_commands.specs.Ready.{is_up}
 use Rattle.machine_commands.specs.Sending.{Settles}
 use Rattle.machine_commands.proofs.Steps.{step_to, unpolled, keeps_none, keeps_then, speed_none, speed_then}
 

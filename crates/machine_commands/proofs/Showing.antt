@@ -10,7 +10,7 @@ use Rattle.drive_model.specs.Drive.{DriveState, turns}
 use Rattle.fdc_core.specs.State.{data_commands_of}
 use Rattle.pc_bus.specs.Boards.{Board, controller_of, holds_of}
 use Rattle.single_commands.specs.Rigs.{IsReset, OnlyAsks}
-use Rattle.machine_commands.specs.Idling.{KeepsSpeed, KeepsAll}
+use Rattle.machine_commands.proofs.Idling.{KeepsSpeed, KeepsAll}
 use Rattle.machine_commands.specs.Shown.{is_spun, user_part, page_part, stalls_left, counters_of, rig_of}
 
 pub two_same : {T : Type 0} (a b c d : T) → a ≡ c → b ≡ d → (let x : Two T = record { first = a; second = b } in x) ≡ (let y : Two T = record { first = c; second = d } in y)

@@ -10,9 +10,9 @@ use Rattle.pc_bus.specs.Boards.{Board, controller_of}
 use Rattle.pc_bus.specs.Steps.{stirred}
 use Rattle.single_commands.specs.Rigs.{OnlyAsks}
 use Rattle.machine_commands.specs.Asked.{StartsMotor}
-use Rattle.machine_commands.specs.Idling.{IsResting, KeepsDrive, KeepsSpeed, KeepsAll, Idles, is_up}
+use Rattle.machine_commands.proofs.Idling.{IsResting, KeepsDrive, KeepsSpeed, KeepsAll, Idles}
 use Rattle.machine_commands.specs.Motored.{with_motor_of}
-use Rattle.machine_commands.specs.Ready.{dor_with, IsReady, IsIdle}
+use Rattle.machine_commands.specs.Ready.{dor_with, IsReady, IsIdle, is_up}
 use Rattle.machine_commands.specs.Shown.{is_spun, rig_of}
 use Rattle.machine_commands.specs.declared.motors.Motors.{Motors}
 use Rattle.machine_commands.proofs.Accesses.{accessed_keeps, gap_idles}

@@ -20,7 +20,8 @@ use Rattle.pc_bus.specs.Boards.{Board, controller_of, channel_of, selected_of}
 use Rattle.pc_bus.specs.Steps.{PassesWordTime, Step, Runs}
 use Rattle.pc_bus.specs.Transfers.{granted, dma_stepped}
 use Rattle.pc_bus.specs.declared.chips.Chips.{Chips}
-use Rattle.machine_commands.specs.Idling.{IsResting, KeepsDrive, KeepsSpeed, KeepsAll, StaysIdle, Idles, is_up}
+use Rattle.machine_commands.proofs.Idling.{IsResting, KeepsDrive, KeepsSpeed, KeepsAll, StaysIdle, Idles}
+use Rattle.machine_commands.specs.Ready.{is_up}
 
 -- ---- requests
 

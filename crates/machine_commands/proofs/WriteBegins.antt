@@ -33,7 +33,7 @@ use Rattle.pc_bus.specs.Ports.{Outputs}
 use Rattle.raw_image.specs.Disk.{Disk, IsDisk}
 use Rattle.machine_commands.specs.Awaited.{Prepares, SetsChannel}
 use Rattle.machine_commands.specs.Codes.{rate_byte}
-use Rattle.machine_commands.specs.Idling.{StaysIdle, KeepsSpeed}
+use Rattle.machine_commands.proofs.Idling.{StaysIdle, KeepsSpeed}
 use Rattle.machine_commands.specs.Ready.{dor_with, IsIdle, IsReady}
 use Rattle.machine_commands.specs.Sending.{Sends}
 use Rattle.machine_commands.specs.Shown.{is_spun}

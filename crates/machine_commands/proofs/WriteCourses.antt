@@ -19,7 +19,7 @@ use Rattle.pc_bus.specs.Boards.{Board, controller_of, drive_in, holds_of, memory
 use Rattle.single_commands.specs.Rigs.{HeadsStay}
 use Rattle.single_commands.specs.Writing.{SendsWrite}
 use Rattle.machine_laws.specs.OnWritten.Written.{IsCalm}
-use Rattle.machine_commands.specs.Idling.{KeepsAll, KeepsDrive, KeepsSpeed}
+use Rattle.machine_commands.proofs.Idling.{KeepsAll, KeepsDrive, KeepsSpeed}
 use Rattle.machine_commands.specs.Sending.{latch_taken}
 use Rattle.machine_commands.specs.Shown.{counters_of, is_spun, page_part, rig_of, stalls_left, user_part}
 use Rattle.machine_commands.proofs.Showing.{two_same}

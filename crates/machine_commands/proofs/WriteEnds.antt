@@ -30,7 +30,8 @@ use Rattle.pc_bus.specs.Boards.{Board, controller_of}
 use Rattle.pc_bus.specs.Ports.{Inputs}
 use Rattle.pc_bus.specs.Steps.{Runs, RunsUnset, Waits, stirred}
 use Rattle.machine_commands.specs.Awaited.{AwaitsResults, Finishes, Watch, Watches, outcome_of}
-use Rattle.machine_commands.specs.Idling.{IsResting, Idles, KeepsAll, KeepsSpeed, is_up}
+use Rattle.machine_commands.proofs.Idling.{IsResting, Idles, KeepsAll, KeepsSpeed}
+use Rattle.machine_commands.specs.Ready.{is_up}
 use Rattle.machine_commands.specs.Sending.{latch_taken}
 use Rattle.machine_commands.specs.declared.results.Done.{Done}
 use Rattle.machine_commands.proofs.Accesses.{input_idles}

@@ -23,7 +23,7 @@ use Rattle.pc_bus.specs.declared.chips.Chips.{Chips}
 use Rattle.machine_laws.proofs.OnQuiet.Steps.{first_second_or_none}
 use Rattle.machine_commands.specs.Awaited.{Prepares, SetsChannel}
 use Rattle.machine_commands.specs.Codes.{rate_byte}
-use Rattle.machine_commands.specs.Idling.{IsResting, StaysIdle, Idles}
+use Rattle.machine_commands.proofs.Idling.{IsResting, StaysIdle, Idles}
 use Rattle.machine_commands.specs.Ready.{dor_with, IsIdle, IsReady}
 use Rattle.machine_commands.specs.Sending.{Sends}
 use Rattle.machine_commands.specs.declared.motors.Motors.{Motors}

@@ -1,4 +1,3 @@
-pub mod Idling
 pub mod Sending
 pub mod Ready
 pub mod Shown

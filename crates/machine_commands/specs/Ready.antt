@@ -1,13 +1,16 @@
 -- A machine that is set up, between two commands.
-use Rattle.std.specs.Prelude.{◌≡◌, ◌≤◌, ◌+◌, ℕ, true, false, List, [], ◌∷◌, Option, None, length, slice_index, if◌then◌else◌}
+use Rattle.std.specs.Prelude.{◌≡◌, ◌≤◌, ◌+◌, ℕ, Bool, true, false, List, [], ◌∷◌, Option, None, length, slice_index, if◌then◌else◌}
 use Rattle.drive_model.specs.Drive.{InRange}
 use Rattle.fdc_seek.specs.Seeking.{Seeking}
 use Rattle.fdc_core.specs.State.{dor_of}
 use Rattle.fdc_core.specs.declared.controller.Fdc.{Fdc}
 use Rattle.fdc_core.specs.declared.phases.Phase.TheVariants.{Command}
-use Rattle.pc_bus.specs.Boards.{Board, controller_of}
-use Rattle.machine_commands.specs.Idling.{is_up}
+use Rattle.pc_bus.specs.Boards.{Board, controller_of, latch_of}
 use Rattle.machine_commands.specs.declared.motors.Motors.{Motors}
+
+-- the level of the line that the latch saw last
+abbrev pub is_up : Board → Bool
+is_up board = (latch_of board).level
 
 -- DOR with these motors on and a bay selected: out of reset, with INT and DRQ let out
 abbrev pub dor_with : Motors → ℕ → ℕ

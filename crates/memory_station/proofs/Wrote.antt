@@ -20,7 +20,8 @@ use Rattle.sector_map.specs.Disks.{IsRegularDisk}
 use Rattle.sector_map.specs.Met.{HasLook}
 use Rattle.sector_map.specs.MetTracks.{MeetsTrack}
 use Rattle.sector_map.specs.Changes.{Change, Written, window_of, IsChange}
-use Rattle.sector_map.specs.ChangedDisks.{FitsKey, HasWritten, change_at}
+use Rattle.sector_map.specs.ChangedDisks.{HasWritten, change_at}
+use Rattle.sector_map.proofs.Writable.{FitsKey}
 use Rattle.sector_map.specs.KeptDisks.{KeepsTracks, KeepsSectors}
 use Rattle.sector_map.proofs.MetTracks.{nothing_from, met_track, one_met}
 use Rattle.sector_map.proofs.KeptTracks.{still_meets, length-alike}

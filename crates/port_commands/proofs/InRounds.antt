@@ -164,10 +164,6 @@ unparsed_tells old new text line ended spelled tells = (
   AsParsed (subst (λ (parsed : Result (List PortLine) ℕ). PlaysParsed parsed old [] new ended) (sym spelled) (record { nothing = refl; tells = tells })),
 )
 
--- memory for the lines of a text couldn't be had
-pub text_starves : (old : World) (text : List ℕ) → (course : List Taken) × PlaysOrStarves text old course old status.NoMemory
-text_starves old text = ([], Starving (record { nothing = refl; same = refl; status = refl }))
-
 -- a loaded text is the told file's
 loaded_text : (told : Option Files) (name : List ℕ) (bytes : Vec ℕ Global) → IfSome told (λ files. Loads files name 4194304 (Ok bytes)) → IsText told name bytes.items
 loaded_text None name bytes loads = tt

@@ -36,7 +36,3 @@ pub record IsBare (board : Board) : Type 0 where
 -- both bays without a name
 abbrev pub no_names : Names
 no_names = record { first = None; second = None }
-
--- the bench of a machine whose bays are empty
-abbrev pub bare_bench : {D S : Type 0} → (D → DriveState) → (S → Option Files) → MachineOf D → S → Bench
-bare_bench state told machine shelf = bench_of state told machine no_names shelf

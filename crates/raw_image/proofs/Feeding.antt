@@ -78,10 +78,6 @@ pub too_long_or_no_memory : (bytes body piece : List ℕ) (h : Header) (e : Imag
 too_long_or_no_memory bytes body piece h e long fed =
     or_no_memory_then e ((e ≡ Trailing (whole_length h)) × (whole_length h < 14 + length (body ++ piece))) (IsWrong (bytes ++ piece) e) (λ p. subst (λ (x : ImageError). IsWrong (bytes ++ piece) x) (sym p.0) (too_long bytes body piece h fed p.1)) long
 
-pub stays_failed : (bytes piece : List ℕ) (e : ImageError) → IsFed bytes (Failed e) → IsFed (bytes ++ piece) (Failed e)
-stays_failed bytes piece e =
-    or_no_memory_then e (IsWrong bytes e) (IsWrong (bytes ++ piece) e) (λ wrong more. ap image_of (append_assoc bytes piece more) ∙ wrong (piece ++ more))
-
 -- ---- all pieces
 
 pub pieces_after : (pieces : List (List ℕ)) (bytes : List ℕ) (old new : Progress) → IsFed bytes old → FeedsAll pieces old new → IsFed (bytes ++ flat_map (λ piece. piece) pieces) new

@@ -58,10 +58,3 @@ first_unfit disk after c (Unfit b g) cylinder so_far wrong = record {
 first_unfit disk after c NoMemory cylinder so_far wrong = tt
 
 -- ---- all
-
-pub all_done : (disk after : Disk) (c : ℕ) → HasShapeOf disk after → disk.cylinders ≤ c → ((b g : ℕ) → b < c → g < disk.heads → IsDone disk after b g) → IsRemaster disk after
-all_done disk after c shape past done = record {
-  shape = shape;
-  regular = λ b g has. (done b g (omega (arith, has.0, shape.cylinders)) (omega (arith, has.1, shape.heads))).regular;
-  tracks = λ b g has. done b g (omega (arith, has.0)) has.1;
-}

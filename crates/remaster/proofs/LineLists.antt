@@ -9,15 +9,6 @@ use Rattle.remaster.specs.declared.lines.SurveyLine.{SurveyLine}
 use Rattle.remaster.specs.Looked.{AreLooked}
 use Rattle.remaster.specs.Survey.{TrackNumber, track_number, cylinder_tracks, tracks_of, line_on, AreLines}
 
--- one line more of a track
-pub line_more : (track : TrackNumber) (start items after : List SurveyLine) (looked : List LookedField) (i : ℕ) (d : LookedField) (line : SurveyLine) → after ≡ items ++ line ∷ [] → items ≡ start ++ map (line_on track) (take i looked) → i < length looked → line ≡ line_on track (get_or looked i d) → after ≡ start ++ map (line_on track) (take (i + 1) looked)
-line_more track start items after looked i d line e so_far within is =
-    e ∙ ap (λ ls. ls ++ line ∷ []) so_far
-    ∙ append_assoc start (map (line_on track) (take i looked)) (line ∷ [])
-    ∙ ap (λ (l : SurveyLine). start ++ (map (line_on track) (take i looked) ++ l ∷ [])) is
-    ∙ ap (λ ls. start ++ ls) (sym (map-append (line_on track) (take i looked) (get_or looked i d ∷ [])))
-    ∙ ap (λ looks. start ++ map (line_on track) looks) (sym (take_more looked i d within))
-
 lines-append : (disk : Disk) (tracks more : List TrackNumber) (lines others : List SurveyLine) → AreLines disk tracks lines → AreLines disk more others → AreLines disk (tracks ++ more) (lines ++ others)
 lines-append disk [] more lines others a b = subst (AreLines disk more) (sym (ap (λ ls. ls ++ others) a)) b
 lines-append disk (track ∷ tracks) more lines others (looked, rest, exact, is, tail) b = (

@@ -34,16 +34,6 @@ pub content_more : (track : List ℕ) (place i : ℕ) (bytes after : List ℕ) (
 content_more track place i bytes after byte e so_far is =
     e ∙ ap (λ bs. bs ++ byte ∷ []) so_far ∙ ap (λ (b : ℕ). bytes_at track place i ++ b ∷ []) is ∙ sym (bytes_at-more track place i)
 
--- one field more
-pub sectors_more : (track : List ℕ) (looked : List LookedField) (i : ℕ) (sectors after : List Sector) (one d : LookedField) → after ≡ sectors ++ found_at track one → sectors ≡ flat_map (found_at track) (take i looked) → i < length looked → one ≡ get_or looked i d → after ≡ flat_map (found_at track) (take (i + 1) looked)
-sectors_more track looked i sectors after one d e so_far within is =
-    let last : flat_map (found_at track) (get_or looked i d ∷ []) ≡ found_at track (get_or looked i d) = append-nil (found_at track (get_or looked i d)) in
-    e ∙ ap (λ ss. ss ++ found_at track one) so_far
-    ∙ ap (λ (o : LookedField). flat_map (found_at track) (take i looked) ++ found_at track o) is
-    ∙ ap (λ ss. flat_map (found_at track) (take i looked) ++ ss) (sym last)
-    ∙ sym (flat_map-append (found_at track) (take i looked) (get_or looked i d ∷ []))
-    ∙ ap (flat_map (found_at track)) (sym (take_more looked i d within))
-
 -- ---- sizes
 
 none_sized : All HasSize []

@@ -19,7 +19,8 @@ use Rattle.sector_map.specs.Disks.{IsRegularDisk, IsOnMap}
 use Rattle.sector_map.specs.Met.{IsClearAddress}
 use Rattle.sector_map.specs.Changes.{Change, Written, window_of, IsChange}
 use Rattle.sector_map.specs.KeptDisks.{KeepsTracks, KeepsOtherKeys, KeepsSectors}
-use Rattle.sector_map.specs.ChangedDisks.{FitsKey, IsWholeChange, IsSafeChange, HasWritten, entry_of}
+use Rattle.sector_map.specs.ChangedDisks.{IsWholeChange, IsSafeChange, HasWritten, entry_of}
+use Rattle.sector_map.proofs.Writable.{FitsKey}
 use Rattle.sector_map.proofs.RegularTracks.{spaced_from, clear_address, key_cylinder}
 use Rattle.sector_map.proofs.KeptTracks.{has_after, had_before, each_track, with_track_keeps}
 use Rattle.sector_map.proofs.KeptKeys.{KeepsPlaces, places_kept, places_same, places_back, other_keys, looked_on, entry_on}
@@ -76,10 +77,6 @@ entry_from written p disk has is = record {
 
 pub length-window_of : (written : Written) → FitsKey written → length (window_of written) ≡ window_words written.key.n
 length-window_of written fits = let size = fits.size in omega (arith, length-window written.deleted written.content)
-
--- where a whole window stands, it is inside the track
-pub whole_inside : (written : Written) (disk : Disk) (change : Change) (after : Disk) → IsChange written disk change after → FitsKey written → IsWholeChange written change → window_word change.place + window_words written.key.n ≤ length (track_of disk change.cylinder written.key.h)
-whole_inside written disk change after is fits whole = let inside = is.cuttable.inside in omega (arith, length-window_of written fits)
 
 -- ---- any disk
 

@@ -9,7 +9,8 @@ use Rattle.track_model.specs.Windows.{window_word, cut_of, IsCuttable}
 use Rattle.track_model.proofs.Splices.{longer_cut}
 use Rattle.sector_map.specs.Disks.{IsRegularDisk}
 use Rattle.sector_map.specs.Changes.{Change, Written, window_of, IsChange}
-use Rattle.sector_map.specs.ChangedDisks.{FitsKey, IsWholeChange, IsSafeChange, joined}
+use Rattle.sector_map.specs.ChangedDisks.{IsWholeChange, IsSafeChange, joined}
+use Rattle.sector_map.proofs.Writable.{FitsKey}
 use Rattle.sector_map.proofs.RegularTracks.{length-track_of, window_inside}
 use Rattle.sector_map.proofs.KeptTracks.{each_track, with_itself, with_later}
 use Rattle.sector_map.proofs.SameDisks.{same_disk}
@@ -24,14 +25,7 @@ none_cut track words p k none =
     ∙ ap (λ s. take (window_word p) track ++ drop s track) (omega arith)
     ∙ take-append-drop (window_word p) track
 
--- a change of no words leaves the disk as it was
-pub none_changes : (written : Written) (disk : Disk) (change : Change) (after : Disk) → IsDisk disk → IsChange written disk change after → change.words ≡ 0 → after ≡ disk
-none_changes written disk change after valid is none =
-    same_disk disk change.cylinder written.key.h after valid (change_keeps_tracks written disk change after is)
-    (each_track disk after change.cylinder written.key.h _ is.cut (λ c h words. words ≡ track_of disk c h)
-    (none_cut (track_of disk change.cylinder written.key.h) (window_of written) change.place change.words none) (λ c h had. refl))
-
--- and a disk comes from itself by one
+-- a disk comes from itself by a change of no words
 pub change_of_none : (written : Written) (disk : Disk) (change : Change) → IsDisk disk → HasTrack disk change.cylinder written.key.h → IsAddressAt (track_of disk change.cylinder written.key.h) change.place written.key → window_word change.place ≤ disk.words_per_track → change.words ≡ 0 → IsChange written disk change disk
 change_of_none written disk change valid has address inside none = record {
   track = has;
@@ -82,10 +76,6 @@ changes_join written disk one middle two after first second same_cylinder same_p
       cut = subst (λ r. IsWithTrack disk one.cylinder h r after) (cut_twice track words one.place one.words two.words first.cuttable cuttable)
           (with_later disk middle after one.cylinder h row _ first.cut cut);
     }
-
--- a later whole window makes the two whole
-pub joined_whole : (written : Written) (disk : Disk) (one : Change) (middle : Disk) (two : Change) → IsChange written disk one middle → IsWholeChange written two → IsWholeChange written (joined one two)
-joined_whole written disk one middle two first whole = let few = first.cuttable.most in omega arith
 
 -- where the first is safe, so are the two
 pub joined_safe : (written : Written) (disk : Disk) (one : Change) (middle : Disk) (two : Change) (after : Disk) → IsChange written middle two after → IsSafeChange written disk one → IsSafeChange written disk (joined one two)

@@ -126,20 +126,7 @@ keeps_both disk middle after c h first second = record {
   others = λ b g had other. second.others b g ((alike_tracks disk middle b g first.alike).0 had) other ∙ first.others b g had other;
 }
 
--- elsewhere the same is met, whatever the rate
-pub met_elsewhere : (disk : Disk) (c h : ℕ) (after : Disk) (rate : Rate) (b g : ℕ) → KeepsTracks disk c h after → (b ≡ c → g ≡ h → ⊥) → met_on after rate b g ≡ met_on disk rate b g
-met_elsewhere disk c h after rate b g keeps other =
-    by_met disk rate b g (λ track. met_on after rate b g ≡ track)
-    (λ had same. on_there after rate b g ((alike_tracks disk after b g keeps.alike).0 had) (keeps.alike.rate ∙ same) ∙ keeps.others b g had other)
-    (λ none. by_met after rate b g (λ track. track ≡ unrecorded disk.words_per_track)
-    (λ has same. absurd (none ((alike_tracks disk after b g keeps.alike).1 has) (sym keeps.alike.rate ∙ same)))
-    (λ _. ap unrecorded keeps.alike.words_per_track))
-
 -- ---- what is on the other tracks
-
-pub elsewhere_met : (disk : Disk) (c h : ℕ) (after : Disk) (medium now : Option Disk) (rate : Rate) (b g : ℕ) → KeepsTracks disk c h after → medium ≡ Some disk → now ≡ Some after → (b ≡ c → g ≡ h → ⊥) → met_in now rate b g ≡ met_in medium rate b g
-elsewhere_met disk c h after medium now rate b g keeps was is other =
-    in_is_on now rate b g after is ∙ met_elsewhere disk c h after rate b g keeps other ∙ sym (in_is_on medium rate b g disk was)
 
 module _ (disk : Disk) (c h : ℕ) (after : Disk) (keeps : KeepsTracks disk c h after) where
   pub elsewhere_looked : (key : Chrn) (look : Look) → (key.c ≡ c → key.h ≡ h → ⊥) → LookOn disk key look ↔ LookOn after key look

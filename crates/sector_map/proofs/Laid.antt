@@ -87,11 +87,6 @@ laid_whole format disk laying after valid is whole =
     ∙ all_laid (track_of disk laying.cylinder format.h) (formatted format disk.words_per_track) laying.words
     (whole ∙ sym (length-formatted format disk.words_per_track)) (whole ∙ sym (length-track_of disk laying.cylinder format.h valid is.track))
 
--- also as the track of a disk like it
-pub laid_whole_from : (format : Format) (first disk : Disk) (laying : Laying) (after : Disk) → AreAlike first disk → IsLaying format disk laying after → laying.words ≡ disk.words_per_track → track_of after laying.cylinder format.h ≡ formatted format first.words_per_track
-laid_whole_from format first disk laying after alike is whole =
-    laid_whole format disk laying after alike.valid is whole ∙ ap (λ n. formatted format n) alike.words_per_track
-
 -- a disk can be formatted so where a disk like it can
 pub can_format_alike : (format : Format) (disk after : Disk) → AreAlike disk after → CanFormat format disk ↔ CanFormat format after
 can_format_alike format disk after alike = (
@@ -106,28 +101,6 @@ can_format_alike format disk after alike = (
     fits = subst (Fits (format_keys format) standard_code format.gap3) alike.words_per_track can.fits;
   },
 )
-
-none_laid : (track words : List ℕ) (k : ℕ) → k ≡ 0 → with_items track 0 (take k words) ≡ track
-unfolding with_items
-none_laid track words k none =
-    ap (λ j. take 0 track ++ (take j words ++ drop (0 + length (take j words)) track)) none
-    ∙ take-append-drop 0 track
-
--- a laying of no words leaves the disk as it was
-pub none_lays : (format : Format) (disk : Disk) (laying : Laying) (after : Disk) → IsDisk disk → IsLaying format disk laying after → laying.words ≡ 0 → after ≡ disk
-none_lays format disk laying after valid is none =
-    same_disk disk laying.cylinder format.h after valid (laying_keeps_tracks format disk laying after is)
-    (each_track disk after laying.cylinder format.h _ is.laid (λ c h words. words ≡ track_of disk c h)
-    (none_laid (track_of disk laying.cylinder format.h) (formatted format disk.words_per_track) laying.words none) (λ c h had. refl))
-
--- and a disk comes from itself by one
-pub laying_of_none : (format : Format) (disk : Disk) (laying : Laying) → IsDisk disk → HasTrack disk laying.cylinder format.h → laying.words ≡ 0 → IsLaying format disk laying disk
-laying_of_none format disk laying valid has none = record {
-  track = has;
-  most = omega arith;
-  laid = with_itself disk laying.cylinder format.h _ valid
-      (none_laid (track_of disk laying.cylinder format.h) (formatted format disk.words_per_track) laying.words none);
-}
 
 laid_twice : (track words : List ℕ) (j k : ℕ) → length words ≡ length track → j ≤ length words → k ≤ length words → with_items (with_items track 0 (take j words)) 0 (take k words) ≡ with_items track 0 (take (max j k) words)
 laid_twice track words j k long few more = longer_cut track 0 words j k few more (omega arith)
@@ -154,7 +127,3 @@ layings_join format disk one middle two after valid first second same =
       laid = subst (λ r. IsWithTrack disk one.cylinder h r after) (laid_twice track words one.words two.words (omega arith) (omega arith) (omega arith))
           (with_later disk middle after one.cylinder h row _ first.laid laid);
     }
-
--- a later laying of all words makes the two whole
-pub joined_laid : (format : Format) (disk : Disk) (one : Laying) (middle : Disk) (two : Laying) → IsLaying format disk one middle → two.words ≡ middle.words_per_track → (joined_laying one two).words ≡ disk.words_per_track
-joined_laid format disk one middle two first whole = let few = first.most in let shape = first.laid.words_per_track in omega arith

@@ -1,3 +1,4 @@
+pub mod Writable
 pub mod Changed
 pub mod Joined
 mod KeptKeys

@@ -32,9 +32,6 @@ cases_rate R250 R250 = inl refl
 cases_rate R500 R250 = inr (λ e. false≢true (same_rates R500 R250 e))
 cases_rate R250 R500 = inr (λ e. false≢true (same_rates R250 R500 e))
 
-pub rates_exactly : (a b : Rate) → IsTrue (same_rate a b) ↔ (a ≡ b)
-rates_exactly a b = (rates_same a b, same_rates a b)
-
 -- ---- where nothing is recorded
 
 zero_at : (n k : ℕ) → get_or {A = ℕ} (replicate n 0) k 0 ≡ 0

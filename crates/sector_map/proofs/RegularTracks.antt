@@ -11,7 +11,7 @@ use Rattle.track_model.specs.Regular.{IsSpaced, IsRegular}
 use Rattle.track_model.proofs.Sectored.{plain_clear}
 use Rattle.sector_map.specs.Disks.{IsRegularDisk}
 use Rattle.sector_map.specs.Met.{IsClearAddress}
-use Rattle.sector_map.specs.ChangedDisks.{IsWritable}
+use Rattle.sector_map.proofs.Writable.{IsWritable}
 
 -- a track of a disk has as many words as the disk says
 pub length-track_of : (disk : Disk) (c h : ℕ) → IsDisk disk → HasTrack disk c h → length (track_of disk c h) ≡ disk.words_per_track

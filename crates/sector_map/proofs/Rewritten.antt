@@ -7,7 +7,8 @@ use Rattle.track_model.specs.Windows.{IsTidy}
 use Rattle.sector_map.specs.Disks.{IsRegularDisk}
 use Rattle.sector_map.specs.Changes.{Change, Written, IsChange}
 use Rattle.sector_map.specs.KeptDisks.{KeepsTracks, KeepsOtherKeys, KeepsSectors}
-use Rattle.sector_map.specs.ChangedDisks.{FitsKey, IsWholeChange, HasWritten, IsSameOrChanged, change_at}
+use Rattle.sector_map.specs.ChangedDisks.{IsWholeChange, HasWritten, change_at}
+use Rattle.sector_map.proofs.Writable.{FitsKey, IsSameOrChanged}
 use Rattle.sector_map.proofs.KeptTracks.{keeps_itself}
 use Rattle.sector_map.proofs.KeptKeys.{other_keys_same}
 use Rattle.sector_map.proofs.Changed.{change_keeps_tracks, change_keeps_address, change_keeps_keys, change_keeps_sectors, change_cylinder, change_is_written}

@@ -19,7 +19,8 @@ use Rattle.track_model.proofs.Splices
 use Rattle.track_model.proofs.WindowMarks.{marked, byte_in, byte_behind, run_in, word_12, word_13, word_14}
 use Rattle.track_model.proofs.Written.{length-sync_and_marks, length-window}
 use Rattle.sector_map.specs.Changes.{Change, Written, window_of, IsChange}
-use Rattle.sector_map.specs.ChangedDisks.{FitsKey, IsWholeChange}
+use Rattle.sector_map.specs.ChangedDisks.{IsWholeChange}
+use Rattle.sector_map.proofs.Writable.{FitsKey}
 use Rattle.sector_map.proofs.Changed.{change_keeps_address}
 
 not_zero : (deleted : Bool) (rest : List ℕ) (i : ℕ) → 12 ≤ i → i < 16 + length rest → get_or (marked (data_byte deleted ∷ rest)) i 0 ≡ 0 → ⊥
@@ -129,20 +130,3 @@ module _ (track : List ℕ) (start : ℕ) (deleted : Bool) (content : List ℕ) 
     content_is = row_content;
     check = row_check (16 * start + 192 + 64 + 16 * content_size n) (omega arith) ∙ sym (ap (λ b. crc (after_marks (b ∷ content))) row_mark);
   }
-
--- on any disk a whole window is read behind its address field, if by any of its data marks
-pub change_is_under : (written : Written) (disk : Disk) (change : Change) (after : Disk) → IsChange written disk change after → FitsKey written → IsWholeChange written change → IsUnder (track_of after change.cylinder written.key.h) written.key written.deleted written.content
-change_is_under written disk change after is fits whole =
-    let track = track_of disk change.cylinder written.key.h in
-    let start = window_word change.place in
-    let most = is.cuttable.inside in
-    let inside : start + length (window_of written) ≤ length track = omega arith in
-    let row_is : with_items track start (window_of written) ≡ track_of after change.cylinder written.key.h = ap (λ words. with_items track start words) (sym (take_all change.words (window_of written) (omega arith))) ∙ sym is.cut.has in (
-      change.place,
-      16 * start + 192,
-      change_keeps_address written disk change after is,
-      subst (λ words. IsDataMark words change.place (16 * start + 192) written.deleted) row_is
-          (row_mark_of track start written.deleted written.content written.key.n fits.size fits.bytes inside change.place refl),
-      subst (λ words. IsWhole words (16 * start + 192) written.key.n written.content) row_is
-          (row_whole track start written.deleted written.content written.key.n fits.size fits.bytes inside),
-    )

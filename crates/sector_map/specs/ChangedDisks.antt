@@ -31,11 +31,6 @@ entry_of written place = record {
   content = written.content;
 }
 
--- what is written is a content for its key: bytes, as many as the size code says
-pub record FitsKey (written : Written) : Type 0 where
-  pub size : length written.content ≡ content_size written.key.n
-  pub bytes : (k : ℕ) → slice_index written.content k < 2 ^ 8
-
 -- the whole window stands
 abbrev pub IsWholeChange : Written → Change → Type 0
 IsWholeChange written change = change.words ≡ length (window_of written)
@@ -53,21 +48,6 @@ joined one two = record {
   place = one.place;
   words = max one.words two.words;
 }
-
--- after any number of writes behind the address field at `place`, on the key's cylinder: the disk is as it was, or as one
--- safe change there makes it
-abbrev pub IsSameOrChanged : Written → ℕ → Disk → Disk → Type 0
-IsSameOrChanged written place disk after =
-    (after ≡ disk)
-    ⊎ ((words : ℕ) × IsChange written disk (change_at written.key.c place words) after
-    × IsSafeChange written disk (change_at written.key.c place words))
-
--- a key can be written on a track: one address field has it, which is Clear, and whose window is inside the track
-pub record IsWritable (track : List ℕ) (key : Chrn) : Type 0 where
-  pub marked : HasNoClearMark track → ⊥
-  pub clear : HasClearAddress track key
-  pub one_place : (p q : ℕ) → IsAddressAt track p key → IsAddressAt track q key → p ≡ q
-  pub inside : (p : ℕ) → IsAddressAt track p key → window_word p + window_words key.n ≤ length track
 
 -- the track has what was written, behind the address field at `place`, and nothing else under that key
 pub record HasWritten (written : Written) (place : ℕ) (track : List ℕ) : Type 0 where

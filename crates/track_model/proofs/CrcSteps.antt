@@ -101,11 +101,6 @@ crc-append bytes rest h =
     let long : 2 ≤ length (bytes ++ rest) = omega (arith, length-append bytes rest) in
     crc_is_from (bytes ++ rest) long ∙ crc_from-append 0xFFFF bytes rest ∙ ap (λ check. crc_from check rest) (sym (crc_is_from bytes h))
 
--- two lists with one CRC have one CRC whatever follows
-pub same_crc : (bytes other rest : List ℕ) → 2 ≤ length bytes → 2 ≤ length other → crc bytes ≡ crc other → crc (bytes ++ rest) ≡ crc (other ++ rest)
-same_crc bytes other rest h k e =
-    crc-append bytes rest h ∙ ap (λ check. crc_from check rest) e ∙ sym (crc-append other rest k)
-
 -- ---- one byte
 
 zeros_are : bits 16 0 ≡ zeros

@@ -210,13 +210,3 @@ byte_at-legal last bytes p k e h fits =
 unfoldable pub last_of : Bool → List ℕ → Bool
 last_of last [] = last
 last_of last (byte ∷ rest) = last_of (last_bit byte) rest
-
--- the words of two rows of bytes are those of the first, and those of the second after its last bit
-pub legal-append : (last : Bool) (bytes rest : List ℕ) → legal last (bytes ++ rest) ≡ legal last bytes ++ legal (last_of last bytes) rest
-unfolding last_of
-legal-append last [] rest = ap (λ words. words ++ legal last rest) (sym (legal-nil last))
-legal-append last (byte ∷ bytes) rest =
-    legal-cons last byte (bytes ++ rest)
-    ∙ ap (λ words. legal last (byte ∷ []) ++ words) (legal-append (last_bit byte) bytes rest)
-    ∙ sym (append_assoc (legal last (byte ∷ [])) (legal (last_bit byte) bytes) (legal (last_of (last_bit byte) bytes) rest))
-    ∙ ap (λ words. words ++ legal (last_of (last_bit byte) bytes) rest) (sym (legal-cons last byte bytes))

@@ -20,9 +20,6 @@ cell_in track p k i e h =
 pub cell-lt : (track : List ℕ) (p : ℕ) → cell track p < 2
 cell-lt track p = bit_at-lt (get_or track (p / 16) 0) (15 - p % 16)
 
-pub cells_at_below : (track : List ℕ) (p : ℕ) → cells_at track p < 2 ^ 16
-cells_at_below track p = number_below (λ i. cell track (p + i)) 16 (λ k l. cell-lt track (p + k))
-
 pub bit_at-cells_at : (track : List ℕ) (p i : ℕ) → i < 16 → bit_at (cells_at track p) (15 - i) ≡ cell track (p + i)
 bit_at-cells_at track p i h =
     let back : 16 - 1 - (15 - i) ≡ i = omega arith in
@@ -72,9 +69,6 @@ cells_at-pair track p k o e small fits =
     let below : value < 2 ^ 16 = omega arith in
     sym (number_from_bits (λ i. cell track (p + i)) 16 value below (λ i l. digit_between track p k o i e small fits l))
 
-pub byte_at_below : (track : List ℕ) (p : ℕ) → byte_at track p < 2 ^ 8
-byte_at_below track p = number_below (λ i. cell track (p + (2 * i + 1))) 8 (λ k l. cell-lt track (p + (2 * k + 1)))
-
 -- the byte at a place is that of the word that its cells make
 pub byte_at-cells_at : (track : List ℕ) (p : ℕ) → byte_at (cells_at track p ∷ []) 0 ≡ byte_at track p
 byte_at-cells_at track p =
@@ -84,11 +78,7 @@ byte_at-cells_at track p =
     cell_in (cells_at track p ∷ []) (0 + (2 * i + 1)) 0 (2 * i + 1) place (omega arith)
     ∙ bit_at-cells_at track p (2 * i + 1) (omega arith))
 
--- a stretch touches no zero word where none of its words is zero
-pub no_zero_from_words : (track : List ℕ) (p count end : ℕ) → end ≡ (p + count - 1) / 16 + 1 → ((k : ℕ) → p / 16 ≤ k → k < end → get_or track k 0 ≢ 0) → TouchesNoZero track p count
-no_zero_from_words track p count end e h = λ q low high. h (q / 16) (omega arith) (omega arith)
-
--- and each of its words holds a cell of it
+-- a stretch has a cell in each of its words
 pub zero_word_touched : (track : List ℕ) (p count k : ℕ) → 0 < count → p / 16 ≤ k → k ≤ (p + count - 1) / 16 → get_or track k 0 ≡ 0 → TouchesNoZero track p count → ⊥
 zero_word_touched track p count k some low high e h =
     elim (cases_lt p (16 * k)) [

@@ -17,8 +17,5 @@ length-written_field bytes =
     let check = check_bytes (crc (after_marks bytes)) in
     omega (arith, length-append sync_and_marks (legal true (bytes ++ check)), length-sync_and_marks, length-legal true (bytes ++ check), length-append bytes check)
 
-pub length-address_field : (key : Chrn) → length (address_field key) ≡ 22
-length-address_field key = length-written_field (0xFE ∷ key.c ∷ key.h ∷ key.r ∷ key.n ∷ [])
-
 pub length-window : (deleted : Bool) (content : List ℕ) → length (window deleted content) ≡ length content + 18
 length-window deleted content = omega (arith, length-written_field (data_byte deleted ∷ content))

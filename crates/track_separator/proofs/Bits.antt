@@ -33,9 +33,6 @@ shifted_is cells word fits =
 pub blank_is : IsBlank 340282366920938463463374607431768211455
 blank_is i h = bit_at_ones 128 i h
 
-pub next_shifted : (cells word after : ℕ) → word ≢ 0 → IsShifted cells word after → IsNext cells word after
-next_shifted cells word after some shifted = record { shifted = λ h. shifted; blank = λ e. absurd (some e) }
-
 pub next_blank : (cells word : ℕ) → word ≡ 0 → IsNext cells word 340282366920938463463374607431768211455
 next_blank cells word none = record { shifted = λ h. absurd (h none); blank = λ e. blank_is }
 

@@ -37,20 +37,9 @@ part_with_word fed word =
 pub length-with_word : (fed : List ℕ) (word : ℕ) → length (with_word fed word) ≡ length fed + 1
 length-with_word fed word = (more_of fed word).size
 
--- and it is the last
-pub last-with_word : (fed : List ℕ) (word : ℕ) → slice_index (with_word fed word) (length fed) ≡ word
-last-with_word fed word = (more_of fed word).last
-
 -- a turn is a part of itself
 pub whole_part : (whole : List ℕ) → IsPart whole whole
 whole_part whole = record { longer = omega arith; same = λ k h. refl }
-
--- a part of a part is a part
-pub part_of_part : (fed more whole : List ℕ) → IsPart fed more → IsPart more whole → IsPart fed whole
-part_of_part fed more whole first second =
-    let one = first.longer in
-    let two = second.longer in
-    record { longer = omega arith; same = λ k h. second.same k (omega arith) ∙ first.same k h }
 
 -- the first words of a turn are a part
 pub first_words : (k : ℕ) (whole : List ℕ) → k ≤ length whole → IsPart (take k whole) whole
@@ -207,29 +196,11 @@ module _ (fed : List ℕ) (word : ℕ) where
         | inr early ↦ inl (data_mark_stood fed (with_word fed word) (part_with_word fed word) p q deleted early mark)
       ]
 
--- two runs that begin equally far before ends in the last word are one, so one address mark, one address field and one data
--- mark at most ends in a word
-pub one_run : (fed : List ℕ) (p q count : ℕ) → EndsInLast fed (p + count) → EndsInLast fed (q + count) → IsRun fed p → IsRun fed q → p ≡ q
-one_run fed p q count first second one two =
-    let low = first.last in
-    let high = first.inside in
-    let from = second.last in
-    let to = second.inside in
-    elim (cases_order p q) [
-      | inl e ↦ e
-      | inr (inl h) ↦ absurd (runs_apart fed p q one two h (omega arith))
-      | inr (inr h) ↦ absurd (runs_apart fed q p two one h (omega arith))
-    ]
-
 -- ---- a separator and the words fed
 
 -- one that has hunted since these words began hunts
 pub follows_hunts : (separator : Separator) (fed : List ℕ) → SFollows separator fed → SHunts separator fed
 follows_hunts separator fed follows = follows.hunts
-
--- where a data field may be asked for, the address field ended in the last word
-pub addressed_ends : (separator : Separator) (fed : List ℕ) (p : ℕ) → SAddressed separator fed p → EndsInLast fed (p + 160)
-addressed_ends separator fed p h = addressed_at fed separator.cells separator.back p separator.stage separator.few h
 
 module _ (separator : Separator) (fed : List ℕ) (p size : ℕ) (waits : SWaits separator fed p size) where
   -- while a data mark is awaited, the address field has passed
@@ -243,13 +214,6 @@ module _ (separator : Separator) (fed : List ℕ) (p size : ℕ) (waits : SWaits
   -- and there was no data mark
   pub waits_mark : (q : ℕ) (deleted : Bool) → IsDataMark fed p q deleted → ⊥
   waits_mark = (waits_at fed separator.cells separator.back p size separator.stage waits).2
-
--- where no data mark can come from a word on, at most 1,022 cells behind the address field had passed before it
-pub reach_before : (fed : List ℕ) (word p : ℕ) → EndsReach (with_word fed word) p → 16 * length fed ≤ p + 160 + 1022
-reach_before fed word p ends =
-    let size = length-with_word fed word in
-    let last = ends.last in
-    omega arith
 
 module _ (separator : Separator) (fed : List ℕ) (p q : ℕ) (deleted : Bool) (size taken : ℕ) (reads : SReads separator fed p q deleted size taken) where
   -- the field that is read is the one of the first data mark

@@ -1,5 +1,5 @@
 use Rattle.std.proofs.Common.{◌≡◌, ℕ, arith, subst, sym, ◌∙◌}
-use Rattle.floppy_driver.specs.Acknowledged.{HasFoundNone}
+use Rattle.floppy_driver.proofs.Rounds.{HasFoundNone}
 use Rattle.floppy_driver.proofs.RateFound.{found_neither, found_no_rate}
 use Rattle.floppy_driver.proofs.acknowledging.find_rate.Goals as goal
 

@@ -1,4 +1,4 @@
-use Rattle.floppy_driver.specs.Acknowledged.{HasFoundNone}
+use Rattle.floppy_driver.proofs.Rounds.{HasFoundNone}
 use Rattle.floppy_driver.proofs.acknowledging.find_rate.Given as goal
 
 abbrev pub invariant-loop-attempt : goal.invariant-loop-attempt

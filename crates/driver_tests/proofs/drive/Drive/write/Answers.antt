@@ -2,7 +2,7 @@ use Rattle.std.proofs.Common.{None, length, ap, arith}
 use Rattle.track_model.proofs.Sizes.{content_size_bound}
 use Rattle.track_model.proofs.Written.{length-window}
 use Rattle.sector_map.specs.Changes.{Written}
-use Rattle.sector_map.specs.ChangedDisks.{FitsKey}
+use Rattle.sector_map.proofs.Writable.{FitsKey}
 use Rattle.driver_tests.proofs.WriteSteps.{wrote_absent, field_here, wrote_cut, wrote_whole}
 use Rattle.driver_tests.proofs.drive.Drive.write.Goals as goal
 

@@ -1,7 +1,7 @@
 use Rattle.std.proofs.Common.{◌≡◌, ℕ, arith, sym, ap, ◌∙◌, subst}
 use Rattle.floppy_driver.specs.declared.driver.Driver.{Driver}
 use Rattle.floppy_driver.specs.Shown.{notes_of, with_notes}
-use Rattle.floppy_driver.specs.Acknowledged.{HasStayedSet}
+use Rattle.floppy_driver.proofs.Rounds.{HasStayedSet}
 use Rattle.floppy_driver.proofs.Acked.{attached_unready, acks_unready, attached_acked, acks_done}
 use Rattle.floppy_driver.proofs.driver.Driver.ack.Goals as goal
 

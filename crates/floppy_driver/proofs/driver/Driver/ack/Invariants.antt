@@ -1,6 +1,6 @@
 use Rattle.std.proofs.Common.{◌≡◌}
 use Rattle.single_commands.specs.Rigs.{IsSound}
-use Rattle.floppy_driver.specs.Acknowledged.{HasStayedSet}
+use Rattle.floppy_driver.proofs.Rounds.{HasStayedSet}
 use Rattle.floppy_driver.proofs.driver.Driver.ack.Given as goal
 
 abbrev pub invariant-loop-attempt : goal.invariant-loop-attempt

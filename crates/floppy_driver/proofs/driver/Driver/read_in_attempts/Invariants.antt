@@ -3,7 +3,7 @@ use Rattle.bay_model.specs.Counters.{DriveCounts, GoesOn}
 use Rattle.sector_model.specs.Stations.{StationState}
 use Rattle.floppy_driver.specs.Shown.{shown, HasAsked}
 use Rattle.floppy_driver.specs.Attempts.{CanTry}
-use Rattle.floppy_driver.specs.Readings.{HasTriedRead}
+use Rattle.floppy_driver.proofs.TriedReads.{HasTriedRead}
 use Rattle.floppy_driver.proofs.driver.Driver.read_in_attempts.Given as goal
 
 abbrev pub invariant-loop-attempt : goal.invariant-loop-attempt

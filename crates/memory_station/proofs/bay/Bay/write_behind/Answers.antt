@@ -3,7 +3,8 @@ use Rattle.track_model.specs.Fields.{IsAddressAt}
 use Rattle.track_model.proofs.Sizes.{content_size_bound}
 use Rattle.track_model.proofs.Written.{length-window}
 use Rattle.sector_map.specs.Changes.{Written}
-use Rattle.sector_map.specs.ChangedDisks.{FitsKey, change_at}
+use Rattle.sector_map.specs.ChangedDisks.{change_at}
+use Rattle.sector_map.proofs.Writable.{FitsKey}
 use Rattle.sector_map.proofs.Changed.{change_keeps_address}
 use Rattle.memory_station.specs.Shown.{bay_shown}
 use Rattle.memory_station.specs.Put.{IsCutTo, ReadsBack}

@@ -6,7 +6,8 @@ use Rattle.fdc_seek.specs.Seeking.{is_seeking}
 use Rattle.fdc_core.specs.Listening.{is_executing}
 use Rattle.fdc_core.specs.State.{is_held}
 use Rattle.fdc_core.specs.declared.controller.Fdc.{Fdc}
-use Rattle.pc_bus.specs.Boards.{Board, controller_of, channel_of, memory_of, holds_of, latch_of}
+use Rattle.pc_bus.specs.Boards.{Board, controller_of, channel_of, memory_of, holds_of}
+use Rattle.machine_commands.specs.Ready.{is_up}
 
 -- no command is in execution, no seek runs, no byte is asked for, and no poll is to come
 pub record IsResting (fdc : Fdc) : Type 0 where
@@ -37,10 +38,6 @@ pub record KeepsAll (old new : Board) : Type 0 where
   pub second : KeepsDrive old.second new.second
   pub direct : new.bus.direct ≡ old.bus.direct
   pub taken : old.bus.taken ≤ new.bus.taken
-
--- the level of the line that the latch saw last
-abbrev pub is_up : Board → Bool
-is_up board = (latch_of board).level
 
 -- and no motor; a line that is low stays so, and the latch sees no rise of it
 pub record StaysIdle (old new : Board) : Type 0 where
