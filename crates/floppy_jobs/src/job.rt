@@ -100,8 +100,8 @@ fn blank(alloc: Global, fields: &[&[u8]]) -> Result<Request, LineError>
         return Err(LineError::NotUnderstood);
     };
     let bay = byte(bay).ok_or(LineError::NotUnderstood)?;
-    let name = named(alloc, name)?;
     let cylinders = byte(cylinders).ok_or(LineError::NotUnderstood)?;
+    let name = named(alloc, name)?;
     Ok(Request::Blank {
         bay,
         name,
@@ -117,8 +117,8 @@ fn blankdd(alloc: Global, fields: &[&[u8]]) -> Result<Request, LineError>
         return Err(LineError::NotUnderstood);
     };
     let bay = byte(bay).ok_or(LineError::NotUnderstood)?;
-    let name = named(alloc, name)?;
     let cylinders = byte(cylinders).ok_or(LineError::NotUnderstood)?;
+    let name = named(alloc, name)?;
     Ok(Request::BlankDd {
         bay,
         name,

@@ -15,22 +15,25 @@ pub fn number(
 ) -> Option<u32>
     requires least_base { 2 ≤ base }
     requires greatest_base { base ≤ 16 }
-    requires small { greatest ≤ 0xFFFFF }
     ensures value { result ≡ number_of base fewest most least greatest word.now }
     ensures range { IfSome result (λ n. n ≤ greatest) }
 {
     if word.len() < fewest || word.len() > most {
         return None;
     }
-    let mut value = 0;
+    let mut value: u64 = 0;
     for byte in word {
         let digit = char::from(*byte).to_digit(base)?;
-        value = value * base + digit;
-        if value > greatest {
+        value = value * base as u64 + digit as u64;
+        if value > greatest as u64 {
             return None;
         }
     }
-    if value < least { None } else { Some(value) }
+    if value < least as u64 {
+        None
+    } else {
+        Some(value as u32)
+    }
 }
 
 /// A bay, cylinder, head, record, size code or count of cylinders: one to three decimal digits, at most 255.

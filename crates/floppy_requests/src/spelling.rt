@@ -1,6 +1,7 @@
 // The plain spelling of a request.
 ghost use Rattle.std.specs.Prelude.{◌≡◌, Some};
-ghost use Rattle.floppy_requests.specs.Spelling.{hex2, hex5, rate_text, spelling};
+ghost use Rattle.floppy_requests.specs.Spelling.{hex2, hex5, rate_text, sector_texts, spelling};
+ghost use Rattle.std.specs.List.{join_with_byte};
 ghost use Rattle.floppy_requests.specs.declared.request.Request.{Request};
 
 use crate::Request;
@@ -49,6 +50,25 @@ fn rate_word(rate: Rate) -> &'static str
     }
 }
 
+/// A bay, a key and an address, shown as the words of a line.
+#[derive(Drop)]
+struct Sector {
+    bay: u8,
+    key: Chrn,
+    address: u32,
+}
+
+impl fmt::Display for Sector {
+    ghost output = { λ sector. Some (join_with_byte 32 (sector_texts sector.bay sector.key sector.address)) };
+
+    fn fmt<W: fmt::Write>(&self, f: &mut fmt::Formatter<W>) -> fmt::Result {
+        let bay = self.bay;
+        let Chrn { c, h, r, n } = self.key;
+        let address = Address(self.address);
+        write!(f, "{bay} {c} {h} {r} {n} {address}")
+    }
+}
+
 /// Shows the request as a line of a job in its plain spelling, without the line feed.
 impl fmt::Display for Request {
     ghost output = { λ request. Some (spelling request) };
@@ -69,21 +89,21 @@ impl fmt::Display for Request {
             } => write!(f, "blankdd {bay} {} {cylinders}", name.as_str()),
             Request::Eject { bay } => write!(f, "eject {bay}"),
             Request::Ack { bay } => write!(f, "ack {bay}"),
-            Request::Read { bay, key, address } => {
-                let Chrn { c, h, r, n } = *key;
-                let address = Address(*address);
-                write!(f, "read {bay} {c} {h} {r} {n} {address}")
-            }
-            Request::Write { bay, key, address } => {
-                let Chrn { c, h, r, n } = *key;
-                let address = Address(*address);
-                write!(f, "write {bay} {c} {h} {r} {n} {address}")
-            }
-            Request::WriteDeleted { bay, key, address } => {
-                let Chrn { c, h, r, n } = *key;
-                let address = Address(*address);
-                write!(f, "writedel {bay} {c} {h} {r} {n} {address}")
-            }
+            Request::Read { bay, key, address } => write!(
+                f,
+                "read {}",
+                sector_words(*bay, *key, *address)
+            ),
+            Request::Write { bay, key, address } => write!(
+                f,
+                "write {}",
+                sector_words(*bay, *key, *address)
+            ),
+            Request::WriteDeleted { bay, key, address } => write!(
+                f,
+                "writedel {}",
+                sector_words(*bay, *key, *address)
+            ),
             Request::Format { bay, c, h } => write!(f, "format {bay} {c} {h}"),
             Request::Fill {
                 address,
@@ -103,4 +123,10 @@ impl fmt::Display for Request {
             Request::Tries { tries } => write!(f, "tries {tries}"),
         }
     }
+}
+
+fn sector_words(bay: u8, key: Chrn, address: u32) -> Sector
+    ensures { result ≡ record { bay = bay; key = key; address = address } }
+{
+    Sector { bay, key, address }
 }
