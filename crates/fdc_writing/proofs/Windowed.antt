@@ -1,21 +1,20 @@
 -- A word of a window that a writing writes.
-use Rattle.std.proofs.Common.{◌≡◌, ℕ, zero, suc, ◌+◌, ◌≤◌, Bool, true, false, Option, Some, None, List, [], ◌∷◌, ◌++◌, length, replicate, refl, sym, ap, subst, ◌∙◌, append_assoc, arith, inl, inr, length-append}
+use Rattle.std.proofs.Common.{◌≡◌, ℕ, ◌+◌, ◌≤◌, Bool, true, false, Option, Some, None, List, [], ◌∷◌, ◌++◌, length, replicate, refl, sym, ap, subst, ◌∙◌, append_assoc, arith, inl, inr, length-append}
 use Rattle.std.proofs.lemmas.Bool.{false≢true}
 use Rattle.std.proofs.lemmas.List.{append-nil, length-replicate}
 use Rattle.flop_base.specs.declared.key.Chrn.{Chrn}
-use Rattle.track_model.specs.Fields.{content_size}
 use Rattle.track_model.specs.Writing.{window}
 use Rattle.track_separator.specs.Parts.{with_word}
 use Rattle.fdc_writing.specs.declared.window.Part.{Part}
 use Rattle.fdc_writing.specs.declared.window.Part.TheVariants as part
 use Rattle.fdc_writing.specs.declared.window.Window.{Window}
-use Rattle.fdc_writing.specs.Windows.{words_left, bytes_left, count_left, lead_left, count_from, is_content, with_byte, needs_byte, words_behind, bytes_behind, Gives}
-use Rattle.fdc_stages.specs.declared.ending.Ending.TheVariants.{Done, NoField, NoCount}
+use Rattle.fdc_writing.specs.Windows.{bytes_left, count_from, is_content, with_byte, needs_byte, words_behind, bytes_behind, Gives}
+use Rattle.fdc_stages.specs.declared.ending.Ending.TheVariants.{Done, NoField}
 use Rattle.fdc_stages.specs.History.{Past, wrote}
 use Rattle.fdc_writing.specs.declared.writing.WriteStage.{WriteStage}
 use Rattle.fdc_writing.specs.declared.writing.WriteStage.TheVariants as stage
 use Rattle.fdc_writing.specs.Writings as writing
-use Rattle.fdc_writing.specs.Writings.{handed_with, IsBefore, IsInWindow, IsBegun, IsWhole, IsWriting, IsNextWord, HasBegun, HasWhole, HasWritten, is_due, lead_of}
+use Rattle.fdc_writing.specs.Writings.{handed_with, IsInWindow, IsBegun, IsWhole, IsWriting, IsNextWord, HasBegun, HasWhole, HasWritten}
 
 -- ---- the window that the next word belongs to
 

@@ -4,8 +4,7 @@ ghost use Rattle.track_model.specs.Marks.{data_byte};
 ghost use Rattle.track_model.specs.Writing.{window};
 ghost use Rattle.fdc_writing.specs.Windows.{Gives, words_left, bytes_left, count_left, lead_left, needs_byte};
 
-use mfm_cells::encode_byte;
-use mfm_cells::{crc_step, mark_crc};
+use mfm_cells::{crc_step, encode_byte, mark_crc};
 
 /// A mark A1, with its lost clock.
 const MARK: u16 = 0x4489;

@@ -9,8 +9,8 @@ ghost use Rattle.fdc_stages.specs.History.{Past, begun, heard, wrote};
 ghost use Rattle.fdc_stages.specs.Searches.{IsMet};
 ghost use Rattle.fdc_writing.specs.Writings.{is_open, opens, is_due, needs_byte, lead_of, handed_with, heard_where, IsInWindow, IsWriting, IsNextWord, HasBegun, HasWhole, HasWritten, HasNext, FailsWell, EndsWell, IsEnd, LeadsOn, write_heard};
 
-use fdc_stages::{Ending, Search, Searched};
 use crate::Window;
+use fdc_stages::{Ending, Search, Searched};
 use flop_base::{Chrn, sector_size};
 
 /// The words between an address field and its window.

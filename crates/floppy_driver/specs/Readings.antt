@@ -5,14 +5,12 @@ use Rattle.flop_base.specs.declared.key.Chrn.{Chrn}
 use Rattle.flop_base.specs.declared.answers.Code.{Code}
 use Rattle.flop_base.specs.declared.answers.Code.TheVariants.{Overrun, Seek}
 use Rattle.track_model.specs.Fields.{content_size}
-use Rattle.bay_model.specs.Counters.{IsUndisturbed, DisturbedLess, FaultsRoseBy, GoesOn, IsDriven}
+use Rattle.bay_model.specs.Counters.{IsUndisturbed, FaultsRoseBy, GoesOn, IsDriven}
 use Rattle.bay_model.specs.Memory.{SameOutside}
-use Rattle.sector_map.specs.Met.{HasClearAddress, AllFound}
 use Rattle.single_commands.specs.Reading.{IsReadReason}
 use Rattle.sector_model.specs.Stations.{StationState, Becomes, bay_of, met}
 use Rattle.sector_model.specs.Orders.{IsDeviceRefusal}
 use Rattle.sector_model.specs.Reads.{IsRead}
-use Rattle.floppy_driver.specs.Attempts.{IsSure}
 
 -- a field of the key was read, and its content fills the range of memory
 pub record IsReadWhole (bay : ℕ) (key : Chrn) (address : ℕ) (old : StationState) (deleted : Bool) (new : StationState) : Type 0 where

@@ -1,32 +1,27 @@
 -- An attempt at a write, and what several attempts made.
 use Rattle.std.specs.Option.{option_map_or}
-use Rattle.std.specs.Prelude.{false, None, [], ◌∷◌, ◌++◌, ◌≡◌, ℕ, ◌+◌, ◌-◌, ◌*◌, ◌<◌, ◌≤◌, Bool, List, length, slice_index, All, Option, Some, Result, IsOk, IfErr, MatchOption, ◌⊎◌}
+use Rattle.std.specs.Prelude.{false, [], ◌∷◌, ◌++◌, ◌≡◌, ℕ, ◌+◌, ◌-◌, ◌*◌, ◌<◌, ◌≤◌, List, slice_index, Option, Some, Result, IsOk, IfErr, MatchOption, ◌⊎◌}
 use Rattle.flop_base.specs.Counts.{RoseBy}
-use Rattle.flop_base.specs.declared.key.Chrn.{Chrn}
 use Rattle.flop_base.specs.declared.answers.Rate.{Rate}
 use Rattle.flop_base.specs.declared.answers.Code.{Code}
 use Rattle.flop_base.specs.declared.answers.Code.TheVariants.{NoMark, NotFound, Overrun, BadCrc, Seek}
-use Rattle.raw_image.specs.Disk.{Disk, IsDisk, HasTrack, track_of}
+use Rattle.raw_image.specs.Disk.{Disk, HasTrack, track_of}
 use Rattle.track_model.specs.declared.Look.TheVariants as look
-use Rattle.track_model.specs.Fields.{IsAddressAt}
 use Rattle.track_model.specs.Looks.{HasAddressMark}
 use Rattle.track_model.specs.Sectors.{IsSector, IsUnder}
-use Rattle.track_model.specs.Windows.{window_word, window_words, IsCut, IsTidy}
-use Rattle.track_model.specs.Regular.{IsRegular}
+use Rattle.track_model.specs.Windows.{window_word, window_words}
 use Rattle.bay_model.specs.Bays.{in_bay}
-use Rattle.bay_model.specs.Counters.{DriveCounts, Counters, IsFaultless, FaultsRoseLess, FaultsRoseBy, IsUndisturbed, DisturbedLess, GoesOn, IsDriven, faults_of}
+use Rattle.bay_model.specs.Counters.{Counters, IsFaultless, FaultsRoseLess, FaultsRoseBy, IsUndisturbed, GoesOn, IsDriven}
 use Rattle.sector_map.specs.Met.{HasNoClearMark, HasClearAddress, HasLook}
-use Rattle.sector_map.specs.Disks.{IsRegularDisk}
-use Rattle.sector_map.specs.Changes.{Change, Written, window_of, IsChange}
+use Rattle.sector_map.specs.Changes.{Change, Written, IsChange}
 use Rattle.sector_map.specs.ChangedDisks.{IsWholeChange}
 use Rattle.sector_model.specs.Stations.{StationState, Becomes, bay_of, set_bay, met, IsSteady}
 use Rattle.sector_model.specs.Orders.{IsDeviceRefusal}
 use Rattle.single_commands.specs.Rigs.{Rig, HeadsStay, track_under}
 use Rattle.single_commands.specs.Writing.{ChangesMedium}
 use Rattle.floppy_driver.specs.declared.driver.Driver.{Driver}
-use Rattle.floppy_driver.specs.Shown.{shown, HasAsked}
-use Rattle.floppy_driver.specs.Attempts.{CanTry, IsSure}
-use Rattle.sector_model.specs.Writes.{Reaches, IsLastWhole, HasWindowCut, HasOtherContent, written_from}
+use Rattle.floppy_driver.specs.Attempts.{CanTry}
+use Rattle.sector_model.specs.Writes.{HasWindowCut, HasOtherContent}
 
 -- the first bytes of two memories are alike, from 0 in the page and from an address in the other
 abbrev pub AreBytesAlike : List ℕ → List ℕ → ℕ → ℕ → Type 0

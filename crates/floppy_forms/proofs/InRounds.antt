@@ -6,7 +6,7 @@ use Rattle.flop_base.specs.declared.answers.Status.TheVariants as status
 use Rattle.flop_base.specs.Shelf.{Files}
 use Rattle.flop_base.specs.Sink.{grown, GrowsByPart}
 use Rattle.flop_base.specs.declared.answers.Status.{Status}
-use Rattle.std.specs.Prelude.{All, Vec, IfSome, IsSomeAnd, Result, Ok, Err}
+use Rattle.std.specs.Prelude.{Vec, IfSome, IsSomeAnd, Result, Ok, Err}
 use Rattle.std.specs.declared.alloc.Global.{Global}
 use Rattle.flop_base.specs.Shelf.{Loads}
 use Rattle.flop_base.specs.declared.answers.LoadError.{LoadError}

@@ -15,7 +15,6 @@ use Rattle.floppy_jobs.specs.Lines.{ReadsText}
 use Rattle.floppy_requests.specs.Names.{name_of, is_name_text, IsName}
 use Rattle.floppy_requests.specs.Numbers.{all_digits, number_of, byte_of, address_of, length_of, hex_byte_of, tries_of}
 use Rattle.floppy_requests.specs.Requests.{insert_of, blank_of, blankdd_of, eject_of, ack_of, sector_of, read_of, write_of, writedel_of, format_of, fill_of, dump_of, unit_of, rate_word_of, rate_of, tries_line_of, plain_of, request_of}
-use Rattle.floppy_requests.specs.Texts.{job_of}
 use Rattle.floppy_requests.specs.Valid.{IsByte, IsSector, IsLength, IsRequest}
 use Rattle.floppy_jobs.proofs.NameLemmas.{and_left, and_right}
 

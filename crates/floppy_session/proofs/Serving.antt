@@ -30,7 +30,7 @@ use Rattle.flop_base.specs.declared.answers.Code.TheVariants.{NotReady}
 use Rattle.int13.specs.declared.work.Kind.{Kind}
 use Rattle.int13.specs.declared.work.Kind.TheVariants.{Read, Write, Verify}
 use Rattle.int13.specs.declared.work.Work.{Work}
-use Rattle.int13.specs.declared.work.Work.TheVariants.{Answer, Changed, Move}
+use Rattle.int13.specs.declared.work.Work.TheVariants.{Changed, Move}
 use Rattle.floppy_session.specs.Services.{MovesRecord, MovesIn, VerifiesRecords, DoesWork, AcksAlone, Transfers, look_at, ack_code, AreDone, MovesRecords, record_request, record_behind, place_of_record, record_requests, put_requests, put_request}
 use Rattle.floppy_session.proofs.Named.{by_refusal}
 

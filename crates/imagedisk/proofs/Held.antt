@@ -1,5 +1,5 @@
 -- What the looks at the address fields of a track give.
-use Rattle.std.proofs.Common.{◌≡◌, ℕ, ◌+◌, ◌*◌, ◌<◌, Bool, true, false, List, [], ◌∷◌, ◌++◌, length, get_or, refl, sym, ap, subst, ◌∙◌, arith, Contains, inl, inr}
+use Rattle.std.proofs.Common.{◌≡◌, ℕ, ◌+◌, ◌*◌, ◌<◌, Bool, List, [], ◌∷◌, ◌++◌, length, get_or, refl, sym, ap, subst, ◌∙◌, arith, Contains, inl, inr}
 use Rattle.std.proofs.lemmas.Bool.{cases_lt}
 use Rattle.std.proofs.lemmas.List.{get_or_append_left, get_or_default}
 use Rattle.std.proofs.Math.Seq.{get_or-append_seam}
@@ -16,7 +16,7 @@ use Rattle.imagedisk.specs.declared.sector.ImdKind.{ImdKind}
 use Rattle.imagedisk.specs.declared.sector.ImdKind.TheVariants.{Absent, Good, Deleted, Bad, BadDeleted}
 use Rattle.imagedisk.specs.declared.sector.ImdSector.{ImdSector}
 use Rattle.imagedisk.specs.Images.{kept_size, IsImdSector}
-use Rattle.imagedisk.specs.Taken.{intact_kind, damaged_kind, Holds, IsSectorAt, AreUniform, IsFit, HasNoAddress}
+use Rattle.imagedisk.specs.Taken.{Holds, IsSectorAt, AreUniform, IsFit, HasNoAddress}
 
 pub one_more_byte : (track : List ℕ) (p i : ℕ) → bytes_at track p (i + 1) ≡ bytes_at track p i ++ byte_at track (p + 16 * i) ∷ []
 one_more_byte track p i = map-range_with_len_more (λ j. byte_at track (p + 16 * j)) 0 i i (omega arith)

@@ -3,7 +3,7 @@ use Rattle.std.proofs.Common.{◌≡◌, ℕ, zero, suc, ◌+◌, ◌-◌, ◌*�
 use Rattle.std.specs.Prelude.{max}
 use Rattle.std.specs.List.{list_any}
 use Rattle.std.proofs.lemmas.Bool.{cases_lt}
-use Rattle.std.proofs.lemmas.List.{drop_more, drop_all, get_or_default, append-nil, length-take, take-replicate, drop-replicate}
+use Rattle.std.proofs.lemmas.List.{drop_all, get_or_default, append-nil, length-take, take-replicate, drop-replicate}
 use Rattle.std.proofs.Math.Nat.{mul-le-mul_right}
 use Rattle.std.proofs.lemmas.List.Folds.{list_any_at}
 use Rattle.flop_base.specs.declared.answers.Rate.{Rate}

@@ -8,8 +8,8 @@ ghost use Rattle.track_model.specs.declared.Look.TheVariants.{BadCrc};
 ghost use Rattle.imagedisk.specs.Images.{IsImdSector};
 ghost use Rattle.imagedisk.specs.Taken.{intact_kind, damaged_kind, Holds, IsSectorAt, AreSectorsAt, AreUniform};
 
-use flop_base::{Bytes, NoMemory, sector_size};
 use crate::{ImdKind, ImdSector, ImdSectors};
+use flop_base::{Bytes, NoMemory, sector_size};
 use std::alloc::Global;
 use track_fields::{Field, Look, content_byte, data_at, look_at};
 

@@ -6,8 +6,8 @@ ghost use Rattle.imagedisk.specs.Maps.{HasMapOf};
 ghost use Rattle.imagedisk.specs.Found.{HasBytes, HasSectors, AreBytes, HasImage};
 ghost use Rattle.imagedisk.specs.Taken.{IsImageOf};
 
-use flop_base::Rate;
 use crate::{ImdImage, ImdTrack};
+use flop_base::Rate;
 use raw_image::Medium;
 
 /// A law: on a track that an image makes are the address fields of its sectors and no others, in their order. Good and

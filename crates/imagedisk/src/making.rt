@@ -6,8 +6,8 @@ ghost use Rattle.imagedisk.specs.Made.{cylinder_count, has_other_side, head_coun
 
 use crate::error::ImdError;
 use crate::tracks::track_words;
-use flop_base::NoMemory;
 use crate::{ImdImage, ImdTrack};
+use flop_base::NoMemory;
 use raw_image::Medium;
 use std::alloc::Global;
 

@@ -7,8 +7,8 @@ ghost use Rattle.imagedisk.specs.Taken.{told_rate, AreTakenBelow, TakesTrack, Ta
 
 use crate::error::ImdError;
 use crate::fields::{sectors_of, size_code_of};
-use flop_base::Rate;
 use crate::{ImdImage, ImdTrack, ImdTracks};
+use flop_base::Rate;
 use raw_image::Medium;
 use std::alloc::Global;
 use track_fields::list_fields;

@@ -12,9 +12,9 @@ ghost use Rattle.imagedisk.specs.Made.{keys_of, sector_window, laid_track, with_
 
 use crate::error::ImdError;
 use crate::windows::sector_window;
+use crate::{ImdSector, ImdTrack};
 use flop_base::standard::FILL;
 use flop_base::{Chrn, NoMemory, Rate, sector_size};
-use crate::{ImdSector, ImdTrack};
 use sector_map::place_window;
 use std::alloc::Global;
 use track_format::{choose_gap, layout};

@@ -5,8 +5,8 @@ ghost use Rattle.track_model.specs.Windows.{window_words, damaged_window};
 ghost use Rattle.imagedisk.specs.Images.{IsImdSector};
 ghost use Rattle.imagedisk.specs.Made.{sector_window};
 
-use flop_base::{NoMemory, sector_size};
 use crate::{ImdKind, ImdSector};
+use flop_base::{NoMemory, sector_size};
 use mfm_cells::encode_byte;
 use std::alloc::Global;
 use track_fields::{field_crc, field_words};

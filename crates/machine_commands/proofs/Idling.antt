@@ -1,5 +1,5 @@
 -- Device steps in which no command and no seek goes on.
-use Rattle.std.specs.Prelude.{◌≡◌, ◌≤◌, ◌&&◌, Bool, true, false, not}
+use Rattle.std.specs.Prelude.{◌≡◌, ◌≤◌, ◌&&◌, true, false, not}
 use Rattle.flop_base.specs.Counts.{Spends}
 use Rattle.drive_model.specs.Drive.{DriveState}
 use Rattle.fdc_seek.specs.Seeking.{is_seeking}

@@ -8,11 +8,11 @@ use Rattle.std.proofs.Math.Seq.{take-set-lt}
 use Rattle.std.specs.Prelude.{List}
 use Rattle.flop_base.specs.Counts.{last_count}
 use Rattle.raw_image.specs.Disk.{Disk}
-use Rattle.bay_model.specs.Bays.{Two, in_bay, with_bay}
-use Rattle.bay_model.specs.Counters.{Counters, DriveGoesOn, GoesOn, IsPastDriver}
+use Rattle.bay_model.specs.Bays.{in_bay, with_bay}
+use Rattle.bay_model.specs.Counters.{DriveGoesOn, GoesOn, IsPastDriver}
 use Rattle.bay_model.proofs.Counted.{drive_same}
 use Rattle.bay_model.specs.Memory.{user_bytes}
-use Rattle.drive_model.specs.Drive.{DriveState, Becomes, InRange, at_speed, loaded, unloaded, with_motor}
+use Rattle.drive_model.specs.Drive.{DriveState, Becomes, InRange, at_speed, loaded, unloaded}
 use Rattle.fdc_core.specs.State.{data_commands_of, dor_of}
 use Rattle.machine_pace.specs.Holds.{Holds, counted}
 use Rattle.pc_bus.specs.Boards.{Board, IsEmpty, controller_of, drive_in, holds_of, memory_of}

@@ -28,7 +28,7 @@ use Rattle.fdc_stages.specs.declared.ending.Ending.TheVariants as ending
 use Rattle.machine_laws.specs.OnReads.Timely.{Stalled}
 use Rattle.machine_laws.specs.OnReads.Begins.{IsDriveOf}
 use Rattle.machine_laws.specs.OnReads.Scenes.{Scene, IsScene, data_rate, head_sent, track_met}
-use Rattle.machine_laws.specs.OnWrites.Results.{ChangesTo, EndsAs, HasChanged, IsInsideTrack, IsUnchanged, IsWholeWindow, written_in}
+use Rattle.machine_laws.specs.OnWrites.Results.{EndsAs, HasChanged, IsInsideTrack, IsUnchanged, IsWholeWindow, written_in}
 use Rattle.machine_laws.specs.OnWrites.Results as write
 use Rattle.machine_laws.proofs.OnWrites.Results.{changes_disk}
 use Rattle.pc_bus.specs.Boards.{Board, drive_in, memory_of}

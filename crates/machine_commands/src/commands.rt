@@ -8,13 +8,13 @@ use crate::machine::CommandedMachine;
 use crate::results::{key_of, mark_of};
 use crate::writing::told;
 use drive_model::Drive;
+use fdc_commands::laws::writes_are_spelled;
 use flop_base::{Chrn, Code, Rate};
 use machine_laws::laws::onawaits::{a_format_goes_on, a_write_goes_on};
 use machine_laws::laws::onformats::a_format_tells_of_the_medium;
 use machine_laws::laws::onreads::a_data_command_ends;
 use machine_laws::laws::onwrites::a_write_tells_of_the_medium;
 use single_commands::Commands;
-use fdc_commands::laws::writes_are_spelled;
 
 impl<D: Drive> Commands for CommandedMachine<D> {
     ghost rig = { rig_shown D.state };

@@ -16,6 +16,7 @@ ghost use Rattle.machine_commands.specs.declared.motors.Motors.{Motors};
 ghost use Rattle.machine_commands.specs.declared.results.Done.{Done};
 
 use dma_8237::laws::channel_is_set;
+use fdc_commands::laws::reads_are_spelled;
 use machine_laws::laws::onawaits::a_data_command_is_awaited;
 use machine_laws::laws::oncounts::counts_go_on;
 use machine_laws::laws::onreads::{
@@ -23,7 +24,6 @@ use machine_laws::laws::onreads::{
     a_read_id_tells_of_the_track, a_read_tells_of_the_track, device_steps_keep_a_read,
     port_accesses_keep_a_read, the_track_is_met,
 };
-use fdc_commands::laws::reads_are_spelled;
 
 /// READ ID at the ports of an idle machine tells of the track under the head, and the machine is idle again.
 pub(crate) fn a_read_id_is_done()

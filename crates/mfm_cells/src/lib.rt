@@ -14,7 +14,6 @@ pub mod laws;
 mod tables;
 
 pub use crc::{MARKS_CRC, crc_step, field_crc, mark_crc};
-
 use tables::{CELLS, DATA_CELLS};
 
 /// The sixteen cells of `byte` after a bit `last`, the first in bit 15.

@@ -5,7 +5,7 @@ use Rattle.raw_image.specs.Disk.{Disk, HasTrack, track_of}
 use Rattle.remaster.specs.declared.error.RemasterError.{RemasterError}
 use Rattle.remaster.specs.declared.error.RemasterError.TheVariants.{Unfit, NoMemory}
 use Rattle.remaster.specs.Fit.{IsFitTrack, IsUnfitTrack}
-use Rattle.remaster.specs.Remastered.{HasShapeOf, IsTrackRemaster, IsDone, IsTrackError, IsUnfitIn, IsRemaster, Remasters}
+use Rattle.remaster.specs.Remastered.{IsTrackRemaster, IsDone, IsTrackError, IsUnfitIn, Remasters}
 
 -- what is done stays done where the track stays
 pub done_still : (disk old new : Disk) (c h : ℕ) → track_of new c h ≡ track_of old c h → IsDone disk old c h → IsDone disk new c h

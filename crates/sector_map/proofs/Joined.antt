@@ -1,5 +1,5 @@
 -- Two changes as one, and changes of no words.
-use Rattle.std.proofs.Common.{◌≡◌, ℕ, ◌+◌, ◌≤◌, List, ◌++◌, length, take, drop, max, refl, sym, ap, subst, ◌∙◌, arith, inl, inr}
+use Rattle.std.proofs.Common.{◌≡◌, ℕ, ◌+◌, ◌≤◌, List, ◌++◌, length, take, drop, max, sym, ap, subst, ◌∙◌, arith, inl, inr}
 use Rattle.std.proofs.lemmas.List.{take-append-drop}
 use Rattle.raw_image.specs.Disk.{Disk, IsDisk, HasTrack, track_of, IsWithTrack}
 use Rattle.track_model.specs.Fields.{IsAddressAt}
@@ -9,12 +9,11 @@ use Rattle.track_model.specs.Windows.{window_word, cut_of, IsCuttable}
 use Rattle.track_model.proofs.Splices.{longer_cut}
 use Rattle.sector_map.specs.Disks.{IsRegularDisk}
 use Rattle.sector_map.specs.Changes.{Change, Written, window_of, IsChange}
-use Rattle.sector_map.specs.ChangedDisks.{IsWholeChange, IsSafeChange, joined}
+use Rattle.sector_map.specs.ChangedDisks.{IsSafeChange, joined}
 use Rattle.sector_map.proofs.Writable.{FitsKey}
 use Rattle.sector_map.proofs.RegularTracks.{length-track_of, window_inside}
-use Rattle.sector_map.proofs.KeptTracks.{each_track, with_itself, with_later}
-use Rattle.sector_map.proofs.SameDisks.{same_disk}
-use Rattle.sector_map.proofs.Changed.{length-cut, change_keeps_tracks, change_keeps_address, change_keeps_keys, change_keeps_sectors, change_cylinder}
+use Rattle.sector_map.proofs.KeptTracks.{with_itself, with_later}
+use Rattle.sector_map.proofs.Changed.{length-cut, change_keeps_address, change_keeps_keys, change_keeps_sectors, change_cylinder}
 
 -- ---- no words
 

@@ -1,5 +1,5 @@
 -- A disk and one of its tracks replaced.
-use Rattle.std.proofs.Common.{◌≡◌, ◌↔◌, ℕ, ◌<◌, List, Option, Some, length, refl, sym, ap, subst, ◌∙◌, inl, inr}
+use Rattle.std.proofs.Common.{◌≡◌, ◌↔◌, ℕ, ◌<◌, List, Option, Some, length, refl, sym, subst, ◌∙◌, inl, inr}
 use Rattle.std.proofs.lemmas.Bool.{cases_eq}
 use Rattle.flop_base.specs.declared.key.Chrn.{Chrn}
 use Rattle.flop_base.specs.declared.answers.Rate.{Rate}
@@ -10,11 +10,9 @@ use Rattle.track_model.specs.Fields.{IsAddressAt, content_at}
 use Rattle.track_model.specs.Looks.{LookAt, LookFor}
 use Rattle.track_model.specs.Regular.{IsRegular}
 use Rattle.sector_map.specs.Disks.{LookOn, IsRegularDisk, Entry, IsOnMap}
-use Rattle.sector_map.specs.Met.{unrecorded, met_on, met_in}
 use Rattle.sector_map.specs.MetTracks.{MeetsTrack}
 use Rattle.sector_map.specs.KeptDisks.{AreAlike, KeepsTracks}
 use Rattle.sector_map.proofs.RegularTracks.{length-track_of}
-use Rattle.sector_map.proofs.MetTracks.{on_there, by_met, in_is_on}
 
 module _ (disk after : Disk) (c h : ℕ) (words : List ℕ) (laid : IsWithTrack disk c h words after) where
   pub has_after : (b g : ℕ) → HasTrack disk b g → HasTrack after b g

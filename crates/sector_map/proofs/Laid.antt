@@ -1,10 +1,10 @@
 -- What a laying makes of a disk, and the keys of a format.
-use Rattle.std.proofs.Common.{◌≡◌, ◌↔◌, ℕ, false, ◌+◌, ◌-◌, ◌<◌, ◌≤◌, List, ◌++◌, length, take, drop, max, get_or, All, refl, sym, ap, subst, ◌∙◌, arith}
-use Rattle.std.proofs.lemmas.List.{length-append, length-take, length-replicate, take-append-drop, drop_all, take_all, append-nil}
+use Rattle.std.proofs.Common.{◌≡◌, ◌↔◌, ℕ, false, ◌+◌, ◌-◌, ◌<◌, ◌≤◌, List, ◌++◌, length, take, drop, max, get_or, All, sym, ap, subst, ◌∙◌, arith}
+use Rattle.std.proofs.lemmas.List.{length-append, length-take, length-replicate, drop_all, take_all, append-nil}
 use Rattle.std.proofs.lemmas.List.FromFn.{length-map-range_with_len, get_or-map-range_with_len}
 use Rattle.flop_base.specs.declared.key.Chrn.{Chrn}
 use Rattle.flop_base.specs.Standard.{sectors_at, standard_code}
-use Rattle.raw_image.specs.Disk.{Disk, IsDisk, HasTrack, track_of, IsWithTrack}
+use Rattle.raw_image.specs.Disk.{Disk, IsDisk, track_of, IsWithTrack}
 use Rattle.track_model.specs.declared.symbol.Symbol.{Symbol}
 use Rattle.track_model.specs.declared.symbol.Symbol.TheVariants.{Byte}
 use Rattle.track_model.specs.Layouts.{lay, track_symbols, gap, laid_words, Fits}
@@ -16,8 +16,7 @@ use Rattle.sector_map.specs.Layings.{Format, format_keys, formatted, Laying, IsL
 use Rattle.sector_map.specs.KeptDisks.{AreAlike, KeepsTracks}
 use Rattle.sector_map.specs.LaidDisks.{joined_laying}
 use Rattle.sector_map.proofs.RegularTracks.{length-track_of}
-use Rattle.sector_map.proofs.KeptTracks.{alike_tracks, each_track, with_track_keeps, with_itself, with_later}
-use Rattle.sector_map.proofs.SameDisks.{same_disk}
+use Rattle.sector_map.proofs.KeptTracks.{alike_tracks, with_track_keeps, with_later}
 
 -- ---- the keys of a track
 

@@ -1,15 +1,13 @@
 -- A whole window on any track: its data field is intact, whichever the track's other fields.
-use Rattle.std.proofs.Common.{◌≡◌, ℕ, suc, ◌+◌, ◌-◌, ◌*◌, ◌/◌, ◌%◌, ◌^◌, ◌<◌, ◌≤◌, Bool, true, List, ◌∷◌, ◌++◌, length, get_or, refl, sym, ap, subst, ◌∙◌, arith, inl, inr}
+use Rattle.std.proofs.Common.{◌≡◌, ℕ, suc, ◌+◌, ◌-◌, ◌*◌, ◌/◌, ◌%◌, ◌^◌, ◌<◌, ◌≤◌, Bool, true, List, ◌∷◌, ◌++◌, length, get_or, refl, sym, ap, ◌∙◌, arith, inl, inr}
 use Rattle.std.proofs.lemmas.Bool.{cases_lt, cases_eq}
-use Rattle.std.proofs.lemmas.List.{get_or_append_left, get_or-append-add, length-append, take_all}
+use Rattle.std.proofs.lemmas.List.{get_or_append_left, get_or-append-add, length-append}
 use Rattle.std.proofs.lemmas.List.FromFn.{fill_by_all}
-use Rattle.raw_image.specs.Disk.{Disk, track_of}
 use Rattle.track_model.specs.Cells.{cells_at}
 use Rattle.track_model.specs.Bytes.{byte_at, legal}
 use Rattle.track_model.specs.Crc.{crc}
 use Rattle.track_model.specs.Marks.{data_byte, IsSound, IsRun}
 use Rattle.track_model.specs.Fields.{after_marks, content_size, content_at, data_cells, IsDataMark, IsWhole}
-use Rattle.track_model.specs.Sectors.{IsUnder}
 use Rattle.track_model.specs.Writing.{sync_and_marks, check_bytes, window}
 use Rattle.flop_base.specs.Lists.{with_items}
 use Rattle.track_model.specs.Windows.{window_word}
@@ -18,10 +16,6 @@ use Rattle.track_model.proofs.OwnField.{legal_not_zero}
 use Rattle.track_model.proofs.Splices
 use Rattle.track_model.proofs.WindowMarks.{marked, byte_in, byte_behind, run_in, word_12, word_13, word_14}
 use Rattle.track_model.proofs.Written.{length-sync_and_marks, length-window}
-use Rattle.sector_map.specs.Changes.{Change, Written, window_of, IsChange}
-use Rattle.sector_map.specs.ChangedDisks.{IsWholeChange}
-use Rattle.sector_map.proofs.Writable.{FitsKey}
-use Rattle.sector_map.proofs.Changed.{change_keeps_address}
 
 not_zero : (deleted : Bool) (rest : List ℕ) (i : ℕ) → 12 ≤ i → i < 16 + length rest → get_or (marked (data_byte deleted ∷ rest)) i 0 ≡ 0 → ⊥
 not_zero deleted rest i low high zero =

@@ -1,16 +1,16 @@
 -- Changes of a disk: whole and safe ones, several as one, and what is there after them.
-use Rattle.std.specs.Prelude.{◌≡◌, ℕ, ◌+◌, ◌^◌, ◌<◌, ◌≤◌, Bool, List, length, max, slice_index, ◌⊎◌}
+use Rattle.std.specs.Prelude.{◌≡◌, ℕ, ◌+◌, ◌^◌, ◌<◌, ◌≤◌, Bool, List, length, max, ◌⊎◌}
 use Rattle.flop_base.specs.declared.key.Chrn.{Chrn}
 use Rattle.raw_image.specs.Disk.{Disk, track_of}
 use Rattle.track_model.specs.declared.Look.{Look}
 use Rattle.track_model.specs.declared.Look.TheVariants.{Found}
-use Rattle.track_model.specs.Fields.{IsAddressAt, content_at, content_size}
+use Rattle.track_model.specs.Fields.{IsAddressAt, content_at}
 use Rattle.track_model.specs.Looks.{LookAt}
 use Rattle.track_model.specs.Sectors.{IsSector}
-use Rattle.track_model.specs.Windows.{window_word, window_words, window_place, IsTidy}
+use Rattle.track_model.specs.Windows.{window_place, IsTidy}
 use Rattle.sector_map.specs.Disks.{Entry}
-use Rattle.sector_map.specs.Met.{HasNoClearMark, HasClearAddress, HasLook, AllFound}
-use Rattle.sector_map.specs.Changes.{Change, Written, window_of, IsChange}
+use Rattle.sector_map.specs.Met.{HasClearAddress, HasLook, AllFound}
+use Rattle.sector_map.specs.Changes.{Change, Written, window_of}
 
 -- a content with its mark under a key
 abbrev pub written_under : Chrn → Bool → List ℕ → Written

@@ -1,5 +1,5 @@
 -- Cells and bytes of a track, by the words that they stand in.
-use Rattle.std.proofs.Common.{◌≡◌, ◌≢◌, ℕ, zero, suc, ◌+◌, ◌-◌, ◌*◌, ◌/◌, ◌%◌, ◌^◌, ◌<◌, ◌≤◌, List, [], ◌∷◌, ◌++◌, get_or, sym, ap, ◌∙◌, arith, inl, inr}
+use Rattle.std.proofs.Common.{◌≡◌, ℕ, zero, suc, ◌+◌, ◌-◌, ◌*◌, ◌/◌, ◌%◌, ◌^◌, ◌<◌, ◌≤◌, List, [], ◌∷◌, ◌++◌, get_or, sym, ap, ◌∙◌, arith, inl, inr}
 use Rattle.std.proofs.lemmas.Bool.{cases_lt}
 use Rattle.std.proofs.lemmas.List.FromFn.{map-range_with_len_more, length-map-range_with_len, get_or-map-range_with_len, fill_by_all}
 use Rattle.std.proofs.lemmas.Nat.{shr-shr}
@@ -8,7 +8,7 @@ use Rattle.std.specs.Int.{bit_at}
 use Rattle.track_model.specs.Cells.{cell, cells_at}
 use Rattle.track_model.specs.Bytes.{byte_at, bytes_at}
 use Rattle.track_model.specs.Marks.{TouchesNoZero}
-use Rattle.track_model.proofs.Numbers.{number_below, number_ext, number_from_bits, bit_at-number}
+use Rattle.track_model.proofs.Numbers.{number_ext, number_from_bits, bit_at-number}
 
 -- the cells of word k
 pub cell_in : (track : List ℕ) (p k i : ℕ) → p ≡ 16 * k + i → i < 16 → cell track p ≡ bit_at (get_or track k 0) (15 - i)

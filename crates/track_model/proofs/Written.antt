@@ -1,11 +1,10 @@
 -- How long written fields are.
 use Rattle.std.proofs.Common.{◌≡◌, ℕ, ◌+◌, false, true, Bool, List, [], ◌∷◌, ◌++◌, length, replicate, arith, length-append}
-use Rattle.flop_base.specs.declared.key.Chrn.{Chrn}
 use Rattle.track_model.specs.Bytes.{legal}
 use Rattle.track_model.specs.Crc.{crc}
 use Rattle.track_model.specs.Marks.{data_byte}
 use Rattle.track_model.specs.Fields.{after_marks}
-use Rattle.track_model.specs.Writing.{sync_and_marks, check_bytes, written_field, address_field, window}
+use Rattle.track_model.specs.Writing.{sync_and_marks, check_bytes, written_field, window}
 use Rattle.track_model.proofs.Legals.{length-legal}
 
 pub length-sync_and_marks : length sync_and_marks ≡ 15

@@ -1,7 +1,7 @@
 -- What a proof about words fed to a separator stands on: laws on lists of words, where `fed` is the first part of `whole`,
 -- and what the relations between a separator and the words fed say of places in them.
-use Rattle.std.proofs.Common.{◌≡◌, ◌⊎◌, ℕ, ◌+◌, ◌*◌, ◌<◌, ◌≤◌, Bool, true, false, IsTrue, List, length, take, slice_index, refl, sym, subst, ◌∙◌, arith, inl, inr}
-use Rattle.std.proofs.lemmas.Bool.{cases_lt, cases_order, false≢true}
+use Rattle.std.proofs.Common.{◌≡◌, ◌⊎◌, ℕ, ◌+◌, ◌*◌, ◌<◌, ◌≤◌, Bool, true, false, IsTrue, List, length, take, refl, sym, subst, ◌∙◌, arith, inl, inr}
+use Rattle.std.proofs.lemmas.Bool.{cases_lt, false≢true}
 use Rattle.std.proofs.lemmas.List.{length-take-le, get_or-take}
 use Rattle.flop_base.specs.declared.key.Chrn.{Chrn}
 use Rattle.track_model.specs.declared.Look.TheVariants.{NoData}
@@ -12,13 +12,13 @@ use Rattle.track_model.specs.Looks.{IsFirstDataMark, IsIntact, LookAt}
 use Rattle.track_model.specs.Sectors.{HasNoRunWithin}
 use Rattle.track_separator.specs.declared.state.Separator.{Separator}
 use Rattle.track_separator.specs.Parts.{with_word, IsPart, EndsInLast}
-use Rattle.track_separator.specs.Hunts.{SHunts, SFollows, SAddressed}
-use Rattle.track_separator.specs.Waits.{SWaits, SReads, EndsReach, HasNoDataMark, HasEnded, TellsWhole, IsUnfinished}
+use Rattle.track_separator.specs.Hunts.{SHunts, SFollows}
+use Rattle.track_separator.specs.Waits.{SWaits, SReads, HasNoDataMark, HasEnded, TellsWhole, IsUnfinished}
 use Rattle.track_separator.specs.Lifts.{look_of}
 use Rattle.track_separator.proofs.Shared.{AreAlike, alike_back, alike_run, alike_byte_at, alike_bytes_at, alike_address_mark, alike_address_at, alike_data_mark, alike_whole}
-use Rattle.track_separator.proofs.Runs.{runs_apart, run_ends}
+use Rattle.track_separator.proofs.Runs.{run_ends}
 use Rattle.track_separator.proofs.Next.{more_of}
-use Rattle.track_separator.proofs.Staged.{addressed_at, waits_at, reads_first, reads_at}
+use Rattle.track_separator.proofs.Staged.{waits_at, reads_first, reads_at}
 -- two lists with the same cells before an end, one list with one word more than another, and how runs of marks lie
 pub use Rattle.track_separator.proofs.Shared.{AreAlike, alike_back, alike_within, alike_byte_at, alike_bytes_at}
 pub use Rattle.track_separator.proofs.Next.{IsMore, more_of}

@@ -14,12 +14,12 @@ ghost use Rattle.pc_bus.specs.Handling.{irq_taken};
 ghost use Rattle.pc_bus.specs.Ports.{Inputs, Outputs};
 ghost use Rattle.pc_bus.specs.Steps.{Runs, Waits, stirred};
 
-use fdc_core::laws::quiet_request_waits;
 use crate::laws::oncounts::counts_go_on;
 use crate::laws::onformats::{
     a_format_begins_on_time, device_steps_keep_a_format, port_accesses_keep_a_format,
 };
 use crate::laws::onwrites::{a_write_begins_on_time, device_steps_are_on_time};
+use fdc_core::laws::quiet_request_waits;
 
 /// A WRITE DATA or WRITE DELETED that begins with INT and DRQ let out, INT low, the FIFO on with threshold 8, and no request left
 /// from before, goes on through device steps, waits, strays that are taken, and reads of MSR, until its end is told.
