@@ -1,23 +1,11 @@
 -- What clap makes of a command with places alone, behind `--`.
-use Rattle.std.proofs.Common.{◌≡◌, ◌∙◌, List, [], ◌∷◌, Option, Some, None, IsSome, option_map, true, codes, refl, ap, ap₂, rules, Bor}
-use Rattle.clap.specs.Words.{App, HasMatchesOf, Row, Rule, Text, first_of, first_value, found_of, is_simple, matches_of, new_app, new_rule, rows_of, with_rule}
-use Rattle.clap.specs.declared.builder.ArgAction.TheVariants.{Set}
+use Rattle.std.proofs.Common.{◌≡◌, ◌∙◌, List, [], ◌∷◌, Option, Some, None, IsSome, true, codes, refl, ap, ap₂}
+use Rattle.clap.specs.Words.{App, HasMatchesOf, Row, Text, first_of, first_value, found_of, is_simple, matches_of, rows_of}
+use Rattle.floppy_words.specs.Places.{one_place, two_places, three_places}
 use Rattle.clap.specs.declared.parser.matches.Found.{Found}
 use Rattle.clap.specs.declared.parser.matches.ArgMatches.{ArgMatches}
 use Rattle.clap.proofs.OnLiterals.{clap_on_literals}
 use Rattle.clap.proofs.WalkLemmas.{first_value-rows}
-
-abbrev pub place : Text → Rule
-place id = record (new_rule id) { required = true; action = Some Set }
-
-abbrev pub one_place : Text → App
-one_place verb = with_rule (new_app verb) (place (codes "FIRST"))
-
-abbrev pub two_places : Text → App
-two_places verb = with_rule (one_place verb) (place (codes "SECOND"))
-
-abbrev pub three_places : Text → App
-three_places verb = with_rule (two_places verb) (place (codes "THIRD"))
 
 abbrev pub behind : Text → List Text → List Text
 behind verb words = verb ∷ codes "--" ∷ words
@@ -85,12 +73,11 @@ three_values verb word next last a words m app_is words_are has =
       found (found_of m) _ last _ rows (three_third verb word next last),
     )
 
--- a text that was found is there
-pub is_there : (read : Option (Bor Text)) (text : Text) → option_map (λ s. s.now) read ≡ Some text → IsSome read
-is_there None text e = absurd cc
-is_there (Some s) text e = search rules
+-- a place that has its word has a word
+pub is_there : (read : Option Text) (word : Text) → read ≡ Some word → IsSome read
+is_there (Some text) word e = refl
+is_there None word e = absurd cc
 
--- and it is that text
-pub is_text : (read : Option (Bor Text)) (s : Bor Text) (text : Text) → option_map (λ s. s.now) read ≡ Some text → read ≡ Some s → s.now ≡ text
-is_text None s text e same = absurd cc
-is_text (Some other) s text e same = let taken : other ≡ s = cc in let is : other.now ≡ text = cc in rw taken at is
+-- and what is kept of it is that word
+pub is_word : (read : Option Text) (text word : Text) → read ≡ Some word → read ≡ Some text → text ≡ word
+is_word read text word e same = cc

@@ -1,12 +1,10 @@
 -- The words `ports FILE` are no form, and none of them begins with a dash.
 use Rattle.std.proofs.Common.{◌≡◌, ◌∙◌, ℕ, Bool, true, false, List, [], ◌∷◌, Option, Some, None, Result, Ok, Err, refl, sym, ap, true≢false, inl, inr, if◌then◌else◌}
 use Rattle.std.specs.Prelude.{codes}
-use Rattle.std.specs.Str.{bytes_eq}
 use Rattle.std.specs.List.{list_any}
 use Rattle.std.proofs.lemmas.Bool.{eqb-true}
 use Rattle.std.proofs.lemmas.Slice.Eq.{bytes_eq-Decides}
 use Rattle.flop_base.specs.declared.answers.NoMemory.{NoMemory}
-use Rattle.floppy_requests.specs.Names.{name_of}
 use Rattle.floppy_words.specs.Forms.{Reads, begins_with_dash, form_of, ports_file_of}
 use Rattle.floppy_words.proofs.DashLemmas.{dash_name, any_one, either_or}
 

@@ -4,7 +4,6 @@
 mod form;
 mod places;
 mod read;
-mod seed;
 
 pub use form::{Cylinders, Form};
 pub use read::{form_named, ports_file};

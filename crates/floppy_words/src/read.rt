@@ -4,7 +4,6 @@ ghost use Rattle.std.specs.List.{list_any};
 ghost use Rattle.floppy_words.specs.Forms.{Reads, ports_file_of, begins_with_dash, cylinders_of, disk_of, play_of, format_of, formatdd_of, copy_of, verify_of, fromimd_of, toimd_of, survey_of, remaster_of, names_of, form_of, import_of, export_of, count_of, workload_of, exercise_of, int13_of, rescue_of};
 
 use crate::places::{one_place, three_places, two_places};
-use crate::seed::seed_number;
 use crate::{Cylinders, Form};
 use flop_base::{Name, NoMemory};
 use floppy_jobs::numbers::number;
@@ -117,19 +116,14 @@ fn formatdd(alloc: Global, words: &[String]) -> Result<Option<Form>, NoMemory>
     }
 }
 
-#[tactic(auto, unfolding(crate::specs::Forms::copy_of))]
+#[tactic(auto, using(crate::proofs::NameLemmas::copy_names))]
 fn copy(alloc: Global, words: &[String]) -> Result<Option<Form>, NoMemory>
     ensures { Reads result (copy_of (map string_bytes words.now)) }
 {
-    let [from, to] = words else { return Ok(None) };
-    let Some(from) = name_text(from.as_bytes()) else {
-        return Ok(None);
-    };
-    let Some(to) = name_text(to.as_bytes()) else {
-        return Ok(None);
-    };
-    let (from, to) = two_places(alloc, "copy", from, to)?;
-    Ok(Some(Form::Copy { from, to }))
+    match two_names(alloc, "copy", words)? {
+        Some((from, to)) => Ok(Some(Form::Copy { from, to })),
+        None => Ok(None),
+    }
 }
 
 #[tactic(auto, unfolding(crate::specs::Forms::verify_of))]
@@ -299,11 +293,11 @@ fn exercise(alloc: Global, words: &[String]) -> Result<Option<Form>, NoMemory>
 }
 
 /// The workload of a seed and a count.
-#[tactic(auto, unfolding(crate::specs::Forms::workload_of))]
+#[tactic(auto, unfolding(crate::specs::Forms::workload_of, crate::specs::Forms::seed_of))]
 fn workload(seed: &[u8], count: &[u8]) -> Option<Form>
     ensures { result ≡ workload_of seed.now count.now }
 {
-    let seed = seed_number(seed)?;
+    let seed = number(seed, 10, 1, 10, 0, 2_147_483_647)?;
     let count = request_count(count)?;
     Some(Form::Exercise { seed, count })
 }

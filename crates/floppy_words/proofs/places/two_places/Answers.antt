@@ -1,40 +1,21 @@
 -- What was read is what was handed in.
-use Rattle.std.proofs.Common.{◌≡◌, ◌∙◌, [], ◌∷◌, rules, ap₂, codes, map}
-use Rattle.clap.specs.Words.{app_of, rule_of, with_rule}
-use Rattle.floppy_words.proofs.PlaceLemmas.{place, two_places, behind, two_values, is_there, is_text}
+use Rattle.std.proofs.Common.{◌≡◌, [], ◌∷◌, rules, map}
+use Rattle.std.proofs.lemmas.Result.{IfOk-weaker}
+use Rattle.floppy_words.proofs.PlaceLemmas.{behind, two_values, is_there, is_word}
 use Rattle.floppy_words.proofs.places.two_places.Goals as goal
 
-pub unwrap-one-requires : goal.unwrap-one-requires
-unwrap-one-requires c =
-    let first_is : rule_of c.action-place.result ≡ place (codes "FIRST") = search rules in
-    let second_is : rule_of c.action-next.result ≡ place (codes "SECOND") = search rules in
-    let app_is : app_of c.in_ok-command.command ≡ two_places c.args.verb.now =
-    c.in_ok-command.ensures.shape (search rules)
-    ∙ ap₂ with_rule (c.in_ok-arg.ensures.shape (search rules) ∙ ap₂ with_rule c.new-3.ensures.app first_is) second_is in
+pub two_named-requires-clause-first : goal.two_named-requires-clause-first
+two_named-requires-clause-first c =
     let words_are : map (λ s. s.now) c.as_slice.result.now ≡ behind c.args.verb.now (c.args.first.now ∷ c.args.second.now ∷ []) = search rules in
-    let values = two_values _ _ _ _ _ _ app_is words_are c.in-Ok.ensures.matches in
-    is_there _ _ (c.get_str.ensures ∙ values.0)
+    is_there _ _ (two_values _ _ _ _ _ _ c.in_ok-two_command.ensures words_are c.in_ok-matches.ensures).0
 
-pub unwrap-two-requires : goal.unwrap-two-requires
-unwrap-two-requires c =
-    let first_is : rule_of c.action-place.result ≡ place (codes "FIRST") = search rules in
-    let second_is : rule_of c.action-next.result ≡ place (codes "SECOND") = search rules in
-    let app_is : app_of c.in_ok-command.command ≡ two_places c.args.verb.now =
-    c.in_ok-command.ensures.shape (search rules)
-    ∙ ap₂ with_rule (c.in_ok-arg.ensures.shape (search rules) ∙ ap₂ with_rule c.new-3.ensures.app first_is) second_is in
+pub two_named-requires-clause-second : goal.two_named-requires-clause-second
+two_named-requires-clause-second c =
     let words_are : map (λ s. s.now) c.as_slice.result.now ≡ behind c.args.verb.now (c.args.first.now ∷ c.args.second.now ∷ []) = search rules in
-    let values = two_values _ _ _ _ _ _ app_is words_are c.in-Ok.ensures.matches in
-    is_there _ _ (c.get_str-2.ensures ∙ values.1)
+    is_there _ _ (two_values _ _ _ _ _ _ c.in_ok-two_command.ensures words_are c.in_ok-matches.ensures).1
 
 pub returns : goal.returns
 returns c =
-    let first_is : rule_of c.action-place.result ≡ place (codes "FIRST") = search rules in
-    let second_is : rule_of c.action-next.result ≡ place (codes "SECOND") = search rules in
-    let app_is : app_of c.in_ok-command.command ≡ two_places c.args.verb.now =
-    c.in_ok-command.ensures.shape (search rules)
-    ∙ ap₂ with_rule (c.in_ok-arg.ensures.shape (search rules) ∙ ap₂ with_rule c.new-3.ensures.app first_is) second_is in
     let words_are : map (λ s. s.now) c.as_slice.result.now ≡ behind c.args.verb.now (c.args.first.now ∷ c.args.second.now ∷ []) = search rules in
-    let values = two_values _ _ _ _ _ _ app_is words_are c.in-Ok.ensures.matches in
-    let one = is_text _ c.unwrap-one.result _ (c.get_str.ensures ∙ values.0) c.unwrap-one.ensures in
-    let two = is_text _ c.unwrap-two.result _ (c.get_str-2.ensures ∙ values.1) c.unwrap-two.ensures in
-    (c.in_ok-copy.ensures ∙ one, c.in_ok-copy-2.ensures ∙ two)
+    let values = two_values _ _ _ _ _ _ c.in_ok-two_command.ensures words_are c.in_ok-matches.ensures in
+    IfOk-weaker c.two_named.result _ _ (λ read is. (is_word _ _ _ values.0 is.0, is_word _ _ _ values.1 is.1)) c.two_named.ensures
