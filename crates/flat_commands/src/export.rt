@@ -44,17 +44,18 @@ fn open_disk<S: Shelf, D: Station>(
     }
 }
 
-/// Puts a record of memory behind the bytes of a flat file.
+/// Puts bytes of memory behind those of a flat file.
 fn gather<D: Station>(
     session: &Session<D>,
     address: u32,
+    count: u32,
     flat: &mut Vec<u8>,
 ) -> Result<(), NoMemory>
-    requires { address + 512 ≤ user_bytes }
+    requires { address + count ≤ user_bytes }
     ensures { OnOk result (flat.new.items ≡ flat.old.items
-        ++ bytes_from (state_of D.shown session.now).station.memory address 512) }
+        ++ bytes_from (state_of D.shown session.now).station.memory address count) }
 {
-    for i in 0..512u32 {
+    for i in 0..count {
         flat.push(session.station().memory(address + i))?;
     }
     Ok(())
@@ -91,7 +92,7 @@ fn read_record<S: Shelf, D: Station>(
         address,
     };
     ask(session, shelf, read)?;
-    match gather(session, address, flat) {
+    match gather(session, address, 512, flat) {
         Ok(()) => Ok(()),
         Err(NoMemory) => Err(Halt::Starved),
     }
