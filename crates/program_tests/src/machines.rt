@@ -52,6 +52,21 @@ pub(crate) fn machine_with<D: Drive>(
     Ok(machine)
 }
 
+/// A machine with two drives that have no faults.
+pub(crate) fn machine(alloc: Global) -> Result<MachineOf<PlainDrive>, NoMemory>
+    ensures { IfOk result (λ machine. IsFreshBoard (board plain_state machine)) }
+{
+    machine_with(alloc, plain(), plain())
+}
+
+/// Two spare drives without faults.
+pub(crate) fn spare(alloc: Global) -> Result<Vec<PlainDrive>, NoMemory>
+    ensures { IfOk result (λ spare. All (λ drive. IsEmpty (plain_state drive)) spare.items) }
+{
+    let spare = vec![in alloc; plain(), plain()]?;
+    Ok(spare)
+}
+
 /// A drive without faults, as it comes.
 fn plain() -> PlainDrive
     ensures { IsEmpty (plain_state result) }
@@ -74,8 +89,8 @@ fn asked(
     shelf: &mut MemShelf,
     sink: &mut MemSink,
 ) -> Result<(Status, MachineOf<PlainDrive>), Fail> {
-    let machine = machine_with(alloc, plain(), plain())?;
-    let spare = vec![in alloc; plain(), plain()]?;
+    let machine = machine(alloc)?;
+    let spare = spare(alloc)?;
     Ok(floppy(alloc, words, shelf, sink, machine, spare))
 }
 
@@ -84,14 +99,13 @@ pub(crate) fn same_bytes(rt: &impl Abort, bytes: &[u8], wanted: &[u8], of: &str)
     assert!(rt; bytes == wanted, "{of}");
 }
 
-/// Runs the program with these words on a machine with drives that have no faults. The calls of the sink with this number fail.
+/// Runs the program with these words on a machine with drives that have no faults.
 pub(crate) fn run(
     alloc: Global,
     text: &str,
     shelf: &mut MemShelf,
-    sink_fails: u64,
 ) -> Result<Ran, Fail> {
-    let mut sink = MemSink::new(alloc, vec![in alloc; sink_fails]?);
+    let mut sink = MemSink::new(alloc, Vec::new(alloc));
     let words = words(alloc, text)?;
     let (status, machine) = asked(alloc, &words, shelf, &mut sink)?;
     let report = sink.bytes().to_vec(alloc)?;
@@ -100,25 +114,4 @@ pub(crate) fn run(
         status,
         machine,
     })
-}
-
-/// A shelf with a formatted disk `a.rt` in the first version of image files. The call of this number fails.
-pub(crate) fn shelf_with_disk(alloc: Global, fails: u64) -> Result<MemShelf, Fail> {
-    let mut made = MemShelf::new(alloc, Vec::new(alloc));
-    run(alloc, "format a.rt 1", &mut made, 0)?;
-    let mut image = made.file("a.rt").ok_or("a.rt is stored")?.to_vec(alloc)?;
-    for byte in image.iter_mut().skip(7).take(1) {
-        *byte = b'1';
-    }
-    let mut shelf = MemShelf::new(alloc, vec![in alloc; fails]?);
-    shelf.put_file("a.rt", &image)?;
-    Ok(shelf)
-}
-
-/// The disk was stored anew, which is in the second version.
-pub(crate) fn is_stored(shelf: &MemShelf) -> bool {
-    match shelf.file("a.rt") {
-        Some(image) => image.starts_with(b"RTIMAGE2"),
-        None => false,
-    }
 }

@@ -27,17 +27,12 @@ struct Shelves {
     on_disks: MemShelf,
 }
 
-/// Two shelves without files.
-fn bare_shelves(alloc: Global) -> Shelves {
-    Shelves {
-        in_memory: MemShelf::new(alloc, Vec::new(alloc)),
-        on_disks: MemShelf::new(alloc, Vec::new(alloc)),
-    }
-}
-
 /// Two shelves with a disk that the station in memory formats, and a job.
 fn shelves_with(alloc: Global, format: &str, disk: &str, job: &str) -> Result<Shelves, Fail> {
-    let mut both = bare_shelves(alloc);
+    let mut both = Shelves {
+        in_memory: MemShelf::new(alloc, Vec::new(alloc)),
+        on_disks: MemShelf::new(alloc, Vec::new(alloc)),
+    };
     let mut sink = MemSink::new(alloc, Vec::new(alloc));
     let _ = in_memory(alloc, format, &mut both.in_memory, &mut sink)?;
     let image = both
@@ -62,7 +57,7 @@ fn alike(
 ) -> Result<Status, Fail> {
     let mut sink = MemSink::new(alloc, Vec::new(alloc));
     let (status, station) = in_memory(alloc, text, &mut both.in_memory, &mut sink)?;
-    let ran = run(alloc, text, &mut both.on_disks, 0)?;
+    let ran = run(alloc, text, &mut both.on_disks)?;
     same_bytes(rt, &ran.report, sink.bytes(), text);
     assert_eq!(rt; ran.status, status);
     assert_eq!(rt; ran.machine.data_commands(), station.data_commands());
@@ -72,49 +67,14 @@ fn alike(
 }
 
 #[test]
-fn both_stations_format_alike(rt: HostRuntime) -> Result<(), Fail> {
-    let alloc = rt.alloc();
-    let mut both = bare_shelves(alloc);
-    for (text, name) in [("format a.rt 1", "a.rt"), ("formatdd e.rt 1", "e.rt")] {
-        let status = alike(&rt, alloc, &mut both, text, name)?;
-        assert_eq!(rt; status, Status::AllOk, "{text}");
-    }
-    Ok(())
-}
-
-#[test]
-fn both_stations_write_and_read_alike(rt: HostRuntime) -> Result<(), Fail> {
+fn both_stations_do_the_same(rt: HostRuntime) -> Result<(), Fail> {
     let alloc = rt.alloc();
     let job =
-        "insert 0 a.rt;ack 0;read 0 0 0 1 2 10000;dump 10000 2;fill 10000 512 A1;write 0 0 1 18 2 10000;\
-               writedel 0 0 0 5 2 10200;read 0 0 0 5 2 20000;read 0 0 1 18 2 30000;dump 30000 1;format 0 0 1;eject 0";
-    let mut both = shelves_with(alloc, "format a.rt 1", "a.rt", job)?;
-    let status = alike(&rt, alloc, &mut both, "play job", "a.rt")?;
-    assert_eq!(rt; status, Status::AllOk);
-    Ok(())
-}
-
-#[test]
-fn both_stations_refuse_alike(rt: HostRuntime) -> Result<(), Fail> {
-    let alloc = rt.alloc();
-    // With one attempt a refused read is one data command on both.
-    let job =
-        "tries 1;insert 0 e.rt;read 0 0 0 9 2 10000;ack 0;ack 1;read 0 0 0 19 2 10000;read 0 0 0 9 2 10001;\
-               read 0 0 0 9 2 1FF00;rate 0 500;read 0 0 0 9 2 10000;rate 0 250;write 0 0 0 9 2 10000;unit 0;unit 1;\
-               read 1 0 0 9 2 10000;eject 0;eject 0";
+        "insert 0 e.rt;read 0 0 0 9 2 10000;ack 0;fill 10000 512 A1;write 0 0 1 9 2 10000;writedel 0 0 0 5 2 10200;\
+               read 0 0 0 5 2 20000;read 0 0 1 9 2 30000;dump 30000 1;format 0 0 1;tries 1;read 0 0 0 10 2 10000;rate 0 500;\
+               read 0 0 0 9 2 10000;rate 0 250;unit 0;unit 1;read 1 0 0 9 2 10000;eject 0";
     let mut both = shelves_with(alloc, "formatdd e.rt 1", "e.rt", job)?;
     let status = alike(&rt, alloc, &mut both, "play job", "e.rt")?;
     assert_eq!(rt; status, Status::SomeRefused);
-    Ok(())
-}
-
-#[test]
-fn both_stations_copy_alike(rt: HostRuntime) -> Result<(), Fail> {
-    let alloc = rt.alloc();
-    let mut both = shelves_with(alloc, "formatdd e.rt 1", "e.rt", "")?;
-    let status = alike(&rt, alloc, &mut both, "copy e.rt b.rt", "b.rt")?;
-    assert_eq!(rt; status, Status::AllOk);
-    let status = alike(&rt, alloc, &mut both, "verify b.rt", "b.rt")?;
-    assert_eq!(rt; status, Status::AllOk);
     Ok(())
 }

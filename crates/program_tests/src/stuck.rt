@@ -92,7 +92,7 @@ fn one_spare<D: Drive>(alloc: Global, drive: D) -> Result<Vec<D>, NoMemory>
 fn a_spare_whose_pulses_are_lost(rt: HostRuntime) -> Result<(), Fail> {
     let alloc = rt.alloc();
     let mut shelf = MemShelf::new(alloc, Vec::new(alloc));
-    run(alloc, "format a.rt 1", &mut shelf, 0)?;
+    run(alloc, "format a.rt 1", &mut shelf)?;
     shelf.put_file("job", &lines(alloc, "unit 0;insert 0 a.rt;ack 0")?)?;
     let stuck = StuckDrive {
         inside: PlainDrive::new(),
