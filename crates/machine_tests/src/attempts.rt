@@ -22,9 +22,18 @@ fn a_read_that_is_disturbed_twice_is_done_at_the_third_attempt(
 fn the_last_refusal_is_the_answer(rt: HostRuntime) -> Result<(), Fail> {
     let mut bench = driven(rt.alloc())?;
     let plans = [
-        ([Trouble::Damaged, Trouble::Stalled, Trouble::Unmarked], Code::NoMark),
-        ([Trouble::Unmarked, Trouble::Stalled, Trouble::Damaged], Code::BadCrc),
-        ([Trouble::Unmarked, Trouble::Damaged, Trouble::Stalled], Code::Overrun),
+        (
+            [Trouble::Damaged, Trouble::Stalled, Trouble::Unmarked],
+            Code::NoMark,
+        ),
+        (
+            [Trouble::Unmarked, Trouble::Stalled, Trouble::Damaged],
+            Code::BadCrc,
+        ),
+        (
+            [Trouble::Unmarked, Trouble::Damaged, Trouble::Stalled],
+            Code::Overrun,
+        ),
     ];
     for (troubles, code) in plans {
         bench.plan(&troubles)?;

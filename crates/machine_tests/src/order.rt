@@ -27,7 +27,11 @@ fn a_second_attempt_goes_back_to_track_0(rt: HostRuntime) -> Result<(), Fail> {
     // The only attempt is the last one.
     bench.set_tries(1);
     assert_eq!(rt; bench.read(0, key(0, 1, 1), 0), Ok(false));
-    came(&rt, &mut bench, &[Call::Recalibrate, Call::Seek(0), Call::Read]);
+    came(
+        &rt,
+        &mut bench,
+        &[Call::Recalibrate, Call::Seek(0), Call::Read],
+    );
     Ok(())
 }
 

@@ -91,7 +91,10 @@ fn a_reset_forgets_the_cylinder(rt: HostRuntime) -> Result<(), Fail> {
     assert!(rt; idle.is_changed(0), "the heads are there");
     idle.reset();
     idle.seek(0, 1);
-    assert!(rt; !idle.is_changed(0), "the controller takes their cylinder for 0");
+    assert!(rt;
+        !idle.is_changed(0),
+        "the controller takes their cylinder for 0"
+    );
     Ok(())
 }
 

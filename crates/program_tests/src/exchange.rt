@@ -22,7 +22,9 @@ fn machine(alloc: Global) -> Result<Machine, Fail> {
 #[test]
 fn drives_and_media_are_exchanged(rt: HostRuntime) -> Result<(), Fail> {
     let mut machine = machine(rt.alloc())?;
+    assert!(rt; machine.is_fresh());
     machine.outb(0x3F2, 0x24);
+    assert!(rt; !machine.is_fresh());
     let medium = Medium::blank_at(rt.alloc(), 40, 1, 64, Rate::R250)?;
     assert!(rt; machine.insert(1, medium).is_ok());
     assert!(rt; machine.rate(1) == Rate::R250);

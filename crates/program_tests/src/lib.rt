@@ -11,8 +11,10 @@ mod machines;
 #[cfg(test)]
 mod outside;
 #[cfg(test)]
-mod same;
+mod printed;
 #[cfg(test)]
 mod session;
+#[cfg(test)]
+mod stations;
 #[cfg(test)]
 mod stuck;

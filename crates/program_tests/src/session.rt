@@ -3,7 +3,8 @@ ghost use Rattle.drive_model.specs.PlainDrive.{plain_state};
 ghost use Rattle.floppy_session.specs.Tries.{HasTries};
 ghost use Rattle.floppy_tools.specs.Sessions.{is_running};
 
-use crate::machines::{machine, run, spare};
+use crate::machines::{machine, spare};
+use crate::stations::shelf_with_disk;
 use drive_model::PlainDrive;
 use flop_base::{Chrn, Code, MemShelf, Name, Rate};
 use floppy_requests::Request;
@@ -34,8 +35,7 @@ fn answer(reply: Result<Reply, Stop>) -> Option<Result<(), Code>> {
 impl Ongoing {
     /// A session with two empty bays, and a shelf with a disk of 250 kbit/s.
     fn new(alloc: Global) -> Result<Ongoing, Fail> {
-        let mut shelf = MemShelf::new(alloc, Vec::new(alloc));
-        run(alloc, "formatdd a.rt 1", &mut shelf)?;
+        let shelf = shelf_with_disk(alloc, "")?;
         let session = Session::new(alloc, machine(alloc)?, spare(alloc)?);
         Ok(Ongoing { session, shelf })
     }
@@ -100,7 +100,12 @@ fn a_session_runs_requests_and_ends(rt: HostRuntime) -> Result<(), Fail> {
     assert_eq!(rt; session.data_commands(), 13);
     assert!(rt; session.end());
     let machine = session.into_machine();
-    for (address, byte) in [(0x0FFFF, 0x00), (0x10000, 0xF6), (0x101FF, 0xF6), (0x10200, 0x00)] {
+    for (address, byte) in [
+        (0x0FFFF, 0x00),
+        (0x10000, 0xF6),
+        (0x101FF, 0xF6),
+        (0x10200, 0x00),
+    ] {
         assert_eq!(rt; machine.ram(address), byte);
     }
     Ok(())
@@ -121,7 +126,10 @@ fn a_session_serves_calls(rt: HostRuntime) -> Result<(), Fail> {
     // The bay isn't acknowledged yet, and a call that acknowledges it moves nothing.
     let first = session.int13(&mut front, read);
     assert_eq!(rt; (first.ax, first.carry), (0x0600, true));
-    assert_eq!(rt; session.int13(&mut front, read), Regs { ax: 0x0001, ..read });
+    assert_eq!(rt;
+        session.int13(&mut front, read),
+        Regs { ax: 0x0001, ..read }
+    );
     let machine = session.into_machine();
     assert_eq!(rt; machine.ram(0x10000), 0xF6);
     assert_eq!(rt; machine.ram(0x10200), 0x00);

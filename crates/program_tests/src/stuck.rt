@@ -3,10 +3,12 @@ ghost use Rattle.std.specs.Prelude.{◌≡◌, ◌≤◌, All, IfOk, None};
 ghost use Rattle.flop_base.specs.Counts.{last_count};
 ghost use Rattle.pc_bus.specs.Boards.{IsEmpty};
 
-use crate::machines::{lines, machine_with, run, words};
+use crate::machines::machine_with;
+use crate::stations::{shelf_with_disk, words};
 use drive_model::{Drive, PlainDrive, Turn};
 use flop_base::{MemShelf, MemSink, NoMemory, Rate, Status};
 use floppy_tools::floppy;
+use pc_bus::Machine;
 use raw_image::Medium;
 use std::alloc::Global;
 use std::test::Fail;
@@ -88,12 +90,12 @@ fn one_spare<D: Drive>(alloc: Global, drive: D) -> Result<Vec<D>, NoMemory>
     Ok(spare)
 }
 
-#[test]
-fn a_spare_whose_pulses_are_lost(rt: HostRuntime) -> Result<(), Fail> {
-    let alloc = rt.alloc();
-    let mut shelf = MemShelf::new(alloc, Vec::new(alloc));
-    run(alloc, "format a.rt 1", &mut shelf)?;
-    shelf.put_file("job", &lines(alloc, "unit 0;insert 0 a.rt;ack 0")?)?;
+/// Plays the job over a machine with drives behind boxes, and a stuck one as its spare.
+fn play(
+    alloc: Global,
+    shelf: &mut MemShelf,
+    sink: &mut MemSink,
+) -> Result<(Status, Machine), Fail> {
     let stuck = StuckDrive {
         inside: PlainDrive::new(),
         faults: 0,
@@ -103,20 +105,18 @@ fn a_spare_whose_pulses_are_lost(rt: HostRuntime) -> Result<(), Fail> {
     let next: Box<dyn Drive> = Box::new(alloc, stuck)?;
     let spare = one_spare(alloc, next)?;
     let machine = machine_with(alloc, first, second)?;
+    let words = words(alloc, "play job")?;
+    Ok(floppy(alloc, &words, shelf, sink, machine, spare))
+}
+
+#[test]
+fn a_spare_whose_pulses_are_lost(rt: HostRuntime) -> Result<(), Fail> {
+    let alloc = rt.alloc();
+    let mut shelf = shelf_with_disk(alloc, "unit 0;insert 0 a.rt;ack 0")?;
     let mut sink = MemSink::new(alloc, Vec::new(alloc));
-    let (status, machine) = floppy(
-        alloc,
-        &words(alloc, "play job")?,
-        &mut shelf,
-        &mut sink,
-        machine,
-        spare,
-    );
+    let (status, machine) = play(alloc, &mut shelf, &mut sink)?;
     assert_eq!(rt; status, Status::SomeRefused);
-    assert_eq!(rt;
-        sink.bytes(),
-        b"unit ok\ninsert ok\nack refused 80\n".as_slice()
-    );
+    assert!(rt; sink.bytes() == b"unit ok\ninsert ok\nack refused 80\n".as_slice());
     assert!(rt; machine.faults(0) >= 3);
     assert_eq!(rt; machine.faults(1), 0);
     Ok(())
