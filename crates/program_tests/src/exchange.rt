@@ -1,27 +1,16 @@
-// Drives and media of a machine with drives of any kind.
+// Drives, media and memory of a machine, past its controller.
+use crate::machines::{machine, machine_with};
 use drive_model::{Drive, PlainDrive};
 use flop_base::Rate;
-use irq_events::Pace;
 use pc_bus::Machine;
 use raw_image::Medium;
-use std::alloc::Global;
 use std::test::Fail;
-
-/// A machine with two empty drives, which nothing delays.
-fn machine(alloc: Global) -> Result<Machine, Fail> {
-    let first: Box<dyn Drive> = Box::new(alloc, PlainDrive::new())?;
-    let second: Box<dyn Drive> = Box::new(alloc, PlainDrive::new())?;
-    let pace = Pace {
-        gaps: Vec::new(alloc),
-        holds: Vec::new(alloc),
-        strays: Vec::new(alloc),
-    };
-    Ok(Machine::new(alloc, first, second, pace)?)
-}
 
 #[test]
 fn drives_and_media_are_exchanged(rt: HostRuntime) -> Result<(), Fail> {
-    let mut machine = machine(rt.alloc())?;
+    let first: Box<dyn Drive> = Box::new(rt.alloc(), PlainDrive::new())?;
+    let second: Box<dyn Drive> = Box::new(rt.alloc(), PlainDrive::new())?;
+    let mut machine: Machine = machine_with(rt.alloc(), first, second)?;
     assert!(rt; machine.is_fresh());
     machine.outb(0x3F2, 0x24);
     assert!(rt; !machine.is_fresh());
