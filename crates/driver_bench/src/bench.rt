@@ -113,11 +113,6 @@ impl Bench {
         self.counts.commands
     }
 
-    /// How many interrupts were taken.
-    pub fn taken(&self) -> u64 {
-        self.counts.taken
-    }
-
     /// The movements of heads and the data commands since the calls were last forgotten, in their order.
     pub fn calls(&self) -> &[Call] {
         self.script.calls()

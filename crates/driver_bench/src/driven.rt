@@ -61,13 +61,6 @@ impl DrivenBench {
         self.driver.set_rate(&mut self.bench, bay, rate)
     }
 
-    /// Whether a bay has to be acknowledged.
-    pub fn changed(&mut self, bay: u8) -> bool
-        requires { bay ≤ 1 }
-    {
-        self.driver.changed(&mut self.bench, bay)
-    }
-
     /// Reads a sector to user memory.
     pub fn read(&mut self, bay: u8, key: Chrn, address: u32) -> Result<bool, Code> {
         self.driver.read(&mut self.bench, bay, key, address)
@@ -113,11 +106,6 @@ impl DrivenBench {
     /// How many data commands began.
     pub fn commands(&self) -> u64 {
         self.bench.commands()
-    }
-
-    /// How many interrupts were taken.
-    pub fn taken(&self) -> u64 {
-        self.bench.taken()
     }
 
     /// The movements of heads and the data commands since the calls were last forgotten, in their order.
