@@ -1,13 +1,15 @@
-//! Tests of the machine's parts, as their users call them.
+//! Tests of the machine's parts and of its driver, as their users call them.
 #![tactic(auto)]
 
 #[cfg(test)]
 mod attempts;
 #[cfg(test)]
-mod bios;
-#[cfg(test)]
 mod chips;
 #[cfg(test)]
-mod commands;
+mod media;
 #[cfg(test)]
-mod drives;
+mod order;
+#[cfg(test)]
+mod preparations;
+#[cfg(test)]
+mod rewriting;

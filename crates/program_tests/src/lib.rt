@@ -1,14 +1,20 @@
-//! Tests of the program over a machine: against the station in memory, with a drive of the tests' own, with texts of port
-//! accesses, and with shelves and sinks that fail.
+//! Tests of the whole program where only calls can show something: shelves and sinks at its edge, the calls of a session and of a
+//! machine one by one, drives behind a box, one of the tests' own among them, and both stations beside one another.
 #![tactic(auto)]
 
 #[cfg(test)]
-mod failures;
+mod commands;
+#[cfg(test)]
+mod exchange;
 #[cfg(test)]
 mod machines;
 #[cfg(test)]
-mod ports_text;
+mod outside;
 #[cfg(test)]
-mod same;
+mod printed;
+#[cfg(test)]
+mod session;
+#[cfg(test)]
+mod stations;
 #[cfg(test)]
 mod stuck;

@@ -3,7 +3,8 @@ ghost use Rattle.std.specs.Prelude.{◌≡◌, ◌≤◌, All, IfOk, None};
 ghost use Rattle.flop_base.specs.Counts.{last_count};
 ghost use Rattle.pc_bus.specs.Boards.{IsEmpty};
 
-use crate::machines::{lines, machine_with, run, words};
+use crate::machines::machine_with;
+use crate::stations::{shelf_with_disk, words};
 use drive_model::{Drive, PlainDrive, Turn};
 use flop_base::{MemShelf, MemSink, NoMemory, Rate, Status};
 use floppy_tools::floppy;
@@ -88,12 +89,42 @@ fn one_spare<D: Drive>(alloc: Global, drive: D) -> Result<Vec<D>, NoMemory>
     Ok(spare)
 }
 
+/// What a run over a machine leaves behind.
+#[derive(Drop)]
+struct Ran {
+    report: Vec<u8>,
+    status: Status,
+    faults: [u64; 2],
+}
+
+/// Plays the job over a machine with these drives, and this spare one.
+fn play<D: Drive>(
+    alloc: Global,
+    first: D,
+    second: D,
+    spare: D,
+    shelf: &mut MemShelf,
+) -> Result<Ran, Fail>
+    requires first { IsEmpty (D.state first) }
+    requires second { IsEmpty (D.state second) }
+    requires spare { IsEmpty (D.state spare) }
+{
+    let spare = one_spare(alloc, spare)?;
+    let machine = machine_with(alloc, first, second)?;
+    let words = words(alloc, "play job")?;
+    let mut sink = MemSink::new(alloc, Vec::new(alloc));
+    let (status, machine) = floppy(alloc, &words, shelf, &mut sink, machine, spare);
+    Ok(Ran {
+        report: sink.bytes().to_vec(alloc)?,
+        status,
+        faults: [machine.faults(0), machine.faults(1)],
+    })
+}
+
 #[test]
 fn a_spare_whose_pulses_are_lost(rt: HostRuntime) -> Result<(), Fail> {
     let alloc = rt.alloc();
-    let mut shelf = MemShelf::new(alloc, Vec::new(alloc));
-    run(alloc, "format a.rt 1", &mut shelf, 0)?;
-    shelf.put_file("job", &lines(alloc, "unit 0;insert 0 a.rt;ack 0")?)?;
+    let mut shelf = shelf_with_disk(alloc, "unit 0;insert 0 a.rt;ack 0")?;
     let stuck = StuckDrive {
         inside: PlainDrive::new(),
         faults: 0,
@@ -101,23 +132,10 @@ fn a_spare_whose_pulses_are_lost(rt: HostRuntime) -> Result<(), Fail> {
     let first: Box<dyn Drive> = Box::new(alloc, PlainDrive::new())?;
     let second: Box<dyn Drive> = Box::new(alloc, PlainDrive::new())?;
     let next: Box<dyn Drive> = Box::new(alloc, stuck)?;
-    let spare = one_spare(alloc, next)?;
-    let machine = machine_with(alloc, first, second)?;
-    let mut sink = MemSink::new(alloc, Vec::new(alloc));
-    let (status, machine) = floppy(
-        alloc,
-        &words(alloc, "play job")?,
-        &mut shelf,
-        &mut sink,
-        machine,
-        spare,
-    );
-    assert_eq!(rt; status, Status::SomeRefused);
-    assert_eq!(rt;
-        sink.bytes(),
-        b"unit ok\ninsert ok\nack refused 80\n".as_slice()
-    );
-    assert!(rt; machine.faults(0) >= 3);
-    assert_eq!(rt; machine.faults(1), 0);
+    let ran = play(alloc, first, second, next, &mut shelf)?;
+    assert_eq!(rt; ran.status, Status::SomeRefused);
+    assert!(rt; ran.report.as_slice() == b"unit ok\ninsert ok\nack refused 80\n".as_slice());
+    assert!(rt; ran.faults[0] >= 3);
+    assert_eq!(rt; ran.faults[1], 0);
     Ok(())
 }

@@ -1,8 +1,0 @@
-use Rattle.command_tests.proofs.Speed.{still_spun}
-use Rattle.command_tests.proofs.orders.read_back.Goals as goal
-
-pub returns : goal.returns
-returns g c = record {
-  is_idle = c.read_back.ensures.idle;
-  spun = still_spun _ _ c.args.bay c.requires.bay c.read_back.ensures.step.sends.heads.spun c.requires.ready.spun;
-}
