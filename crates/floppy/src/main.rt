@@ -1,8 +1,6 @@
 //! The program: files of the current folder, standard output, the words of the command line, and a machine of two drives.
 #![tactic(auto)]
 
-mod drives;
-mod plan;
 mod run;
 
 use std::process::ExitCode;

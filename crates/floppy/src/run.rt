@@ -1,16 +1,8 @@
-// The machine of the program, and what it does with the words.
-ghost use Rattle.floppy.specs.Drives.{AreEmpty};
-
-use crate::drives::Drives;
-use crate::plan::read_plan;
-use drive_model::Drive;
-use fault_plan::FaultPlan;
+// What the words and the environment ask of the program.
 use flop_base::{Shelf, Sink, Status};
 use flop_outside::{FileShelf, StreamSink};
-use floppy_report::{put_last_absent, put_last_bad_words};
-use floppy_tools::floppy;
-use irq_events::Pace;
-use std::alloc::Global;
+use floppy_report::put_last_absent;
+use floppy_runs::{run_plain, run_planned};
 use std::env;
 use std::env::VarError;
 use std::io::ErrorKind;
@@ -23,84 +15,38 @@ const PLAN: &str = "FLOPPY_PLAN";
 pub(crate) fn run<R: Files + Env + Print + AllocGlobal>(rt: &R) -> Status {
     let mut shelf = FileShelf::new(rt);
     let mut out = StreamSink::new(rt);
-    match env::var(rt, PLAN) {
-        Ok(name) => match read_plan(rt.alloc(), name.as_str(), &mut shelf, &mut out) {
-            Ok(plan) => run_planned(rt, plan, &mut shelf, &mut out),
-            Err(ended) => ended,
+    match words(rt) {
+        Ok(words) => run_words(rt, &words, &mut shelf, &mut out),
+        Err(status) => status,
+    }
+}
+
+/// The words behind the program's name. Where one isn't text there are none: it is no word of a form, and nor is none.
+fn words<R: Env + AllocGlobal>(rt: &R) -> Result<Vec<String>, Status> {
+    let alloc = rt.alloc();
+    match env::args(rt) {
+        Ok(words) => match words.skip(1).collect(alloc) {
+            Ok(words) => Ok(words),
+            Err(_) => Err(Status::NoMemory),
         },
-        Err(VarError::NotPresent) => run_plain(rt, &mut shelf, &mut out),
+        Err(error) if error.kind() == ErrorKind::OutOfMemory => Err(Status::NoMemory),
+        Err(_) => Ok(Vec::new(alloc)),
+    }
+}
+
+/// Does what the words say, with the plan that the environment names, if it names one.
+fn run_words<R: Env + AllocGlobal, S: Shelf, K: Sink>(
+    rt: &R,
+    words: &[String],
+    shelf: &mut S,
+    out: &mut K,
+) -> Status {
+    let alloc = rt.alloc();
+    match env::var(rt, PLAN) {
+        Ok(name) => run_planned(alloc, name.as_str(), words, shelf, out).status,
+        Err(VarError::NotPresent) => run_plain(alloc, words, shelf, out).status,
         // The shelf has no file whose name isn't text.
-        Err(VarError::NotUnicode) => put_last_absent(rt.alloc(), &mut out, PLAN),
+        Err(VarError::NotUnicode) => put_last_absent(alloc, out, PLAN),
         Err(VarError::OutOfMemory) => Status::NoMemory,
     }
-}
-
-/// Runs the program on drives without faults, which nothing delays.
-fn run_plain<R: Env + AllocGlobal, S: Shelf, K: Sink>(
-    rt: &R,
-    shelf: &mut S,
-    out: &mut K,
-) -> Status {
-    let pace = no_delays(rt.alloc());
-    run_with(rt, Drives::plain(), Drives::plain(), pace, shelf, out)
-}
-
-/// Runs the program on drives with the faults of a plan, at the plan's pace.
-fn run_planned<R: Env + AllocGlobal, S: Shelf, K: Sink>(
-    rt: &R,
-    plan: FaultPlan,
-    shelf: &mut S,
-    out: &mut K,
-) -> Status {
-    let FaultPlan {
-        bay0,
-        bay1,
-        spare0,
-        spare1,
-        pace,
-    } = plan;
-    let bays = Drives::scripted(bay0, bay1);
-    let spare = Drives::scripted(spare0, spare1);
-    run_with(rt, bays, spare, pace, shelf, out)
-}
-
-fn no_delays(alloc: Global) -> Pace {
-    Pace {
-        gaps: Vec::new(alloc),
-        holds: Vec::new(alloc),
-        strays: Vec::new(alloc),
-    }
-}
-
-/// Runs the program on a machine with these drives in its bays and these spare ones.
-fn run_with<R: Env + AllocGlobal, S: Shelf, K: Sink, D: Drive>(
-    rt: &R,
-    bays: Drives<D>,
-    spare: Drives<D>,
-    pace: Pace,
-    shelf: &mut S,
-    out: &mut K,
-) -> Status
-    requires bays { AreEmpty D.state bays }
-    requires spare { AreEmpty D.state spare }
-{
-    let alloc = rt.alloc();
-    let words = match env::args(rt) {
-        Ok(words) => words,
-        Err(error) if error.kind() == ErrorKind::OutOfMemory => return Status::NoMemory,
-        // A word that isn't text is no word of a form.
-        Err(_) => return put_last_bad_words(out),
-    };
-    let words: Vec<String> = match words.skip(1).collect(alloc) {
-        Ok(words) => words,
-        Err(_) => return Status::NoMemory,
-    };
-    let Ok(machine) = bays.machine(alloc, pace) else {
-        return Status::NoMemory;
-    };
-    let Ok(spare) = spare.spare(alloc) else {
-        return Status::NoMemory;
-    };
-    let (status, _machine) = floppy(alloc, &words, shelf, out, machine, spare);
-    status
 }

@@ -1,6 +1,6 @@
-use Rattle.floppy.specs.Plans.{Unloaded}
-use Rattle.floppy.proofs.Unplanned.{ends_unread}
-use Rattle.floppy.proofs.plan.read_plan.Goals as goal
+use Rattle.floppy_runs.specs.Plans.{Unloaded}
+use Rattle.floppy_runs.proofs.Unplanned.{ends_unread}
+use Rattle.floppy_runs.proofs.plan.read_plan.Goals as goal
 
 pub returns-in-Err-clause-ended : goal.returns-in-Err-clause-ended
 returns-in-Err-clause-ended g c = Unloaded c.in-Err.error c.in-Err.ensures.gives c.not_loaded.ensures.tells

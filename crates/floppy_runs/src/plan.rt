@@ -1,10 +1,10 @@
 // The plan of faults and delays that the environment names.
-ghost use Rattle.std.specs.Prelude.{◌≡◌, ◌≢◌, IfErr, IfOk, IfSome, IsErrOf, IsSomeAnd, Ok, string_bytes};
+ghost use Rattle.std.specs.Prelude.{◌≡◌, ◌≢◌, IfErr, IfOk, IfSome, IsErrOf, IsSomeAnd, Ok, OnOk, string_bytes};
 ghost use Rattle.flop_base.specs.Shelf.{file_at};
 ghost use Rattle.sector_model.specs.Faults.{Blames};
 ghost use Rattle.sector_model.specs.Plays.{Prints};
 ghost use Rattle.fault_plan.specs.Plan.{lists_of, plan_spelled};
-ghost use Rattle.floppy.specs.Plans.{bad_plan_text, EndsWithoutPlan, TellsUnloaded, TellsUnread};
+ghost use Rattle.floppy_runs.specs.Plans.{bad_plan_text, EndsWithoutPlan, TellsUnloaded, TellsUnread};
 
 use fault_plan::{FaultPlan, PlanError, plan_of};
 use flop_base::{LoadError, Shelf, Sink, Status};
@@ -23,6 +23,8 @@ pub(crate) fn read_plan<S: Shelf, K: Sink>(
 ) -> Result<FaultPlan, Status>
     ensures plan { IfOk result (λ plan. IfSome (S.told shelf.old) (λ files. IsSomeAnd (file_at files name.now)
         (λ text. plan_spelled text ≡ Ok (lists_of plan)))) }
+    ensures untold { OnOk result (K.told out.new ≡ K.told out.old) }
+    ensures stays { S.told shelf.new ≡ S.told shelf.old }
     ensures ended { IfErr result (λ ended. EndsWithoutPlan (S.told shelf.old) name.now (K.told out.old) (K.told out.new) ended) }
     ensures shelf_faults { Blames (IsErrOf result Status.FileFault) (S.fault_count shelf.old) (S.fault_count shelf.new) }
     ensures sink_faults { Blames (IsErrOf result Status.SinkFault) (K.fault_count out.old) (K.fault_count out.new) }

@@ -19,7 +19,7 @@ pub(crate) struct Drives<D> {
 }
 
 impl Drives<PlainDrive> {
-    ghost use Rattle.floppy.specs.Drives.{AreEmpty};
+    ghost use Rattle.floppy_runs.specs.Drives.{AreEmpty};
 
     /// Two drives without faults.
     pub fn plain() -> Drives<PlainDrive>
@@ -33,7 +33,7 @@ impl Drives<PlainDrive> {
 }
 
 impl Drives<ScriptDrive> {
-    ghost use Rattle.floppy.specs.Drives.{AreEmpty};
+    ghost use Rattle.floppy_runs.specs.Drives.{AreEmpty};
 
     /// Two drives with these faults.
     pub fn scripted(first: Vec<Fault>, second: Vec<Fault>) -> Drives<ScriptDrive>
@@ -47,7 +47,7 @@ impl Drives<ScriptDrive> {
 }
 
 impl<D: Drive> Drives<D> {
-    ghost use Rattle.floppy.specs.Drives.{AreEmpty};
+    ghost use Rattle.floppy_runs.specs.Drives.{AreEmpty};
 
     /// A machine with these drives in its bays.
     pub fn machine(self, alloc: Global, pace: Pace) -> Result<MachineOf<D>, NoMemory>

@@ -7,7 +7,7 @@ use Rattle.flop_base.specs.declared.answers.Status.{Status}
 use Rattle.fault_plan.specs.Plan.{ReadsPlan, plan_spelled}
 use Rattle.fault_plan.specs.declared.error.PlanError.{PlanError}
 use Rattle.fault_plan.specs.declared.plan.FaultPlan.{FaultPlan}
-use Rattle.floppy.specs.Plans.{most_plan_bytes, EndsWithoutPlan, Unread, TellsUnread}
+use Rattle.floppy_runs.specs.Plans.{most_plan_bytes, EndsWithoutPlan, Unread, TellsUnread}
 
 -- a loaded text is the told file's
 there : (told : Option Files) (name text : List ℕ) (bytes : Vec ℕ Global) → text ≡ bytes.items → IfSome told (λ files. Loads files name most_plan_bytes (Ok bytes)) → IfSome told (λ files. file_at files name ≡ Some text)

@@ -1,0 +1,170 @@
+// The machine of the program, and what it does with the words.
+ghost use Rattle.std.specs.Prelude.{◌≡◌, ◌⊎◌, All, IfSome, IsSome, None, map, string_bytes};
+ghost use Rattle.drive_model.specs.PlainDrive.{plain_state};
+ghost use Rattle.drive_model.specs.ScriptDrive.{script_state};
+ghost use Rattle.sector_model.specs.Faults.{Blames};
+ghost use Rattle.pc_bus.specs.Boards.{board, IsEmpty};
+ghost use Rattle.machine_station.specs.Started.{IsFreshBoard};
+ghost use Rattle.archive_commands.specs.Files.{desk_of};
+ghost use Rattle.floppy_runs.specs.Drives.{AreEmpty};
+ghost use Rattle.floppy_runs.specs.Plans.{EndsWithoutPlan, Silent};
+ghost use Rattle.floppy_runs.specs.Runs.{RunsNew};
+
+use crate::drives::Drives;
+use crate::plan::read_plan;
+use drive_model::{Drive, PlainDrive, ScriptDrive};
+use fault_plan::FaultPlan;
+use flop_base::{Shelf, Sink, Status};
+use floppy_tools::floppy;
+use irq_events::Pace;
+use pc_bus::MachineOf;
+use std::alloc::Global;
+
+/// How a run ended, and the machine that it left, where one was made.
+#[derive(Drop)]
+pub struct Ended<D> {
+    pub status: Status,
+    pub machine: Option<MachineOf<D>>,
+}
+
+/// Runs the program on drives without faults, which nothing delays.
+pub fn run_plain<S: Shelf, K: Sink>(
+    alloc: Global,
+    words: &[String],
+    shelf: &mut S,
+    out: &mut K,
+) -> Ended<PlainDrive>
+    // The headline: what is printed and stored is what the top call does on a new machine, which comes back.
+    ensures runs { IfSome result.machine (λ machine. RunsNew plain_state (map string_bytes words.now)
+        (desk_of S.told K.told shelf.old out.old) machine (desk_of S.told K.told shelf.new out.new) result.status) }
+    ensures no_machine { result.machine ≡ None → Silent Status.NoMemory (K.told out.old) (K.told out.new) result.status }
+    ensures shelf_faults { Blames (result.status ≡ Status.FileFault) (S.fault_count shelf.old) (S.fault_count shelf.new) }
+    ensures sink_faults { Blames (result.status ≡ Status.SinkFault) (K.fault_count out.old) (K.fault_count out.new) }
+{
+    run_on(
+        alloc,
+        words,
+        Drives::plain(),
+        Drives::plain(),
+        no_delays(alloc),
+        shelf,
+        out,
+    )
+}
+
+/// Runs the program on drives with the faults of the plan of this name, at the plan's pace. Where the plan can't be had, a line
+/// tells why, and no machine is made.
+pub fn run_planned<S: Shelf, K: Sink>(
+    alloc: Global,
+    plan: &str,
+    words: &[String],
+    shelf: &mut S,
+    out: &mut K,
+) -> Ended<ScriptDrive>
+    ensures runs { IfSome result.machine (λ machine. RunsNew script_state (map string_bytes words.now)
+        (desk_of S.told K.told shelf.old out.old) machine (desk_of S.told K.told shelf.new out.new) result.status) }
+    ensures no_machine { result.machine ≡ None
+        → EndsWithoutPlan (S.told shelf.old) plan.now (K.told out.old) (K.told out.new) result.status
+        ⊎ Silent Status.NoMemory (K.told out.old) (K.told out.new) result.status }
+    ensures shelf_faults { Blames (result.status ≡ Status.FileFault) (S.fault_count shelf.old) (S.fault_count shelf.new) }
+    ensures sink_faults { Blames (result.status ≡ Status.SinkFault) (K.fault_count out.old) (K.fault_count out.new) }
+{
+    match read_plan(alloc, plan, shelf, out) {
+        Ok(plan) => run_faulty(alloc, plan, words, shelf, out),
+        Err(status) => Ended {
+            status,
+            machine: None,
+        },
+    }
+}
+
+/// Runs the program on drives with these faults, at the plan's pace.
+fn run_faulty<S: Shelf, K: Sink>(
+    alloc: Global,
+    plan: FaultPlan,
+    words: &[String],
+    shelf: &mut S,
+    out: &mut K,
+) -> Ended<ScriptDrive>
+    ensures runs { IfSome result.machine (λ machine. RunsNew script_state (map string_bytes words.now)
+        (desk_of S.told K.told shelf.old out.old) machine (desk_of S.told K.told shelf.new out.new) result.status) }
+    ensures no_machine { result.machine ≡ None → Silent Status.NoMemory (K.told out.old) (K.told out.new) result.status }
+    ensures shelf_faults { Blames (result.status ≡ Status.FileFault) (S.fault_count shelf.old) (S.fault_count shelf.new) }
+    ensures sink_faults { Blames (result.status ≡ Status.SinkFault) (K.fault_count out.old) (K.fault_count out.new) }
+{
+    let FaultPlan {
+        bay0,
+        bay1,
+        spare0,
+        spare1,
+        pace,
+    } = plan;
+    let bays = Drives::scripted(bay0, bay1);
+    let spare = Drives::scripted(spare0, spare1);
+    run_on(alloc, words, bays, spare, pace, shelf, out)
+}
+
+fn no_delays(alloc: Global) -> Pace {
+    Pace {
+        gaps: Vec::new(alloc),
+        holds: Vec::new(alloc),
+        strays: Vec::new(alloc),
+    }
+}
+
+/// Runs the program on a machine with these drives in its bays and these spare ones.
+fn run_on<S: Shelf, K: Sink, D: Drive>(
+    alloc: Global,
+    words: &[String],
+    bays: Drives<D>,
+    spare: Drives<D>,
+    pace: Pace,
+    shelf: &mut S,
+    out: &mut K,
+) -> Ended<D>
+    requires bays { AreEmpty D.state bays }
+    requires spare { AreEmpty D.state spare }
+    ensures runs { IfSome result.machine (λ machine. RunsNew D.state (map string_bytes words.now)
+        (desk_of S.told K.told shelf.old out.old) machine (desk_of S.told K.told shelf.new out.new) result.status) }
+    ensures no_machine { result.machine ≡ None → Silent Status.NoMemory (K.told out.old) (K.told out.new) result.status }
+    ensures shelf_faults { Blames (result.status ≡ Status.FileFault) (S.fault_count shelf.old) (S.fault_count shelf.new) }
+    ensures sink_faults { Blames (result.status ≡ Status.SinkFault) (K.fault_count out.old) (K.fault_count out.new) }
+{
+    let Ok(machine) = bays.machine(alloc, pace) else {
+        return Ended {
+            status: Status::NoMemory,
+            machine: None,
+        };
+    };
+    let Ok(spare) = spare.spare(alloc) else {
+        return Ended {
+            status: Status::NoMemory,
+            machine: None,
+        };
+    };
+    run_machine(alloc, words, machine, spare, shelf, out)
+}
+
+/// Runs the top call on a machine that is as it was made.
+fn run_machine<S: Shelf, K: Sink, D: Drive>(
+    alloc: Global,
+    words: &[String],
+    machine: MachineOf<D>,
+    spare: Vec<D>,
+    shelf: &mut S,
+    out: &mut K,
+) -> Ended<D>
+    requires machine { IsFreshBoard (board D.state machine) }
+    requires spare { All (λ drive. IsEmpty (D.state drive)) spare.items }
+    ensures made { IsSome result.machine }
+    ensures runs { IfSome result.machine (λ left. RunsNew D.state (map string_bytes words.now)
+        (desk_of S.told K.told shelf.old out.old) left (desk_of S.told K.told shelf.new out.new) result.status) }
+    ensures shelf_faults { Blames (result.status ≡ Status.FileFault) (S.fault_count shelf.old) (S.fault_count shelf.new) }
+    ensures sink_faults { Blames (result.status ≡ Status.SinkFault) (K.fault_count out.old) (K.fault_count out.new) }
+{
+    let (status, machine) = floppy(alloc, words, shelf, out, machine, spare);
+    Ended {
+        status,
+        machine: Some(machine),
+    }
+}

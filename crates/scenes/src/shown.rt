@@ -1,0 +1,112 @@
+// What is printed behind a run.
+use crate::runs::{Counts, Seen};
+use crate::wrong::Wrong;
+use std::alloc::Global;
+
+/// Prints a line of the text.
+pub(crate) fn put_line(line: &str, out: &mut Vec<u8>) -> Result<(), Wrong> {
+    out.extend_from_slice(line.as_bytes())?;
+    out.push(b'\n')?;
+    Ok(())
+}
+
+/// Prints the status of a run, what was counted where that is asked, and the memory that is looked at.
+pub(crate) fn put_seen(
+    alloc: Global,
+    seen: &Seen,
+    counts: bool,
+    out: &mut Vec<u8>,
+) -> Result<(), Wrong> {
+    let status = seen.status;
+    let told = format!(in alloc; "status {status}\n")?;
+    out.extend_from_slice(told.as_bytes())?;
+    if counts && let Some(counts) = seen.counts {
+        put_counts(alloc, counts, out)?;
+    }
+    if !seen.memory.is_empty() {
+        put_memory(alloc, &seen.memory, out)?;
+    }
+    Ok(())
+}
+
+fn put_counts(alloc: Global, counts: Counts, out: &mut Vec<u8>) -> Result<(), Wrong> {
+    let Counts {
+        steps,
+        data_commands,
+        taken,
+        stalls,
+        direct,
+        faults: [first, second],
+    } = counts;
+    let told = format!(in alloc;
+        "steps {steps} commands {data_commands} taken {taken} stalls {stalls} direct {direct} faults {first} {second}\n"
+    )?;
+    out.extend_from_slice(told.as_bytes())?;
+    Ok(())
+}
+
+/// Prints bytes of memory, equal ones as one with their number.
+fn put_memory(alloc: Global, memory: &[u8], out: &mut Vec<u8>) -> Result<(), Wrong> {
+    out.extend_from_slice(b"ram")?;
+    let mut last = None;
+    let mut times = 0u64;
+    for byte in memory {
+        if last != Some(*byte) {
+            put_times(alloc, last, times, out)?;
+            last = Some(*byte);
+            times = 0;
+        }
+        times = times.saturating_add(1);
+    }
+    put_times(alloc, last, times, out)?;
+    out.push(b'\n')?;
+    Ok(())
+}
+
+fn put_times(alloc: Global, byte: Option<u8>, times: u64, out: &mut Vec<u8>) -> Result<(), Wrong> {
+    if let Some(byte) = byte {
+        let told = format!(in alloc; " {times}x{byte:02X}")?;
+        out.extend_from_slice(told.as_bytes())?;
+    }
+    Ok(())
+}
+
+/// Prints a file's name with its length and its sum, or that it isn't there.
+pub(crate) fn put_file(
+    alloc: Global,
+    name: &str,
+    bytes: Option<&[u8]>,
+    out: &mut Vec<u8>,
+) -> Result<(), Wrong> {
+    let told = match bytes {
+        Some(bytes) => {
+            let (length, sum) = (bytes.len(), sum_of(bytes));
+            format!(in alloc; "{name} {length} {sum:08X}\n")?
+        }
+        None => format!(in alloc; "{name} absent\n")?,
+    };
+    out.extend_from_slice(told.as_bytes())?;
+    Ok(())
+}
+
+/// CRC-32 (IEEE 802.3).
+fn sum_of(bytes: &[u8]) -> u32 {
+    let mut sum = 0xFFFF_FFFFu32;
+    for byte in bytes {
+        sum = with_byte(sum, *byte);
+    }
+    sum ^ 0xFFFF_FFFF
+}
+
+fn with_byte(sum: u32, byte: u8) -> u32 {
+    let mut sum = sum ^ u32::from(byte);
+    for _ in 0..8 {
+        let half = sum >> 1;
+        sum = if sum & 1 == 1 {
+            half ^ 0xEDB8_8320
+        } else {
+            half
+        };
+    }
+    sum
+}
