@@ -10,7 +10,7 @@ use std::alloc::Global;
 #[derive(Clone, Copy)]
 pub(crate) struct Counts {
     pub steps: u64,
-    pub data_commands: u64,
+    pub commands: u64,
     pub taken: u64,
     pub stalls: u64,
     pub direct: u64,
@@ -48,7 +48,7 @@ impl Range {
 fn counts_of<D: Drive>(machine: &MachineOf<D>) -> Counts {
     Counts {
         steps: machine.steps(),
-        data_commands: machine.data_commands(),
+        commands: machine.data_commands(),
         taken: machine.taken(),
         stalls: machine.stalls(),
         direct: machine.direct(),

@@ -26,7 +26,8 @@ struct Scene {
     plan: Option<String>,
     shelf_fails: Vec<u64>,
     sink_fails: Vec<u64>,
-    counts: bool,
+    /// The counts that the runs print.
+    counts: Vec<String>,
     range: Range,
 }
 
@@ -54,7 +55,7 @@ impl Scene {
             plan: None,
             shelf_fails: Vec::new(alloc),
             sink_fails: Vec::new(alloc),
-            counts: false,
+            counts: Vec::new(alloc),
             range: Range {
                 start: 0,
                 length: 0,
@@ -128,8 +129,7 @@ impl Scene {
             self.sink_fails.push(call(fields)?)?;
             Ok(())
         } else if is_verb(word, "counts") {
-            self.counts = true;
-            Ok(())
+            self.count(fields)
         } else if is_verb(word, "ram") {
             self.range = range(fields)?;
             Ok(())
@@ -162,6 +162,16 @@ impl Scene {
             [name] => Some(String::from_str(self.alloc, name)?),
             _ => return Err(Wrong::Line),
         };
+        Ok(())
+    }
+
+    /// `counts NAME..`: the later runs print these counts.
+    fn count(&mut self, fields: &[&str]) -> Result<(), Wrong> {
+        let mut counts = Vec::new(self.alloc);
+        for name in fields {
+            counts.push(String::from_str(self.alloc, name)?)?;
+        }
+        self.counts = counts;
         Ok(())
     }
 
@@ -230,7 +240,7 @@ impl Scene {
         let plan = self.plan.as_ref().map(|name| name.as_str());
         let seen = run(self.alloc, plan, &words, &mut shelf, &mut sink, self.range)?;
         out.extend_from_slice(sink.bytes())?;
-        put_seen(self.alloc, &seen, self.counts, out)?;
+        put_seen(self.alloc, &seen, &self.counts, out)?;
         for file in self.files.iter_mut() {
             file.renew(self.alloc, &shelf, out)?;
         }

@@ -1,6 +1,7 @@
 // What is printed behind a run.
 use crate::runs::{Counts, Seen};
 use crate::wrong::Wrong;
+use floppy_jobs::is_verb;
 use std::alloc::Global;
 
 /// Prints a line of the text.
@@ -10,18 +11,20 @@ pub(crate) fn put_line(line: &str, out: &mut Vec<u8>) -> Result<(), Wrong> {
     Ok(())
 }
 
-/// Prints the status of a run, what was counted where that is asked, and the memory that is looked at.
+/// Prints the status of a run, those of its counts that are asked for, and the memory that is looked at.
 pub(crate) fn put_seen(
     alloc: Global,
     seen: &Seen,
-    counts: bool,
+    asked: &[String],
     out: &mut Vec<u8>,
 ) -> Result<(), Wrong> {
     let status = seen.status;
     let told = format!(in alloc; "status {status}\n")?;
     out.extend_from_slice(told.as_bytes())?;
-    if counts && let Some(counts) = seen.counts {
-        put_counts(alloc, counts, out)?;
+    if !asked.is_empty()
+        && let Some(counts) = seen.counts
+    {
+        put_counts(alloc, asked, counts, out)?;
     }
     if !seen.memory.is_empty() {
         put_memory(alloc, &seen.memory, out)?;
@@ -29,20 +32,51 @@ pub(crate) fn put_seen(
     Ok(())
 }
 
-fn put_counts(alloc: Global, counts: Counts, out: &mut Vec<u8>) -> Result<(), Wrong> {
+/// Prints counts by their names.
+fn put_counts(
+    alloc: Global,
+    asked: &[String],
+    counts: Counts,
+    out: &mut Vec<u8>,
+) -> Result<(), Wrong> {
+    out.extend_from_slice(b"counts")?;
+    for name in asked {
+        let name = name.as_str();
+        let number = number_of(counts, name)?;
+        let told = format!(in alloc; " {name} {number}")?;
+        out.extend_from_slice(told.as_bytes())?;
+    }
+    out.push(b'\n')?;
+    Ok(())
+}
+
+fn number_of(counts: Counts, name: &str) -> Result<u64, Wrong> {
+    let name = name.as_bytes();
     let Counts {
         steps,
-        data_commands,
+        commands,
         taken,
         stalls,
         direct,
         faults: [first, second],
     } = counts;
-    let told = format!(in alloc;
-        "steps {steps} commands {data_commands} taken {taken} stalls {stalls} direct {direct} faults {first} {second}\n"
-    )?;
-    out.extend_from_slice(told.as_bytes())?;
-    Ok(())
+    if is_verb(name, "steps") {
+        Ok(steps)
+    } else if is_verb(name, "commands") {
+        Ok(commands)
+    } else if is_verb(name, "taken") {
+        Ok(taken)
+    } else if is_verb(name, "stalls") {
+        Ok(stalls)
+    } else if is_verb(name, "direct") {
+        Ok(direct)
+    } else if is_verb(name, "faults0") {
+        Ok(first)
+    } else if is_verb(name, "faults1") {
+        Ok(second)
+    } else {
+        Err(Wrong::Line)
+    }
 }
 
 /// Prints bytes of memory, equal ones as one with their number.
