@@ -5,7 +5,7 @@ from samples import *
 
 
 def scenes(book):
-    for part in texts, words, images, edges, two_bays, together, counts:
+    for part in texts, words, images, edges, counts, whole_runs:
         part(book)
 
 
@@ -48,24 +48,49 @@ def images(book):
 
 
 def edges(book):
-    read = "insert 0 a.rt;ack 0;"
-    for name, request in (("on cylinder 80", "read 0 80 0 1 2 0"), ("under head 2", "read 0 0 2 1 2 0"),
-                          ("of record 0", "read 0 0 0 0 2 0"), ("of size code 7", "read 0 0 0 1 7 0"),
-                          ("of size code 0", "read 0 0 0 1 0 0"), ("of bay 2", "read 2 0 0 1 2 0"),
-                          ("into the last bytes of memory and one more", "read 0 0 0 1 1 EFF01")):
-        book.scene("a read " + name)
-        book.file("a.rt", A)
-        book.count()
-        book.play(read + request, "insert ok;ack ok;read refused 01", 1, counts=(7201, 1, 4, 0, 2, 0, 0))
-
-
-def two_bays(book):
-    pass
-
-
-def together(book):
-    pass
+    book.scene("reads beyond any disk are refused at once")
+    book.file("a.rt", A)
+    book.count("commands", "direct")
+    book.play("read 0 80 0 1 2 0;read 0 0 2 1 2 0;read 0 0 0 0 2 0;read 0 0 0 1 7 0;read 0 0 0 1 0 0;read 2 0 0 1 2 0",
+              ";".join(["read refused 01"] * 6), 1, counts=(0, 0))
 
 
 def counts(book):
-    pass
+    """A data command is a READ ID of an acknowledgement, an attempt of a read, a write or a format, and each sector read back.
+    An access past the driver is a medium put in or out, and each byte of a fill."""
+    for name, job, report, status, counted, stored in (
+            ("an empty job", "", "", 0, (0, 0, 0, 0, 0), None),
+            ("a medium put in and out", "insert 0 a.rt;ack 1;eject 1;insert 2 a.rt",
+             "insert ok;ack refused 80;eject refused empty;insert refused 01", 1, (0, 2, 0, 0, 0), None),
+            ("a read", "insert 0 a.rt;ack 0;read 0 0 0 1 2 10000;dump 10000 2;eject 0",
+             "insert ok;ack ok;read ok;10000 F6 F6;eject ok", 0, (2, 2, 0, 0, 0), None),
+            ("a write and a format",
+             "insert 0 a.rt;ack 0;fill 10000 512 A1;write 0 0 0 1 2 10000;read 0 0 0 1 2 20000;format 0 1 1;unit 1;eject 0",
+             "insert ok;ack ok;fill ok;write ok;read ok;format ok;unit ok;eject ok", 0,
+             (1 + 2 + 1 + 19, 1 + 512 + 1 + 1, 0, 0, 0), written(formatted(2), 1, 0xA1))):
+        book.scene("counts of " + name)
+        book.file("a.rt", A)
+        book.count("commands", "direct", "stalls", "faults0", "faults1")
+        book.play(job, report, status, {"a.rt": stored} if stored else None, counts=counted)
+
+
+def whole_runs(book):
+    """Longer jobs, with all that they store."""
+    disk = formatted(1).write(5, bytes(512), True).file()
+    book.scene("a job of writes and a format")
+    book.file("a.rt", Made(formatted(1).file(), "disk 1 500"))
+    book.play("insert 0 a.rt;ack 0;read 0 0 0 1 2 10000;dump 10000 2;fill 10000 512 A1;write 0 0 1 18 2 10000;"
+              "writedel 0 0 0 5 2 10200;read 0 0 0 5 2 20000;read 0 0 1 18 2 30000;dump 30000 1;format 0 0 1;eject 0",
+              "insert ok;ack ok;read ok;10000 F6 F6;fill ok;write ok;writedel ok;read ok deleted;read ok;30000 A1;format ok;eject ok",
+              stored={"a.rt": disk})
+    # With one try a refused read is one data command; an acknowledgement of 250 kbit/s looks at 500 first.
+    disk = formatted(1, 250).write(9, b"\0" + b"\xF6" * 511, step=654).file()
+    book.scene("a job of refusals")
+    book.file("e.rt", Made(formatted(1, 250).file(), "disk 1 250"))
+    book.count("commands")
+    book.play("tries 1;insert 0 e.rt;read 0 0 0 9 2 10000;ack 0;ack 1;read 0 0 0 19 2 10000;read 0 0 0 9 2 10001;"
+              "read 0 0 0 9 2 1FF00;rate 0 500;read 0 0 0 9 2 10000;rate 0 250;write 0 0 0 9 2 10000;unit 0;unit 1;"
+              "read 1 0 0 9 2 10000;eject 0;eject 0",
+              "tries ok;insert ok;read refused 06;ack ok;ack refused 80;read refused 04;read ok;"
+              "read refused 09;rate ok;read refused 02;rate ok;write ok;unit refused busy;unit ok;"
+              "read refused 06;eject ok;eject refused empty", 1, {"e.rt": disk}, counts=(2 + 1 + 1 + 1 + 2,))
