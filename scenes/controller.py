@@ -100,10 +100,16 @@ def failures(book):
 
 # ---- what is written comes from a source disk, which is read into memory first
 
+def put(track, record, window):
+    """Puts the window of a record, or the beginning of it, in place."""
+    place = 190 + 682 * (record - 1)
+    track[place:place + len(window)] = window
+
+
 def source(content):
     """A disk whose first sector holds this content, which repeats."""
     words = list(TRACK)
-    words[190:190 + 534] = window((content * 512)[:512])
+    put(words, 1, window((content * 512)[:512]))
     return Made(one_track(words), *ONE.recipe, "field 190 data " + content.hex().upper())
 
 
@@ -126,10 +132,10 @@ def with_source(book, name, disk, content, accesses, report, stored=None, memory
                {"a.rt": stored} if stored else None, memory=memory)
 
 
-def rewritten(record, content, deleted=False, words=None):
-    words = list(words or TRACK)
-    place = 190 + 682 * (record - 1)
-    words[place:place + 534] = window((content * 512)[:512], deleted)
+def rewritten(record, content, deleted=False, phase=0):
+    """A window is written from a whole word on, whatever the cells of the address field before it."""
+    words = turned(TRACK, phase)
+    put(words, record, window((content * 512)[:512], deleted))
     return words
 
 
@@ -142,7 +148,7 @@ def writes(book):
         with_source(book, f"a written sector reads back where cells stand {phase} places on", disk, content,
                     channel(512, mode=0x4A) + data(0x45, 2) + END + back + data(0x46, 2) + END,
                     ended(0, 0, 0, 0, 0, 3, 2) + ended(0, 0, 0, 0, 0, 3, 2),
-                    one_track(turned(rewritten(2, content), phase)), whole)
+                    one_track(rewritten(2, content, phase=phase)), whole)
     with_source(book, "a sector written as deleted reads back as one", ONE, content,
                 channel(512, mode=0x4A) + data(0x49, 18) + END + back + data(0x46, 18) + END,
                 ended(0, 0, 0, 1, 0, 1, 2) + ended(0, 0, 0x40, 1, 0, 1, 2), one_track(rewritten(18, content, True)), whole)
@@ -156,7 +162,7 @@ def writes(book):
          ended(0x40, 4, 0, 0, 0, 0x13, 2))
     # The window's zeros, marks and mark byte are written, and nothing of the content.
     begun = list(TRACK)
-    begun[190:206] = window(F6)[:16]
+    put(begun, 1, window(F6)[:16])
     runs(book, "a write without a byte is an overrun and closes the gate", ONE, "out 00A 06;" + data(0x45, 1) + LONG_END,
          ended(0x40, 0x10, 0, 0, 0, 1, 2), one_track(begun))
 
@@ -182,7 +188,9 @@ def formats(book):
                 ended(0x40, 1, 1, 0, 0, 0, 0), one_track(layout(standard(0, 0), 115, 0xF6, 12548)[:12500]))
     with_source(book, "at another rate nothing is laid", ONE, keys(18), "out 3F7 02;" + format_track(18, 0x6C, 72),
                 ended(0x40, 1, 0, 0, 0, 0, 0))
-    with_source(book, "a missing key byte is an overrun", BLANK, keys(18), "out 00A 06;" + send(0x4D, 0, 2, 18, 0x6C, 0xF6) + LONG_END,
-                ended(0x40, 0x10, 0, 0, 0, 0, 0), None)
+    # All words up to the first key, which would begin with word 162.
+    with_source(book, "a missing key byte is an overrun and closes the gate", BLANK, keys(18),
+                "out 00A 06;" + send(0x4D, 0, 2, 18, 0x6C, 0xF6) + LONG_END, ended(0x40, 0x10, 0, 0, 0, 0, 0),
+                one_track(TRACK[:162] + [0] * (12500 - 162)))
     with_source(book, "a protected disk is not formatted", PROTECTED, keys(18), format_track(18, 0x6C, 72),
                 ended(0x40, 2, 0, 0, 0, 0, 0))

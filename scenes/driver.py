@@ -53,13 +53,11 @@ def acknowledgements(book):
         "insert 0 a.rt;ack 0;eject 0;insert 0 e.rt;read 0 0 0 1 1 0;ack 0;read 0 0 0 1 1 0;eject 0;read 0 0 0 1 1 0;ack 0",
         "insert ok;ack ok;eject ok;insert ok;read refused 06;ack ok;read ok;eject ok;read refused 06;ack refused 80", 1,
         files={"a.rt": DISK, "e.rt": DISK_250}, count=["commands"], counts=(1 + 2 + 1,))
-    # The heads stand at track 0 behind the first, so the only inward pulse of a round is that of the seek to cylinder 1.
-    job(book, "a lost pulse in each of three rounds leaves the change line set",
-        "insert 0 a.rt;ack 0;eject 0;insert 0 a.rt;ack 0", "insert ok;ack ok;eject ok;insert ok;ack refused 80", 1,
-        plan="lose 0 0 4", count=["commands", "faults0"], counts=(1, 4))
-    job(book, "a lost pulse in each of two rounds is made up for",
-        "insert 0 a.rt;ack 0;eject 0;insert 0 a.rt;ack 0", "insert ok;ack ok;eject ok;insert ok;ack ok",
-        plan="lose 0 0 3", count=["commands", "faults0"], counts=(2, 3))
+    # Heads begin at track 0, so the only pulse of a round that tells a medium is the inward one to cylinder 1.
+    job(book, "a lost pulse in each of three rounds leaves the change line set", "insert 0 a.rt;ack 0;ack 0",
+        "insert ok;ack refused 80;ack ok", 1, plan="lose 0 0 4", count=["commands", "faults0"], counts=(1, 4))
+    job(book, "a lost pulse in each of two rounds is made up for", "insert 0 a.rt;ack 0", "insert ok;ack ok",
+        plan="lose 0 0 2", count=["commands", "faults0"], counts=(1, 2))
 
 
 def rates(book):
@@ -95,11 +93,11 @@ def attempts(book):
 
 
 def pulses(book):
+    # A recalibration gives 79 pulses, and an attempt makes two. The last read reaches track 0 at its second one.
     job(book, "without track 0 no data command is sent",
-        "insert 0 a.rt;ack 0;read 0 1 0 1 1 0;tries 1;read 0 0 0 1 1 0;tries 3;read 0 0 0 1 1 0;read 0 0 0 1 1 0;dump 0 1",
-        "insert ok;ack ok;read ok;tries ok;read refused 40;tries ok;read refused 40;read ok;00000 11", 1,
-        # Each recalibration gives 79 pulses and a try has two of them; the last read reaches track 0 at its second.
-        plan=";".join(["stick 0 1 %d" % (79 * (2 + 6 + 1))]), count=["commands", "faults0"], counts=(1 + 1 + 1, 79 * 9))
+        "insert 0 a.rt;ack 0;tries 1;read 0 2 0 1 1 0;read 0 0 0 1 1 0;tries 3;read 0 0 0 1 1 0;read 0 0 0 1 1 0;dump 0 1",
+        "insert ok;ack ok;tries ok;read refused 02;read refused 40;tries ok;read refused 40;read ok;00000 11", 1,
+        plan="stick 0 2 %d" % (79 * (2 + 6 + 1)), count=["commands", "faults0"], counts=(1 + 1 + 1, 79 * 9))
 
 
 def edges(book):
@@ -117,16 +115,21 @@ def edges(book):
         files={"e.rt": DISK_250}, count=["commands"], counts=(2,))
 
 
+def put(track, window):
+    """Puts the window of the first record in place."""
+    track[190:190 + len(window)] = window
+
+
 def writes(book):
     done = disk()
-    done.tracks[0][190:190 + 278] = window(b"\x44" * 255 + b"\x5A", True)
+    put(done.tracks[0], window(b"\x44" * 255 + b"\x5A", True))
     job(book, "a sector of 256 bytes is written and read back",
         "insert 0 a.rt;ack 0;read 0 1 1 2 1 2000;fill 20FF 1 5A;writedel 0 0 0 1 1 2000;read 0 0 0 1 1 3000;dump 3000 1;dump 30FF 1;"
         "read 0 0 0 2 1 3000;dump 30FF 1",
         "insert ok;ack ok;read ok;fill ok;writedel ok;read ok deleted;03000 44;030FF 5A;read ok;030FF 11",
         stored={"a.rt": done.file()}, count=["commands"], counts=(1 + 1 + 2 + 1 + 1,))
     zeros = disk()
-    zeros.tracks[2][190:190 + 278] = window(bytes(256))
+    put(zeros.tracks[2], window(bytes(256)))
     job(book, "a write whose reading back is disturbed is done again", "insert 0 a.rt;ack 0;write 0 1 0 1 1 0", "insert ok;ack ok;write ok",
         plan="drop 0 1 0 300 1", stored={"a.rt": zeros.file()}, count=["commands", "faults0"], counts=(1 + 4, 1))
     job(book, "a write that is cut off is done again", "insert 0 a.rt;ack 0;write 0 1 0 1 1 0", "insert ok;ack ok;write ok",
@@ -136,15 +139,17 @@ def writes(book):
 
 
 def formats(book):
-    blank = Made(Disk(1, 2, 6250, 2).file(), "head 0 1 2 2 6250", "fill 25000 0")
-    done = formatted(1, 250).file()
-    job(book, "a track is formatted and read back",
-        "insert 0 e.rt;ack 0;rate 0 250;format 0 0 1;read 0 0 1 9 2 0;dump 1FF 1;ack 0;rate 0 250;format 0 0 0;format 0 1 0",
-        "insert ok;ack ok;rate ok;format ok;read ok;001FF F6;ack ok;rate ok;format ok;format refused 02", 1,
-        # The second acknowledgement finds no id under head 0. The first record of head 0 is damaged as it is read back, so the
-        # track is formatted again; and the disk has no cylinder 1.
-        plan="drop 0 0 0 300 1", files={"e.rt": blank}, stored={"e.rt": done},
-        count=["commands", "faults0"], counts=(6 + 10 + 1 + 6 + 2 + 10 + 3, 1))
+    blank = Made(Disk(2, 2, 6250, 2).file(), "head 0 2 2 2 6250", "fill 50000 0")
+    done = Disk(2, 2, 6250, 2)
+    for place, c, h in (1, 0, 1), (2, 1, 0):
+        done.tracks[place] = layout(standard(c, h, 9), 0x50, 0xF6, 6250)
+    # The first record of cylinder 1 is damaged as it is read back, so the track is formatted again. Where the disk has no track
+    # a format goes nowhere, and nothing is read back.
+    job(book, "tracks are formatted and read back",
+        "insert 0 e.rt;ack 0;rate 0 250;format 0 0 1;read 0 0 1 9 2 0;dump 1FF 1;format 0 1 0;format 0 2 0",
+        "insert ok;ack ok;rate ok;format ok;read ok;001FF F6;format ok;format refused 02", 1,
+        plan="drop 0 1 0 300 1", files={"e.rt": blank}, stored={"e.rt": done.file()},
+        count=["commands", "faults0"], counts=(6 + 10 + 1 + (2 + 10) + 3 * 2, 1))
     # Nine sectors of 512 bytes don't fit on 900 words: their beginning is laid.
     short = disk(250)
     short.tracks[0] = layout(standard(0, 0, 9), 0x50, 0xF6, 6250)[:900]

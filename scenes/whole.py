@@ -19,8 +19,10 @@ def disks(book):
     # rate in three tries.
     book.run("format a.rt 1", "format ok 2", stored={"a.rt": formatted(1).file()}, counts=(6 + 2 * 19,))
     book.run("formatdd e.rt 1", "format ok 2", stored={"e.rt": formatted(1, 250).file()}, counts=(6 + 2 * 10,))
-    book.run("copy e.rt b.rt", "copy ok 18", stored={"b.rt": formatted(1, 250).file()})
-    book.run("verify b.rt", "verify 18 of 18")
+    # A copy looks for an id at both rates for the one disk and three times for the other, which is blank; then each record is
+    # read, written and read back.
+    book.run("copy e.rt b.rt", "copy ok 18", stored={"b.rt": formatted(1, 250).file()}, counts=(2 + 6 + 2 * 10 + 18 * 3,))
+    book.run("verify b.rt", "verify 18 of 18", counts=(2 + 18,))
     made = formatted(2).write(5, b"\x11" * 512, True, track=3).write(18, b"\x11" * 512, track=1).file()
     book.scene("a copy keeps contents and deleted marks")
     book.file("a.rt", A)
