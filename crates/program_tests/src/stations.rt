@@ -18,6 +18,7 @@ struct Ran {
     report: Vec<u8>,
     status: Status,
     data_commands: u64,
+    taken: u64,
     direct: u64,
     disturbed: u64,
 }
@@ -60,6 +61,7 @@ fn run<D: Station>(alloc: Global, text: &str, shelf: &mut MemShelf, station: D) 
         report: sink.bytes().to_vec(alloc)?,
         status,
         data_commands: station.data_commands(),
+        taken: station.taken(),
         direct: station.direct(),
         disturbed: disturbances(&station),
     })
@@ -107,6 +109,9 @@ fn both_stations_do_the_same(rt: HostRuntime) -> Result<(), Fail> {
     assert_eq!(rt; on_machine.status, Status::SomeRefused);
     // The rate is found with two commands, a write reads back, and a format reads back nine sectors.
     assert_eq!(rt; on_machine.data_commands, 2 + 2 * 2 + 2 + 10 + 2);
+    // On the machine movements of heads interrupt, too.
+    assert_eq!(rt; in_memory.taken, in_memory.data_commands);
+    assert!(rt; on_machine.taken > on_machine.data_commands);
     assert_eq!(rt; on_machine.disturbed, 0);
     Ok(())
 }
