@@ -1,12 +1,9 @@
 //! Tests as data: reads scenes from standard input, plays each on the program over a machine, and prints reports and sums.
 #![tactic(auto)]
 
-mod recipes;
 mod runs;
 mod scene;
 mod shown;
-mod vectors;
-mod wrong;
 
 use flop_base::Sink;
 use flop_outside::StreamSink;

@@ -1,9 +1,9 @@
 // Runs of the program over a shelf and a sink in memory.
-use crate::wrong::Wrong;
 use drive_model::Drive;
 use flop_base::{MemShelf, MemSink};
 use floppy_runs::{Ended, run_plain, run_planned};
 use pc_bus::MachineOf;
+use scene_files::Wrong;
 use std::alloc::Global;
 
 /// What a machine counted.

@@ -1,12 +1,10 @@
 // Scenes: files, a plan, calls that fail, and runs.
-use crate::recipes::{count, follow};
 use crate::runs::{Range, run};
-use crate::shown::{put_file, put_line, put_seen};
-use crate::vectors::answer;
-use crate::wrong::Wrong;
+use crate::shown::put_seen;
 use flop_base::{MemShelf, MemSink};
 use floppy_jobs::is_verb;
 use floppy_jobs::numbers::address;
+use scene_files::{Wrong, count, follow, put_file, put_line};
 use std::alloc::Global;
 
 /// A name that is watched, and the file that has it, if one does.
@@ -100,9 +98,6 @@ impl Scene {
         } else if is_verb(word, "run") {
             put_line(line, out)?;
             self.run(fields, out)
-        } else if is_verb(word, "of") {
-            put_line(line, out)?;
-            answer(self.alloc, self.last()?, fields, out)
         } else if is_verb(word, "sum") {
             self.sum(out)
         } else {
@@ -193,19 +188,6 @@ impl Scene {
                     ..
                 },
             ) => Ok(bytes),
-            _ => Err(Wrong::Line),
-        }
-    }
-
-    /// The bytes of the last file.
-    fn last(&self) -> Result<&[u8], Wrong> {
-        match self.files.last() {
-            Some(
-                Kept {
-                    bytes: Some(bytes),
-                    ..
-                },
-            ) => Ok(bytes.as_slice()),
             _ => Err(Wrong::Line),
         }
     }

@@ -12,11 +12,13 @@ use track_format::layout;
 /// The bytes before the words of an image.
 const HEADER: usize = 14;
 
-pub(crate) fn count(word: &str) -> Result<usize, Wrong> {
+/// The number that a word is, in decimal digits.
+pub fn count(word: &str) -> Result<usize, Wrong> {
     word.parse::<usize>().map_err(|_| Wrong::Line)
 }
 
-pub(crate) fn byte(word: &str) -> Result<u8, Wrong> {
+/// The same of a byte.
+pub fn byte(word: &str) -> Result<u8, Wrong> {
     word.parse::<u8>().map_err(|_| Wrong::Line)
 }
 
@@ -28,7 +30,7 @@ fn hex_word(word: &str) -> Result<u16, Wrong> {
 }
 
 /// Adds the bytes of hexadecimal digits.
-pub(crate) fn push_hex(bytes: &mut Vec<u8>, digits: &str) -> Result<(), Wrong> {
+pub fn push_hex(bytes: &mut Vec<u8>, digits: &str) -> Result<(), Wrong> {
     for pair in digits.as_bytes().chunks(2) {
         match hex_byte(pair) {
             Some(byte) => bytes.push(byte)?,
@@ -272,7 +274,7 @@ fn one<'a>(fields: &[&'a str]) -> Result<&'a str, Wrong> {
 }
 
 /// Follows a line of a recipe.
-pub(crate) fn follow(
+pub fn follow(
     alloc: Global,
     bytes: &mut Vec<u8>,
     verb: &str,

@@ -1,0 +1,25 @@
+//! Vectors as data: reads scenes from standard input, asks pure functions about the bytes of their files, and prints the answers.
+#![tactic(auto)]
+
+mod answers;
+mod scene;
+
+use flop_base::Sink;
+use flop_outside::StreamSink;
+use scene::play;
+use std::io;
+use std::process::ExitCode;
+
+fn main(rt: HostRuntime) -> ExitCode {
+    let alloc = rt.alloc();
+    let Ok(text) = io::read_to_string(alloc, rt.reader()) else {
+        return ExitCode::from(2);
+    };
+    let mut out = Vec::new(alloc);
+    let played = play(alloc, text.as_str(), &mut out);
+    let mut sink = StreamSink::new(&rt);
+    if sink.put(&out).is_err() || played.is_err() {
+        return ExitCode::from(1);
+    }
+    ExitCode::from(0)
+}
