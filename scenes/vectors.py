@@ -532,7 +532,8 @@ def services(book):
              ("0201 0000 0001 0000 1000", 0x06, 0, "read 0 0 0 1 count 1 10000", "0600 0000 0001 0000 1000 carry"),
              ("0201 0000 0001 0000 1000", 0x00, 1, "read 0 0 0 1 count 1 10000", "0001 0000 0001 0000 1000"),
              ("0202 0000 0012 0000 1000", 0x04, 1, "read 0 0 0 18 count 2 10000", "0401 0000 0012 0000 1000 carry"),
-             # from 1FE00 to 201FF
+             # from 1FE00 to 1FFFF, and to 201FF
+             ("0201 FE00 0001 0000 1000", 0x00, 1, "read 0 0 0 1 count 1 1FE00", "0001 FE00 0001 0000 1000"),
              ("0202 FE00 0001 0000 1000", 0x00, 0, "answer 09", "0900 FE00 0001 0000 1000 carry"))
     book.scene("writes and verifies of records by a call")
     calls_of(book,
