@@ -1,4 +1,7 @@
 // What is found on the first track of an image, and on its disk.
+ghost use Rattle.std.specs.Prelude.{IfOk};
+ghost use Rattle.track_model.specs.Fields.{IsSizeCode};
+
 use super::print::{Runs, line, put_words};
 use super::{Asked, key, medium_of};
 use flop_base::Chrn;
@@ -30,8 +33,16 @@ pub(crate) fn answer(verb: &[u8], asked: Asked, out: &mut Vec<u8>) -> Result<boo
     Ok(true)
 }
 
-fn is_sized(key: Chrn) -> bool {
-    key.n >= 1 && key.n <= 6
+/// The key that words are, if its size code is one of a sector's.
+fn sized_key(words: &[&str]) -> Result<Chrn, Wrong>
+    ensures { IfOk result (λ key. IsSizeCode key.n) }
+{
+    let key = key(words)?;
+    if (1..=6).contains(&key.n) {
+        Ok(key)
+    } else {
+        Err(Wrong::Line)
+    }
 }
 
 /// The words of the first track.
@@ -61,10 +72,10 @@ fn put_look(alloc: Global, out: &mut Vec<u8>, look: Look) -> Result<(), Wrong> {
 
 /// `look C H R N`
 fn look(asked: Asked, out: &mut Vec<u8>) -> Result<(), Wrong> {
-    let key = key(asked.arguments)?;
+    let key = sized_key(asked.arguments)?;
     let medium = medium_of(asked)?;
     match medium.track(0, 0) {
-        Some(track) if is_sized(key) => put_look(asked.alloc, out, find_sector(track, key)),
+        Some(track) => put_look(asked.alloc, out, find_sector(track, key)),
         _ => Err(Wrong::Line),
     }
 }
@@ -145,11 +156,11 @@ fn torn(asked: Asked, out: &mut Vec<u8>) -> Result<(), Wrong> {
     let [place, cut, behind @ ..] = asked.arguments else {
         return Err(Wrong::Line);
     };
-    let (place, cut, key) = (count(place)?, count(cut)?, key(behind)?);
+    let (place, cut, key) = (count(place)?, count(cut)?, sized_key(behind)?);
     let mut track = first_track(asked.alloc, &medium_of(asked)?)?;
     let window = field_words(asked.alloc, true, &[0; 512])?;
     let room = track.len();
-    if !is_sized(key) || room < 64 || room > 16_384 || cut > window.len() {
+    if room < 64 || room > 16_384 || cut > window.len() {
         return Err(Wrong::Line);
     }
     if place > 262_144 || place / 16 + 64 + cut > room {
