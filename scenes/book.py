@@ -99,7 +99,11 @@ class Book:
     def plan(self, lines):
         """The plan of faults and delays that the later runs have."""
         self.file("faults", text(lines))
-        self.give("plan faults")
+        self.plan_named("faults")
+
+    def plan_named(self, name):
+        """Later runs have the plan of this name, whether or not there is one."""
+        self.give("plan " + name)
 
     def shelf(self, *calls):
         self.give(*(f"shelf {call}" for call in calls))

@@ -51,7 +51,7 @@ def planned_jobs(book):
     book.sink(1)
     book.play("fill 10000 16 AA", "", UNHEARD)
     book.scene("a plan that is not there and whose line is not heard")
-    book.give("plan faults")
+    book.plan_named("faults")
     book.sink(1)
     book.play("fill 10000 16 AA", "", UNHEARD)
 

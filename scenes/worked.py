@@ -16,7 +16,7 @@ SURVEY = ";".join(f"{c} {h} {16 * (158 + 682 * (r - 1))} {c} {h} {r} 2 ok"
 
 
 def scenes(book):
-    for part in reading, writing, memory, media, faulty, disks, texts, images, rates, ports, flat_files, workload, archives:
+    for part in reading, writing, memory, media, faulty, plans, disks, texts, images, rates, ports, flat_files, workload, archives:
         part(book)
 
 
@@ -145,6 +145,23 @@ def faulty(book):
         planned(book, f"eight dropouts with {tries} tries", "drop 0 0 0 300 8",
                 f"insert 0 a.rt;ack 0;tries {tries};read 0 0 0 1 2 10000", "insert ok;ack ok;tries ok;read " + end, status)
     planned(book, "a plan with a count of 0", "drop 0 0 0 300 0", "", "plan line 1 not understood", 3)
+
+
+def plans(book):
+    planned(book, "a bad line of a plan is counted with those passed over", "gap 1 10;# more;;hold 9", "fill 10000 16 AA",
+            "plan line 4 not understood", 3)
+    book.scene("a plan that is not there")
+    book.plan_named("faults")
+    book.play("fill 10000 16 AA", "faults absent", 5)
+    book.scene("a plan that is too long")
+    book.file("faults", Made(b"#" * 4194305, "fill 4194305 35"))
+    book.plan_named("faults")
+    book.play("fill 10000 16 AA", "plan line 0 not understood", 3)
+    book.scene("a plan is had before the words are read")
+    book.plan("gap 1 0")
+    book.run("spin", "plan line 1 not understood", 3)
+    book.plan("gap 1 1")
+    book.run("spin", "words not understood", 2)
 
 
 def disks(book):
