@@ -1,5 +1,5 @@
 // The commands of a machine one by one, and calls past its driver.
-ghost use Rattle.std.specs.Prelude.{◌≤◌};
+ghost use Rattle.std.specs.Prelude.{◌≤◌, IfOk};
 ghost use Rattle.drive_model.specs.PlainDrive.{plain_state};
 ghost use Rattle.machine_commands.specs.Shown.{is_idle};
 
@@ -12,65 +12,75 @@ use single_commands::Commands;
 use std::alloc::Global;
 use std::test::Fail;
 
-/// A machine that is idle and set up.
-#[derive(Drop)]
-struct Idle {
-    machine: CommandedMachine<PlainDrive>,
-    ghost idle: { is_idle plain_state machine },
+/// A machine with two empty drives, after a reset.
+fn idle(alloc: Global) -> Result<CommandedMachine<PlainDrive>, Fail>
+    ensures { IfOk result (λ machine. is_idle plain_state machine) }
+{
+    let mut machine = CommandedMachine::new(machine(alloc)?);
+    machine.reset();
+    Ok(machine)
 }
 
-impl Idle {
-    /// A machine with two empty drives, after a reset.
-    fn new(alloc: Global) -> Result<Idle, Fail> {
-        let mut machine = CommandedMachine::new(machine(alloc)?);
-        machine.reset();
-        Ok(Idle { machine })
-    }
+/// A medium goes into a bay, where none is in.
+fn puts_in(machine: &mut CommandedMachine<PlainDrive>, bay: u8, medium: Medium) -> bool
+    requires idle { is_idle plain_state machine.old }
+    requires bay { bay ≤ 1 }
+    ensures { is_idle plain_state machine.new }
+{
+    machine.insert(bay, medium).is_ok()
+}
 
-    fn reset(&mut self) {
-        self.machine.reset();
-    }
+/// The medium of a bay is taken out, where one is in.
+fn takes_out(machine: &mut CommandedMachine<PlainDrive>, bay: u8) -> bool
+    requires idle { is_idle plain_state machine.old }
+    requires bay { bay ≤ 1 }
+    ensures { is_idle plain_state machine.new }
+{
+    machine.eject(bay).is_some()
+}
 
-    fn insert(&mut self, bay: u8, medium: Medium) -> bool
-        requires { bay ≤ 1 }
-    {
-        self.machine.insert(bay, medium).is_ok()
-    }
+/// A new drive takes the place of the one in a bay.
+fn exchange(machine: &mut CommandedMachine<PlainDrive>, bay: u8)
+    requires idle { is_idle plain_state machine.old }
+    requires bay { bay ≤ 1 }
+    ensures { is_idle plain_state machine.new }
+{
+    let _old = machine.exchange(bay, PlainDrive::new());
+}
 
-    fn eject(&mut self, bay: u8) -> bool
-        requires { bay ≤ 1 }
-    {
-        self.machine.eject(bay).is_some()
-    }
+/// The change line of a bay.
+fn is_changed<C: Commands>(machine: &mut C, bay: u8) -> bool
+    requires idle { C.is_idle machine.old }
+    requires bay { bay ≤ 1 }
+    ensures { C.is_idle machine.new }
+{
+    machine.is_changed(bay)
+}
 
-    fn exchange(&mut self, bay: u8)
-        requires { bay ≤ 1 }
-    {
-        let _old = self.machine.exchange(bay, PlainDrive::new());
-    }
+/// Steps to a cylinder.
+fn seek<C: Commands>(machine: &mut C, bay: u8, target: u8)
+    requires idle { C.is_idle machine.old }
+    requires bay { bay ≤ 1 }
+    requires target { target ≤ 79 }
+    ensures { C.is_idle machine.new }
+{
+    machine.seek(bay, target);
+}
 
-    fn is_changed(&mut self, bay: u8) -> bool
-        requires { bay ≤ 1 }
-    {
-        self.machine.is_changed(bay)
-    }
+/// Steps outward until track 0.
+fn recalibrate<C: Commands>(machine: &mut C, bay: u8) -> bool
+    requires idle { C.is_idle machine.old }
+    requires bay { bay ≤ 1 }
+    ensures { C.is_idle machine.new }
+{
+    machine.recalibrate(bay)
+}
 
-    fn seek(&mut self, bay: u8, target: u8)
-        requires bay { bay ≤ 1 }
-        requires target { target ≤ 79 }
-    {
-        self.machine.seek(bay, target);
-    }
-
-    fn recalibrate(&mut self, bay: u8) -> bool
-        requires { bay ≤ 1 }
-    {
-        self.machine.recalibrate(bay)
-    }
-
-    fn direct(&self) -> u64 {
-        self.machine.machine().direct()
-    }
+/// A reset.
+fn reset<C: Commands>(machine: &mut C)
+    ensures { C.is_idle machine.new }
+{
+    machine.reset();
 }
 
 /// A diskette with nothing recorded.
@@ -80,19 +90,19 @@ fn blank(alloc: Global) -> Result<Medium, Fail> {
 
 #[test]
 fn a_reset_forgets_the_cylinder(rt: HostRuntime) -> Result<(), Fail> {
-    let mut idle = Idle::new(rt.alloc())?;
-    assert!(rt; idle.insert(0, blank(rt.alloc())?));
-    assert!(rt; idle.recalibrate(0));
-    idle.seek(0, 1);
-    assert!(rt; !idle.is_changed(0));
-    assert!(rt; idle.eject(0));
-    assert!(rt; idle.insert(0, blank(rt.alloc())?));
-    idle.seek(0, 1);
-    assert!(rt; idle.is_changed(0), "the heads are there");
-    idle.reset();
-    idle.seek(0, 1);
+    let mut machine = idle(rt.alloc())?;
+    assert!(rt; puts_in(&mut machine, 0, blank(rt.alloc())?));
+    assert!(rt; recalibrate(&mut machine, 0));
+    seek(&mut machine, 0, 1);
+    assert!(rt; !is_changed(&mut machine, 0));
+    assert!(rt; takes_out(&mut machine, 0));
+    assert!(rt; puts_in(&mut machine, 0, blank(rt.alloc())?));
+    seek(&mut machine, 0, 1);
+    assert!(rt; is_changed(&mut machine, 0), "the heads are there");
+    reset(&mut machine);
+    seek(&mut machine, 0, 1);
     assert!(rt;
-        !idle.is_changed(0),
+        !is_changed(&mut machine, 0),
         "the controller takes their cylinder for 0"
     );
     Ok(())
@@ -100,19 +110,19 @@ fn a_reset_forgets_the_cylinder(rt: HostRuntime) -> Result<(), Fail> {
 
 #[test]
 fn each_call_past_the_driver_is_counted(rt: HostRuntime) -> Result<(), Fail> {
-    let mut idle = Idle::new(rt.alloc())?;
+    let mut machine = idle(rt.alloc())?;
     let medium = blank(rt.alloc())?;
-    assert!(rt; idle.insert(1, medium));
+    assert!(rt; puts_in(&mut machine, 1, medium));
     let other = blank(rt.alloc())?;
-    assert!(rt; !idle.insert(1, other), "one is in");
-    assert!(rt; idle.is_changed(1), "no pulse came");
-    idle.seek(1, 2);
-    assert!(rt; !idle.is_changed(1));
-    assert!(rt; idle.is_changed(0), "the other drive had no pulse");
-    assert!(rt; idle.eject(1));
-    assert!(rt; !idle.eject(1), "none is in");
-    idle.exchange(1);
-    assert!(rt; idle.is_changed(1));
-    assert_eq!(rt; idle.direct(), 5);
+    assert!(rt; !puts_in(&mut machine, 1, other), "one is in");
+    assert!(rt; is_changed(&mut machine, 1), "no pulse came");
+    seek(&mut machine, 1, 2);
+    assert!(rt; !is_changed(&mut machine, 1));
+    assert!(rt; is_changed(&mut machine, 0), "the other drive had no pulse");
+    assert!(rt; takes_out(&mut machine, 1));
+    assert!(rt; !takes_out(&mut machine, 1), "none is in");
+    exchange(&mut machine, 1);
+    assert!(rt; is_changed(&mut machine, 1));
+    assert_eq!(rt; machine.machine().direct(), 5);
     Ok(())
 }

@@ -1,4 +1,5 @@
 // A session over a machine by itself: requests one by one, and calls of INT 13h.
+ghost use Rattle.std.specs.Prelude.{IfOk};
 ghost use Rattle.drive_model.specs.PlainDrive.{plain_state};
 ghost use Rattle.floppy_session.specs.Tries.{HasTries};
 ghost use Rattle.floppy_tools.specs.Sessions.{is_running};
@@ -10,18 +11,9 @@ use flop_base::{Chrn, Code, MemShelf, Name, Rate};
 use floppy_requests::Request;
 use floppy_tools::Session;
 use int13::{Int13, Regs};
-use pc_bus::MachineOf;
 use sector_model::{Reason, Reply, Stop};
 use std::alloc::Global;
 use std::test::Fail;
-
-/// A session between two requests, and its shelf.
-#[derive(Drop)]
-struct Ongoing {
-    session: Session<PlainDrive>,
-    shelf: MemShelf,
-    ghost running: { is_running plain_state session },
-}
 
 /// What a request came to: nothing where it was neither done nor refused by the driver.
 fn answer(reply: Result<Reply, Stop>) -> Option<Result<(), Code>> {
@@ -32,46 +24,57 @@ fn answer(reply: Result<Reply, Stop>) -> Option<Result<(), Code>> {
     }
 }
 
-impl Ongoing {
-    /// A session with two empty bays, and a shelf with a disk of 250 kbit/s.
-    fn new(alloc: Global) -> Result<Ongoing, Fail> {
-        let shelf = shelf_with_disk(alloc, "")?;
-        let session = Session::new(alloc, machine(alloc)?, spare(alloc)?);
-        Ok(Ongoing { session, shelf })
-    }
-
-    fn ask(&mut self, request: &Request) -> Option<Result<(), Code>>
-        requires { HasTries request.now }
-    {
-        answer(self.session.run(&mut self.shelf, request))
-    }
-
-    fn int13(&mut self, front: &mut Int13, regs: Regs) -> Regs {
-        self.session.int13(front, regs)
-    }
-
-    fn end(&mut self) -> bool {
-        self.session.end(&mut self.shelf).is_ok()
-    }
-
-    fn data_commands(&self) -> u64 {
-        self.session.machine().data_commands()
-    }
-
-    fn into_machine(self) -> MachineOf<PlainDrive> {
-        let Ongoing { session, .. } = self;
-        session.into_machine()
-    }
+/// A session with two empty bays.
+fn new_session(alloc: Global) -> Result<Session<PlainDrive>, Fail>
+    ensures { IfOk result (λ session. is_running plain_state session) }
+{
+    let machine = machine(alloc)?;
+    let spare = spare(alloc)?;
+    Ok(Session::new(alloc, machine, spare))
 }
 
-/// A session with the disk in bay 0.
-fn with_disk(alloc: Global) -> Result<Ongoing, Fail> {
-    let mut session = Ongoing::new(alloc)?;
+/// Runs a request.
+fn ask(
+    session: &mut Session<PlainDrive>,
+    shelf: &mut MemShelf,
+    request: &Request,
+) -> Option<Result<(), Code>>
+    requires running { is_running plain_state session.old }
+    requires tries { HasTries request.now }
+    ensures { is_running plain_state session.new }
+{
+    answer(session.run(shelf, request))
+}
+
+/// Serves a call of INT 13h.
+fn serve(session: &mut Session<PlainDrive>, front: &mut Int13, regs: Regs) -> Regs
+    requires { is_running plain_state session.old }
+    ensures { is_running plain_state session.new }
+{
+    session.int13(front, regs)
+}
+
+/// Ends a session.
+fn end(session: &mut Session<PlainDrive>, shelf: &mut MemShelf) -> bool
+    requires { is_running plain_state session.old }
+    ensures { is_running plain_state session.new }
+{
+    session.end(shelf).is_ok()
+}
+
+/// Puts the disk of the shelf into bay 0.
+fn insert(
+    alloc: Global,
+    session: &mut Session<PlainDrive>,
+    shelf: &mut MemShelf,
+) -> Result<(), Fail>
+    requires { is_running plain_state session.old }
+    ensures { is_running plain_state session.new }
+{
     let name = Name::copy(alloc, "a.rt")?;
-    session
-        .ask(&Request::Insert { bay: 0, name })
-        .ok_or("a.rt is an image")??;
-    Ok(session)
+    let inserted = ask(session, shelf, &Request::Insert { bay: 0, name });
+    inserted.ok_or("a.rt is an image")??;
+    Ok(())
 }
 
 const READ: Request = Request::Read {
@@ -87,18 +90,33 @@ const READ: Request = Request::Read {
 
 #[test]
 fn a_session_runs_requests_and_ends(rt: HostRuntime) -> Result<(), Fail> {
-    let mut session = with_disk(rt.alloc())?;
+    let alloc = rt.alloc();
+    let mut shelf = shelf_with_disk(alloc, "")?;
+    let mut session = new_session(alloc)?;
+    insert(alloc, &mut session, &mut shelf)?;
     let rate = Rate::R500;
     let faster = Request::SetRate { bay: 0, rate };
-    assert_eq!(rt; session.ask(&faster), Some(Err(Code::Changed)));
-    assert_eq!(rt; session.ask(&Request::Ack { bay: 0 }), Some(Ok(())));
-    assert_eq!(rt; session.ask(&READ), Some(Ok(())));
-    assert_eq!(rt; session.data_commands(), 3);
-    assert_eq!(rt; session.ask(&faster), Some(Ok(())));
-    assert_eq!(rt; session.ask(&Request::Tries { tries: 10 }), Some(Ok(())));
-    assert_eq!(rt; session.ask(&READ), Some(Err(Code::NoMark)));
-    assert_eq!(rt; session.data_commands(), 13);
-    assert!(rt; session.end());
+    assert_eq!(rt;
+        ask(&mut session, &mut shelf, &faster),
+        Some(Err(Code::Changed))
+    );
+    assert_eq!(rt;
+        ask(&mut session, &mut shelf, &Request::Ack { bay: 0 }),
+        Some(Ok(()))
+    );
+    assert_eq!(rt; ask(&mut session, &mut shelf, &READ), Some(Ok(())));
+    assert_eq!(rt; session.machine().data_commands(), 3);
+    assert_eq!(rt; ask(&mut session, &mut shelf, &faster), Some(Ok(())));
+    assert_eq!(rt;
+        ask(&mut session, &mut shelf, &Request::Tries { tries: 10 }),
+        Some(Ok(()))
+    );
+    assert_eq!(rt;
+        ask(&mut session, &mut shelf, &READ),
+        Some(Err(Code::NoMark))
+    );
+    assert_eq!(rt; session.machine().data_commands(), 13);
+    assert!(rt; end(&mut session, &mut shelf));
     let machine = session.into_machine();
     for (address, byte) in [
         (0x0FFFF, 0x00),
@@ -113,7 +131,10 @@ fn a_session_runs_requests_and_ends(rt: HostRuntime) -> Result<(), Fail> {
 
 #[test]
 fn a_session_serves_calls(rt: HostRuntime) -> Result<(), Fail> {
-    let mut session = with_disk(rt.alloc())?;
+    let alloc = rt.alloc();
+    let mut shelf = shelf_with_disk(alloc, "")?;
+    let mut session = new_session(alloc)?;
+    insert(alloc, &mut session, &mut shelf)?;
     let mut front = Int13::new();
     let read = Regs {
         ax: 0x0201,
@@ -124,10 +145,10 @@ fn a_session_serves_calls(rt: HostRuntime) -> Result<(), Fail> {
         carry: false,
     };
     // The bay isn't acknowledged yet, and a call that acknowledges it moves nothing.
-    let first = session.int13(&mut front, read);
+    let first = serve(&mut session, &mut front, read);
     assert_eq!(rt; (first.ax, first.carry), (0x0600, true));
     assert_eq!(rt;
-        session.int13(&mut front, read),
+        serve(&mut session, &mut front, read),
         Regs { ax: 0x0001, ..read }
     );
     let machine = session.into_machine();
