@@ -33,11 +33,10 @@ def reading(book):
     book.scene("two sectors of one key that are both damaged")
     book.file("a.rt", A_TWICE_BOTH_DAMAGED)
     book.play(READ, NOT_READ + "10", 1)
-    # Which of the two is met first is free, and so is memory behind a refusal. The read starts where the head stands, before the
-    # damaged one, and goes on to the next attempt at the other.
+    # Which of the two an attempt meets is free, and so is memory behind a refusal. Here each meets the damaged one.
     book.scene("two sectors of one key of which one is damaged")
     book.file("a.rt", A_TWICE_DAMAGED)
-    book.play(READ, WAS_READ)
+    book.play(READ, NOT_READ + "10", 1)
 
 
 def writing(book):
