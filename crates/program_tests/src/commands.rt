@@ -1,4 +1,4 @@
-// The commands of a machine one by one, and calls past its driver.
+// The commands of a machine one by one.
 ghost use Rattle.std.specs.Prelude.{◌≤◌, IfOk};
 ghost use Rattle.drive_model.specs.PlainDrive.{plain_state};
 ghost use Rattle.machine_commands.specs.Shown.{is_idle};
@@ -37,15 +37,6 @@ fn takes_out(machine: &mut CommandedMachine<PlainDrive>, bay: u8) -> bool
     ensures { is_idle plain_state machine.new }
 {
     machine.eject(bay).is_some()
-}
-
-/// A new drive takes the place of the one in a bay.
-fn exchange(machine: &mut CommandedMachine<PlainDrive>, bay: u8)
-    requires idle { is_idle plain_state machine.old }
-    requires bay { bay ≤ 1 }
-    ensures { is_idle plain_state machine.new }
-{
-    let _old = machine.exchange(bay, PlainDrive::new());
 }
 
 /// The change line of a bay.
@@ -105,24 +96,5 @@ fn a_reset_forgets_the_cylinder(rt: HostRuntime) -> Result<(), Fail> {
         !is_changed(&mut machine, 0),
         "the controller takes their cylinder for 0"
     );
-    Ok(())
-}
-
-#[test]
-fn each_call_past_the_driver_is_counted(rt: HostRuntime) -> Result<(), Fail> {
-    let mut machine = idle(rt.alloc())?;
-    let medium = blank(rt.alloc())?;
-    assert!(rt; puts_in(&mut machine, 1, medium));
-    let other = blank(rt.alloc())?;
-    assert!(rt; !puts_in(&mut machine, 1, other), "one is in");
-    assert!(rt; is_changed(&mut machine, 1), "no pulse came");
-    seek(&mut machine, 1, 2);
-    assert!(rt; !is_changed(&mut machine, 1));
-    assert!(rt; is_changed(&mut machine, 0), "the other drive had no pulse");
-    assert!(rt; takes_out(&mut machine, 1));
-    assert!(rt; !takes_out(&mut machine, 1), "none is in");
-    exchange(&mut machine, 1);
-    assert!(rt; is_changed(&mut machine, 1));
-    assert_eq!(rt; machine.machine().direct(), 5);
     Ok(())
 }
