@@ -11,6 +11,7 @@ use flop_base::{Chrn, Code, MemShelf, Name};
 use floppy_requests::Request;
 use floppy_tools::Session;
 use int13::{Int13, Regs};
+use pc_bus::MachineOf;
 use sector_model::{Reason, Reply, Stop};
 use std::alloc::Global;
 use std::test::Fail;
@@ -104,6 +105,11 @@ fn read(session: &mut Session<PlainDrive>, shelf: &mut MemShelf) -> Option<Resul
     ask(session, shelf, &request)
 }
 
+/// The last byte of the sector that a read puts to 10000, and the byte behind it.
+fn last_and_next(machine: &MachineOf<PlainDrive>) -> (u8, u8) {
+    (machine.ram(0x101FF), machine.ram(0x10200))
+}
+
 #[test]
 fn a_session_runs_requests_and_ends(rt: HostRuntime) -> Result<(), Fail> {
     let alloc = rt.alloc();
@@ -115,9 +121,7 @@ fn a_session_runs_requests_and_ends(rt: HostRuntime) -> Result<(), Fail> {
     assert!(rt; read(&mut session, &mut shelf) == Some(Ok(())));
     assert_eq!(rt; session.machine().data_commands(), 3);
     assert!(rt; end(&mut session, &mut shelf));
-    let machine = session.into_machine();
-    assert_eq!(rt; machine.ram(0x101FF), 0xF6);
-    assert_eq!(rt; machine.ram(0x10200), 0x00);
+    assert_eq!(rt; last_and_next(&session.into_machine()), (0xF6, 0x00));
     Ok(())
 }
 
@@ -143,8 +147,6 @@ fn a_session_serves_calls(rt: HostRuntime) -> Result<(), Fail> {
         serve(&mut session, &mut front, read),
         Regs { ax: 0x0001, ..read }
     );
-    let machine = session.into_machine();
-    assert_eq!(rt; machine.ram(0x10000), 0xF6);
-    assert_eq!(rt; machine.ram(0x10200), 0x00);
+    assert_eq!(rt; last_and_next(&session.into_machine()), (0xF6, 0x00));
     Ok(())
 }
