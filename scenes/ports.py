@@ -51,6 +51,11 @@ def answers_of_an_empty_machine(book):
                "out 3F5 08;in 3F4;in 3F5;in 3F5;in 3F4;out 3F5 1F;in 3F4;in 3F5;in 3F4;eject 0;eject 2",
                "irq 0;in 3F4 00;in 123 FF;in ABCD FF;irq 1;irq 0;irq 0;in 3F4 80;in 3F4 D0;in 3F5 C0;in 3F5 00;in 3F4 80;"
                "in 3F4 D0;in 3F5 80;in 3F4 80;eject refused empty;eject refused 01", 1)
+    # The poll comes in the first step behind the access that ends the reset: in the gap, or in none.
+    for name, plan, told in (("of one step", "gap 1 1", "irq 1;irq 0;irq 0"), ("of no step", "gap 0 1", "irq 0;irq 1;irq 0")):
+        book.scene("a gap " + name + " runs behind the access")
+        book.plan(plan)
+        book.ports("out 3F2 0C;irq;wait 1;irq;irq", told)
     book.scene("the change line is set until a pulse")
     book.file("a.rt", ONE_CYLINDER_FIRST)
     book.ports("out 3F2 1C;wait 1;" + POLLED + "insert 0 a.rt;insert 0 a.rt;in 3F7;out 3F5 04;out 3F5 00;in 3F5;" + send(15, 0, 1)
