@@ -1,1 +1,2 @@
+mod New
 mod Unplanned

@@ -1,12 +1,19 @@
--- Runs of the top call on a machine that is as it was made.
-use Rattle.std.specs.Prelude.{◌≡◌, ◌≢◌, ℕ, List, All, None, Some}
+-- Runs of the top call on a machine that was made for them.
+use Rattle.std.specs.Prelude.{◌≡◌, ◌≢◌, ℕ, List, [], ◌∷◌, Option, None, Some, Ok, IfSome, IsSomeAnd}
+use Rattle.flop_base.specs.Shelf.{file_at}
 use Rattle.flop_base.specs.declared.answers.Status.{Status}
 use Rattle.flop_base.specs.declared.answers.Status.TheVariants as status
 use Rattle.drive_model.specs.Drive.{DriveState}
-use Rattle.pc_bus.specs.Boards.{Board, board, IsEmpty}
+use Rattle.drive_model.specs.Fault.{total_left}
+use Rattle.drive_model.specs.Mechanics.{at_rest}
+use Rattle.drive_model.specs.ScriptDrive.{script_state, told}
+use Rattle.drive_model.specs.declared.fault.Fault.{Fault}
+use Rattle.drive_model.specs.declared.script.ScriptDrive.{ScriptDrive}
+use Rattle.fault_plan.specs.Plan.{Plan, plan_spelled}
+use Rattle.irq_events.specs.declared.pace.Pace.{Pace}
+use Rattle.pc_bus.specs.Boards.{Board, board, IsNew}
 use Rattle.pc_bus.specs.declared.machine.MachineOf.{MachineOf}
 use Rattle.machine_station.specs.Shown.{all_counts}
-use Rattle.machine_station.specs.Started.{IsFreshBoard}
 use Rattle.floppy_words.specs.Forms.{form_of, ports_file_of}
 use Rattle.archive_commands.specs.Files.{Desk}
 use Rattle.port_commands.specs.Benches.{Names, no_names}
@@ -19,15 +26,62 @@ abbrev pub ports_world : Board → Names → Desk → World
 ports_world board names desk =
     record { bench = record { board = board; names = names; files = desk.files }; report = desk.report }
 
--- the program ran on a machine as it was made, with spare drives that were empty: what the words say ran over it, with a driver
--- or at its ports, up to the machine that comes back
-pub record RunsNew {D : Type 0} (state : D → DriveState) (words : List (List ℕ)) (before : Desk) (left : MachineOf D) (after : Desk) (ended : Status) : Type 0 where
-  pub made : MachineOf D
-  pub spare : List D
-  pub fresh : IsFreshBoard (board state made)
-  pub unused : All (λ drive. IsEmpty (state drive)) spare
+-- what a machine is made of: the drives of its bays, the spare ones and its pace
+pub record Parts : Type 0 where
+  pub bay0 : DriveState
+  pub bay1 : DriveState
+  pub spares : List DriveState
+  pub gaps : List ℕ
+  pub holds : List ℕ
+  pub strays : List ℕ
+
+-- a drive as it comes, for which these faults are planned
+abbrev pub planned_drive : List Fault → DriveState
+planned_drive faults = at_rest (told 0 (total_left faults))
+
+-- what a plan asks for
+abbrev pub parts_of : Plan → Parts
+parts_of plan = record {
+  bay0 = planned_drive plan.bay0;
+  bay1 = planned_drive plan.bay1;
+  spares = planned_drive plan.spare0 ∷ planned_drive plan.spare1 ∷ [];
+  gaps = plan.gaps;
+  holds = plan.holds;
+  strays = plan.strays;
+}
+
+-- drives without faults, which nothing delays
+abbrev pub plain_parts : Parts
+plain_parts = record {
+  bay0 = at_rest (Some 0);
+  bay1 = at_rest (Some 0);
+  spares = at_rest (Some 0) ∷ at_rest (Some 0) ∷ [];
+  gaps = [];
+  holds = [];
+  strays = [];
+}
+
+-- a new machine of these parts
+pub record IsMadeOf (parts : Parts) (new : Board) : Type 0 where
+  pub pace : Pace
+  pub gaps : pace.gaps.items ≡ parts.gaps
+  pub holds : pace.holds.items ≡ parts.holds
+  pub strays : pace.strays.items ≡ parts.strays
+  pub made : IsNew pace parts.bay0 parts.bay1 new
+
+-- the program ran on a new machine of these parts: what the words say ran over it, with a driver or at its ports, up to the
+-- machine that comes back
+pub record RunsNew {D : Type 0} (state : D → DriveState) (parts : Parts) (words : List (List ℕ)) (before : Desk) (left : MachineOf D) (after : Desk) (ended : Status) : Type 0 where
+  pub new : Board
+  pub made : IsMadeOf parts new
   pub runs : ports_file_of words ≡ None
-      → RunsOver (form_of words) (board state made) (all_counts state spare) before (board state left) after ended
+      → RunsOver (form_of words) new (all_counts (λ drive. drive) parts.spares) before (board state left) after ended
   pub ports : (file : List ℕ) → ports_file_of words ≡ Some file → (names : Names)
-      × RunsPorts file (ports_world (board state made) no_names before) (ports_world (board state left) names after) ended
+      × RunsPorts file (ports_world new no_names before) (ports_world (board state left) names after) ended
   pub bad_words : ended ≡ status.BadWords → (form_of words ≡ None) × (ports_file_of words ≡ None)
+
+-- the same on what the plan of this name asks for
+pub record RunsPlanned (name : List ℕ) (words : List (List ℕ)) (before : Desk) (left : MachineOf ScriptDrive) (after : Desk) (ended : Status) : Type 0 where
+  pub plan : Plan
+  pub spelled : IfSome before.files (λ files. IsSomeAnd (file_at files name) (λ text. plan_spelled text ≡ Ok plan))
+  pub runs : RunsNew script_state (parts_of plan) words before left after ended

@@ -1,9 +1,10 @@
 // Drives of the program, and machines with them.
-ghost use Rattle.std.specs.Prelude.{◌≡◌, All, IfOk};
-ghost use Rattle.pc_bus.specs.Boards.{board, IsEmpty};
+ghost use Rattle.std.specs.Prelude.{◌≡◌, [], ◌∷◌, Some, IfOk};
+ghost use Rattle.pc_bus.specs.Boards.{board, IsNew};
+ghost use Rattle.drive_model.specs.Mechanics.{at_rest};
 ghost use Rattle.drive_model.specs.PlainDrive.{plain_state};
-ghost use Rattle.drive_model.specs.ScriptDrive.{script_state};
-ghost use Rattle.machine_station.specs.Started.{IsFreshBoard};
+ghost use Rattle.drive_model.specs.ScriptDrive.{script_of, script_state};
+ghost use Rattle.floppy_runs.specs.Runs.{planned_drive};
 
 use drive_model::{Drive, Fault, PlainDrive, ScriptDrive};
 use flop_base::NoMemory;
@@ -19,11 +20,10 @@ pub(crate) struct Drives<D> {
 }
 
 impl Drives<PlainDrive> {
-    ghost use Rattle.floppy_runs.specs.Drives.{AreEmpty};
-
     /// Two drives without faults.
     pub fn plain() -> Drives<PlainDrive>
-        ensures { AreEmpty plain_state result }
+        ensures first { plain_state result.first ≡ at_rest (Some 0) }
+        ensures second { plain_state result.second ≡ at_rest (Some 0) }
     {
         Drives {
             first: PlainDrive::new(),
@@ -33,11 +33,12 @@ impl Drives<PlainDrive> {
 }
 
 impl Drives<ScriptDrive> {
-    ghost use Rattle.floppy_runs.specs.Drives.{AreEmpty};
-
     /// Two drives with these faults.
     pub fn scripted(first: Vec<Fault>, second: Vec<Fault>) -> Drives<ScriptDrive>
-        ensures { AreEmpty script_state result }
+        ensures first { script_state result.first ≡ planned_drive first.items }
+        ensures second { script_state result.second ≡ planned_drive second.items }
+        ensures first_script { script_of result.first ≡ first.items }
+        ensures second_script { script_of result.second ≡ second.items }
     {
         Drives {
             first: ScriptDrive::new(first),
@@ -52,7 +53,7 @@ impl<D: Drive> Drives<D> {
     /// A machine with these drives in its bays.
     pub fn machine(self, alloc: Global, pace: Pace) -> Result<MachineOf<D>, NoMemory>
         requires { AreEmpty D.state self }
-        ensures { IfOk result (λ machine. IsFreshBoard (board D.state machine)) }
+        ensures { IfOk result (λ machine. IsNew pace (D.state self.first) (D.state self.second) (board D.state machine)) }
     {
         let Drives { first, second } = self;
         let machine = MachineOf::new(alloc, first, second, pace)?;
@@ -61,8 +62,7 @@ impl<D: Drive> Drives<D> {
 
     /// These drives in their order.
     pub fn spare(self, alloc: Global) -> Result<Vec<D>, NoMemory>
-        requires { AreEmpty D.state self }
-        ensures { IfOk result (λ spare. All (λ drive. IsEmpty (D.state drive)) spare.items) }
+        ensures { IfOk result (λ spare. spare.items ≡ self.first ∷ self.second ∷ []) }
     {
         let Drives { first, second } = self;
         let mut spare = Vec::new(alloc);

@@ -1,14 +1,13 @@
 // The machine of the program, and what it does with the words.
-ghost use Rattle.std.specs.Prelude.{◌≡◌, ◌⊎◌, All, IfSome, IsSome, None, map, string_bytes};
+ghost use Rattle.std.specs.Prelude.{◌≡◌, ◌⊎◌, [], IfSome, None, map, string_bytes};
 ghost use Rattle.drive_model.specs.PlainDrive.{plain_state};
 ghost use Rattle.drive_model.specs.ScriptDrive.{script_state};
 ghost use Rattle.sector_model.specs.Faults.{Blames};
-ghost use Rattle.pc_bus.specs.Boards.{board, IsEmpty};
-ghost use Rattle.machine_station.specs.Started.{IsFreshBoard};
+ghost use Rattle.fault_plan.specs.Plan.{lists_of};
 ghost use Rattle.archive_commands.specs.Files.{desk_of};
-ghost use Rattle.floppy_runs.specs.Drives.{AreEmpty};
+ghost use Rattle.floppy_runs.specs.Drives.{AreEmpty, parts_with};
 ghost use Rattle.floppy_runs.specs.Plans.{EndsWithoutPlan, Silent};
-ghost use Rattle.floppy_runs.specs.Runs.{RunsNew};
+ghost use Rattle.floppy_runs.specs.Runs.{parts_of, plain_parts, RunsNew, RunsPlanned};
 
 use crate::drives::Drives;
 use crate::plan::read_plan;
@@ -35,7 +34,7 @@ pub fn run_plain<S: Shelf, K: Sink>(
     out: &mut K,
 ) -> Ended<PlainDrive>
     // The headline: what is printed and stored is what the top call does on a new machine, which comes back.
-    ensures runs { IfSome result.machine (λ machine. RunsNew plain_state (map string_bytes words.now)
+    ensures runs { IfSome result.machine (λ machine. RunsNew plain_state plain_parts (map string_bytes words.now)
         (desk_of S.told K.told shelf.old out.old) machine (desk_of S.told K.told shelf.new out.new) result.status) }
     ensures no_machine { result.machine ≡ None → Silent Status.NoMemory (K.told out.old) (K.told out.new) result.status }
     ensures shelf_faults { Blames (result.status ≡ Status.FileFault) (S.fault_count shelf.old) (S.fault_count shelf.new) }
@@ -61,7 +60,8 @@ pub fn run_planned<S: Shelf, K: Sink>(
     shelf: &mut S,
     out: &mut K,
 ) -> Ended<ScriptDrive>
-    ensures runs { IfSome result.machine (λ machine. RunsNew script_state (map string_bytes words.now)
+    // The new machine has the faults and the pace of the plan that the file spells.
+    ensures runs { IfSome result.machine (λ machine. RunsPlanned plan.now (map string_bytes words.now)
         (desk_of S.told K.told shelf.old out.old) machine (desk_of S.told K.told shelf.new out.new) result.status) }
     ensures no_machine { result.machine ≡ None
         → EndsWithoutPlan (S.told shelf.old) plan.now (K.told out.old) (K.told out.new) result.status
@@ -86,7 +86,7 @@ fn run_faulty<S: Shelf, K: Sink>(
     shelf: &mut S,
     out: &mut K,
 ) -> Ended<ScriptDrive>
-    ensures runs { IfSome result.machine (λ machine. RunsNew script_state (map string_bytes words.now)
+    ensures runs { IfSome result.machine (λ machine. RunsNew script_state (parts_of (lists_of plan)) (map string_bytes words.now)
         (desk_of S.told K.told shelf.old out.old) machine (desk_of S.told K.told shelf.new out.new) result.status) }
     ensures no_machine { result.machine ≡ None → Silent Status.NoMemory (K.told out.old) (K.told out.new) result.status }
     ensures shelf_faults { Blames (result.status ≡ Status.FileFault) (S.fault_count shelf.old) (S.fault_count shelf.new) }
@@ -104,7 +104,11 @@ fn run_faulty<S: Shelf, K: Sink>(
     run_on(alloc, words, bays, spare, pace, shelf, out)
 }
 
-fn no_delays(alloc: Global) -> Pace {
+fn no_delays(alloc: Global) -> Pace
+    ensures gaps { result.gaps.items ≡ [] }
+    ensures holds { result.holds.items ≡ [] }
+    ensures strays { result.strays.items ≡ [] }
+{
     Pace {
         gaps: Vec::new(alloc),
         holds: Vec::new(alloc),
@@ -124,8 +128,9 @@ fn run_on<S: Shelf, K: Sink, D: Drive>(
 ) -> Ended<D>
     requires bays { AreEmpty D.state bays }
     requires spare { AreEmpty D.state spare }
-    ensures runs { IfSome result.machine (λ machine. RunsNew D.state (map string_bytes words.now)
-        (desk_of S.told K.told shelf.old out.old) machine (desk_of S.told K.told shelf.new out.new) result.status) }
+    ensures runs { IfSome result.machine (λ machine. RunsNew D.state (parts_with D.state bays spare pace)
+        (map string_bytes words.now) (desk_of S.told K.told shelf.old out.old) machine
+        (desk_of S.told K.told shelf.new out.new) result.status) }
     ensures no_machine { result.machine ≡ None → Silent Status.NoMemory (K.told out.old) (K.told out.new) result.status }
     ensures shelf_faults { Blames (result.status ≡ Status.FileFault) (S.fault_count shelf.old) (S.fault_count shelf.new) }
     ensures sink_faults { Blames (result.status ≡ Status.SinkFault) (K.fault_count out.old) (K.fault_count out.new) }
@@ -142,26 +147,6 @@ fn run_on<S: Shelf, K: Sink, D: Drive>(
             machine: None,
         };
     };
-    run_machine(alloc, words, machine, spare, shelf, out)
-}
-
-/// Runs the top call on a machine that is as it was made.
-fn run_machine<S: Shelf, K: Sink, D: Drive>(
-    alloc: Global,
-    words: &[String],
-    machine: MachineOf<D>,
-    spare: Vec<D>,
-    shelf: &mut S,
-    out: &mut K,
-) -> Ended<D>
-    requires machine { IsFreshBoard (board D.state machine) }
-    requires spare { All (λ drive. IsEmpty (D.state drive)) spare.items }
-    ensures made { IsSome result.machine }
-    ensures runs { IfSome result.machine (λ left. RunsNew D.state (map string_bytes words.now)
-        (desk_of S.told K.told shelf.old out.old) left (desk_of S.told K.told shelf.new out.new) result.status) }
-    ensures shelf_faults { Blames (result.status ≡ Status.FileFault) (S.fault_count shelf.old) (S.fault_count shelf.new) }
-    ensures sink_faults { Blames (result.status ≡ Status.SinkFault) (K.fault_count out.old) (K.fault_count out.new) }
-{
     let (status, machine) = floppy(alloc, words, shelf, out, machine, spare);
     Ended {
         status,
