@@ -32,7 +32,7 @@ def runs(book, name, disk, accesses, report, stored=None, more=(), **seen):
 
 
 def scenes(book):
-    for part in commands, reads, failures, writes, formats:
+    for part in commands, reads, failures, writes, formats, gates:
         part(book)
 
 
@@ -179,6 +179,9 @@ def format_track(sectors, gap3, bytes_there, end=LONG_END):
 def formats(book):
     with_source(book, "eighteen sectors are laid out", BLANK, keys(18), format_track(18, 0x6C, 72), ended(0, 0, 0, 0, 0, 0x12, 2),
                 one_track(TRACK))
+    # Behind the keys the channel has bytes left when the second index comes, so that it gives no terminal count.
+    with_source(book, "a layout needs no terminal count", BLANK, keys(18) + b"\xEE" * 28, format_track(18, 0x6C, 100),
+                ended(0, 0, 0, 0, 0, 0x12, 2), one_track(TRACK))
     at_250 = Made(Disk(1, 1, 6250, 2).file(), "head 0 1 1 2 6250", "fillwords 6250 0000")
     nine = Disk(1, 1, 6250, 2, 0, [layout(standard(0, 0, 9), 0x50, 0xF6, 6250)])
     with_source(book, "nine sectors at 250 kbit per second are laid out", at_250, keys(9),
@@ -194,3 +197,24 @@ def formats(book):
                 one_track(TRACK[:162] + [0] * (12500 - 162)))
     with_source(book, "a protected disk is not formatted", PROTECTED, keys(18), format_track(18, 0x6C, 72),
                 ended(0x40, 2, 0, 0, 0, 0, 0))
+
+
+def gates(book):
+    # Both disks stand at word 10 of 12,500 when the first write begins, and its window at word 190: 30 of its words are written.
+    # Then bay 0 stands at word 6,480 and bay 1 at word 10, and the window of record 11 at word 7,010: 20 of its words are written.
+    # The next 7 are given to bay 1, whose gate the reset closed, and the last 503 to bay 0, whose gate was closed meanwhile.
+    bytes_00 = channel(512, mode=0x4A)
+    words = window(bytes(512))
+    first, second = list(TRACK), list(TRACK)
+    first[7010:7030] = words[:20]
+    second[190:220] = words[:30]
+    for name, reset in ("that selects the other drive", "out 3F2 38;"), ("by the other register", "out 3F4 80;"):
+        book.scene("a reset " + name + " closes the gate")
+        for file in "a.rt", "b.rt", "c.rt":
+            book.file(file, ONE)
+        book.ports("insert 0 a.rt;insert 1 b.rt;out 3F2 3D;wait 6260;irq;" + POLLED + send(0x13, 0, 7, 0) + "out 3F7 00;" + bytes_00
+                   + send(0x45, 1, 0, 0, 1, 2, 0x12, 0x1B, 0xFF) + "wait 210;" + reset + "out 3F2 3C;eject 1;insert 1 c.rt;wait 6260;irq;"
+                   + POLLED + send(0x13, 0, 7, 0) + bytes_00 + data(0x45, 11) + "wait 550;out 3F2 3D;wait 7;out 3F2 3C;wait 503;irq;"
+                   + lines(RESULTS),
+                   "insert ok;insert ok;irq 1;" + WAS_POLLED + "eject ok;insert ok;irq 1;" + WAS_POLLED + lines(ended(0, 0, 0, 0, 0, 12, 2)),
+                   stored={"a.rt": one_track(first), "b.rt": one_track(second)})

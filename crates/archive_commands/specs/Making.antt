@@ -11,6 +11,7 @@ use Rattle.imagedisk.specs.declared.image.ImdImage.{ImdImage}
 use Rattle.imagedisk.specs.Reading.{image_of as imd_of}
 use Rattle.imagedisk.specs.Writing.{file_of as imd_file_of}
 use Rattle.imagedisk.specs.declared.error.ImdError.TheVariants as imd
+use Rattle.imagedisk.specs.Found.{HasImage}
 use Rattle.imagedisk.specs.Made.{MakesDisk}
 use Rattle.imagedisk.specs.Taken.{TakesDisk}
 use Rattle.remaster.specs.declared.error.RemasterError.TheVariants as remaster
@@ -50,10 +51,11 @@ outcome_status (Err (halt.Stopped cause)) = stop_status cause
 abbrev pub Tells : List ℕ → Result ℕ Halt → Option (List ℕ) → Option (List ℕ) → Status → Type 0
 Tells verb outcome old new ended = Prints (outcome_text verb outcome) (outcome_status outcome) old new ended
 
--- ---- fromimd: the disk of an ImageDisk file; the tracks of that file are told
+-- ---- fromimd: the disk of an ImageDisk file, which has its sectors; the tracks of that file are told
 
 abbrev pub IsDiskFile : ImdImage → List ℕ → ℕ → Type 0
-IsDiskFile image file tracks = (disk : Disk) × MakesDisk image (Ok disk) × (file ≡ file_of disk) × (tracks ≡ length image.tracks)
+IsDiskFile image file tracks =
+    (disk : Disk) × MakesDisk image (Ok disk) × HasImage disk image × (file ≡ file_of disk) × (tracks ≡ length image.tracks)
 
 abbrev pub HasNoDisk : ImdImage → ℕ → ℕ → Type 0
 HasNoDisk image c h = MakesDisk image (Err (imd.Unfit c h))
@@ -65,11 +67,12 @@ abbrev pub FromImd : List ℕ → List ℕ → Desk → Desk → Status → Type
 FromImd imd name old new ended =
     (outcome : Result ℕ Halt) × MakesFromImd imd name old.files outcome new.files × Tells (codes "fromimd") outcome old.report new.report ended
 
--- ---- toimd: the ImageDisk file of a disk, whose tracks are told
+-- ---- toimd: the ImageDisk file of a disk, which has the disk's sectors and reads back, and whose tracks are told
 
 abbrev pub IsImdFile : Disk → List ℕ → ℕ → Type 0
 IsImdFile disk file tracks =
-    (image : ImdImage) × TakesDisk disk (Ok image) × (file ≡ imd_file_of image) × (tracks ≡ length image.tracks)
+    (image : ImdImage) × TakesDisk disk (Ok image) × HasImage disk image
+    × (file ≡ imd_file_of image) × (imd_of file ≡ Ok image) × (tracks ≡ length image.tracks)
 
 abbrev pub HasNoImd : Disk → ℕ → ℕ → Type 0
 HasNoImd disk c h = TakesDisk disk (Err (imd.Unfit c h))

@@ -4,6 +4,7 @@
 
 mod files;
 mod halt;
+pub mod laws;
 mod making;
 mod surveying;
 mod telling;

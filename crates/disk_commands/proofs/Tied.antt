@@ -38,7 +38,7 @@ broken_ties old mid opening reads last new asked ended run (ReadStops cause none
     subst (λ (steps : List Taken). Ties old (opening ++ (reads ++ steps)) new) (sym none)
     (subst (λ (steps : List Taken). Ties old (opening ++ steps) new) (sym (append-nil reads))
     (stopped_ties old.state mid.state new.state old.files mid.files new.files (opening ++ reads) asked cause run stops))
-broken_ties old mid opening reads last new asked ended run (LineIsCut answer one step part fault) =
+broken_ties old mid opening reads last new asked ended run (LineIsCut answer refused one step part fault) =
     let taken : Taken = record { asked = asked; answer = answer; after = new.state } in
     let more = run_more old.state mid.state old.files mid.files new.files (opening ++ reads) taken run step in
     subst (λ (steps : List Taken). Ties old (opening ++ (reads ++ steps)) new) (sym one)

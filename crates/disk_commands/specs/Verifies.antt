@@ -1,5 +1,5 @@
 -- A verify: each sector of a disk is read, and those that can't be read are listed.
-use Rattle.std.specs.Prelude.{◌≡◌, ℕ, ◌+◌, false, List, [], ◌∷◌, ◌++◌, Option, Result, Ok, Err, codes, if◌then◌else◌}
+use Rattle.std.specs.Prelude.{◌≡◌, ℕ, ◌+◌, true, false, List, [], ◌∷◌, ◌++◌, Option, Result, Ok, Err, codes, if◌then◌else◌}
 use Rattle.std.specs.Fmt.{decimal}
 use Rattle.flop_base.specs.Shelf.{Files}
 use Rattle.flop_base.specs.Sink.{grown, GrowsByPart}
@@ -50,11 +50,11 @@ pub record Verified (plan : List Planned) (old : World) (tally : Tally) (new : W
   pub well : tally.well ≡ well_read course
   pub refused : tally.refused ≡ has_refusal course
 
--- a read stopped the run, or the line of a failure couldn't be put whole; `last` is the read that was answered then, if any
+-- a read stopped the run, or was refused and its line couldn't be put whole; `last` is the read that was answered then, if any
 pub data Breaks (asked : Request) (old : World) (last : List Taken) (new : World) (ended : Status) : Type 0 where
   ReadStops : (cause : Stop) → last ≡ [] → StopsAt asked old.state old.files cause new.state new.files
       → Prints (stop_text cause) (stop_status cause) old.report new.report ended → Breaks asked old last new ended
-  LineIsCut : (answer : Reply) → last ≡ (record { asked = asked; answer = answer; after = new.state }) ∷ []
+  LineIsCut : (answer : Reply) → is_refusal answer ≡ true → last ≡ (record { asked = asked; answer = answer; after = new.state }) ∷ []
       → Step asked old.state old.files answer new.state new.files
       → GrowsByPart old.report (failure_text asked answer) new.report → IsPutFault ended → Breaks asked old last new ended
 

@@ -1,5 +1,5 @@
 // The verify of a whole disk.
-ghost use Rattle.std.specs.Prelude.{◌≡◌, ◌≢◌, ◌+◌, ◌-◌, ◌*◌, ◌≤◌, ◌∷◌, [], Err, IfOk, IfErr, OnOk, OnErr, IsErrOf, string_bytes};
+ghost use Rattle.std.specs.Prelude.{◌≡◌, ◌≢◌, ◌+◌, ◌-◌, ◌*◌, ◌≤◌, ◌∷◌, [], true, Err, IfOk, IfErr, OnOk, OnErr, IsErrOf, string_bytes};
 ghost use Rattle.flop_base.specs.Sink.{grown, GrowsByPart};
 ghost use Rattle.sector_model.specs.Faults.{Blames};
 ghost use Rattle.sector_model.specs.Texts.{is_refusal};
@@ -37,6 +37,7 @@ fn failure_line(alloc: Global, key: Chrn, reason: Reason) -> Result<String, Allo
 fn put_failure<K: Sink>(alloc: Global, out: &mut K, key: Chrn, reply: &Reply) -> Result<(), Status>
     ensures ok { OnOk result (K.told out.new ≡ grown (K.told out.old) (failure_text (Request.Read 0 key track_address) reply.now)) }
     ensures err { OnErr result (GrowsByPart (K.told out.old) (failure_text (Request.Read 0 key track_address) reply.now) (K.told out.new)) }
+    ensures refused { OnErr result (is_refusal reply.now ≡ true) }
     ensures only { IfErr result IsPutFault }
     ensures faults { Blames (IsErrOf result Status.SinkFault) (K.fault_count out.old) (K.fault_count out.new) }
 {

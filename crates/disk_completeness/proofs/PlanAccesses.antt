@@ -139,7 +139,7 @@ verify_none shape = tracks_accesses shape.cylinders shape.heads (verify_track (s
 
 breaks_rise : (old : World) (asked : Request) (last : List Taken) (new : World) (ended : Status) → Breaks asked old last new ended → RisesBy (accesses_of asked) old.state new.state
 breaks_rise old asked last new ended (ReadStops cause none stops prints) = stop_rises old.state new.state old.files new.files asked cause stops
-breaks_rise old asked last new ended (LineIsCut answer is step part fault) = step_rises old.state new.state old.files new.files asked answer step
+breaks_rise old asked last new ended (LineIsCut answer refused is step part fault) = step_rises old.state new.state old.files new.files asked answer step
 
 verified_rises : (name : List ℕ) (shape : Shape) (old : World) (course : List Taken) (new : World) (ended : Status) → VerifiesDisk name shape old course new ended → AccessesAtMost 1 old new
 verified_rises name shape old course new ended (ReadThrough p) =

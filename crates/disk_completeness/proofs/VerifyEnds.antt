@@ -61,7 +61,7 @@ breaks_outside : (Holds : Type 0) (old : World) (asked : Request) (key : Chrn) (
 breaks_outside Holds old asked key last new ended is (ReadStops cause none stops prints) =
     let only = stops_outside asked old.state new.state old.files new.files cause (λ bay name same. cc (is, same)) stops in
     prints_outside Holds _ _ (stop_status cause) ended _ (stop_outside Holds cause only) prints
-breaks_outside Holds old asked key last new ended is (LineIsCut answer one step part fault) = put_fault_outside Holds ended fault
+breaks_outside Holds old asked key last new ended is (LineIsCut answer refused one step part fault) = put_fault_outside Holds ended fault
 
 -- ---- the whole command
 

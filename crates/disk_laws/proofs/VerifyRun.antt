@@ -68,7 +68,7 @@ breaks_off : (old : World) (asked : Request) (last : List Taken) (new : World) (
 breaks_off old asked last new ended whole (ReadStops cause none stops prints) =
     let told = prints_status _ _ (stop_status cause) ended _ (not_put ended whole) prints in
     not_stop cause (subst IsEndStatus told.1 whole)
-breaks_off old asked last new ended whole (LineIsCut answer one step part fault) = not_put ended whole fault
+breaks_off old asked last new ended whole (LineIsCut answer refused one step part fault) = not_put ended whole fault
 
 -- ---- a verify that read all
 

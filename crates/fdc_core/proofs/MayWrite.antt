@@ -253,7 +253,7 @@ module _ (head_drive steps : ℕ) (formatting : Formatting) (numbers : Numbers) 
   format_does (Wrote opened closed index word) is =
       let more = handed_with is.needs is.byte handed in
       let later = wrote index is.given.word (stepped past) in
-      let next = is.lays.goes_on (stepped past) numbers more counted_is (is.lays.word_is (stepped past) numbers handed is.due was is.takes) in
+      let next = is.lays.goes_on (stepped past) numbers more (is.lays.word_is (stepped past) numbers handed is.due was is.takes) in
       let holds : IsHanded formatting.counted past.taken more (without_byte is.needs old).fifo.bytes = subst (λ bytes. IsHanded formatting.counted past.taken more bytes) (sym (if_bytes is.needs old)) (hand_byte is.needs formatting.counted past.taken handed old.fifo.bytes is.byte is.byte_is handed_is) in
       subst (λ w. MayFormat (wrote index w (stepped past)) head_drive numbers new) (sym is.word_is)
       (subst (λ fdc. MayFormat later head_drive numbers fdc) (sym is.after_is)

@@ -10,7 +10,7 @@ use Rattle.fdc_writing.specs.Writings.{IsWriting, HasWritten, WritesFirst}
 use Rattle.fdc_writing.specs.declared.writing.WriteStage.{WriteStage}
 use Rattle.fdc_writing.specs.declared.writing.WriteStage.TheVariants as stages
 use Rattle.fdc_writing.specs.declared.formatting.FormatStage.{FormatStage}
-use Rattle.fdc_writing.proofs.Ended.{stopped_written, stopped_formatted, first_written, whole_written, first_laid, whole_laid}
+use Rattle.fdc_writing.proofs.Ended.{stopped_written, stopped_formatted, first_written, whole_written, whole_laid}
 use Rattle.fdc_core.specs.Heard.{Sent}
 use Rattle.fdc_core.specs.Tellings.{WritesWindow, WholeIfDone, WriteMeansIn, LaysTrack, LaidIfDone, FormatMeansIn}
 use Rattle.fdc_core.specs.Written.{write_sent, IsContent, MayWrite, MayWriteIn, MayWriteTask, MayFormat, MayFormatIn, MayFormatTask}
@@ -101,7 +101,7 @@ format_means_in past sent numbers (Result (Long ending results read)) asking fif
   handed = handed;
   key = was.result;
   content = was.content;
-  first = first_laid past numbers handed was.formatted.begun;
+  first = was.formatted.begun.first;
   cause = was.formatted.cause;
   whole = laid_if past numbers handed ending was.formatted;
 }
@@ -110,9 +110,7 @@ pub format_tells : (past : Past) (sent : ℕ) (numbers : Numbers) (fdc : Fdc) �
 format_tells past sent numbers fdc was = format_means_in past sent numbers fdc.phase fdc.asking fdc.fifo was
 
 laid_at : (past : Past) (numbers : Numbers) (handed : List ℕ) (stage : FormatStage) → IsFormatting past numbers handed stage → LaysFirst past numbers handed
-laid_at past numbers handed stage was =
-    let begun = (stopped_formatted Late stage (record past { steps = 65536 }) numbers handed was refl).begun in
-    first_laid past numbers handed (record { behind = begun.behind; few = begun.few; laid = begun.laid })
+laid_at past numbers handed stage was = (stopped_formatted Late stage (record past { steps = 65536 }) numbers handed was refl).begun.first
 
 track_task : (past : Past) (sent : ℕ) (numbers : Numbers) (head_drive steps : ℕ) (task : Task) (asking : Bool) (fifo : Fifo) → MayFormatTask past sent numbers head_drive steps task asking fifo → LaysTrack past numbers
 track_task past sent numbers head_drive steps (ReadId search) asking fifo was = absurd was
@@ -126,7 +124,7 @@ track_in past sent numbers Command asking fifo was = absurd was
 track_in past sent numbers (Execute execution) asking fifo was = track_task past sent numbers execution.head_drive execution.steps execution.task asking fifo was
 track_in past sent numbers (Result (Short next last)) asking fifo was = absurd was
 track_in past sent numbers (Result (Long ending results read)) asking fifo (down, are, (handed, was)) =
-    (handed, was.content, first_laid past numbers handed was.formatted.begun)
+    (handed, was.content, was.formatted.begun.first)
 
 pub lays_track : (past : Past) (sent : ℕ) (numbers : Numbers) (fdc : Fdc) → MayFormat past sent numbers fdc → LaysTrack past numbers
 lays_track past sent numbers fdc was = track_in past sent numbers fdc.phase fdc.asking fdc.fifo was

@@ -1,8 +1,11 @@
 -- Word times, put together from the calls on the drive.
-use Rattle.std.proofs.Common.{◌≡◌, ◌<◌, ◌≤◌, ℕ, zero, suc, ◌+◌, Bool, true, false, Some, refl, sym, ap, subst, ◌∙◌, arith, inl, inr}
+use Rattle.std.proofs.Common.{◌≡◌, ◌<◌, ◌≤◌, ℕ, zero, suc, ◌+◌, Bool, true, false, None, Some, refl, sym, ap, subst, ◌∙◌, arith, inl, inr}
 use Rattle.std.proofs.lemmas.Bool.{false≢true}
 use Rattle.drive_model.specs.Drive.{DriveState, Becomes, Reads, at_index, word_under, rate_of, with_gate}
+use Rattle.fdc_stages.specs.declared.ending.Ending.{Ending}
+use Rattle.fdc_stages.specs.declared.ending.Ending.TheVariants.{Overrun}
 use Rattle.flop_base.specs.Counts.{Rose}
+use Rattle.flop_base.specs.declared.key.Chrn.{Chrn}
 use Rattle.fdc_writing.specs.Formats as formats_of
 use Rattle.fdc_writing.specs.declared.formatting.FormatPart.{FormatPart}
 use Rattle.fdc_writing.specs.declared.formatting.FormatPart.TheVariants.{Await, Due, Lay, Barred}
@@ -10,14 +13,16 @@ use Rattle.fdc_writing.specs.Leads.{HasLead}
 use Rattle.fdc_writing.specs.Writings.{opens, is_due, needs_byte}
 use Rattle.fdc_writing.specs.declared.writing.WriteStage.{WriteStage}
 use Rattle.fdc_writing.specs.declared.writing.WriteStage.TheVariants as stages
+use Rattle.fdc_core.specs.Answers.{no_key}
 use Rattle.fdc_core.specs.Formatting as formats
 use Rattle.fdc_core.specs.Formatting.{IsFormatTime, AwaitsIndex, LaysByte}
 use Rattle.fdc_core.specs.Listening.{SeesUnder, StepsOn}
 use Rattle.fdc_core.specs.Phases.{head_of}
 use Rattle.fdc_core.specs.Rates.{rate_fits, seen_of}
+use Rattle.fdc_core.specs.State.{finished}
 use Rattle.fdc_core.specs.Steps.{let_pass}
 use Rattle.fdc_core.specs.Tasks.{IsListenStep, TaskSteps, ExecutionSteps}
-use Rattle.fdc_core.specs.Times.{Saw, KeptOut, Wrote, Opens}
+use Rattle.fdc_core.specs.Times.{Saw, KeptOut, Wrote, Stopped, Opens}
 use Rattle.fdc_core.specs.Writing.{after_next, IsWriteTime, HearsAWord, PutsByte, byte_taken, without_byte, is_ended}
 use Rattle.fdc_core.specs.declared.controller.Fdc.{Fdc}
 use Rattle.fdc_core.specs.declared.phases.Execution.{Execution}
@@ -160,5 +165,25 @@ laid_time head_drive steps byte needs formatting old mid_fdc before after new fe
     lays = is.lays;
     closed_is = refl;
     after_is = subst (λ fdc. new ≡ formats.after_laid head_drive (steps + 1) formatting is.next fdc) leaves is.after_is;
+  };
+}
+
+-- where it stops, the byte that was to be taken is of no account
+stopped_without : (needs : Bool) (ending : Ending) (head_drive : ℕ) (key : Chrn) (old : Fdc) → finished ending head_drive key (without_byte needs old) ≡ finished ending head_drive key old
+stopped_without true ending head_drive key old = refl
+stopped_without false ending head_drive key old = refl
+
+pub missed_time : (head_drive steps : ℕ) (needs : Bool) (formatting : Formatting) (old mid_fdc : Fdc) (before after : DriveState) (new : Fdc) → steps < 65535 → formats_of.is_due formatting.stage ≡ true → formats_of.Takes formatting.stage needs → ((lead : ℕ) → HasLead formatting.stage lead → needs ≡ true → lead ≡ 0)
+    → byte_taken needs formatting.counted old.fifo ≡ None → mid_fdc ≡ without_byte needs old → Becomes (let_pass before) before after → new ≡ finished Overrun head_drive no_key mid_fdc → IsFormatTime head_drive steps formatting old before after new
+missed_time head_drive steps needs formatting old mid_fdc before after new few due asks needed missing leaves passes is = record {
+  time = Stopped;
+  is = passes;
+  does = record {
+    ending = Overrun;
+    needs = needs;
+    takes = λ up. (due, subst (formats_of.Takes formatting.stage) up asks);
+    needed = needed;
+    stops = (few, missing);
+    after_is = is ∙ (ap (finished Overrun head_drive no_key) leaves ∙ stopped_without needs Overrun head_drive no_key old);
   };
 }

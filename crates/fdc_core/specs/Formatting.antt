@@ -30,16 +30,18 @@ is_ended (On _) = false
 
 -- ---- what a stage makes of a word, whatever has passed before
 
+-- where it is heard; a stage whose gate is open stays as it is
 abbrev pub StageHearsIndex : Formatting → Bool → FormatNext → Type 0
 StageHearsIndex formatting index next =
     ((past : Past) (numbers : Numbers) (handed : List ℕ) (word : ℕ) → is_open formatting.stage ≡ false → IsFormatting past numbers handed formatting.stage
     → HasNext (heard_where (opens formatting.stage) index word past) numbers handed next)
     × FailsWell next × ((lead : ℕ) → HasLead formatting.stage lead → LeadsOn lead next)
+    × (is_open formatting.stage ≡ true → next ≡ On formatting.stage)
 
 pub record StageLaysWord (formatting : Formatting) (takes : Bool) (byte : ℕ) (index : Bool) (given : FormatWord) (next : FormatNext) : Type 0 where
   pub word_is : (past : Past) (numbers : Numbers) (handed : List ℕ) → is_due formatting.stage ≡ true → IsFormatting past numbers handed formatting.stage → Takes formatting.stage takes
       → IsNextLaid past numbers (handed_with takes byte handed) given.word given.stream given.key
-  pub goes_on : (past : Past) (numbers : Numbers) (handed : List ℕ) → past.counted ≡ formatting.counted
+  pub goes_on : (past : Past) (numbers : Numbers) (handed : List ℕ)
       → IsNextLaid past numbers handed given.word given.stream given.key → HasNext (wrote index given.word past) numbers handed next
   pub well : EndsWell next
   pub lead : (lead : ℕ) → HasLead formatting.stage lead → LeadsOn (lead - 1) next
@@ -70,10 +72,11 @@ pub record LaysWord (head_drive steps : ℕ) (formatting : Formatting) (opened c
   pub closed_is : closed ≡ is_ended next
   pub after_is : new ≡ after_laid head_drive (steps + 1) formatting next (without_byte needs old)
 
--- the command ends
+-- the command ends; a byte can be missing only where the next word is a byte of a key
 pub record StopsFormat (head_drive steps : ℕ) (formatting : Formatting) (old : Fdc) (before : DriveState) (new : Fdc) : Type 0 where
   pub ending : Ending
   pub needs : Bool
+  pub takes : needs ≡ true → (is_due formatting.stage ≡ true) × Takes formatting.stage true
   pub needed : (lead : ℕ) → HasLead formatting.stage lead → needs ≡ true → lead ≡ 0
   pub stops : Stops steps (is_protected before.medium) (byte_taken needs formatting.counted old.fifo) ending
   pub after_is : new ≡ finished ending head_drive no_key old

@@ -2,6 +2,7 @@
 use Rattle.std.specs.Prelude.{◌≡◌, ◌<◌, ◌≤◌, ◌+◌, get_or, ℕ, Bool, true, false, not, ◌==◌, if◌then◌else◌, bit_and}
 use Rattle.std.specs.Int.RustNames.{bit_or}
 use Rattle.fdc_registers.specs.Dir.{changed}
+use Rattle.fdc_registers.specs.Dor.{not_reset}
 use Rattle.fdc_registers.specs.Msr.{rqm, dio, busy}
 use Rattle.fdc_commands.specs.Table.{is_begun}
 use Rattle.fdc_seek.specs.Seeking.{seek_bits}
@@ -73,15 +74,30 @@ takes_in _ held = false
 abbrev pub is_taking : Fdc → Bool
 is_taking fdc = takes_in fdc.phase (is_held fdc)
 
--- DOR is written; a zero in bit 2 resets the controller
+-- a byte of DOR with a zero in bit 2 resets the controller
+abbrev pub dor_resets : ℕ → Bool
+dor_resets value = not (bit_and value not_reset == not_reset)
+
+-- a byte of DSR with a one in bit 7 resets the controller
+abbrev pub dsr_resets : ℕ → Bool
+dsr_resets value = not (bit_and value 0x80 == 0)
+
+-- a byte that is written to a port resets the controller
+abbrev pub resets : ℕ → ℕ → Bool
+resets port value =
+    if port == 0x3F2 then dor_resets value else (
+    if port == 0x3F4 then dsr_resets value else
+    false)
+
+-- DOR is written, which may reset the controller
 abbrev pub dor_written : ℕ → Fdc → Fdc
 dor_written value old =
-    let set : Fdc = record old { dor = record { 0 = value } } in if is_held set then reset set else set
+    let set : Fdc = record old { dor = record { 0 = value } } in if dor_resets value then reset set else set
 
--- DSR is written: the rate in bits 1 and 0, and a one in bit 7 resets the controller
+-- DSR is written: the rate in bits 1 and 0, and it may reset the controller
 abbrev pub dsr_written : ℕ → Fdc → Fdc
 dsr_written value old =
-    let set : Fdc = record old { rate = rate_chosen value } in if bit_and value 0x80 == 0 then set else reset set
+    let set : Fdc = record old { rate = rate_chosen value } in if dsr_resets value then reset set else set
 
 -- CCR is written: the rate in bits 1 and 0
 abbrev pub ccr_written : ℕ → Fdc → Fdc

@@ -70,3 +70,8 @@ TaskStepsNowhere (ReadId search) head_drive steps old new = StepsOn head_drive s
 TaskStepsNowhere (Read reading) head_drive steps old new = StepsOn head_drive steps (Read reading) false 0 old new
 TaskStepsNowhere (Write writing) head_drive steps old new = WritesNowhere head_drive steps writing old new
 TaskStepsNowhere (Format formatting) head_drive steps old new = FormatsNowhere head_drive steps formatting old new
+
+-- the same of what is in execution
+abbrev pub StepsNowhere : Phase → Fdc → Fdc → Type 0
+StepsNowhere (Execute execution) old new = TaskStepsNowhere execution.task execution.head_drive execution.steps old new
+StepsNowhere _ old new = Unit {0}

@@ -18,8 +18,8 @@ use Rattle.fdc_core.specs.declared.phases.Phase.TheVariants.{Result}
 
 -- ---- WRITE DATA and WRITE DELETED
 
--- the words are none, or the first of the window of an address field of the key, at its place, with this mark; its content is
--- the first of the bytes that were taken, and 00 behind an early terminal count
+-- the words are none, or the first of the window of an address field of the key, at its place, with this mark; its content
+-- begins with the first of the bytes that were taken, and 00 behind an early terminal count, whatever is behind these
 abbrev pub WritesWindow : Past → Sent → Bool → Type 0
 WritesWindow past sent deleted =
     (handed : List ℕ) × IsContent past.counted past.taken handed × WritesFirst past sent.key deleted handed
@@ -46,7 +46,8 @@ WriteTells past sent deleted fdc = WriteMeansIn past sent deleted fdc.phase
 
 -- ---- FORMAT TRACK
 
--- the words are the first of the layout of the keys that were taken, with 00 for what is missing
+-- the words are the first of the layout of keys whose bytes begin with the first of those that were taken, and 00 behind an
+-- early terminal count, whatever is behind these
 abbrev pub LaysTrack : Past → Numbers → Type 0
 LaysTrack past numbers = (handed : List ℕ) × IsContent past.counted past.taken handed × LaysFirst past numbers handed
 

@@ -69,11 +69,13 @@ without_byte needs old = if needs then record old { fifo = record old.fifo { byt
 
 -- ---- what a stage makes of a word, whatever has passed before
 
+-- where it is heard; a stage whose gate is open stays as it is
 abbrev pub StageHearsWord : Writing → Bool → ℕ → WriteNext → Type 0
 StageHearsWord writing index word next =
     ((past : Past) (deleted : Bool) (handed : List ℕ) → is_open writing.stage ≡ false → IsWriting past writing.wanted.key deleted handed writing.stage
     → HasNext (heard_where (opens writing.stage) index word past) writing.wanted.key deleted handed next)
     × FailsWell next × LeadsOn (lead_of writing.stage) next
+    × (is_open writing.stage ≡ true → next ≡ On writing.stage)
 
 pub record StageWritesWord (writing : Writing) (byte : ℕ) (index : Bool) (given : WriteWord) (next : WriteNext) : Type 0 where
   pub word_is : (past : Past) (handed : List ℕ) → is_due writing.stage ≡ true → IsWriting past writing.wanted.key writing.deleted handed writing.stage

@@ -132,7 +132,7 @@ impl Fdc {
         open_before(formatting.stage.opens(), drive);
         let given = formatting.stage.write(byte);
         let index = drive.write_word(head_of(head_drive), given.word);
-        let next = given.after(index, formatting.counted);
+        let next = given.after(index);
         close_behind(is_ended(next), drive);
         self.follow_formatting(head_drive, steps + 1, formatting, next);
     }

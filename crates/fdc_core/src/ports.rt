@@ -1,7 +1,7 @@
 // The controller's ports (PC/AT): 3F2 DOR, 3F4 MSR and DSR, 3F5 the data port, 3F7 DIR and CCR.
 ghost use Rattle.std.specs.Prelude.{◌≡◌};
 ghost use Rattle.fdc_core.specs.Written.{KeepsKnown};
-ghost use Rattle.fdc_core.specs.Ports.{is_taking, main_status, line_bits, result_byte, given, dor_written, dsr_written, Writes, value_read, after_read};
+ghost use Rattle.fdc_core.specs.Ports.{is_taking, main_status, line_bits, result_byte, given, dor_written, dsr_written, resets, Writes, value_read, after_read};
 
 use crate::controller::{Fdc, Lines};
 use crate::phases::Phase;
@@ -60,6 +60,17 @@ impl Fdc {
         }
     }
 
+    /// Whether a byte that is written to a port resets the controller: to DOR with bit 2 zero, or to DSR with bit 7 one.
+    pub fn is_reset_by(port: u16, value: u8) -> bool
+        ensures { result ≡ resets port value }
+    {
+        match port {
+            DOR => !Dor(value).contains(Dor::NOT_RESET),
+            STATUS => value & SOFT_RESET != 0,
+            _ => false,
+        }
+    }
+
     /// The main status register.
     fn main_status(&self) -> u8
         ensures { result ≡ main_status self.now }
@@ -108,12 +119,12 @@ impl Fdc {
         }
     }
 
-    /// DOR is written. A zero in bit 2 resets the controller.
+    /// DOR is written.
     fn write_dor(&mut self, value: u8)
         ensures { self.new ≡ dor_written value self.old }
     {
         self.dor = Dor(value);
-        if self.is_held() {
+        if Fdc::is_reset_by(DOR, value) {
             self.reset();
         }
     }
@@ -123,7 +134,7 @@ impl Fdc {
         ensures { self.new ≡ dsr_written value self.old }
     {
         self.rate = DataRate::chosen_by(value);
-        if value & SOFT_RESET != 0 {
+        if Fdc::is_reset_by(STATUS, value) {
             self.reset();
         }
     }

@@ -4,7 +4,7 @@ ghost use Rattle.drive_model.specs.Drive.{Becomes, at_index};
 ghost use Rattle.fdc_seek.specs.Seeking.{pulse_due};
 ghost use Rattle.fdc_core.specs.Listening.{Listens, ListensToNone, SeesUnder, HearsIn, HasStepsLeft};
 ghost use Rattle.fdc_core.specs.Steps.{polled, seek_stepped, let_pass, Rests, Moves, MovesDrive, Ends, Stays, Flows};
-ghost use Rattle.fdc_core.specs.Tasks.{IsListenStep, ExecutionSteps, WritingSteps, TaskStepsNowhere};
+ghost use Rattle.fdc_core.specs.Tasks.{IsListenStep, ExecutionSteps, WritingSteps, TaskStepsNowhere, StepsNowhere};
 ghost use Rattle.fdc_core.specs.Waiting.{LastsOn, Feeds};
 ghost use Rattle.fdc_core.specs.Writes.{WritesOn};
 
@@ -59,6 +59,7 @@ impl Fdc {
     pub fn step_empty(&mut self)
         ensures rests { Rests false (polled self.old) self.new }
         ensures reads { ListensToNone (polled self.old) self.old self.new }
+        ensures nowhere { StepsNowhere self.old.phase (polled self.old) self.new }
         ensures ends { Ends self.old self.new }
         ensures stays { Stays self.old self.new }
         ensures flows { Flows self.old self.new }
@@ -71,6 +72,7 @@ impl Fdc {
     fn advance_empty(&mut self)
         ensures rests { Rests false self.old self.new }
         ensures reads { ListensToNone self.old self.old self.new }
+        ensures nowhere { StepsNowhere self.old.phase self.old self.new }
         ensures ends { Ends self.old self.new }
         ensures stays { Stays self.old self.new }
         ensures flows { Flows self.old self.new }

@@ -1,6 +1,6 @@
 -- What the ending of a writing or of a format says of the words written.
-use Rattle.std.proofs.Common.{take, length-append, refl, ◌++◌, ◌≡◌, ℕ, ◌+◌, ◌-◌, ◌*◌, ◌≤◌, Bool, List, length, replicate, sym, ap, subst, ◌∙◌, arith, inl, inr}
-use Rattle.std.proofs.lemmas.List.{length-replicate, take_at, take_all, append-nil, drop_all}
+use Rattle.std.proofs.Common.{take, length-append, refl, ◌++◌, ◌≡◌, ℕ, ◌+◌, ◌*◌, ◌≤◌, Bool, List, length, sym, ap, subst, ◌∙◌, arith, inl, inr}
+use Rattle.std.proofs.lemmas.List.{take_at, take_all, append-nil, drop_all}
 use Rattle.flop_base.specs.declared.key.Chrn.{Chrn}
 use Rattle.track_model.specs.Fields.{content_size}
 use Rattle.track_model.specs.Writing.{window}
@@ -17,8 +17,8 @@ use Rattle.fdc_writing.specs.declared.writing.WriteStage.TheVariants as stage
 use Rattle.fdc_writing.specs.declared.formatting.FormatPart.{FormatPart}
 use Rattle.fdc_writing.specs.declared.formatting.FormatPart.TheVariants.{Await, Due, Lay, Barred}
 use Rattle.fdc_writing.specs.declared.formatting.FormatStage.{FormatStage}
-use Rattle.fdc_writing.specs.Writings.{IsStopped, IsWriting, IsFirstOf, HasBegun, HasWritten, IsWhole, WritesFirst, WritesWhole}
-use Rattle.fdc_writing.specs.Formats.{Numbers, keys_from, IsAtPart, IsFormatting, IsBehindIndex, HasLaid, HasFormatted, LaysFirst, LaysWhole}
+use Rattle.fdc_writing.specs.Writings.{IsStopped, IsWriting, IsFirstOf, HasBegun, HasWritten, IsWhole, WritesCut, WritesFirst, WritesWhole}
+use Rattle.fdc_writing.specs.Formats.{Numbers, keys_from, IsAtPart, IsFormatting, IsBehindIndex, HasLaid, HasFormatted, LaysWhole}
 use Rattle.fdc_writing.proofs.Keyed.{length-keys_from, some_keys}
 use Rattle.fdc_writing.proofs.Windowed.{begun_in}
 use Rattle.fdc_writing.proofs.Turned.{laid_begun}
@@ -69,25 +69,18 @@ taken_first words whole (others, is) =
 
 pub first_written : (past : Past) (key : Chrn) (deleted : Bool) (handed : List ℕ) → HasBegun past key deleted handed → WritesFirst past key deleted handed
 first_written past key deleted handed (inl none) = inl none.0
-first_written past key deleted handed (inr (p, begun)) =
-    let zeros = content_size key.n - length handed in
-    let rest : List ℕ = replicate zeros 0 in
-    let many : length rest ≡ zeros = length-replicate zeros 0 in
-    let size : length handed + length rest ≡ content_size key.n = omega (arith, begun.few) in
-    let content = handed ++ rest in
-    let taken = taken_first past.words (window deleted content) (begun.first rest size) in
-    let long : length content ≡ content_size key.n = length-append handed rest ∙ size in
-    inr (
-      p,
-      zeros,
-      record {
-        field = λ track part. record { address = address_stays past.seen track part p key begun.address; size = long };
-        cut = λ track inside. record {
-          cuttable = record { most = taken.0; inside = omega (arith, begun.place, inside) };
-          is = ap (λ start. with_items track start past.words) begun.place ∙ ap (with_items track (window_word p)) taken.1;
-        };
-      },
-    )
+first_written past key deleted handed (inr (p, begun)) = inr (p, record { few = begun.few; cuts = cuts })
+  where
+    cuts : (rest : List ℕ) → length handed + length rest ≡ content_size key.n → WritesCut past key deleted (handed ++ rest) p
+    cuts rest size =
+        let taken = taken_first past.words (window deleted (handed ++ rest)) (begun.first rest size) in
+        record {
+          field = λ track part. record { address = address_stays past.seen track part p key begun.address; size = length-append handed rest ∙ size };
+          cut = λ track inside. record {
+            cuttable = record { most = taken.0; inside = omega (arith, begun.place, inside) };
+            is = ap (λ start. with_items track start past.words) begun.place ∙ ap (with_items track (window_word p)) taken.1;
+          };
+        }
 
 pub whole_written : (past : Past) (key : Chrn) (deleted : Bool) (handed : List ℕ) (marked : Bool) → HasWritten past key deleted handed (Done marked) → WritesWhole past key deleted handed
 whole_written past key deleted handed marked written =
@@ -110,23 +103,20 @@ track_over track words same =
     let over : length track ≤ 0 + length words = omega (arith, same) in
     ap (λ xs. words ++ xs) (drop_all (0 + length words) track over) ∙ append-nil words
 
-pub first_laid : (past : Past) (numbers : Numbers) (handed : List ℕ) → HasLaid past numbers handed → LaysFirst past numbers handed
-first_laid past numbers handed laid =
-    let some = some_keys numbers handed laid.few in
-    laid.laid (keys_from numbers.sectors handed) some.0 some.1
-
 pub whole_laid : (past : Past) (numbers : Numbers) (handed : List ℕ) (marked : Bool) → HasFormatted past numbers handed (Done marked) → LaysWhole past numbers handed
 whole_laid past numbers handed marked formatted =
-    let keys = formatted.cause.2.0 in
-    let turn = formatted.cause.2.1 in
+    let keys = formatted.cause.1.0 in
+    let turn = formatted.cause.1.1 in
     let same : length keys ≡ length (keys_from numbers.sectors handed) = turn.many ∙ sym (length-keys_from numbers.sectors handed) in
+    let first = formatted.begun.first in
+    let some = some_keys numbers handed first.few in
     record {
       index = turn.index;
-      words = first_laid past numbers handed formatted.begun;
+      words = first;
       fits = subst (λ count. laid_words count numbers.n numbers.gap3 ≤ length past.words) same turn.fits;
       written = λ track same.
           track_over track past.words same
-          ∙ (first_laid past numbers handed formatted.begun).laid
+          ∙ (first.laid (keys_from numbers.sectors handed) some.0 some.1).laid
           ∙ ap (lay (keys_from numbers.sectors handed) numbers.n numbers.gap3 numbers.fill) (sym same);
       all = ap length (sym turn.bytes) ∙ length-key_bytes keys ∙ ap (λ count. 4 * count) turn.many;
     }

@@ -36,8 +36,7 @@ barred_unopened false word past was = was
 pub laid_begun : (past : Past) (numbers : Numbers) (handed : List ℕ) (stream : FormatStream) → IsBehindIndex past → IsLaid past.words numbers handed stream → HasLaid past numbers handed
 laid_begun past numbers handed stream behind was = record {
   behind = behind;
-  few = was.few;
-  laid = laid_words_are past.words handed numbers stream was;
+  first = record { few = was.few; laid = laid_words_are past.words handed numbers stream was };
 }
 
 pub unopened_over : (index : Bool) (past : Past) (numbers : Numbers) (handed : List ℕ) (stream : FormatStream) → index ≡ true → IsUnopened index past → IsLaid past.words numbers handed stream → HasFormatted past numbers handed NoMark

@@ -152,12 +152,15 @@ pub record IsFirstOfLayout (words : List ℕ) (numbers : Numbers) (keys : List C
   pub laid : words ≡ lay keys numbers.n numbers.gap3 numbers.fill (length words)
   pub first : (turn : ℕ) → length words ≤ turn → IsFirstOf words (lay keys numbers.n numbers.gap3 numbers.fill turn)
 
--- they are so for all keys whose bytes begin with those that were handed in
+-- they are so with all keys whose bytes begin with those that were handed in: no byte that wasn't stands in them
+pub record IsFirstOfLayouts (words : List ℕ) (numbers : Numbers) (handed : List ℕ) : Type 0 where
+  pub few : length handed ≤ 4 * numbers.sectors
+  pub laid : (keys : List Chrn) (rest : List ℕ) → AreKeys numbers handed keys rest → IsFirstOfLayout words numbers keys
+
+-- the words written are so
 pub record HasLaid (past : Past) (numbers : Numbers) (handed : List ℕ) : Type 0 where
   pub behind : IsBehindIndex past
-  pub few : length handed ≤ 4 * numbers.sectors
-  pub laid : (keys : List Chrn) (rest : List ℕ) → AreKeys numbers handed keys rest
-      → IsFirstOfLayout past.words numbers keys
+  pub first : IsFirstOfLayouts past.words numbers handed
 
 -- the index came behind these words, and their turn has the whole layout of these keys
 pub record IsWholeTurn (past : Past) (numbers : Numbers) (handed : List ℕ) (keys : List Chrn) : Type 0 where
@@ -182,10 +185,9 @@ pub record IsTooShort (past : Past) (numbers : Numbers) : Type 0 where
 abbrev pub IsBarred : Past → Type 0
 IsBarred past = (past.words ≡ []) × (past.barred ≡ true) × ((between : List ℕ) × IsBetween past between)
 
--- the cause of each ending of a format
+-- the cause of each ending of a format: it is done where the whole layout was written, whether the terminal count came or not
 abbrev pub HasCause : Past → Numbers → List ℕ → Ending → Type 0
-HasCause past numbers handed (Done marked) = (marked ≡ false) × (past.counted ≡ true) × HasWholeTurn past numbers handed
-HasCause past numbers handed NoCount = (past.counted ≡ false) × HasWholeTurn past numbers handed
+HasCause past numbers handed (Done marked) = (marked ≡ false) × HasWholeTurn past numbers handed
 HasCause past numbers handed NoField = IsTooShort past numbers
 HasCause past numbers handed NoMark = IsBarred past
 HasCause past numbers handed Overrun = past.counted ≡ false
@@ -193,6 +195,7 @@ HasCause past numbers handed Late = past.steps ≡ 65536
 HasCause past numbers handed Protected = past.words ≡ []
 HasCause past numbers handed NoSector = ⊥
 HasCause past numbers handed BadCheck = ⊥
+HasCause past numbers handed NoCount = ⊥
 
 -- a format that ended, and the bytes of keys that were handed in
 pub record HasFormatted (past : Past) (numbers : Numbers) (handed : List ℕ) (ending : Ending) : Type 0 where
@@ -223,7 +226,6 @@ FailsWell _ = Unit {0}
 -- a word that was written ends it in these
 abbrev pub IsEnd : Ending → Type 0
 IsEnd (Done marked) = marked ≡ false
-IsEnd NoCount = Unit {0}
 IsEnd NoField = Unit {0}
 IsEnd _ = ⊥
 
@@ -231,9 +233,9 @@ abbrev pub EndsWell : FormatNext → Type 0
 EndsWell (next.Ended ending key) = IsEnd ending
 EndsWell _ = Unit {0}
 
--- the words are the first of the layout of the keys that were handed in, with 00 for what is missing
+-- the words are the first of the layout of the keys that were handed in, whatever those behind them are
 abbrev pub LaysFirst : Past → Numbers → List ℕ → Type 0
-LaysFirst past numbers handed = IsFirstOfLayout past.words numbers (keys_from numbers.sectors handed)
+LaysFirst past numbers handed = IsFirstOfLayouts past.words numbers handed
 
 -- they are the whole turn, the layout fits in it, and all keys were handed in: a track of so many words becomes the layout
 pub record LaysWhole (past : Past) (numbers : Numbers) (handed : List ℕ) : Type 0 where

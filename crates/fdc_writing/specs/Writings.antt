@@ -1,5 +1,5 @@
 -- What a writing has heard and written.
-use Rattle.std.specs.Prelude.{◌≡◌, ◌⊎◌, ℕ, zero, suc, ◌+◌, ◌<◌, ◌≤◌, Bool, true, false, Option, None, Some, List, [], ◌++◌, length, replicate}
+use Rattle.std.specs.Prelude.{◌≡◌, ◌⊎◌, ℕ, zero, suc, ◌+◌, ◌<◌, ◌≤◌, Bool, true, false, Option, None, Some, List, [], ◌++◌, length}
 use Rattle.flop_base.specs.declared.key.Chrn.{Chrn}
 use Rattle.track_model.specs.Fields.{IsAddressAt, content_size}
 use Rattle.flop_base.specs.Lists.{with_items}
@@ -217,10 +217,14 @@ pub record WritesCut (past : Past) (key : Chrn) (deleted : Bool) (content : List
   pub cut : (track : List ℕ) → length past.seen + length past.words ≤ length track
       → IsCut track (with_items track (length past.seen) past.words) p (length past.words) (window deleted content)
 
--- nothing was written, or such words; the content is what was handed in, and then 00
+-- they are so with each content of the sector's size that begins with what was handed in: no byte that wasn't stands in them
+pub record WritesCuts (past : Past) (key : Chrn) (deleted : Bool) (handed : List ℕ) (p : ℕ) : Type 0 where
+  pub few : length handed ≤ content_size key.n
+  pub cuts : (rest : List ℕ) → length handed + length rest ≡ content_size key.n → WritesCut past key deleted (handed ++ rest) p
+
+-- nothing was written, or such words
 abbrev pub WritesFirst : Past → Chrn → Bool → List ℕ → Type 0
-WritesFirst past key deleted handed =
-    (past.words ≡ []) ⊎ ((p : ℕ) × (zeros : ℕ) × WritesCut past key deleted (handed ++ replicate zeros 0) p)
+WritesFirst past key deleted handed = (past.words ≡ []) ⊎ ((p : ℕ) × WritesCuts past key deleted handed p)
 
 -- the terminal count came, and the words are the whole window with what was handed in, at the place of the address field at p
 pub record WritesWindow (past : Past) (key : Chrn) (deleted : Bool) (handed : List ℕ) (p : ℕ) : Type 0 where

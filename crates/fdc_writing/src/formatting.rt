@@ -3,7 +3,7 @@ ghost use Rattle.std.specs.Prelude.{◌≡◌, ◌-◌, ◌≤◌, ℕ, Bool, tr
 ghost use Rattle.flop_base.specs.declared.key.Chrn.{Chrn};
 ghost use Rattle.fdc_stages.specs.History.{Past, begun, heard, wrote};
 ghost use Rattle.fdc_writing.specs.Writings.{handed_with, heard_where};
-ghost use Rattle.fdc_writing.specs.Formats.{Numbers, is_open, opens, is_due, Takes, IsLaid, IsLastKey, IsFormatting, IsNextLaid, HasWholeTurn, HasLaid, IsUnopened, HasNext, FailsWell, EndsWell};
+ghost use Rattle.fdc_writing.specs.Formats.{Numbers, is_open, opens, is_due, Takes, IsLaid, IsLastKey, IsFormatting, IsNextLaid, IsUnopened, HasNext, FailsWell, EndsWell};
 ghost use Rattle.fdc_writing.specs.Leads.{StreamLeads, HasLead, LeadsOn};
 
 use fdc_stages::Ending;
@@ -46,7 +46,7 @@ pub struct FormatStage {
 pub enum FormatNext {
     /// The format goes on.
     On(FormatStage),
-    /// It is over, and an open gate closes: NoMark, NoField, Done or NoCount. `key` is the key of the result.
+    /// It is over, and an open gate closes: NoMark, NoField or Done. `key` is the key of the result.
     Ended { ending: Ending, key: Chrn },
 }
 
@@ -110,6 +110,7 @@ impl FormatStage {
             → HasNext (heard_where (opens self) index word past) numbers handed result }
         ensures well { FailsWell result }
         ensures lead { (lead : ℕ) → HasLead self lead → LeadsOn lead result }
+        ensures stays { is_open self ≡ true → result ≡ FormatNext.On self }
     {
         match self.part {
             FormatPart::Await => self.wait(index),
@@ -173,11 +174,11 @@ impl FormatStage {
 }
 
 impl FormatWord {
-    /// What the word gives the format once it was written. `index` says that the index follows it, and `counted` that the
-    /// terminal count came. The format is over at the index: as a write ends normally only after the terminal count, so does a
-    /// format whose whole layout was written; a layout that is longer than the turn has no data field for each key.
-    pub fn after(self, index: bool, counted: bool) -> FormatNext
-        ensures goes_on { (past : Past) (numbers : Numbers) (handed : List ℕ) → past.counted ≡ counted
+    /// What the word gives the format once it was written. `index` says that the index follows it. The format is over at the
+    /// index: normally where the whole layout was written, whether the terminal count came or not, since EN is of a command that
+    /// names a sector and the last of its track; a layout that is longer than the turn has no data field for each key.
+    pub fn after(self, index: bool) -> FormatNext
+        ensures goes_on { (past : Past) (numbers : Numbers) (handed : List ℕ)
             → IsNextLaid past numbers handed self.word self.stream self.key
             → HasNext (wrote index self.word past) numbers handed result }
         ensures well { EndsWell result }
@@ -196,7 +197,10 @@ impl FormatWord {
                 key: NO_KEY,
             };
         }
-        whole(self.key, counted)
+        FormatNext::Ended {
+            ending: Ending::Done { deleted: false },
+            key: self.key,
+        }
     }
 }
 
@@ -212,25 +216,5 @@ fn key_behind(takes: bool, key: Chrn, byte: u8) -> Chrn
         h: key.r,
         r: key.n,
         n: byte,
-    }
-}
-
-/// How a format ends whose whole layout was written.
-fn whole(key: Chrn, counted: bool) -> FormatNext
-    ensures is { (past : Past) (numbers : Numbers) (handed : List ℕ) → past.counted ≡ counted
-        → HasWholeTurn past numbers handed → HasLaid past numbers handed → IsLastKey handed key
-        → HasNext past numbers handed result }
-    ensures well { EndsWell result }
-    ensures lead { (lead : ℕ) → LeadsOn lead result }
-{
-    if counted {
-        return FormatNext::Ended {
-            ending: Ending::Done { deleted: false },
-            key,
-        };
-    }
-    FormatNext::Ended {
-        ending: Ending::NoCount,
-        key: NO_KEY,
     }
 }

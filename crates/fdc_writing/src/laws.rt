@@ -23,8 +23,8 @@ pub fn stopped_is_formatted(_stage: FormatStage, _ending: Ending)
         → IsStopped past _ending → HasFormatted past numbers handed _ending }
 {}
 
-/// However a writing ends, the words are none, or a cut of the window of an address field of the key; its content is what was
-/// handed in, and then 00.
+/// However a writing ends, the words are none, or a cut of the window of an address field of the key; its content begins with
+/// what was handed in, whatever is behind that.
 pub fn written_is_first(_key: Chrn, _deleted: bool, _ending: Ending)
     ensures { (past : Past) (handed : List ℕ) → HasWritten past _key _deleted handed _ending
         → WritesFirst past _key _deleted handed }
@@ -36,7 +36,7 @@ pub fn done_is_written(_key: Chrn, _deleted: bool, _marked: bool)
         → WritesWhole past _key _deleted handed }
 {}
 
-/// However a format ends, the words are the first of the layout of the keys that were handed in, with 00 for what is missing.
+/// However a format ends, the words are the first of the layout of the keys that were handed in, whatever those behind them are.
 pub fn formatted_is_first(_ending: Ending)
     ensures { (past : Past) (numbers : Numbers) (handed : List ℕ) → HasFormatted past numbers handed _ending
         → LaysFirst past numbers handed }

@@ -89,6 +89,7 @@ impl WriteStage {
             → HasNext (heard_where (opens self.old) index word past) key deleted handed (write_heard self.new result) }
         ensures well { FailsWell (write_heard self.new result) }
         ensures lead { LeadsOn (lead_of self.old) (write_heard self.new result) }
+        ensures stays { is_open self.old ≡ true → write_heard self.new result ≡ WriteNext.On self.old }
     {
         match self {
             WriteStage::Search(search) => match search.hear(Some(key), word, index) {

@@ -4,9 +4,10 @@ use Rattle.std.specs.Prelude.{not}
 use Rattle.std.proofs.Math.Bool.{beq}
 use Rattle.std.proofs.lemmas.Bool.{false≢true}
 use Rattle.std.proofs.lemmas.List.{ext_get_or, length-take, length-drop, get_or-take, get_or-drop, get_or_append_left}
+use Rattle.flop_base.specs.Counts.{RoseBy}
 use Rattle.flop_base.specs.declared.answers.Rate.{Rate}
 use Rattle.flop_base.specs.declared.answers.Code.{Code}
-use Rattle.flop_base.specs.declared.answers.Code.TheVariants.{NoMark, NotFound, Overrun, BadCrc}
+use Rattle.flop_base.specs.declared.answers.Code.TheVariants.{NoMark, NotFound, Overrun, BadCrc, Seek}
 use Rattle.raw_image.specs.Disk.{Disk, track_of}
 use Rattle.track_model.specs.Fields.{content_size}
 use Rattle.track_model.specs.Sectors.{IsSector, IsUnder}
@@ -65,8 +66,8 @@ read_device BadCrc coded = tt
 read_device Overrun coded = tt
 read_device _ coded = absurd coded
 
-write_cause : (written : Written) (track : List ℕ) (change : Option Change) (bay : ℕ) (code : Code) (a b : Counters) → IsWriteMiss track written.key bay a code b → IsMissCause written track change bay a code b
-write_cause written track change bay code a b miss = record {
+write_cause : (written : Written) (track : List ℕ) (change : Option Change) (bay : ℕ) (code : Code) (a b : Counters) → RoseBy 1 a.data_commands b.data_commands → IsWriteMiss track written.key bay a code b → IsMissCause written track change bay a code b
+write_cause written track change bay code a b rose miss = record {
   device = write_device code miss.coded;
   no_mark = λ is quiet.
       let reason : IsWriteReason track written.key NoMark = subst (IsWriteReason track written.key) is (miss.reason quiet) in
@@ -78,6 +79,8 @@ write_cause written track change bay code a b miss = record {
   bad_data = λ is quiet. absurd (subst IsWriteCode is miss.coded);
   overrun = miss.overrun;
   lost = λ is. absurd (subst IsWriteCode is miss.coded);
+  sent = λ other. rose;
+  read_back = λ is. absurd (subst IsWriteCode is miss.coded);
 }
 
 pub write_missed : (old : Rig) (bay : ℕ) (rate : Rate) (written : Written) (change : Option Change) (code : Code) (new : Rig) → WritesData bay rate written change old (Err code) new → WritesChecked bay rate written old (Err code) new
@@ -90,7 +93,8 @@ write_missed old bay rate written change code new wrote = record {
   driven = driven_within 1 2 old.counters new.counters (omega arith) wrote.sends.driven;
   does = wrote.does;
   done = λ ok. absurd (false≢true ok);
-  refused = write_cause written (track_under new bay rate written.key.h) change bay code old.counters new.counters wrote.refused;
+  refused = write_cause written (track_under new bay rate written.key.h) change bay code old.counters new.counters wrote.sends.command wrote.refused;
+  placed = λ is. let seek : code ≡ Seek = cc is in subst IsWriteCode seek wrote.refused.coded;
 }
 
 -- ---- a write that was done, and its reading back
@@ -111,6 +115,12 @@ does_later old bay rate written (Some one) mid new first second same changed = r
 module _ (old : Rig) (bay : ℕ) (rate : Rate) (written : Written) (change : Option Change) (mid : Rig) (wrote : WritesData bay rate written change old (Ok tt) mid) (answer : Result Bool Code) (new : Rig) (back : ReadsBack bay written.key rate mid answer new) where
   counts : GoesOn old.counters new.counters
   counts = goes_on_after old.counters mid.counters new.counters wrote.sends.counts back.sends.counts
+
+  once : RoseBy 1 old.counters.data_commands new.counters.data_commands
+  once = let first = wrote.sends.command in let second = back.sends.counts.data_commands in omega arith
+
+  twice : RoseBy 2 old.counters.data_commands new.counters.data_commands
+  twice = let first = wrote.sends.command in let second = back.sends.command in omega arith
 
   -- the medium in the bay as it was read
   media_bay : in_bay new.media bay ≡ in_bay mid.media bay
@@ -133,8 +143,8 @@ module _ (old : Rig) (bay : ℕ) (rate : Rate) (written : Written) (change : Opt
   quiet_back : IsUndisturbed bay old.counters new.counters → IsUndisturbed bay mid.counters new.counters
   quiet_back = disturbed_later bay old.counters mid.counters new.counters wrote.sends.counts back.sends.counts 1
 
-  checked : (result : Result (Unit {0}) Code) → (IsOk result → IsReadBack written (in_bay new.media bay) rate (in_bay old.cylinders bay) change bay old.counters new.counters) → IfErr result (λ code. IsMissCause written (track_under new bay rate written.key.h) change bay old.counters code new.counters) → WritesChecked bay rate written old result new
-  checked result done refused = record {
+  checked : (result : Result (Unit {0}) Code) → (IsOk result → IsReadBack written (in_bay new.media bay) rate (in_bay old.cylinders bay) change bay old.counters new.counters) → IfErr result (λ code. IsMissCause written (track_under new bay rate written.key.h) change bay old.counters code new.counters) → (result ≡ Err Seek → ⊥) → WritesChecked bay rate written old result new
+  checked result done refused placed = record {
     change = change;
     heads = record {
       cylinders = back.sends.heads.cylinders ∙ wrote.sends.heads.cylinders;
@@ -152,6 +162,7 @@ module _ (old : Rig) (bay : ℕ) (rate : Rate) (written : Written) (change : Opt
     does = does_later old bay rate written change mid new wrote.sends.counts back.sends.counts back.sends.media wrote.does;
     done = done;
     refused = refused;
+    placed = placed;
   }
 
   -- the reading back was refused
@@ -172,12 +183,15 @@ module _ (old : Rig) (bay : ℕ) (rate : Rate) (written : Written) (change : Opt
         bad_data = λ is quiet. (quiet_whole quiet, inl (subst (IsReadReason under key) is (reason quiet)));
         overrun = λ is. stalls_later bay old.counters mid.counters new.counters wrote.sends.counts back.sends.counts 1 (miss.overrun is);
         lost = λ is. absurd (subst IsReadCode is miss.coded);
+        sent = λ other. once;
+        read_back = λ is. twice;
       }
 
   pub back_missed : (code : Code) → answer ≡ Err code → WritesChecked bay rate written old (Err code) new
   back_missed code is =
       let Missed : Result Bool Code → Type 0 = λ r. IfErr r (λ code. IsReadMiss (track_under mid bay rate written.key.h) written.key bay mid.counters code new.counters) in
-      checked (Err code) (λ ok. absurd (false≢true ok)) (back_cause code (subst Missed is back.refused))
+      let miss : IsReadMiss (track_under mid bay rate written.key.h) written.key bay mid.counters code new.counters = subst Missed is back.refused in
+      checked (Err code) (λ ok. absurd (false≢true ok)) (back_cause code miss) (λ seek. let same : code ≡ Seek = cc seek in subst IsReadCode same miss.coded)
 
   module _ (deleted : Bool) (content : List ℕ) (found : FindsField bay written.key rate mid deleted content new) where
     meets : MeetsTrack (in_bay mid.media bay) rate (in_bay mid.cylinders bay) written.key.h found.disk
@@ -206,7 +220,10 @@ module _ (old : Rig) (bay : ℕ) (rate : Rate) (written : Written) (change : Opt
           );
           overrun = λ is. absurd (cc is);
           lost = λ is. absurd (cc is);
+          sent = λ other. once;
+          read_back = λ is. twice;
         })
+        (λ is. cc is)
 
     module _ (same_mark : deleted ≡ written.deleted) (same : content ≡ written.content) where
       sector_read : IsFaultless bay mid.counters new.counters → IsSector (track_of found.disk (in_bay mid.cylinders bay) written.key.h) written.key written.deleted written.content
@@ -234,7 +251,7 @@ module _ (old : Rig) (bay : ℕ) (rate : Rate) (written : Written) (change : Opt
           | inl first ↦ inl (wrote_first first)
           | inr second ↦ inr (sector_read second)
         ];
-        commands = let first = wrote.sends.command in let second = back.sends.command in omega arith;
+        commands = twice;
       }
 
       pub same_read : WritesChecked bay rate written old (Ok tt) new
@@ -242,7 +259,7 @@ module _ (old : Rig) (bay : ℕ) (rate : Rate) (written : Written) (change : Opt
           checked (Ok tt)
           (λ ok. subst (λ c. IsReadBack written (in_bay new.media bay) rate c change bay old.counters new.counters)
           (ap (λ (t : Two ℕ). in_bay t bay) wrote.sends.heads.cylinders) read_back)
-          tt
+          tt (λ is. cc is)
 
 -- ---- the ends of a write that is read back
 

@@ -73,6 +73,15 @@ read_device Seek coded = absurd coded
 format_not_seek : (code : Code) → IsFormatCode code → code ≡ Seek → ⊥
 format_not_seek code coded is = subst IsFormatCode is coded
 
+seek_not_read : (Seek ≡ NotFound ⊎ Seek ≡ BadCrc) → ⊥
+seek_not_read (inl e) = cc e
+seek_not_read (inr e) = cc e
+
+-- a format has no refusal of reading back
+format_not_read : (code : Code) → IsFormatCode code → (code ≡ NotFound ⊎ code ≡ BadCrc) → ⊥
+format_not_read code coded (inl e) = subst IsFormatCode e coded
+format_not_read code coded (inr e) = subst IsFormatCode e coded
+
 read_not_seek : (code : Code) → IsReadCode code → code ≡ Seek → ⊥
 read_not_seek code coded is = subst IsReadCode is coded
 
@@ -109,6 +118,7 @@ lost_attempt old notes bay format new after prepared =
       untouched = λ quiet none. same;
       never = λ failed can quiet. disturbed quiet;
       driven = driven_within 0 (1 * (1 + sectors_at format.rate)) old.counters new.counters (omega arith) prepared.moves.driven;
+      unsent = λ some is. let idle = prepared.moves.driven.most_commands in omega arith;
       ends = λ some. record {
         exactly = λ quiet. absurd (disturbed quiet);
         begun = λ quiet. absurd (disturbed quiet);
@@ -119,6 +129,8 @@ lost_attempt old notes bay format new after prepared =
           undisturbed = λ quiet. absurd (disturbed quiet);
           overrun = λ e. absurd (cc e);
           lost = λ e. lost;
+          sent = λ other. absurd (other refl);
+          read_back = λ which. absurd (seek_not_read which);
         };
       };
     }
@@ -217,6 +229,7 @@ module _ (old middle laid : Rig) (notes after : Notes) (bay : ℕ) (format : For
           driven =
               driven_within 1 (1 * (1 + sectors_at format.rate)) old.counters laid.counters (omega arith)
               (driven_after 0 1 old.counters middle.counters laid.counters prepared.moves.counts formats.sends.counts prepared.moves.driven formats.sends.driven);
+          unsent = λ some is. absurd (format_not_seek code formats.refused.coded (cc is));
           ends = λ some. record {
             exactly = λ quiet. (λ ok. absurd (false≢true ok), λ can. absurd (unformattable quiet can));
             begun = λ quiet. begins laying refusal formats (placed (faultless quiet)) (inl (later quiet));
@@ -227,6 +240,8 @@ module _ (old middle laid : Rig) (notes after : Notes) (bay : ℕ) (format : For
               undisturbed = λ quiet. (formats.refused.reason (later quiet)).0;
               overrun = λ e. let rose = formats.refused.overrun e in let s = prepared.moves.counts.stalls in omega arith;
               lost = λ e. absurd (format_not_seek code formats.refused.coded e);
+              sent = λ other. let one = formats.sends.command in let d = prepared.moves.counts.data_commands in omega arith;
+              read_back = λ which. absurd (format_not_read code formats.refused.coded which);
             };
           };
         }
@@ -304,7 +319,20 @@ module _ (old middle laid : Rig) (notes after : Notes) (bay : ℕ) (format : For
           ];
           overrun = λ e. let rose = missed.overrun e in let s = (counts laying done formats).stalls in omega arith;
           lost = λ e. absurd (read_not_seek code missed.coded e);
+          sent = λ other. let rose = missed.sent in let d = (counts laying done formats).data_commands in omega arith;
+          read_back = λ which.
+              let d = prepared.moves.counts.data_commands in
+              let one = formats.sends.command in
+              let more = missed.sent in
+              omega arith;
         }
+
+    in_place : answer ≡ Err Seek → ⊥
+    in_place = by_answer answer reads.refused
+      where
+        by_answer : (a : Result (Unit {0}) Code) → IfErr a (λ code. IsReadBackMiss bay (IsBlankUnder laid bay format.rate format.h) (HoldsRecords (track_under laid bay format.rate format.h) format.c format.h (sectors_at format.rate) format.fill) laid.counters code new.counters) → a ≡ Err Seek → ⊥
+        by_answer (Ok is) missed same = cc same
+        by_answer (Err code) missed same = read_not_seek code missed.coded (cc same)
 
     not_both : (a : Result (Unit {0}) Code) → IsErr a → IsOk a → ⊥
     not_both (Ok is) failed ok = false≢true failed
@@ -325,6 +353,7 @@ module _ (old middle laid : Rig) (notes after : Notes) (bay : ℕ) (format : For
               driven_within (0 + 1 + sectors_at format.rate) (1 * (1 + sectors_at format.rate)) old.counters new.counters (omega arith)
               (driven_after (0 + 1) (sectors_at format.rate) old.counters laid.counters new.counters (counts laying done formats) reads.counts
               (driven_after 0 1 old.counters middle.counters laid.counters prepared.moves.counts formats.sends.counts prepared.moves.driven formats.sends.driven) reads.driven);
+          unsent = λ some is. absurd (in_place is);
           ends = λ some. record {
             exactly = λ quiet. (λ ok. (made_so ok (faultless_all quiet)).0, λ can. was_done can quiet);
             begun = λ quiet. begins laying done formats (placed (faultless_all quiet)) (inr (refl, faultless_middle laying done formats (faultless_laid (faultless_all quiet))));

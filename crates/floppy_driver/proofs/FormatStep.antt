@@ -1,5 +1,5 @@
 -- A format is a step of the sector model.
-use Rattle.std.proofs.Common.{◌≡◌, ℕ, ◌+◌, ◌*◌, ◌<◌, ◌≤◌, Bool, true, false, List, Option, Some, None, MatchOption, Result, Ok, Err, IsErr, IfErr, refl, sym, ap, ◌∙◌, subst, arith}
+use Rattle.std.proofs.Common.{◌≡◌, ℕ, ◌+◌, ◌-◌, ◌*◌, ◌<◌, ◌≤◌, Bool, true, false, List, Option, Some, None, MatchOption, Result, Ok, Err, IsErr, IfErr, refl, sym, ap, ◌∙◌, subst, arith}
 use Rattle.std.specs.Prelude.{◌&&◌, not, nat_le, if◌then◌else◌}
 use Rattle.std.specs.Option.{option_map_or}
 use Rattle.std.proofs.lemmas.Bool.{le-leb, lt-leb}
@@ -7,7 +7,7 @@ use Rattle.flop_base.specs.Standard.{sectors_at}
 use Rattle.flop_base.specs.declared.answers.Rate.{Rate}
 use Rattle.flop_base.specs.declared.answers.Rate.TheVariants.{R500}
 use Rattle.flop_base.specs.declared.answers.Code.{Code}
-use Rattle.flop_base.specs.declared.answers.Code.TheVariants.{BadRequest, Changed, Protected}
+use Rattle.flop_base.specs.declared.answers.Code.TheVariants.{BadRequest, Changed, Protected, Seek}
 use Rattle.raw_image.specs.Disk.{Disk}
 use Rattle.bay_model.specs.Bays.{Two, in_bay}
 use Rattle.bay_model.specs.Counters.{DriveCounts, Counters, GoesOn, IsFaultless, DisturbedLess, IsDriven}
@@ -53,6 +53,9 @@ module _ (old : StationState) (bay c h gap3 fill : ℕ) (answer : Result (Unit {
 
 -- ---- from attempts to the step
 
+none_more : (first mid last most : ℕ) → mid ≤ first + 0 → last ≤ mid + most → last ≤ first + most
+none_more first mid last most idle within = omega arith
+
 -- a call that only asked comes before, and spare drives may wait
 module _ (n : ℕ) (format : Format) (bay : ℕ) (answer : Result (Unit {0}) Code) (before after : Option Disk) (old mid new : Counters) (waiting : List DriveCounts) (one : GoesOn old mid) (two : GoesOn mid new) (idle : IsDriven 0 old mid) (formats : FormatsIn n format bay before after mid answer new) where
   abbrev from : Counters
@@ -84,6 +87,8 @@ module _ (n : ℕ) (format : Format) (bay : ℕ) (answer : Result (Unit {0}) Cod
         undisturbed = λ quiet. refused.undisturbed (fewer 1 quiet);
         overrun = λ e. let rose = refused.overrun e in omega arith;
         lost = λ e. let rose = refused.lost e in omega arith;
+        sent = λ other. let rose = refused.sent other in let d = one.data_commands in omega arith;
+        read_back = λ which. let rose = refused.read_back which in let d = one.data_commands in omega arith;
       }
 
   formats_shown : FormatsIn n format bay before after from answer to
@@ -101,6 +106,7 @@ module _ (n : ℕ) (format : Format) (bay : ℕ) (answer : Result (Unit {0}) Cod
           interrupts = all.interrupts;
           past_driver = all.past_driver;
         };
+        unsent = λ some is. none_more old.data_commands mid.data_commands new.data_commands _ idle.most_commands (formats.unsent some is);
         ends = λ some.
             let ends = formats.ends some in
             record {
@@ -112,13 +118,16 @@ module _ (n : ℕ) (format : Format) (bay : ℕ) (answer : Result (Unit {0}) Cod
             };
       }
 
-drive_cause : (format : Format) (bay : ℕ) (answer : Result (Unit {0}) Code) (old new : StationState) (medium : Option Disk) → (IsErr answer → IsFormattable format medium → DisturbedLess old.tries bay old.counters new.counters → ⊥) → 1 ≤ old.tries → IfErr answer (λ code. IsAttemptRefusal bay old.counters code new.counters) → IfErr answer (λ code. IsFormatCause format medium bay old code new)
-drive_cause format bay (Ok is) old new medium never some refused = tt
-drive_cause format bay (Err code) old new medium never some refused = record {
+drive_cause : (format : Format) (bay : ℕ) (answer : Result (Unit {0}) Code) (old new : StationState) (medium : Option Disk) → (IsErr answer → IsFormattable format medium → DisturbedLess old.tries bay old.counters new.counters → ⊥) → 1 ≤ old.tries → (answer ≡ Err Seek → new.counters.data_commands ≤ old.counters.data_commands + (old.tries - 1) * (1 + sectors_at format.rate)) → IfErr answer (λ code. IsAttemptRefusal bay old.counters code new.counters) → IfErr answer (λ code. IsFormatCause format medium bay old code new)
+drive_cause format bay (Ok is) old new medium never some unsent refused = tt
+drive_cause format bay (Err code) old new medium never some unsent refused = record {
   device = refused.device;
   undisturbed = refused.undisturbed;
   overrun = refused.overrun;
   lost = refused.lost;
+  unsent = λ is. unsent (ap (λ c. Err c) is);
+  sent = refused.sent;
+  read_back = refused.read_back;
   never = λ can less. never refl can (record { faults = less.faults; stalls = less.stalls; together = let t = less.together in omega arith });
 }
 
@@ -139,7 +148,7 @@ formats_drive format bay answer old new before after some was is becomes attempt
       untouched = formats.untouched;
       commands = ends.commands;
       formatted_track = ends.formatted_track;
-      refused = drive_cause format bay answer old new (bay_of old bay).medium formats.never some ends.refused;
+      refused = drive_cause format bay answer old new (bay_of old bay).medium formats.never some (formats.unsent some) ends.refused;
       driven = formats.driven;
     }
 

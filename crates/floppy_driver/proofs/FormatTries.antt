@@ -1,5 +1,5 @@
 -- Attempts of a format, one after the other.
-use Rattle.std.proofs.Common.{◌≡◌, ℕ, ◌+◌, ◌*◌, ◌≤◌, Bool, true, false, List, [], ◌∷◌, ◌++◌, Option, Some, None, Result, Ok, Err, IfErr, refl, sym, ap, ◌∙◌, subst, arith}
+use Rattle.std.proofs.Common.{◌≡◌, ℕ, ◌+◌, ◌-◌, ◌*◌, ◌≤◌, Bool, true, false, List, [], ◌∷◌, ◌++◌, Option, Some, None, Result, Ok, Err, IfErr, refl, sym, ap, ◌∙◌, subst, arith}
 use Rattle.std.specs.Prelude.{◌==◌, if◌then◌else◌}
 use Rattle.std.proofs.lemmas.Bool.{false≢true}
 use Rattle.std.proofs.lemmas.List.{length-append}
@@ -121,6 +121,11 @@ fewer_commands : (rate : Rate) (few most : ℕ) → few ≤ most → few * (1 + 
 fewer_commands R500 few most le = omega arith
 fewer_commands R250 few most le = omega arith
 
+-- the last attempt sent none
+idle_last : (rate : Rate) (n first mid last : ℕ) → mid ≤ first + n * (1 + sectors_at rate) → last ≤ mid + (1 - 1) * (1 + sectors_at rate) → last ≤ first + (n + 1 - 1) * (1 + sectors_at rate)
+idle_last R500 n first mid last before idle = omega arith
+idle_last R250 n first mid last before idle = omega arith
+
 -- no attempt was made yet
 pub formats_none : (format : Format) (bay : ℕ) (code : Code) (medium : Option Disk) (old : Counters) → FormatsIn 0 format bay medium medium old (Err code) old
 formats_none format bay code medium old = record {
@@ -131,6 +136,7 @@ formats_none format bay code medium old = record {
   untouched = λ quiet none. refl;
   never = λ failed can less. let t = less.together in omega arith;
   driven = record { most_commands = omega arith; interrupts = omega arith; past_driver = refl };
+  unsent = λ some. absurd (omega arith);
   ends = λ some. absurd (omega arith);
 }
 
@@ -163,6 +169,8 @@ module _ (n : ℕ) (format : Format) (bay : ℕ) (code : Code) (answer : Result 
         undisturbed = λ quiet. refused.undisturbed (later quiet);
         overrun = λ e. let rose = refused.overrun e in omega arith;
         lost = λ e. let rose = refused.lost e in omega arith;
+        sent = λ other. let rose = refused.sent other in let d = one.data_commands in omega arith;
+        read_back = λ which. let rose = refused.read_back which in let d = one.data_commands in omega arith;
       }
 
   pub formats_more : FormatsIn (n + 1) format bay before after old answer new
@@ -180,6 +188,7 @@ module _ (n : ℕ) (format : Format) (bay : ℕ) (code : Code) (answer : Result 
         driven_within (n * (1 + sectors_at format.rate) + 1 * (1 + sectors_at format.rate)) ((n + 1) * (1 + sectors_at format.rate)) old new
         (more_commands format.rate n)
         (driven_after (n * (1 + sectors_at format.rate)) (1 * (1 + sectors_at format.rate)) old mid new one two first.driven second.driven);
+    unsent = λ some is. idle_last format.rate n old.data_commands mid.data_commands new.data_commands first.driven.most_commands (second.unsent (omega arith) is);
     ends = λ some. record {
       exactly = λ quiet.
           let exact = last.exactly (later quiet) in
@@ -203,6 +212,7 @@ formats_done count most format bay before after old new some within formats = re
   untouched = formats.untouched;
   never = λ failed. absurd (false≢true failed);
   driven = driven_within (count * (1 + sectors_at format.rate)) (most * (1 + sectors_at format.rate)) old new (fewer_commands format.rate count most within) formats.driven;
+  unsent = λ any is. absurd (cc is);
   ends = λ any. formats.ends some;
 }
 

@@ -100,6 +100,7 @@ module _ (old : Rig) (bay : ℕ) (key : Chrn) (rate : Rate) (fill : ℕ) where
         overrun = reads.refused.overrun;
         disturbed = λ holds quiet. no_reason track key fill code holds (reads.refused.reason quiet);
         unmarked = λ blank quiet. unmarked_code track key code blank (reads.refused.reason quiet);
+        sent = reads.sends.command;
       };
     }
 
@@ -148,6 +149,7 @@ module _ (old : Rig) (bay : ℕ) (key : Chrn) (rate : Rate) (fill : ℕ) where
         overrun = λ e. absurd (cc e);
         disturbed = λ holds quiet. other (page_filled holds quiet);
         unmarked = λ blank. absurd (not_blank blank);
+        sent = reads.sends.command;
       };
     }
 
@@ -188,6 +190,7 @@ reads_failed old middle new bay so_far most blank next_blank there next code wit
     overrun = λ e. let rose = second.refused.overrun e in let s = first.counts.stalls in omega arith;
     disturbed = λ holds quiet. second.refused.disturbed (has holds) (undisturbed_part bay old.counters middle.counters new.counters new.counters first.counts second.counts (goes_on_itself new.counters) quiet);
     unmarked = λ blank quiet. second.refused.unmarked (goes blank) (undisturbed_part bay old.counters middle.counters new.counters new.counters first.counts second.counts (goes_on_itself new.counters) quiet);
+    sent = let rose = second.refused.sent in let d = first.counts.data_commands in omega arith;
   };
 }
 

@@ -101,6 +101,7 @@ module _ (driver after : Driver) (old mid : Rig) (bay : ℕ) (key : Chrn) (addre
               subst (λ (t : List ℕ). IsReadReason t key code) track_is (miss.reason second);
           overrun = λ is. let r = miss.overrun is in omega arith;
           lost = λ is. absurd (no_seek code miss.coded is);
+          sent = λ other. let c = reads.sends.command in let d = prepared.moves.counts.data_commands in omega arith;
         }
 
     by_ok : (a : Result Bool Code) → IfOk a (λ deleted. (content : List ℕ) × FindsField bay key rate mid deleted content new × (new.memory ≡ with_items mid.memory address content)) → IfOk a (λ deleted. IsReadWhole bay key address (shown driver old spares waiting) deleted (shown after new spares waiting))
@@ -110,6 +111,10 @@ module _ (driver after : Driver) (old mid : Rig) (bay : ℕ) (key : Chrn) (addre
     by_err : (a : Result Bool Code) → IfErr a (λ code. IsReadMiss (track_under mid bay rate key.h) key bay mid.counters code new.counters) → IfErr a (λ code. IsReadFailed (IsSure tries attempt) bay key (shown driver old spares waiting) code (shown after new spares waiting))
     by_err (Ok deleted) miss = tt
     by_err (Err code) miss = failed_code code miss
+
+    placed : (a : Result Bool Code) → IfErr a (λ code. IsReadMiss (track_under mid bay rate key.h) key bay mid.counters code new.counters) → a ≡ Err Seek → ⊥
+    placed (Ok deleted) miss is = cc is
+    placed (Err code) miss is = no_seek code miss.coded (cc is)
 
     -- the sector was read for, with the heads ready
     pub tries_read : TriesRead (IsSure tries attempt) bay key address (shown driver old spares waiting) answer (shown after new spares waiting)
@@ -126,4 +131,5 @@ module _ (driver after : Driver) (old mid : Rig) (bay : ℕ) (key : Chrn) (addre
           driven =
               driven_after 0 1 before.counters (with_waiting mid.counters waiting) (with_waiting new.counters waiting) asked.counts later asked.idle
               (waiting_driven 1 mid.counters new.counters waiting reads.sends.driven);
+          unsent = λ is. absurd (placed answer reads.refused is);
         }

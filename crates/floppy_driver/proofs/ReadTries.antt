@@ -89,6 +89,7 @@ module _ (start : StationState) (bay : ℕ) (key : Chrn) (address : ℕ) where
         counts = asked.counts;
         driven = asked.idle;
         spoilt = λ clear all. spoilt_none start.tries bay start.counters now.counters asked.counts;
+        unsent = λ some. absurd (omega arith);
         last = λ some. absurd (omega arith);
       }
 
@@ -106,6 +107,7 @@ module _ (start : StationState) (bay : ℕ) (key : Chrn) (address : ℕ) where
           reason = λ is quiet. failed.reason is (undisturbed_part bay start.counters counters new.counters new.counters goes more (goes_on_itself new.counters) quiet);
           overrun = λ is. let r = failed.overrun is in omega arith;
           lost = λ is. let r = failed.lost is in omega arith;
+          sent = λ other. let r = failed.sent other in let d = goes.data_commands in omega arith;
         }
 
     read_since : (deleted : Bool) (new : StationState) → SameOutside address (content_size key.n) start.memory memory → GoesOn counters new.counters → IsReadWhole bay key address between deleted new → IsRead bay key address start deleted new
@@ -143,6 +145,10 @@ module _ (start : StationState) (bay : ℕ) (key : Chrn) (address : ℕ) where
           spoilt = λ clear found.
               spoilt_more start.tries count bay start.counters counters new.counters some goes attempt.counts all (tried.spoilt clear found)
               (λ sure quiet. good_track the_track key failed clear found (attempt.failed.reason sure quiet));
+          unsent = λ one is.
+              let idle = (attempt.unsent (ap (λ c. Err c) is)).most_commands in
+              let before = tried.driven.most_commands in
+              omega arith;
           last = λ one. failed_since (IsSure start.tries (count + 1)) failed new attempt.counts attempt.failed;
         }
 
@@ -182,6 +188,8 @@ module _ (start : StationState) (bay : ℕ) (key : Chrn) (address : ℕ) where
             bad_data = λ is quiet. subst (λ (c : Code). IsReadReason the_track key c) is (reason quiet);
             overrun = failed.overrun;
             lost = failed.lost;
+            unsent = tried.unsent some;
+            sent = failed.sent;
             never = λ clear all less. tried.spoilt clear all (subst (λ (n : ℕ). DisturbedLess n bay start.counters now.counters) (sym (all_sure start.tries some)) less);
           };
           memory = tried.memory;

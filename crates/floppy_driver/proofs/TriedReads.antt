@@ -1,7 +1,8 @@
 -- Words of the proofs: a read in attempts so far.
-use Rattle.std.proofs.Common.{ℕ, ◌≤◌}
+use Rattle.std.proofs.Common.{◌≡◌, ℕ, ◌+◌, ◌-◌, ◌≤◌}
 use Rattle.flop_base.specs.declared.key.Chrn.{Chrn}
 use Rattle.flop_base.specs.declared.answers.Code.{Code}
+use Rattle.flop_base.specs.declared.answers.Code.TheVariants.{Seek}
 use Rattle.track_model.specs.Fields.{content_size}
 use Rattle.bay_model.specs.Counters.{DisturbedLess, GoesOn, IsDriven}
 use Rattle.bay_model.specs.Memory.{SameOutside}
@@ -20,4 +21,5 @@ pub record HasTriedRead (bay : ℕ) (key : Chrn) (address count : ℕ) (start : 
   -- on a good track each attempt that goes by track 0 was disturbed
   pub spoilt : HasClearAddress (met (bay_of start bay) key.c key.h) key → AllFound (met (bay_of start bay) key.c key.h) key
       → DisturbedLess (sure_attempts start.tries count) bay start.counters now.counters → ⊥
+  pub unsent : 1 ≤ count → code ≡ Seek → now.counters.data_commands ≤ start.counters.data_commands + (count - 1)
   pub last : 1 ≤ count → IsReadFailed (IsSure start.tries count) bay key start code now

@@ -1,5 +1,5 @@
 -- Words of the proofs: a write in attempts so far.
-use Rattle.std.proofs.Common.{None, [], ◌∷◌, ◌++◌, ◌≡◌, ℕ, ◌+◌, ◌-◌, ◌*◌, ◌≤◌, Bool, List, length, All, Option, Some, ◌⊎◌}
+use Rattle.std.proofs.Common.{None, [], ◌∷◌, ◌++◌, ◌≡◌, ◌≢◌, ℕ, ◌+◌, ◌-◌, ◌*◌, ◌≤◌, Bool, List, length, All, Option, Some, ◌⊎◌}
 use Rattle.flop_base.specs.Counts.{RoseBy}
 use Rattle.flop_base.specs.declared.key.Chrn.{Chrn}
 use Rattle.flop_base.specs.declared.answers.Code.{Code}
@@ -89,10 +89,13 @@ pub record IsLastCause (written : Written) (track : List ℕ) (changes : List Ch
       → IsLastWhole written changes × (HasLook track written.key look.BadCrc ⊎ HasOtherContent track written)
   pub overrun : code ≡ Overrun → RoseBy 1 start.counters.stalls now.counters.stalls
   pub lost : code ≡ Seek → FaultsRoseBy 77 bay start.counters now.counters
+  pub sent : code ≢ Seek → RoseBy 1 start.counters.data_commands now.counters.data_commands
+  pub read_back : code ≡ BadCrc → RoseBy 2 start.counters.data_commands now.counters.data_commands
 
 -- so many attempts were refused, the last of them so
 pub record HasTriedWrite (written : Written) (bay count : ℕ) (start : StationState) (code : Code) (now : StationState) : Type 0 where
   pub so_far : WroteSoFar written bay count start now
+  pub unsent : 1 ≤ count → code ≡ Seek → now.counters.data_commands ≤ start.counters.data_commands + 2 * (count - 1)
   pub last : 1 ≤ count → IsSure start.tries count
       → IsLastCause written (met (bay_of now bay) written.key.c written.key.h) so_far.changes bay start code now
   pub spoilt : IsRegular (met (bay_of start bay) written.key.c written.key.h) written.key.c written.key.h

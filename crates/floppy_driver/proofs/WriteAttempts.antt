@@ -56,6 +56,8 @@ cause_earlier written track change bay code a b c one two cause =
       bad_data = λ is quiet. cause.bad_data is (later quiet);
       overrun = λ is. stalls_later bay a b c one two 1 (cause.overrun is);
       lost = λ is. rose_later bay a b c one two 77 (cause.lost is);
+      sent = λ other. commands_later bay a b c one two 1 (cause.sent other);
+      read_back = λ is. commands_later bay a b c one two 2 (cause.read_back is);
     }
 
 -- and whatever spare drives wait
@@ -69,6 +71,8 @@ waiting_cause written track change bay code a b waiting cause =
       bad_data = λ is quiet. cause.bad_data is (same quiet);
       overrun = cause.overrun;
       lost = cause.lost;
+      sent = cause.sent;
+      read_back = cause.read_back;
     }
 
 -- ---- the station that is shown
@@ -229,6 +233,7 @@ module _ (driver after : Driver) (old mid : Rig) (bay target : ℕ) (way : Prepa
         counts = waiting_goes_on old.counters new.counters waiting (goes_on_after old.counters mid.counters new.counters prepared.moves.counts wrote.counts);
         driven = waiting_driven 2 old.counters new.counters waiting
             (driven_after 0 2 old.counters mid.counters new.counters prepared.moves.counts wrote.counts prepared.moves.driven wrote.driven);
+        unsent = λ is. absurd (wrote.placed is);
       }
 
 -- what is written comes from memory as it was before the heads were prepared

@@ -63,6 +63,7 @@ module _ (written : Written) (bay : ℕ) (start now : StationState) (asked : Has
       counts = asked.counts;
       driven = asked.idle;
     };
+    unsent = λ some. absurd (omega arith);
     last = λ some. absurd (omega arith);
     spoilt = λ regular p here spared. spoilt_none start.tries bay start.counters now.counters asked.counts;
   }
@@ -146,6 +147,9 @@ ends_tried written bay start now code starts tried =
         bad_data = cause.bad_data;
         overrun = cause.overrun;
         lost = cause.lost;
+        unsent = tried.unsent starts.some_tries;
+        sent = cause.sent;
+        read_back = cause.read_back;
         never = λ regular p here spared less.
             tried.spoilt regular p here spared
             (subst (λ (n : ℕ). DisturbedLess n bay start.counters now.counters) (sym (all_sure start.tries starts.some_tries)) less);

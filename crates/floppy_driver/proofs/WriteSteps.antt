@@ -28,7 +28,7 @@ use Rattle.floppy_driver.specs.Writings.{IsMissCause, ChangesBay, TriesWrite, Wr
 use Rattle.floppy_driver.proofs.TriedWrites.{IsWriteStart, IsSpared, IsSameOrCut, with_change, KeptSoFar, WroteSoFar, IsLastCause, HasTriedWrite}
 use Rattle.floppy_driver.proofs.Shows.{driven_after, undisturbed_faultless}
 use Rattle.floppy_driver.proofs.Attempts.{spoilt_more}
-use Rattle.floppy_driver.proofs.Rising.{disturbed_first, disturbed_later, stalls_later, rose_later}
+use Rattle.floppy_driver.proofs.Rising.{disturbed_first, disturbed_later, stalls_later, rose_later, commands_later}
 use Rattle.floppy_driver.proofs.WriteChanges.{same_disks, reaches_more, reached_alike, few_more, steady_more, last_whole, becomes_later, bay_after}
 use Rattle.floppy_driver.proofs.WriteTracks.{cut_keeps, cut_more, never_refused}
 
@@ -324,6 +324,8 @@ module _ (written : Written) (bay : ℕ) (start mid new : StationState) (count :
               (last_whole written so_far.changes attempt.change why.0, why.1);
           overrun = λ e. stalls_later bay start.counters mid.counters new.counters so_far.counts attempt.counts 1 (refused.overrun e);
           lost = λ e. rose_later bay start.counters mid.counters new.counters so_far.counts attempt.counts 77 (refused.lost e);
+          sent = λ other. commands_later bay start.counters mid.counters new.counters so_far.counts attempt.counts 1 (refused.sent other);
+          read_back = λ e. commands_later bay start.counters mid.counters new.counters so_far.counts attempt.counts 2 (refused.read_back e);
         }
 
     module _ (p : ℕ) (regular : IsRegular (met (bay_of start bay) written.key.c written.key.h) written.key.c written.key.h) (here : IsAddressAt (met (bay_of start bay) written.key.c written.key.h) p written.key) (spared : IsSpared written p (met (bay_of start bay) written.key.c written.key.h) bay start new) where
@@ -340,6 +342,10 @@ pub tried_more : (written : Written) (bay : ℕ) (start mid new : StationState) 
 unfolding wrote_more
 tried_more written bay start mid new count before code starts tried attempt = record {
   so_far = wrote_more written bay start mid new count (IsSure start.tries (count + 1)) (Err code) starts tried.so_far attempt;
+  unsent = λ some is.
+      let idle = (attempt.unsent (ap (λ c. Err c) is)).most_commands in
+      let earlier = tried.so_far.driven.most_commands in
+      omega arith;
   last = λ some is_sure. last_cause written bay start mid new count (IsSure start.tries (count + 1)) (Err code) starts tried.so_far attempt code attempt.refused is_sure;
   spoilt = λ regular p here spared.
       spoilt_more start.tries count bay start.counters mid.counters new.counters starts.some_tries tried.so_far.counts attempt.counts

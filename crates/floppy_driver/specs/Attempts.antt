@@ -1,5 +1,5 @@
 -- What the attempts of a call have in common.
-use Rattle.std.specs.Prelude.{◌≡◌, ℕ, ◌-◌, ◌≤◌, true, ◌⊎◌}
+use Rattle.std.specs.Prelude.{◌≡◌, ℕ, ◌≤◌, true, ◌⊎◌}
 use Rattle.bay_model.specs.Bays.{in_bay}
 use Rattle.single_commands.specs.Rigs.{Rig, IsSound}
 use Rattle.floppy_driver.specs.declared.driver.Driver.{Driver}

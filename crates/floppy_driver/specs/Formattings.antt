@@ -1,10 +1,10 @@
 -- A format of a track, attempt by attempt.
-use Rattle.std.specs.Prelude.{◌≡◌, ◌↔◌, ℕ, ◌+◌, ◌*◌, ◌<◌, ◌≤◌, List, length, slice_index, All, Option, Result, IsOk, IsErr, IfErr}
+use Rattle.std.specs.Prelude.{◌≡◌, ◌≢◌, ◌↔◌, ◌⊎◌, ℕ, ◌+◌, ◌-◌, ◌*◌, ◌<◌, ◌≤◌, List, length, slice_index, All, Option, Result, Err, IsOk, IsErr, IfErr}
 use Rattle.flop_base.specs.Counts.{RoseBy}
 use Rattle.flop_base.specs.Standard.{sectors_at}
 use Rattle.flop_base.specs.declared.key.Chrn.{Chrn}
 use Rattle.flop_base.specs.declared.answers.Code.{Code}
-use Rattle.flop_base.specs.declared.answers.Code.TheVariants.{NoMark, Overrun, Seek}
+use Rattle.flop_base.specs.declared.answers.Code.TheVariants.{NoMark, NotFound, Overrun, BadCrc, Seek}
 use Rattle.raw_image.specs.Disk.{Disk}
 use Rattle.track_format.specs.Reads.{AllFilled}
 use Rattle.bay_model.specs.Counters.{Counters, IsFaultless, IsUndisturbed, DisturbedLess, FaultsRoseBy, GoesOn, IsDriven}
@@ -57,6 +57,7 @@ pub record IsReadBackMiss (bay : ℕ) (blank there : Type 0) (old : Counters) (c
   pub overrun : code ≡ Overrun → RoseBy 1 old.stalls new.stalls
   pub disturbed : there → IsUndisturbed bay old new → ⊥
   pub unmarked : blank → IsUndisturbed bay old new → code ≡ NoMark
+  pub sent : RoseBy 1 old.data_commands new.data_commands
 
 -- records, so many, were read back: nothing changed but counters and the driver's page
 pub record ReadsRecords (bay count : ℕ) (blank there : Type 0) (old : Rig) (answer : Result (Unit {0}) Code) (new : Rig) : Type 0 where
@@ -77,6 +78,9 @@ pub record IsAttemptRefusal (bay : ℕ) (old : Counters) (code : Code) (new : Co
   pub undisturbed : IsUndisturbed bay old new → code ≡ NoMark
   pub overrun : code ≡ Overrun → RoseBy 1 old.stalls new.stalls
   pub lost : code ≡ Seek → FaultsRoseBy 77 bay old new
+  pub sent : code ≢ Seek → RoseBy 1 old.data_commands new.data_commands
+  -- the format was done, and records were read back
+  pub read_back : (code ≡ NotFound ⊎ code ≡ BadCrc) → RoseBy 2 old.data_commands new.data_commands
 
 -- how the last attempt ended
 pub record EndsFormat (format : Format) (bay : ℕ) (before after : Option Disk) (old : Counters) (answer : Result (Unit {0}) Code) (new : Counters) : Type 0 where
@@ -97,6 +101,9 @@ pub record FormatsIn (count : ℕ) (format : Format) (bay : ℕ) (before after :
   -- each attempt that fails on a formattable medium was disturbed
   pub never : IsErr answer → IsFormattable format before → DisturbedLess count bay old new → ⊥
   pub driven : IsDriven (count * (1 + sectors_at format.rate)) old new
+  -- where the heads could not be placed, the last attempt sent no data command
+  pub unsent : 1 ≤ count → answer ≡ Err Seek
+      → new.data_commands ≤ old.data_commands + (count - 1) * (1 + sectors_at format.rate)
   pub ends : 1 ≤ count → EndsFormat format bay before after old answer new
 
 -- nothing of the station changed but the medium in a bay, and counters

@@ -1,5 +1,5 @@
 -- Attempts at a read.
-use Rattle.std.specs.Prelude.{◌≡◌, ℕ, ◌≤◌, Bool, length, Result, IfOk, IfErr}
+use Rattle.std.specs.Prelude.{◌≡◌, ◌≢◌, ℕ, Bool, length, Result, Err, IfOk, IfErr}
 use Rattle.flop_base.specs.Counts.{RoseBy}
 use Rattle.flop_base.specs.declared.key.Chrn.{Chrn}
 use Rattle.flop_base.specs.declared.answers.Code.{Code}
@@ -23,6 +23,7 @@ pub record IsReadFailed (sure : Type 0) (bay : ℕ) (key : Chrn) (old : StationS
   pub reason : sure → IsUndisturbed bay old.counters new.counters → IsReadReason (met (bay_of old bay) key.c key.h) key code
   pub overrun : code ≡ Overrun → RoseBy 1 old.counters.stalls new.counters.stalls
   pub lost : code ≡ Seek → FaultsRoseBy 77 bay old.counters new.counters
+  pub sent : code ≢ Seek → RoseBy 1 old.counters.data_commands new.counters.data_commands
 
 -- one attempt
 pub record TriesRead (sure : Type 0) (bay : ℕ) (key : Chrn) (address : ℕ) (old : StationState) (answer : Result Bool Code) (new : StationState) : Type 0 where
@@ -32,3 +33,5 @@ pub record TriesRead (sure : Type 0) (bay : ℕ) (key : Chrn) (address : ℕ) (o
   pub becomes : Becomes (record old { memory = new.memory }) new
   pub counts : GoesOn old.counters new.counters
   pub driven : IsDriven 1 old.counters new.counters
+  -- where the heads could not be placed, no data command was sent
+  pub unsent : answer ≡ Err Seek → IsDriven 0 old.counters new.counters

@@ -1,6 +1,6 @@
 -- An attempt at a write, and what several attempts made.
 use Rattle.std.specs.Option.{option_map_or}
-use Rattle.std.specs.Prelude.{false, [], ◌∷◌, ◌++◌, ◌≡◌, ℕ, ◌+◌, ◌-◌, ◌*◌, ◌<◌, ◌≤◌, List, slice_index, Option, Some, Result, IsOk, IfErr, MatchOption, ◌⊎◌}
+use Rattle.std.specs.Prelude.{false, ◌≡◌, ◌≢◌, ℕ, ◌+◌, ◌-◌, ◌<◌, ◌≤◌, List, slice_index, Option, Some, Result, Err, IsOk, IfErr, MatchOption, ◌⊎◌}
 use Rattle.flop_base.specs.Counts.{RoseBy}
 use Rattle.flop_base.specs.declared.answers.Rate.{Rate}
 use Rattle.flop_base.specs.declared.answers.Code.{Code}
@@ -45,6 +45,9 @@ pub record IsMissCause (written : Written) (track : List ℕ) (change : Option C
       → WroteWhole written change × (HasLook track written.key look.BadCrc ⊎ HasOtherContent track written)
   pub overrun : code ≡ Overrun → RoseBy 1 old.stalls new.stalls
   pub lost : code ≡ Seek → FaultsRoseBy 77 bay old new
+  pub sent : code ≢ Seek → RoseBy 1 old.data_commands new.data_commands
+  -- it was read back
+  pub read_back : code ≡ BadCrc → RoseBy 2 old.data_commands new.data_commands
 
 -- what was written was read back, on this cylinder
 pub record IsReadBack (written : Written) (medium : Option Disk) (rate : Rate) (cylinder : ℕ) (change : Option Change) (bay : ℕ) (old new : Counters) : Type 0 where
@@ -75,6 +78,8 @@ pub record WritesChecked (bay : ℕ) (rate : Rate) (written : Written) (old : Ri
       → IsReadBack written (in_bay new.media bay) rate (in_bay old.cylinders bay) change bay old.counters new.counters
   pub refused : IfErr answer (λ code.
       IsMissCause written (track_under new bay rate written.key.h) change bay old.counters code new.counters)
+  -- the heads were in place
+  pub placed : answer ≢ Err Seek
 
 -- ---- one attempt
 
@@ -110,5 +115,5 @@ pub record TriesWrite (sure : Type 0) (written : Written) (bay : ℕ) (old : Sta
       IsMissCause written (met (bay_of new bay) cylinder written.key.h) change bay old.counters code new.counters)
   pub counts : GoesOn old.counters new.counters
   pub driven : IsDriven 2 old.counters new.counters
-
--- ---- several attempts
+  -- where the heads could not be placed, no data command was sent
+  pub unsent : answer ≡ Err Seek → IsDriven 0 old.counters new.counters

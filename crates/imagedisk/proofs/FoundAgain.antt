@@ -24,7 +24,7 @@ use Rattle.imagedisk.specs.declared.sector.ImdSector.{ImdSector}
 use Rattle.imagedisk.specs.declared.track.ImdTrack.{ImdTrack}
 use Rattle.imagedisk.specs.Images.{kept_size, IsImdSector, IsImdTrack}
 use Rattle.imagedisk.specs.Made.{keys_of, window_of, with_sectors, laid_track, empty_words, IsMadeTrack}
-use Rattle.imagedisk.specs.Found.{IsFoundAs, HasBytes, HasSectors}
+use Rattle.imagedisk.specs.Found.{IsFoundAs, HasSectors}
 use Rattle.imagedisk.proofs.Windowed.{laid_before}
 
 -- ---- one window
@@ -91,25 +91,25 @@ record IsPutOver (before after : List ℕ) (n gap3 first : ℕ) (sectors : List 
   others : (q : ℕ) (key : Chrn) (kind : ImdKind) (content : List ℕ) → ((i : ℕ) → i < length sectors → q ≢ sector_place n gap3 (first + i))
       → IsAddressAt before q key → IsFoundAs before q key.n kind content → IsFoundAs after q key.n kind content
 
-put_over : (n gap3 first : ℕ) (sectors : List ImdSector) (track : List ℕ) → IsSpaced track → All (IsImdSector n) sectors → All HasBytes sectors
+put_over : (n gap3 first : ℕ) (sectors : List ImdSector) (track : List ℕ) → IsSpaced track → All (IsImdSector n) sectors
     → ((i : ℕ) (d : ImdSector) → i < length sectors → IsAddressAt track (sector_place n gap3 (first + i)) (get_or sectors i d).key)
     → IsPutOver track (with_sectors n gap3 first sectors track) n gap3 first sectors
 unfolding with_sectors
-put_over n gap3 first [] track spaced valid bytes here = record {
+put_over n gap3 first [] track spaced valid here = record {
   addresses = λ q key. (λ x. x, λ x. x);
   found = λ i d lt. absurd (omega arith);
   others = λ q key kind content apart address found. found;
 }
-put_over n gap3 first (sector ∷ sectors) track spaced valid bytes here =
+put_over n gap3 first (sector ∷ sectors) track spaced valid here =
     let p = sector_place n gap3 first in
     let put = put_at track p n sector.kind sector.content in
     let coded = (valid 0 sector (omega arith)).coded in
     let at : IsAddressAt track p sector.key = subst (λ (k : ℕ). IsAddressAt track (sector_place n gap3 k) sector.key) (omega arith) (here 0 sector (omega arith)) in
     let well : IsPutWell track p n sector.kind sector.content =
     subst (λ (m : ℕ). IsPutWell track p m sector.kind sector.content) coded
-    (put_well track p sector.key sector.kind sector.content spaced at (subst (λ (m : ℕ). length sector.content ≡ kept_size sector.kind m) (sym coded) (valid 0 sector (omega arith)).size) (bytes 0 sector (omega arith)).content) in
+    (put_well track p sector.key sector.kind sector.content spaced at (subst (λ (m : ℕ). length sector.content ≡ kept_size sector.kind m) (sym coded) (valid 0 sector (omega arith)).size) (valid 0 sector (omega arith)).bytes) in
     let next : (i : ℕ) → first + suc i ≡ suc first + i = λ i. omega arith in
-    let ih = put_over n gap3 (suc first) sectors put well.0.spaced (λ i d lt. valid (suc i) d (omega arith)) (λ i d lt. bytes (suc i) d (omega arith))
+    let ih = put_over n gap3 (suc first) sectors put well.0.spaced (λ i d lt. valid (suc i) d (omega arith))
     (λ i d lt. (well.0.addresses (sector_place n gap3 (suc first + i)) (get_or sectors i d).key).0
     (subst (λ (k : ℕ). IsAddressAt track (sector_place n gap3 k) (get_or sectors i d).key) (next i) (here (suc i) d (omega arith)))) in
     let own : IsFoundAs put p sector.key.n sector.kind sector.content = subst (λ (m : ℕ). IsFoundAs put p m sector.kind sector.content) (sym coded) well.1 in
@@ -140,22 +140,22 @@ key_count : (sectors : List ImdSector) → length (keys_of sectors) ≡ length s
 key_count [] = refl
 key_count (sector ∷ sectors) = ap suc (key_count sectors)
 
-laid_has : (rate : Rate) (track : ImdTrack) (gap3 : ℕ) → IsImdTrack track → All HasBytes track.sectors → IsLargestGap track.n (length track.sectors) rate gap3 → HasSectors (laid_track rate track gap3) track.sectors
-laid_has rate track gap3 valid bytes largest =
+laid_has : (rate : Rate) (track : ImdTrack) (gap3 : ℕ) → IsImdTrack track → IsLargestGap track.n (length track.sectors) rate gap3 → HasSectors (laid_track rate track gap3) track.sectors
+laid_has rate track gap3 valid largest =
     let sectors = track.sectors in
     let keys = keys_of sectors in
     let n = track.n in
     let words = words_at rate in
     let count = key_count sectors in
     let fits : Fits keys n gap3 words = subst (λ (k : ℕ). laid_words k n gap3 ≤ words) (sym count) largest.suits.fits in
-    let are_keys : All IsKey keys = λ i e lt. subst IsKey (sym (key_of sectors i no_sector e (omega (arith, count)))) (bytes i no_sector (omega (arith, count))).key in
+    let are_keys : All IsKey keys = λ i e lt. subst IsKey (sym (key_of sectors i no_sector e (omega (arith, count)))) (valid.sectors i no_sector (omega (arith, count))).key in
     let asked : All (λ key. key.n ≡ n) keys = λ i e lt. subst (λ (key : Chrn). key.n ≡ n) (sym (key_of sectors i no_sector e (omega (arith, count)))) (valid.sectors i no_sector (omega (arith, count))).coded in
     let small : standard_fill < 256 = omega arith in
     let fields = read_fields keys n gap3 standard_fill words fits valid.coded small are_keys in
     let spaced = read_spaced keys n gap3 standard_fill words fits valid.coded are_keys asked largest.least
     (subst (λ (k : ℕ). 27 ≤ gap3 + (words - laid_words k n gap3)) (sym count) largest.suits.room) in
     let laid = lay keys n gap3 standard_fill words in
-    let over = put_over n gap3 0 sectors laid spaced valid.sectors bytes
+    let over = put_over n gap3 0 sectors laid spaced valid.sectors
     (λ i d lt. subst (λ (k : ℕ). IsAddressAt laid (sector_place n gap3 k) (get_or sectors i d).key) (omega arith)
     (subst (λ (key : Chrn). IsAddressAt laid (sector_place n gap3 i) key) (key_of sectors i d d.key lt) (fields.each i d.key (omega (arith, count))))) in
     record {
@@ -189,6 +189,6 @@ empty_has rate = record {
   only = λ p key at. absurd (nothing_there (words_at rate) p key at);
 }
 
-pub made_has : (rate : Rate) (track : ImdTrack) (words : List ℕ) → IsImdTrack track → All HasBytes track.sectors → IsMadeTrack rate track words → HasSectors words track.sectors
-made_has rate track words valid bytes (inl none) = subst (λ (sectors : List ImdSector). HasSectors words sectors) (sym none.0) (subst (λ (ws : List ℕ). HasSectors ws []) (sym none.1) (empty_has rate))
-made_has rate track words valid bytes (inr some) = subst (λ (ws : List ℕ). HasSectors ws track.sectors) (sym some.2) (laid_has rate track some.0 valid bytes some.1)
+pub made_has : (rate : Rate) (track : ImdTrack) (words : List ℕ) → IsImdTrack track → IsMadeTrack rate track words → HasSectors words track.sectors
+made_has rate track words valid (inl none) = subst (λ (sectors : List ImdSector). HasSectors words sectors) (sym none.0) (subst (λ (ws : List ℕ). HasSectors ws []) (sym none.1) (empty_has rate))
+made_has rate track words valid (inr some) = subst (λ (ws : List ℕ). HasSectors ws track.sectors) (sym some.3) (laid_has rate track some.1 valid some.2)

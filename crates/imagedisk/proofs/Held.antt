@@ -1,21 +1,25 @@
 -- What the looks at the address fields of a track give.
-use Rattle.std.proofs.Common.{◌≡◌, ℕ, ◌+◌, ◌*◌, ◌<◌, Bool, List, [], ◌∷◌, ◌++◌, length, get_or, refl, sym, ap, subst, ◌∙◌, arith, Contains, inl, inr}
+use Rattle.std.proofs.Common.{◌≡◌, ℕ, ◌+◌, ◌*◌, ◌^◌, ◌<◌, Bool, List, [], ◌∷◌, ◌++◌, length, get_or, replicate, refl, sym, ap, subst, ◌∙◌, arith, Contains, inl, inr}
 use Rattle.std.proofs.lemmas.Bool.{cases_lt}
-use Rattle.std.proofs.lemmas.List.{get_or_append_left, get_or_default}
+use Rattle.std.proofs.lemmas.List.{get_or_append_left, get_or_default, get_or_past, get_or-replicate, length-replicate}
 use Rattle.std.proofs.Math.Seq.{get_or-append_seam}
-use Rattle.std.proofs.lemmas.List.FromFn.{length-map-range_with_len, map-range_with_len_more}
+use Rattle.std.proofs.lemmas.List.FromFn.{length-map-range_with_len, map-range_with_len_more, get_or-map-range_with_len}
+use Rattle.flop_base.specs.declared.key.Chrn.{Chrn}
 use Rattle.track_model.specs.declared.Field.{Field}
 use Rattle.track_model.specs.declared.Look.{Look}
 use Rattle.track_model.specs.declared.Look.TheVariants.{Found, NoMark, NoSector, NoData, BadCrc}
 use Rattle.track_model.specs.Bytes.{byte_at, bytes_at}
-use Rattle.track_model.specs.Cells.{IsInside}
-use Rattle.track_model.specs.Fields.{AreAddresses, content_size, content_at}
+use Rattle.track_model.specs.Cells.{IsInside, cell}
+use Rattle.track_model.specs.LaidFields.{IsKey}
+use Rattle.track_model.specs.Fields.{IsAddressAt, AreAddresses, content_size, content_at}
 use Rattle.track_model.specs.Looks.{IsFirstDataMark, LookAt}
+use Rattle.track_model.proofs.Numbers.{number_below}
+use Rattle.track_model.proofs.Places.{cell-lt}
 use Rattle.track_model.proofs.Unique.{one_first}
 use Rattle.imagedisk.specs.declared.sector.ImdKind.{ImdKind}
 use Rattle.imagedisk.specs.declared.sector.ImdKind.TheVariants.{Absent, Good, Deleted, Bad, BadDeleted}
 use Rattle.imagedisk.specs.declared.sector.ImdSector.{ImdSector}
-use Rattle.imagedisk.specs.Images.{kept_size, IsImdSector}
+use Rattle.imagedisk.specs.Images.{kept_size, AreBytes, IsImdSector}
 use Rattle.imagedisk.specs.Taken.{Holds, IsSectorAt, AreUniform, IsFit, HasNoAddress}
 
 pub one_more_byte : (track : List ℕ) (p i : ℕ) → bytes_at track p (i + 1) ≡ bytes_at track p i ++ byte_at track (p + 16 * i) ∷ []
@@ -49,6 +53,47 @@ held_size track p n Good content held = content_length track held.0 n content he
 held_size track p n Deleted content held = content_length track held.0 n content held.2
 held_size track p n Bad content held = content_length track (held.1 + 64) n content held.3
 held_size track p n BadDeleted content held = content_length track (held.1 + 64) n content held.3
+
+-- ---- bytes
+
+byte_small : (track : List ℕ) (p : ℕ) → byte_at track p < 2 ^ 8
+byte_small track p = number_below (λ i. cell track (p + (2 * i + 1))) 8 (λ k lt. cell-lt track (p + (2 * k + 1)))
+
+content_bytes : (track : List ℕ) (place n : ℕ) (content : List ℕ) → content ≡ content_at track place n → AreBytes content
+content_bytes track place n content is j =
+    let byte : ℕ → ℕ = λ i. byte_at track (place + 16 * i) in
+    subst (λ (row : List ℕ). get_or row j 0 < 2 ^ 8) (sym is) (
+    elim (cases_lt j (content_size n)) [
+      | inl lt ↦ subst (λ (b : ℕ). b < 2 ^ 8) (sym (get_or-map-range_with_len byte 0 (content_size n) j j 0 lt (omega arith))) (byte_small track (place + 16 * j))
+      | inr past ↦ subst (λ (b : ℕ). b < 2 ^ 8) (sym (get_or_past (content_at track place n) j 0 (omega (arith, length-map-range_with_len byte 0 (content_size n))))) (omega arith)
+    ])
+
+pub no_bytes : AreBytes []
+no_bytes j = omega arith
+
+pub filled_bytes : (count fill : ℕ) → fill < 2 ^ 8 → AreBytes (replicate count fill)
+filled_bytes count fill small j =
+    elim (cases_lt j count) [
+      | inl lt ↦ subst (λ (b : ℕ). b < 2 ^ 8) (sym (get_or-replicate count j fill 0 lt)) small
+      | inr past ↦ subst (λ (b : ℕ). b < 2 ^ 8) (sym (get_or_past (replicate count fill) j 0 (omega (arith, length-replicate count fill)))) (omega arith)
+    ]
+
+pub held_bytes : (track : List ℕ) (p n : ℕ) (kind : ImdKind) (content : List ℕ) → Holds track p n kind content → AreBytes content
+held_bytes track p n Absent content held = subst AreBytes (sym held.1) no_bytes
+held_bytes track p n Good content held = content_bytes track held.0 n content held.2
+held_bytes track p n Deleted content held = content_bytes track held.0 n content held.2
+held_bytes track p n Bad content held = content_bytes track (held.1 + 64) n content held.3
+held_bytes track p n BadDeleted content held = content_bytes track (held.1 + 64) n content held.3
+
+pub key_bytes : (track : List ℕ) (p : ℕ) (key : Chrn) → IsAddressAt track p key → IsKey key
+key_bytes track p key at = record {
+  cylinder = subst (λ (b : ℕ). b < 256) at.cylinder (byte_small track (p + 64));
+  head = subst (λ (b : ℕ). b < 256) at.head (byte_small track (p + 80));
+  sector = subst (λ (b : ℕ). b < 256) at.sector (byte_small track (p + 96));
+  size = subst (λ (b : ℕ). b < 256) at.size (byte_small track (p + 112));
+}
+
+-- ---- the sectors of a track
 
 -- the sectors of the first fields
 abbrev pub AreSectorsBelow : List ℕ → List Field → List ImdSector → ℕ → Type 0

@@ -3,7 +3,7 @@ use Rattle.std.proofs.Common.{◌≡◌, ℕ, zero, suc, ◌<◌, ◌⊎◌, tru
 use Rattle.std.proofs.lemmas.Bool.{eqb-true}
 use Rattle.std.proofs.lemmas.List.{get_or_default}
 use Rattle.flop_base.specs.declared.key.Chrn.{Chrn}
-use Rattle.raw_image.specs.Disk.{Disk, track_of}
+use Rattle.raw_image.specs.Disk.{Disk, HasTrack, track_of}
 use Rattle.track_model.specs.declared.Field.{Field}
 use Rattle.track_model.specs.Fields.{IsAddressAt}
 use Rattle.imagedisk.specs.declared.sector.ImdKind.{ImdKind}
@@ -13,8 +13,9 @@ use Rattle.imagedisk.specs.declared.image.ImdImage.{ImdImage}
 use Rattle.imagedisk.specs.Images.{IsImdImage}
 use Rattle.imagedisk.specs.Taken.{Holds, IsTrackOf, HasTrackAt, IsImageOf}
 use Rattle.imagedisk.specs.Made.{IsMediumOf}
-use Rattle.imagedisk.specs.Found.{IsFoundAs, HasSectors, AreBytes, HasImage}
+use Rattle.imagedisk.specs.Found.{IsFoundAs, HasSectors, HasImage, SharesSectors}
 use Rattle.imagedisk.proofs.FoundAgain.{made_has, empty_has}
+use Rattle.imagedisk.proofs.OnMedium.{has_track}
 
 held_found : (track : List ℕ) (p n : ℕ) (kind : ImdKind) (content : List ℕ) → Holds track p n kind content → IsFoundAs track p n kind content
 held_found track p n Absent content held = held.0
@@ -50,6 +51,7 @@ taken_has words c h track is =
 
 pub image_has : (disk : Disk) (image : ImdImage) → IsImageOf disk image → HasImage disk image
 image_has disk image is = record {
+  there = λ i d lt. (is.each i d lt).there;
   tracks = λ i d lt.
       let one = is.each i d lt in
       let track = get_or image.tracks i d in
@@ -89,11 +91,12 @@ at_or_not (track ∷ tracks) c h =
       ]
     ]
 
-pub medium_has : (image : ImdImage) (disk : Disk) → IsImdImage image → AreBytes image → IsMediumOf image disk → HasImage disk image
-medium_has image disk valid bytes is = record {
+pub medium_has : (image : ImdImage) (disk : Disk) → IsImdImage image → IsMediumOf image disk → HasImage disk image
+medium_has image disk valid is = record {
+  there = λ i d lt. has_track image disk i d valid is.shape lt;
   tracks = λ i d lt.
       let track = get_or image.tracks i d in
-      made_has image.rate track (track_of disk track.c track.h) (valid.tracks i d lt) (bytes i d lt) (is.made i d lt);
+      made_has image.rate track (track_of disk track.c track.h) (valid.tracks i d lt) (is.made i d lt);
   others = λ c h has. elim (at_or_not image.tracks c h) [
     | inl at ↦ inl at
     | inr none ↦ (
@@ -102,3 +105,31 @@ medium_has image disk valid bytes is = record {
         inr (λ p key at. let one = nowhere.only p key at in let within = one.1 in omega (arith, within)))
   ];
 }
+
+-- ---- two diskettes with the sectors of one image
+
+pub no_track : ImdTrack
+no_track = record { c = 0; h = 0; n = 0; sectors = [] }
+
+-- a track of the image is on the diskette
+record IsOn (disk : Disk) (track : ImdTrack) (c h : ℕ) : Type 0 where
+  there : HasTrack disk c h
+  has : HasSectors (track_of disk c h) track.sectors
+
+on_disk : (disk : Disk) (image : ImdImage) (c h i : ℕ) → HasImage disk image → i < length image.tracks → (get_or image.tracks i no_track).c ≡ c → (get_or image.tracks i no_track).h ≡ h
+    → IsOn disk (get_or image.tracks i no_track) c h
+on_disk disk image c h i has lt same_c same_h =
+    let track = get_or image.tracks i no_track in
+    subst (λ (x : ℕ). IsOn disk track c x) same_h
+    (subst (λ (x : ℕ). IsOn disk track x track.h) same_c (record { there = has.there i no_track lt; has = has.tracks i no_track lt }))
+
+pub shares_sectors : (disk other : Disk) (image : ImdImage) → HasImage disk image → HasImage other image → SharesSectors disk other
+shares_sectors disk other image one two c h has =
+    elim (one.others c h has) [
+      | inl at ↦ (
+          let same = at.2 no_track in
+          let here = on_disk disk image c h at.0 one at.1 same.0 same.1 in
+          let there = on_disk other image c h at.0 two at.1 same.0 same.1 in
+          inl (there.there, ((get_or image.tracks at.0 no_track).sectors, here.has, there.has)))
+      | inr none ↦ inr none
+    ]

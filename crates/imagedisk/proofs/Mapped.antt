@@ -15,6 +15,7 @@ use Rattle.imagedisk.specs.declared.track.ImdTrack.{ImdTrack}
 use Rattle.imagedisk.specs.declared.image.ImdImage.{ImdImage}
 use Rattle.imagedisk.specs.Taken.{HasNoAddress}
 use Rattle.imagedisk.specs.Found.{IsFoundAs, HasSectors, HasImage}
+use Rattle.imagedisk.proofs.Imaged.{no_track}
 use Rattle.imagedisk.specs.Maps.{Entry, IsBare, IsMapFrom, entry_of, entries_of, sectors_on, HasMapOf}
 
 -- fewer places before the first entry
@@ -151,9 +152,6 @@ none_has track none = record {
   data_are = λ i d lt. absurd (omega arith);
   only = λ p key at. absurd (none p key at);
 }
-
-no_track : ImdTrack
-no_track = record { c = 0; h = 0; n = 0; sectors = [] }
 
 pub image_map : (disk : Disk) (image : ImdImage) → HasImage disk image → HasMapOf disk image
 image_map disk image has c h there =

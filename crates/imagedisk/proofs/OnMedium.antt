@@ -83,7 +83,7 @@ has_track image disk i d valid shape lt =
 
 is_roomy : (rate : Rate) (track : ImdTrack) (words : List ℕ) → IsMadeTrack rate track words → IsRoomy rate track
 is_roomy rate track words (inl none) = inl none.0
-is_roomy rate track words (inr some) = inr (some.0, some.1)
+is_roomy rate track words (inr some) = inr (some.1, some.2)
 
 pub next_first : (image : ImdImage) (disk after : Disk) (i : ℕ) (d : ImdTrack) (words : List ℕ) → IsImdImage image → i < length image.tracks → HasFirst image disk i
     → IsWithTrack disk (get_or image.tracks i d).c (get_or image.tracks i d).h words after → IsMadeTrack image.rate (get_or image.tracks i d) words → HasFirst image after (i + 1)

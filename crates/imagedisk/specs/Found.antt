@@ -1,10 +1,9 @@
 -- What is found on a track that an ImageDisk image made.
-use Rattle.std.specs.Prelude.{◌≡◌, ℕ, ◌<◌, ◌^◌, true, false, List, length, slice_index, slice_index_or, All, ◌⊎◌}
+use Rattle.std.specs.Prelude.{◌≡◌, ℕ, ◌<◌, true, false, List, length, slice_index_or, All, ◌⊎◌}
 use Rattle.flop_base.specs.declared.key.Chrn.{Chrn}
 use Rattle.track_model.specs.declared.Look.TheVariants.{Found, NoData, BadCrc}
 use Rattle.track_model.specs.Fields.{IsAddressAt, content_at}
 use Rattle.track_model.specs.Looks.{LookAt}
-use Rattle.track_model.specs.LaidFields.{IsKey}
 use Rattle.imagedisk.specs.declared.sector.ImdKind.{ImdKind}
 use Rattle.imagedisk.specs.declared.sector.ImdKind.TheVariants.{Absent, Good, Deleted, Bad, BadDeleted}
 use Rattle.imagedisk.specs.declared.sector.ImdSector.{ImdSector}
@@ -22,11 +21,6 @@ IsFoundAs track p n Deleted content = (place : ℕ) × LookAt track p n (Found t
 IsFoundAs track p n Bad content = LookAt track p n BadCrc
 IsFoundAs track p n BadDeleted content = LookAt track p n BadCrc
 
--- key and content are bytes
-pub record HasBytes (sector : ImdSector) : Type 0 where
-  pub key : IsKey sector.key
-  pub content : (j : ℕ) → slice_index sector.content j < 2 ^ 8
-
 -- the address fields of the track are those of the sectors, in their order, each with its data
 pub record HasSectors (track : List ℕ) (sectors : List ImdSector) : Type 0 where
   pub place : ℕ → ℕ
@@ -36,12 +30,18 @@ pub record HasSectors (track : List ℕ) (sectors : List ImdSector) : Type 0 whe
       → IsFoundAs track (place i) (slice_index_or sectors i d).key.n (slice_index_or sectors i d).kind (slice_index_or sectors i d).content
   pub only : (p : ℕ) (key : Chrn) → IsAddressAt track p key → (i : ℕ) × (i < length sectors) × (p ≡ place i)
 
--- the tracks of the diskette are those of the image, each with its sectors, and elsewhere is no address field
+-- the tracks of the image are on the diskette, each with its sectors, and elsewhere is no address field
 pub record HasImage (disk : Disk) (image : ImdImage) : Type 0 where
+  pub there : All (λ (track : ImdTrack). HasTrack disk track.c track.h) image.tracks
   pub tracks : (i : ℕ) (d : ImdTrack) → i < length image.tracks
       → HasSectors (track_of disk (slice_index_or image.tracks i d).c (slice_index_or image.tracks i d).h) (slice_index_or image.tracks i d).sectors
   pub others : (c h : ℕ) → HasTrack disk c h → HasTrackAt image.tracks c h ⊎ HasNoAddress (track_of disk c h)
 
--- all keys and contents of an image are bytes
-abbrev pub AreBytes : ImdImage → Type 0
-AreBytes image = All (λ (track : ImdTrack). All HasBytes track.sectors) image.tracks
+-- both tracks have the same sectors in the same order
+abbrev pub HaveSameSectors : List ℕ → List ℕ → Type 0
+HaveSameSectors track other = (sectors : List ImdSector) × HasSectors track sectors × HasSectors other sectors
+
+-- each track of the diskette with an address field is a track of the other one too, with the same sectors
+abbrev pub SharesSectors : Disk → Disk → Type 0
+SharesSectors disk other = (c h : ℕ) → HasTrack disk c h
+    → (HasTrack other c h × HaveSameSectors (track_of disk c h) (track_of other c h)) ⊎ HasNoAddress (track_of disk c h)

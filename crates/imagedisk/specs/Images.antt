@@ -1,6 +1,7 @@
 -- The images that ImageDisk files hold.
-use Rattle.std.specs.Prelude.{◌≡◌, ℕ, ◌*◌, ◌^◌, ◌≤◌, [], length, All, AllPairs}
+use Rattle.std.specs.Prelude.{◌≡◌, ℕ, ◌*◌, ◌^◌, ◌<◌, ◌≤◌, List, [], length, slice_index, All, AllPairs}
 use Rattle.flop_base.specs.declared.answers.Rate.TheVariants.{R500}
+use Rattle.track_model.specs.LaidFields.{IsKey}
 use Rattle.imagedisk.specs.declared.sector.ImdKind.{ImdKind}
 use Rattle.imagedisk.specs.declared.sector.ImdKind.TheVariants.{Absent, Good, Deleted, Bad, BadDeleted}
 use Rattle.imagedisk.specs.declared.sector.ImdSector.{ImdSector}
@@ -15,10 +16,16 @@ kept_size Deleted n = 128 * 2 ^ n
 kept_size Bad n = 128 * 2 ^ n
 kept_size BadDeleted n = 128 * 2 ^ n
 
--- a sector of a track of size code n
+-- each of the numbers is a byte
+abbrev pub AreBytes : List ℕ → Type 0
+AreBytes content = (j : ℕ) → slice_index content j < 2 ^ 8
+
+-- a sector of a track of size code n, of bytes
 pub record IsImdSector (n : ℕ) (sector : ImdSector) : Type 0 where
   pub coded : sector.key.n ≡ n
   pub size : length sector.content ≡ kept_size sector.kind n
+  pub key : IsKey sector.key
+  pub bytes : AreBytes sector.content
 
 -- a track of an ImageDisk file
 pub record IsImdTrack (track : ImdTrack) : Type 0 where

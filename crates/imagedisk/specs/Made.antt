@@ -49,11 +49,11 @@ laid_track rate track gap3 =
 abbrev pub empty_words : Rate → List ℕ
 empty_words rate = replicate (words_at rate) 0
 
--- the words of a track of an image: nothing where it has no sectors
+-- the words of a track of an image: nothing where it has no sectors, else these, laid with the largest gap that fits
 abbrev pub IsMadeTrack : Rate → ImdTrack → List ℕ → Type 0
 IsMadeTrack rate track words =
     ((track.sectors ≡ []) × (words ≡ empty_words rate))
-    ⊎ ((gap3 : ℕ) × IsLargestGap track.n (length track.sectors) rate gap3 × (words ≡ laid_track rate track gap3))
+    ⊎ ((1 ≤ length track.sectors) × (gap3 : ℕ) × IsLargestGap track.n (length track.sectors) rate gap3 × (words ≡ laid_track rate track gap3))
 
 -- no gap suits so many sectors
 abbrev pub IsCrowded : Rate → ImdTrack → Type 0

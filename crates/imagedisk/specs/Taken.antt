@@ -59,11 +59,12 @@ IsUnfit track = (fields : List Field) × AreAddresses track fields × ((n : ℕ)
 abbrev pub HasNoAddress : List ℕ → Type 0
 HasNoAddress track = (p : ℕ) (key : Chrn) → IsAddressAt track p key → ⊥
 
--- the track of an image that a track of a diskette holds
+-- the track of an image that a track of a diskette holds, which has an address field
 pub record IsTrackOf (words : List ℕ) (c h : ℕ) (track : ImdTrack) : Type 0 where
   pub cylinder : track.c ≡ c
   pub head : track.h ≡ h
   pub fields : List Field
+  pub some : 1 ≤ length fields
   pub addresses : AreAddresses words fields
   pub uniform : AreUniform fields track.n
   pub sectors : AreSectorsAt words fields track.sectors
@@ -92,7 +93,7 @@ HasTrackAt tracks c h = (i : ℕ) × (i < length tracks) × ((d : ImdTrack) → 
 abbrev pub told_rate : Disk → List ImdTrack → Rate
 told_rate disk tracks = if length tracks == 0 then R500 else disk.rate
 
--- the image has each track with an address field, by cylinder, then head
+-- the image has each track with an address field and no other, by cylinder, then head
 pub record IsImageOf (disk : Disk) (image : ImdImage) : Type 0 where
   pub each : All (IsTrackOn disk) image.tracks
   pub ordered : AllPairs (λ a b. IsBefore a.c a.h b.c b.h) image.tracks

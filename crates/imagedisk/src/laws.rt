@@ -1,9 +1,8 @@
 // What is found on the tracks that an image makes.
-ghost use Rattle.std.specs.Prelude.{All};
 ghost use Rattle.imagedisk.specs.Images.{IsImdTrack, IsImdImage};
 ghost use Rattle.imagedisk.specs.Made.{IsMadeTrack, IsMediumOf};
 ghost use Rattle.imagedisk.specs.Maps.{HasMapOf};
-ghost use Rattle.imagedisk.specs.Found.{HasBytes, HasSectors, AreBytes, HasImage};
+ghost use Rattle.imagedisk.specs.Found.{HasSectors, HasImage, SharesSectors};
 ghost use Rattle.imagedisk.specs.Taken.{IsImageOf};
 
 use crate::{ImdImage, ImdTrack};
@@ -11,11 +10,9 @@ use flop_base::Rate;
 use raw_image::Medium;
 
 /// A law: on a track that an image makes are the address fields of its sectors and no others, in their order. Good and
-/// deleted data are found, with their content; bad data fail their check; absent data aren't there. The premise on bytes
-/// stands here since a law sees no ranges behind a reference.
+/// deleted data are found, with their content; bad data fail their check; absent data aren't there.
 pub fn made_is_found(_rate: Rate, _track: &ImdTrack, _words: &[u16])
     requires valid { IsImdTrack _track.now }
-    requires bytes { All HasBytes _track.now.sectors }
     requires made { IsMadeTrack _rate _track.now _words.now }
     ensures { HasSectors _words.now _track.now.sectors }
 {}
@@ -23,16 +20,24 @@ pub fn made_is_found(_rate: Rate, _track: &ImdTrack, _words: &[u16])
 /// A law: the diskette of an image has the image's tracks, each with its sectors, and no other address field.
 pub fn medium_has_image(_image: &ImdImage, _medium: &Medium)
     requires valid { IsImdImage _image.now }
-    requires bytes { AreBytes _image.now }
     requires made { IsMediumOf _image.now _medium.now }
     ensures { HasImage _medium.now _image.now }
 {}
 
-/// A law: so has the diskette of which an image was taken. A diskette that is made of that image thus has the same
-/// sectors in the same order.
+/// A law: so has the diskette of which an image was taken.
 pub fn image_has_medium(_image: &ImdImage, _medium: &Medium)
     requires { IsImageOf _medium.now _image.now }
     ensures { HasImage _medium.now _image.now }
+{}
+
+/// A law: a diskette that is taken to an image and made again has the same sectors, track by track and in the same order, and
+/// no others.
+pub fn made_again_is_same(_old: &Medium, _image: &ImdImage, _new: &Medium)
+    requires taken { IsImageOf _old.now _image.now }
+    requires valid { IsImdImage _image.now }
+    requires made { IsMediumOf _image.now _new.now }
+    ensures kept { SharesSectors _old.now _new.now }
+    ensures no_more { SharesSectors _new.now _old.now }
 {}
 
 /// A law: the map of a diskette that has the sectors of an image is the list of the image's good and deleted sectors, by

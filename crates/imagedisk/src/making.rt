@@ -2,6 +2,7 @@
 ghost use Rattle.std.specs.Prelude.{◌≡◌, ◌<◌, ◌≤◌, All, IfOk, length};
 ghost use Rattle.raw_image.specs.Disk.{HasTrack, IsWithTrack};
 ghost use Rattle.imagedisk.specs.Images.{IsImdTrack, IsImdImage};
+ghost use Rattle.imagedisk.specs.Found.{HasImage};
 ghost use Rattle.imagedisk.specs.Made.{cylinder_count, has_other_side, head_count, HasShape, HasFirst, PutsTrack, MakesDisk};
 
 use crate::error::ImdError;
@@ -81,7 +82,8 @@ fn put_track(alloc: Global, medium: &mut Medium, image: &ImdImage, i: usize) -> 
 /// image has of the sector. A track is unfit whose sectors have no room, so that each could be written over.
 pub fn to_medium(alloc: Global, image: &ImdImage) -> Result<Medium, ImdError>
     requires { IsImdImage image.now }
-    ensures { MakesDisk image.now result }
+    ensures made { MakesDisk image.now result }
+    ensures found { IfOk result (λ medium. HasImage medium image.now) }
 {
     let mut medium = blank_medium(alloc, image)?;
     for i in 0..image.tracks.as_slice().len() {

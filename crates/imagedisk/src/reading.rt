@@ -1,6 +1,6 @@
 // Reading an ImageDisk file.
 ghost use Rattle.std.specs.Prelude.{◌≡◌, ◌+◌, ◌*◌, ◌^◌, ◌<◌, ◌≤◌, false, All, IfOk, IfSome, length, slice_index_or};
-ghost use Rattle.imagedisk.specs.Images.{IsImdSector, IsImdTrack, IsImdImage};
+ghost use Rattle.imagedisk.specs.Images.{AreBytes, IsImdSector, IsImdTrack, IsImdImage};
 ghost use Rattle.imagedisk.specs.Headers.{has_track};
 ghost use Rattle.imagedisk.specs.Left.{rest_of, Gives};
 ghost use Rattle.imagedisk.specs.Reading.{text_end, tracks_begin, map_at, key_at, kind_of, content_at, sector_at, sectors_at, track_at, image_of};
@@ -10,7 +10,7 @@ use crate::image::{ImdImage, ImdTracks};
 use crate::left::Left;
 use crate::sector::{ImdKind, ImdSector, ImdSectors};
 use crate::track::ImdTrack;
-use flop_base::{Bytes, Chrn, Rate, sector_size};
+use flop_base::{Bytes, Chrn, NoMemory, Rate, sector_size};
 use raw_image::ImageError;
 use std::alloc::Global;
 
@@ -98,6 +98,14 @@ fn kind_of(type_byte: u8) -> Option<ImdKind>
     }
 }
 
+/// A copy of a part of the file, of which it is known that it is bytes.
+fn copy_part(alloc: Global, part: &[u8]) -> Result<Bytes, NoMemory>
+    ensures same { IfOk result (λ copy. copy ≡ part.now) }
+    ensures bytes { IfOk result AreBytes }
+{
+    Bytes::copy(alloc, part)
+}
+
 /// Reads the data of a sector of this type.
 fn read_content<'a>(
     alloc: Global,
@@ -107,6 +115,7 @@ fn read_content<'a>(
 ) -> Result<(Bytes, Left<'a>), ImageError>
     requires { size ≤ 8192 }
     ensures read { Gives (λ x. (x.0, rest_of x.1)) result (content_at type_byte size (rest_of left.entry)) }
+    ensures bytes { IfOk result (λ x. AreBytes x.0) }
     ensures shorter { IfOk result (λ x. length x.1.bytes.now ≤ length left.entry.bytes.now) }
 {
     if type_byte == 0 {
@@ -118,7 +127,7 @@ fn read_content<'a>(
         return Ok((Bytes::of(content), after));
     }
     let (content, after) = left.part(size)?;
-    Ok((Bytes::copy(alloc, content)?, after))
+    Ok((copy_part(alloc, content)?, after))
 }
 
 /// Reads a sector of this key.

@@ -3,6 +3,7 @@ ghost use Rattle.std.specs.Prelude.{◌≡◌, ◌*◌, ◌<◌, ◌≤◌, IfOk
 ghost use Rattle.raw_image.specs.Disk.{HasTrack, track_of};
 ghost use Rattle.track_model.specs.Cells.{IsTrackSized};
 ghost use Rattle.imagedisk.specs.Images.{IsImdTrack, IsImdImage};
+ghost use Rattle.imagedisk.specs.Found.{HasImage};
 ghost use Rattle.imagedisk.specs.Taken.{told_rate, AreTakenBelow, TakesTrack, TakesPlace, TakesDisk};
 
 use crate::error::ImdError;
@@ -82,6 +83,7 @@ fn told_rate(medium: &Medium, tracks: &[ImdTrack]) -> Rate
 pub fn from_medium(alloc: Global, medium: &Medium) -> Result<ImdImage, ImdError>
     ensures taken { TakesDisk medium.now result }
     ensures valid { IfOk result IsImdImage }
+    ensures found { IfOk result (λ image. HasImage medium.now image) }
 {
     let mut tracks = ImdTracks::new(alloc);
     for place in 0..medium.cylinders() * medium.heads() {

@@ -11,10 +11,11 @@ use Rattle.fdc_core.specs.declared.phases.Phase.TheVariants.{Command, Execute, R
 use Rattle.machine_pace.specs.Entries.{next_entry, rest_of}
 use Rattle.machine_pace.specs.Holds.{Holds, shown}
 use Rattle.pc_bus.specs.Boards.{Board, controller_of, lines_of}
-use Rattle.pc_bus.specs.Ports.{is_controllers, port_read, Inputs, Outputs, RunsGap}
+use Rattle.pc_bus.specs.Ports.{is_controllers, port_read, Inputs, Outputs, RunsGap, sets_lines}
 use Rattle.pc_bus.specs.Transfers.{shown_again}
 use Rattle.pc_bus.specs.declared.bus.Bus.{Bus}
 use Rattle.pc_bus.specs.declared.chips.Chips.{Chips}
+use Rattle.pc_bus.proofs.Lines.{drive_stays}
 use Rattle.machine_commands.proofs.Idling.{IsResting, KeepsDrive, KeepsSpeed, KeepsAll, Idles}
 use Rattle.machine_commands.proofs.Steps.{drive_none, speed_none, runs_idle, idles_then}
 
@@ -140,7 +141,7 @@ input_idles port value old new access its rest =
 -- ---- writing
 
 -- a port of the controller other than DOR is written
-pub output_idles : (port value : ℕ) (old new : Board) → Outputs port value old new → is_controllers port ≡ true → (port == 0x3F2) ≡ false → (fdc : Fdc)
+pub output_idles : (port value : ℕ) (old new : Board) → Outputs port value old new → is_controllers port ≡ true → sets_lines port value ≡ false → (fdc : Fdc)
     → ((controller : Fdc) → Writes port value (lines_of old) (controller_of old) controller → controller ≡ fdc)
     → Quiets (controller_of old) fdc → IsResting fdc → Idles fdc old new
 output_idles port value old new access its other fdc only quiet rest =
@@ -148,4 +149,4 @@ output_idles port value old new access its other fdc only quiet rest =
     let is = only controller writes in
     let bus : access.between.bus ≡ accessed fdc old.bus = access.writes.bus
     ∙ (ap (λ c. let b : Bus = record old.bus { chips = c; fresh = false } in b) chips ∙ ap (λ c. accessed c old.bus) is) in
-    access_idles fdc old access.between new bus (access.writes.motors.first_stays other) (access.writes.motors.second_stays other) quiet access.gap rest
+    access_idles fdc old access.between new bus (drive_stays access.writes.lines.first other) (drive_stays access.writes.lines.second other) quiet access.gap rest

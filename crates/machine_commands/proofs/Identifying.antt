@@ -44,6 +44,7 @@ use Rattle.machine_laws.specs.OnReads.Underway.{IsCalm}
 use Rattle.pc_bus.specs.Boards.{Board, controller_of, drive_in, memory_of, lines_of}
 use Rattle.pc_bus.specs.Ports.{Outputs}
 use Rattle.pc_bus.specs.Steps.{Runs, Waits, stirred}
+use Rattle.pc_bus.proofs.Lines.{drive_stays}
 use Rattle.single_commands.specs.Reading.{ReadsId}
 use Rattle.single_commands.specs.Rigs.{track_under}
 use Rattle.machine_commands.specs.Awaited.{SendsReadId, key_told}
@@ -126,8 +127,8 @@ id_awaits motors bay scene byte old new access can sending =
       calm = subst IsLetOut (sym now) (record { selects = out.selects; gated = out.gated; no_seek = out.no_seek; polled = out.polled });
       holds = subst (HoldsSet count (controller_of old)) (sym now)
           (record { seeks = refl; dor = refl; rate = refl; non_dma = refl; polling = refl; on = refl; threshold = refl; command = refl; data_commands = refl });
-      first = turns_still old.first between.first (access.writes.motors.first_stays refl);
-      second = turns_still old.second between.second (access.writes.motors.second_stays refl);
+      first = turns_still old.first between.first (drive_stays access.writes.lines.first refl);
+      second = turns_still old.second between.second (drive_stays access.writes.lines.second refl);
       waits = λ busy. record { low = ap (λ f. f.interrupt) now ∙ sending.no_interrupt; polled = ap (λ f. f.poll_due) now ∙ sending.polled; level = ap (λ bus. bus.latch.level) access.writes.bus ∙ sending.low };
       ended = λ idle. absurd (false≢true (sym idle ∙ ap (λ f. is_executing f.phase) now));
     })

@@ -1,5 +1,5 @@
 -- READ DATA, from an idle machine to its end.
-use Rattle.std.proofs.Common.{◌≡◌, ◌⊎◌, inl, inr, ℕ, ◌+◌, ◌/◌, ◌%◌, ◌^◌, ◌<◌, ◌≤◌, ◌==◌, min, Bool, true, false, List, [], ◌∷◌, ◌++◌, length, refl, sym, ◌∙◌, ap, subst, arith}
+use Rattle.std.proofs.Common.{◌≡◌, ◌⊎◌, inl, inr, ℕ, ◌+◌, ◌/◌, ◌%◌, ◌^◌, ◌<◌, ◌≤◌, min, Bool, true, false, List, [], ◌∷◌, ◌++◌, length, refl, sym, ◌∙◌, ap, subst, arith}
 use Rattle.std.proofs.lemmas.List.{append-nil, append_assoc}
 use Rattle.flop_base.specs.Counts.{last_count, Rose}
 use Rattle.flop_base.specs.declared.key.Chrn.{Chrn}
@@ -23,9 +23,10 @@ use Rattle.machine_laws.specs.OnReads.Begins.{CanBegin, IsReadyIn, IsSetFor, sce
 use Rattle.machine_laws.specs.OnReads.Scenes.{Scene}
 use Rattle.machine_laws.specs.OnReads.Underway.{IsSet, KeepsRead, ReadUnderway}
 use Rattle.pc_bus.specs.Boards.{Board, controller_of, holds_of, memory_of}
-use Rattle.pc_bus.specs.Ports.{Inputs, Outputs, is_controllers}
+use Rattle.pc_bus.specs.Ports.{Inputs, Outputs, is_controllers, sets_lines}
 use Rattle.pc_bus.specs.Steps.{Runs, Waits, stirred}
 use Rattle.pc_bus.specs.declared.bus.Bus.{Bus}
+use Rattle.pc_bus.proofs.Lines.{drive_stays}
 use Rattle.fdc_commands.specs.Reads.{SpellsRead}
 use Rattle.machine_commands.specs.Awaited.{SetsChannel}
 use Rattle.machine_commands.proofs.Idling.{IsResting, StaysIdle}
@@ -158,7 +159,7 @@ pub record Puts (selected : Board) (next : Setting) (old new : Board) : Type 0 w
   pub controller_is : controller_of new ≡ controller_of old
   pub stands : Stands next selected new
 
-pub puts : (port value : ℕ) (selected : Board) (set : Setting) (old new : Board) → is_controllers port ≡ false → (port == 0x3F2) ≡ false → IsResting (controller_of old) → Stands set selected old
+pub puts : (port value : ℕ) (selected : Board) (set : Setting) (old new : Board) → is_controllers port ≡ false → sets_lines port value ≡ false → IsResting (controller_of old) → Stands set selected old
     → Outputs port value old new → Puts selected (with_write port value set) old new
 puts port value selected set old new its other rest stands access =
     let between = access.between in
@@ -171,13 +172,13 @@ puts port value selected set old new its other rest stands access =
         memory = ap (λ b. b.chips.memory) bus;
         entries = ap (λ b. b.chips.holding.entries) bus;
         stalls = ap (λ b. b.chips.holding.stalls) bus;
-        first = same_drive old.first between.first (access.writes.motors.first_stays other);
-        second = same_drive old.second between.second (access.writes.motors.second_stays other);
+        first = same_drive old.first between.first (drive_stays access.writes.lines.first other);
+        second = same_drive old.second between.second (drive_stays access.writes.lines.second other);
         direct = ap (λ b. b.direct) bus;
         taken = let same : between.bus.taken ≡ old.bus.taken = ap (λ b. b.taken) bus in omega arith;
       };
-      first = same_speed old.first between.first (access.writes.motors.first_stays other);
-      second = same_speed old.second between.second (access.writes.motors.second_stays other);
+      first = same_speed old.first between.first (drive_stays access.writes.lines.first other);
+      second = same_speed old.second between.second (drive_stays access.writes.lines.second other);
       quiet = λ low. ap (λ b. b.chips.controller.interrupt) bus ∙ low;
       low = λ _ low. ap (λ b. b.latch.level) bus ∙ low;
     } in

@@ -16,6 +16,7 @@ use Rattle.pc_bus.specs.Boards.{Board, controller_of, memory_of, holds_of, drive
 use Rattle.pc_bus.specs.Ports.{Outputs, RunsGap}
 use Rattle.pc_bus.specs.Steps.{stirred}
 use Rattle.pc_bus.specs.declared.bus.Bus.{Bus}
+use Rattle.pc_bus.proofs.Lines.{drive_stays}
 use Rattle.machine_commands.specs.Asked.{EndsSeek}
 use Rattle.machine_commands.proofs.Idling.{IsResting, KeepsDrive, KeepsSpeed, KeepsAll, Idles}
 use Rattle.machine_commands.specs.Ready.{dor_with, none_pending, IsIdle, is_up}
@@ -156,8 +157,8 @@ begins bay fdc Way Over old mid sent does idles listens none access =
     let between = access.between in
     let bus : between.bus ≡ accessed target mid.bus = access.writes.bus
     ∙ (ap (λ c. let b : Bus = record mid.bus { chips = c; fresh = false } in b) chips ∙ ap (λ c. accessed c mid.bus) is) in
-    let first = access.writes.motors.first_stays refl in
-    let second = access.writes.motors.second_stays refl in
+    let first = drive_stays access.writes.lines.first refl in
+    let second = drive_stays access.writes.lines.second refl in
     let keeps = accessed_keeps target mid between bus (same_drive mid.first between.first first) (same_drive mid.second between.second second) in
     let all = keeps_then old mid between idles.stays.keeps keeps in
     let speed_first = speed_then old.first mid.first between.first idles.stays.first (same_speed mid.first between.first first) in

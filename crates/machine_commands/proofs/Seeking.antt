@@ -12,7 +12,7 @@ use Rattle.pc_bus.specs.Boards.{Board, controller_of, memory_of, holds_of, drive
 use Rattle.pc_bus.specs.Steps.{PassesWordTime, Step, Runs}
 use Rattle.pc_bus.specs.declared.chips.Chips.{Chips}
 use Rattle.machine_commands.proofs.Idling.{IsResting, KeepsDrive, KeepsSpeed}
-use Rattle.machine_commands.proofs.Steps.{OnlyTurns, passes_turn, calm_asks, calm_dma, unpolled, rests_in, moves_in, or_false, still_seeks, gate_turns, drive_none, drive_then, speed_none, speed_then}
+use Rattle.machine_commands.proofs.Steps.{OnlyTurns, calm_asks, calm_dma, unpolled, rests_in, moves_in, or_false, still_seeks, gate_turns, drive_none, drive_then, speed_none, speed_then}
 
 -- ---- one device step
 
@@ -58,13 +58,13 @@ seek_word_time zero old new between small can turn =
     let (works, passes) = turn.at_first can.selects in record {
       controller_is = seek_rests (controller_of old) 0 (old.first.cylinder == 0) between can works.rests;
       moves = seek_moves (controller_of old) 0 old.first new.first can works.drive;
-      other = passes_turn old.second new.second passes;
+      other = gate_turns old.second new.second passes;
     }
 seek_word_time (suc zero) old new between small can turn =
     let (works, passes) = turn.at_second can.selects in record {
       controller_is = seek_rests (controller_of old) 1 (old.second.cylinder == 0) between can works.rests;
       moves = seek_moves (controller_of old) 1 old.second new.second can works.drive;
-      other = passes_turn old.first new.first passes;
+      other = gate_turns old.first new.first passes;
     }
 seek_word_time (suc (suc bay)) old new between small can turn = absurd (omega arith)
 

@@ -4,8 +4,9 @@ use Rattle.std.specs.Int.{IsBitSet}
 use Rattle.std.specs.Prelude.{bit_and}
 use Rattle.std.proofs.lemmas.Bool.{false≢true}
 use Rattle.drive_model.specs.Drive.{DriveState, Becomes, with_motor}
-use Rattle.fdc_core.specs.Ports.{dor_written}
+use Rattle.fdc_core.specs.Ports.{dor_written, resets}
 use Rattle.fdc_core.specs.State.{dor_of, reset}
+use Rattle.fdc_core.specs.Times.{Closes}
 use Rattle.fdc_core.specs.declared.controller.Fdc.{Fdc}
 use Rattle.pc_bus.specs.Boards.{Board, controller_of}
 use Rattle.pc_bus.specs.Ports.{Outputs}
@@ -13,7 +14,7 @@ use Rattle.pc_bus.specs.declared.bus.Bus.{Bus}
 use Rattle.machine_commands.proofs.Idling.{IsResting, KeepsDrive, KeepsSpeed, Idles}
 use Rattle.machine_commands.specs.Ready.{dor_with, HasMotors}
 use Rattle.machine_commands.proofs.Accesses.{accessed, accessed_keeps, gap_idles}
-use Rattle.machine_commands.proofs.Steps.{idles_then}
+use Rattle.machine_commands.proofs.Steps.{drive_then, idles_then}
 use Rattle.machine_commands.specs.declared.motors.Motors.{Motors}
 
 abbrev pub motors_of : Bool → Bool → Motors
@@ -93,6 +94,21 @@ pub switched : (k byte : ℕ) (want : Bool) (before after : DriveState) → (IsT
 switched k byte want before after is (on, follows, becomes) =
     subst (λ b. IsSwitched b before after) (same_truth on want (IsBitSet byte k) follows is) (switched_by on before after becomes)
 
+-- the gate is closed besides, or stays as it is
+switched_closed : (want closed : Bool) (a b c : DriveState) → IsSwitched want a b → Closes closed b c → IsSwitched want a c
+switched_closed want true a b c is becomes = record {
+  keeps = drive_then a b c is.keeps (record {
+    medium = ap (λ d. d.medium) becomes.becomes;
+    cylinder = ap (λ d. d.cylinder) becomes.becomes;
+    change = ap (λ d. d.change) becomes.becomes;
+    never_falls = becomes.never_falls;
+    spends = becomes.spends;
+  });
+  motor = ap (λ d. d.motor) becomes.becomes ∙ is.motor;
+  spin = λ on. ap (λ d. d.spin) becomes.becomes ∙ is.spin on;
+}
+switched_closed want false a b c is same = subst (λ d. IsSwitched want a d) (sym same) is
+
 -- ---- a write of DOR
 
 -- what it leaves, before the gap
@@ -110,10 +126,14 @@ dor_access byte fdc first second old new access written dor one two =
     let dor_at : dor_of access.writes.chips.controller ≡ byte = ap dor_of at ∙ dor in
     let here = subst (λ n. IsTrue first ↔ IsBitSet n 4) (sym dor_at) one in
     let there = subst (λ n. IsTrue second ↔ IsBitSet n 5) (sym dor_at) two in
+    let one_line = access.writes.lines.first in
+    let two_line = access.writes.lines.second in
     record {
       bus = access.writes.bus ∙ (ap (λ c. let b : Bus = record old.bus { chips = c; fresh = false } in b) chips ∙ ap (λ c. accessed c old.bus) is);
-      first_is = switched 4 (dor_of access.writes.chips.controller) first old.first access.between.first here (access.writes.motors.first refl);
-      second_is = switched 5 (dor_of access.writes.chips.controller) second old.second access.between.second there (access.writes.motors.second refl);
+      first_is = switched_closed first (resets 0x3F2 byte) old.first one_line.between access.between.first
+          (switched 4 (dor_of access.writes.chips.controller) first old.first one_line.between here one_line.motor) one_line.gate;
+      second_is = switched_closed second (resets 0x3F2 byte) old.second two_line.between access.between.second
+          (switched 5 (dor_of access.writes.chips.controller) second old.second two_line.between there two_line.motor) two_line.gate;
     }
 
 same_motor_speed : (want : Bool) (old new : DriveState) → old.motor ≡ want → IsSwitched want old new → KeepsSpeed old new

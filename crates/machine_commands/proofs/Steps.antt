@@ -142,9 +142,6 @@ turned_by before target after becomes medium cylinder change motor spin =
           (subst (λ n. min (target.spin + 1) 6250 ≤ n) (sym (spun ∙ ap (λ b. if b && nat_lt target.spin 6250 then target.spin + 1 else target.spin) (same ∙ on))) (spun_more target.spin));
     }
 
-pub passes_turn : (before after : DriveState) → Becomes (passed before) before after → OnlyTurns before after
-passes_turn before after becomes = turned_by before before after becomes refl refl refl refl refl
-
 pub gate_turns : (before after : DriveState) → Becomes (let_pass before) before after → OnlyTurns before after
 gate_turns before after becomes = turned_by before (with_gate false before) after becomes refl refl refl refl refl
 
@@ -179,17 +176,17 @@ word_time_idle old new fdc between turn poll rest = elim (first_second_or_none (
   | inl at ↦ (let (works, passes) = turn.at_first at in record {
     same = stays_same (controller_of old) fdc (old.first.cylinder == 0) between poll rest works.rests;
     first_turns = moves_turn (controller_of old) fdc old.first new.first poll rest works.drive;
-    second_turns = passes_turn old.second new.second passes;
+    second_turns = gate_turns old.second new.second passes;
   })
   | inr (inl at) ↦ (let (works, passes) = turn.at_second at in record {
     same = stays_same (controller_of old) fdc (old.second.cylinder == 0) between poll rest works.rests;
-    first_turns = passes_turn old.first new.first passes;
+    first_turns = gate_turns old.first new.first passes;
     second_turns = moves_turn (controller_of old) fdc old.second new.second poll rest works.drive;
   })
   | inr (inr at) ↦ (let (works, first, second) = turn.at_none at in record {
     same = stays_same (controller_of old) fdc false between poll rest works.rests;
-    first_turns = passes_turn old.first new.first first;
-    second_turns = passes_turn old.second new.second second;
+    first_turns = gate_turns old.first new.first first;
+    second_turns = gate_turns old.second new.second second;
   })
 ]
 

@@ -15,11 +15,12 @@ use Rattle.machine_pace.specs.Entries.{next_entry}
 use Rattle.machine_pace.specs.Holds.{Holds, shown}
 use Rattle.machine_pace.specs.declared.holding.Request.TheVariants.{Low}
 use Rattle.pc_bus.specs.Boards.{Board, channel_of, controller_of, holds_of, lines_of, selected_of}
-use Rattle.pc_bus.specs.Ports.{Outputs, is_controllers}
+use Rattle.pc_bus.specs.Ports.{Outputs, is_controllers, sets_lines}
 use Rattle.pc_bus.specs.Steps.{Step, Runs}
 use Rattle.pc_bus.specs.Transfers.{shown_again}
 use Rattle.pc_bus.specs.declared.bus.Bus.{Bus}
 use Rattle.pc_bus.specs.declared.chips.Chips.{Chips}
+use Rattle.pc_bus.proofs.Lines.{drive_stays}
 use Rattle.machine_laws.proofs.OnQuiet.Steps.{first_second_or_none}
 use Rattle.machine_commands.specs.Awaited.{Prepares, SetsChannel}
 use Rattle.machine_commands.specs.Codes.{rate_byte}
@@ -85,13 +86,13 @@ pub record IsSetTo (old : Board) (channel : Channel) (new : Board) : Type 0 wher
   pub channel_is : channel_of new ≡ channel
 
 -- before the gap
-written_to : (port value : ℕ) (old new : Board) → is_controllers port ≡ false → (port == 0x3F2) ≡ false → (access : Outputs port value old new)
+written_to : (port value : ℕ) (old new : Board) → is_controllers port ≡ false → sets_lines port value ≡ false → (access : Outputs port value old new)
     → IsSetTo old (after_write port value (channel_of old)) access.between
 written_to port value old new beside other access =
     let bus : access.between.bus ≡ record old.bus { chips = record old.bus.chips { channel = after_write port value (channel_of old) }; fresh = false } =
     access.writes.bus ∙ ap (λ c. let b : Bus = record old.bus { chips = c; fresh = false } in b) (access.writes.writes.channels beside) in
-    let first = access.writes.motors.first_stays other in
-    let second = access.writes.motors.second_stays other in
+    let first = drive_stays access.writes.lines.first other in
+    let second = drive_stays access.writes.lines.second other in
     record {
       stays = record {
         keeps = record {
@@ -112,7 +113,7 @@ written_to port value old new beside other access =
       channel_is = ap (λ b. b.chips.channel) bus;
     }
 
-set_next : (port value : ℕ) (start old new : Board) (channel : Channel) → is_controllers port ≡ false → (port == 0x3F2) ≡ false → IsResting (controller_of start) → IsSetTo start channel old
+set_next : (port value : ℕ) (start old new : Board) (channel : Channel) → is_controllers port ≡ false → sets_lines port value ≡ false → IsResting (controller_of start) → IsSetTo start channel old
     → Outputs port value old new → IsSetTo start (after_write port value channel) new
 set_next port value start old new channel beside other rests was access =
     let one = written_to port value old new beside other access in

@@ -1,5 +1,5 @@
 -- The drives turn on while a command is set up and sent.
-use Rattle.std.proofs.Common.{◌≡◌, ℕ, ◌/◌, ◌%◌, ◌==◌, not, true, false, List, [], ◌∷◌, ◌++◌, refl, sym, ◌∙◌, ap, subst}
+use Rattle.std.proofs.Common.{◌≡◌, ℕ, ◌/◌, ◌%◌, not, true, false, List, [], ◌∷◌, ◌++◌, refl, sym, ◌∙◌, ap, subst}
 use Rattle.fdc_commands.specs.Table.{answer, kept}
 use Rattle.fdc_commands.specs.declared.bytes.Accepted.TheVariants.{More}
 use Rattle.fdc_core.specs.Commands.{TakesAs}
@@ -10,7 +10,8 @@ use Rattle.machine_laws.specs.OnQuiet.Quiet.{HaveTurned, IsQuiet, only_listens}
 use Rattle.machine_laws.proofs.OnQuiet.Steps.{drives_on, runs_quietly, starts_quietly}
 use Rattle.machine_laws.proofs.OnQuiet.Turning.{turned_still}
 use Rattle.pc_bus.specs.Boards.{Board, controller_of, lines_of}
-use Rattle.pc_bus.specs.Ports.{Outputs, is_controllers}
+use Rattle.pc_bus.specs.Ports.{Outputs, is_controllers, sets_lines}
+use Rattle.pc_bus.proofs.Lines.{drive_stays}
 use Rattle.machine_commands.specs.Awaited.{SetsChannel}
 use Rattle.machine_commands.specs.Sending.{Sends}
 use Rattle.machine_commands.proofs.Accesses.{gapped}
@@ -24,21 +25,21 @@ pub record TurnsQuietly (start now : Board) : Type 0 where
 pub turns_none : (board : Board) → IsQuiet (controller_of board) → TurnsQuietly board board
 turns_none board quiet = record { turned = (starts_quietly board quiet).drives; quiet = quiet }
 
-access_turns : (port value : ℕ) (start old new : Board) → (port == 0x3F2) ≡ false → (access : Outputs port value old new) → IsQuiet (controller_of access.between) → TurnsQuietly start old
+access_turns : (port value : ℕ) (start old new : Board) → sets_lines port value ≡ false → (access : Outputs port value old new) → IsQuiet (controller_of access.between) → TurnsQuietly start old
     → TurnsQuietly start new
 access_turns port value start old new other access quiet was =
     let between = gapped access.between in
     let here : IsQuiet (controller_of between) = record { no_seek = quiet.no_seek; listens = quiet.listens } in
     let quietly = runs_quietly (next_entry access.between.bus.gaps) (controller_of between).data_commands between between new access.gap.runs (starts_quietly between here) in
     let still : HaveTurned old between = record {
-      first = turned_still old.first access.between.first (access.writes.motors.first_stays other);
-      second = turned_still old.second access.between.second (access.writes.motors.second_stays other);
+      first = turned_still old.first access.between.first (drive_stays access.writes.lines.first other);
+      second = turned_still old.second access.between.second (drive_stays access.writes.lines.second other);
       direct = ap (λ bus. bus.direct) access.writes.bus;
     } in
     record { turned = drives_on start between new (drives_on start old between was.turned still) quietly.drives; quiet = quietly.controller.quiet }
 
 -- a port of the channel
-channel_turns : (port value : ℕ) (start old new : Board) → is_controllers port ≡ false → (port == 0x3F2) ≡ false → Outputs port value old new → TurnsQuietly start old → TurnsQuietly start new
+channel_turns : (port value : ℕ) (start old new : Board) → is_controllers port ≡ false → sets_lines port value ≡ false → Outputs port value old new → TurnsQuietly start old → TurnsQuietly start new
 channel_turns port value start old new beside other access was =
     let same : controller_of access.between ≡ controller_of old = ap (λ bus. bus.chips.controller) access.writes.bus ∙ ap (λ c. c.controller) (access.writes.writes.channels beside) in
     access_turns port value start old new other access (subst IsQuiet (sym same) was.quiet) was

@@ -11,9 +11,11 @@ use Rattle.bay_model.specs.Memory.{user_bytes, zeroes}
 use Rattle.drive_model.specs.Drive.{DriveState}
 use Rattle.machine_pace.specs.Holds.{Holds}
 use Rattle.pc_bus.specs.declared.bus.Bus.{Bus}
-use Rattle.pc_bus.specs.Boards.{Board, holds_of}
+use Rattle.pc_bus.specs.Boards.{AreSetIfEmpty, Board, holds_of}
+use Rattle.pc_bus.specs.Calls.{AreCalled}
 use Rattle.single_commands.specs.Rigs.{Rig, IsReset}
 use Rattle.sector_model.specs.Stations.{Bay, IsFresh, fresh_bay}
+use Rattle.machine_laws.proofs.OnLines.Showing.{calls_lines, new_lines}
 use Rattle.machine_commands.specs.Shown.{user_part, stalls_left, rig_of}
 use Rattle.floppy_driver.specs.declared.driver.Notes.{Notes}
 use Rattle.floppy_driver.specs.declared.driver.Driver.{Driver}
@@ -41,11 +43,17 @@ user_size memory size = ap length (user_is memory) ∙ length-take-le user_bytes
 
 -- ---- a machine as it is made
 
-pub can_set_up : (made : Board) → IsFreshBoard made → CanSetUp (rig_of made)
-can_set_up made fresh = record {
-  first = λ none. ap (λ (d : DriveState). d.change) fresh.new.first.becomes ∙ fresh.first.change;
-  second = λ none. ap (λ (d : DriveState). d.change) fresh.new.second.becomes ∙ fresh.second.change;
-}
+pub can_set_up : (board : Board) → AreSetIfEmpty board → CanSetUp (rig_of board)
+can_set_up board set = record { first = set.first; second = set.second }
+
+fresh_lines : (made : Board) → IsFreshBoard made → AreSetIfEmpty made
+fresh_lines made fresh = new_lines fresh.pace fresh.bay0 fresh.bay1 made fresh.first fresh.second fresh.new
+
+pub fresh_can_set_up : (made : Board) → IsFreshBoard made → CanSetUp (rig_of made)
+fresh_can_set_up made fresh = can_set_up made (fresh_lines made fresh)
+
+pub used_can_set_up : (calls : ℕ) (made board : Board) → IsFreshBoard made → AreCalled calls made board → CanSetUp (rig_of board)
+used_can_set_up calls made board fresh called = can_set_up board (calls_lines calls made board called (fresh_lines made fresh))
 
 no_stalls : (made : Board) → IsFreshBoard made → (holds_of made).stalls + stalls_left (holds_of made).entries < 2 ^ 63
 no_stalls made fresh =

@@ -7,6 +7,7 @@
 mod calls;
 mod flags;
 mod hearing;
+pub mod laws;
 mod start;
 mod station;
 

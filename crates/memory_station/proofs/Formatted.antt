@@ -1,10 +1,10 @@
 -- A format of the medium in a bay.
-use Rattle.std.proofs.Common.{◌≡◌, ℕ, ◌+◌, ◌*◌, ◌≤◌, ◌↔◌, ◌++◌, ◌∷◌, [], List, length, take, drop, Option, Some, None, Result, Ok, Err, IsOk, IfErr, refl, sym, ap, ◌∙◌, subst, arith}
+use Rattle.std.proofs.Common.{◌≡◌, ℕ, ◌+◌, ◌*◌, ◌≤◌, ◌⊎◌, ◌↔◌, ◌++◌, ◌∷◌, [], List, length, take, drop, Option, Some, None, Result, Ok, Err, IsOk, IfErr, refl, sym, ap, ◌∙◌, subst, arith, inl, inr}
 use Rattle.std.proofs.lemmas.Bool.{false≢true}
 use Rattle.std.proofs.lemmas.List.{take_all}
 use Rattle.std.proofs.lemmas.List.Elements.{All-nil, All-cons}
 use Rattle.flop_base.specs.declared.answers.Code.{Code}
-use Rattle.flop_base.specs.declared.answers.Code.TheVariants.{NoMark}
+use Rattle.flop_base.specs.declared.answers.Code.TheVariants.{NoMark, NotFound, BadCrc}
 use Rattle.flop_base.specs.declared.answers.Rate.{Rate}
 use Rattle.flop_base.specs.declared.answers.Rate.TheVariants.{R500, R250}
 use Rattle.flop_base.specs.Standard.{sectors_at}
@@ -43,14 +43,21 @@ one_format : (rate : Rate) (tries : ℕ) → 1 ≤ tries → 1 + sectors_at rate
 one_format R500 tries some = omega arith
 one_format R250 tries some = omega arith
 
+no_mark_alone : (code : Code) → code ≡ NoMark → (code ≡ NotFound ⊎ code ≡ BadCrc) → ⊥
+no_mark_alone code is (inl e) = cc (is, e)
+no_mark_alone code is (inr e) = cc (is, e)
+
 -- without faults a format is refused for one cause
-cause : (format : Format) (n : ℕ) (old new : StationState) (answer : Result (Unit {0}) Code) → (IsOk answer ↔ IsFormattable format (bay_of old n).medium) → IfErr answer (λ code. code ≡ NoMark) → IfErr answer (λ code. IsFormatCause format (bay_of old n).medium n old code new)
-cause format n old new (Ok _) exactly is = tt
-cause format n old new (Err code) exactly is = record {
+cause : (format : Format) (n : ℕ) (old new : StationState) (answer : Result (Unit {0}) Code) → RoseBy 1 old.counters.data_commands new.counters.data_commands → (IsOk answer ↔ IsFormattable format (bay_of old n).medium) → IfErr answer (λ code. code ≡ NoMark) → IfErr answer (λ code. IsFormatCause format (bay_of old n).medium n old code new)
+cause format n old new (Ok _) rose exactly is = tt
+cause format n old new (Err code) rose exactly is = record {
   device = subst IsDeviceRefusal (sym is) tt;
   undisturbed = λ quiet. is;
   overrun = λ e. absurd (cc (is, e));
   lost = λ e. absurd (cc (is, e));
+  unsent = λ e. absurd (cc (is, e));
+  sent = λ other. rose;
+  read_back = λ which. absurd (no_mark_alone code is which);
   never = λ can quiet. false≢true (exactly.1 can);
 }
 
@@ -88,7 +95,7 @@ module _ (format : Format) (n sectors : ℕ) (before : Bay) (old new : StationSt
       untouched = λ quiet none. same_medium;
       commands = λ ok. absurd (false≢true ok);
       formatted_track = λ ok. absurd (false≢true ok);
-      refused = cause format n old new (Err NoMark) exactly_none refl;
+      refused = cause format n old new (Err NoMark) (let rose = drives.sent.rose in omega arith) exactly_none refl;
       driven = few_driven before drives;
     }
 
@@ -169,6 +176,6 @@ module _ (format : Format) (n sectors : ℕ) (before : Bay) (old new : StationSt
           untouched = λ quiet none. absurd (none d medium_old meets.has rate);
           commands = λ ok. subst (λ s. RoseBy (1 + s) old.counters.data_commands new.counters.data_commands) count drives.sent.rose;
           formatted_track = λ ok quiet. (exactly.0 ok, begun);
-          refused = cause format n old new answer exactly no_mark;
+          refused = cause format n old new answer (let rose = drives.sent.rose in omega arith) exactly no_mark;
           driven = few_driven (with_medium before (Some after)) drives;
         }

@@ -14,6 +14,7 @@ use Rattle.track_model.proofs.Sectored.{found_sector, sector_under}
 use Rattle.track_model.proofs.Unique.{one_look_at}
 use Rattle.bay_model.specs.Bays.{Two, in_bay}
 use Rattle.bay_model.specs.Counters.{Counters}
+use Rattle.flop_base.specs.Counts.{RoseBy}
 use Rattle.flop_base.specs.Lists.{with_items}
 use Rattle.bay_model.specs.Memory.{SameOutside}
 use Rattle.sector_model.specs.Stations.{StationState, Bay, met}
@@ -74,7 +75,7 @@ never_found track key looked p seen not all address =
     let found = all p address in
     not found.0 found.1 (one_look_at track p key.n looked (look.Found found.0 found.1) seen found.2)
 
-module _ (track : List ℕ) (key : Chrn) (tries n : ℕ) (code : Code) (old new : StationState) where
+module _ (track : List ℕ) (key : Chrn) (tries n : ℕ) (code : Code) (old new : StationState) (rose : RoseBy 1 old.counters.data_commands new.counters.data_commands) where
   cause_of : (looked : Look) → LookFor track key looked → RefusedAs looked code → IsReadCause track key tries n old code new
   cause_of look.NoMark is refused = record {
     device = subst IsDeviceRefusal (sym refused) tt;
@@ -83,6 +84,8 @@ module _ (track : List ℕ) (key : Chrn) (tries n : ℕ) (code : Code) (old new 
     bad_data = λ e. absurd (cc (refused, e));
     overrun = λ e. absurd (cc (refused, e));
     lost = λ e. absurd (cc (refused, e));
+    unsent = λ e. absurd (cc (refused, e));
+    sent = λ other. rose;
     never = λ clear all quiet. (nothing_from track is).clear_addresses key clear;
   }
   cause_of look.NoSector is refused = record {
@@ -92,6 +95,8 @@ module _ (track : List ℕ) (key : Chrn) (tries n : ℕ) (code : Code) (old new 
     bad_data = λ e. absurd (cc (refused, e));
     overrun = λ e. absurd (cc (refused, e));
     lost = λ e. absurd (cc (refused, e));
+    unsent = λ e. absurd (cc (refused, e));
+    sent = λ other. rose;
     never = λ clear all quiet. is.1 clear.0 clear.1.address;
   }
   cause_of look.NoData is refused = record {
@@ -101,6 +106,8 @@ module _ (track : List ℕ) (key : Chrn) (tries n : ℕ) (code : Code) (old new 
     bad_data = λ e. absurd (cc (refused, e));
     overrun = λ e. absurd (cc (refused, e));
     lost = λ e. absurd (cc (refused, e));
+    unsent = λ e. absurd (cc (refused, e));
+    sent = λ other. rose;
     never = λ clear all quiet. never_found track key look.NoData is.0 is.2 (λ deleted place e. cc e) all is.1.address;
   }
   cause_of look.BadCrc is refused = record {
@@ -110,6 +117,8 @@ module _ (track : List ℕ) (key : Chrn) (tries n : ℕ) (code : Code) (old new 
     bad_data = λ e quiet. (is.0, is.1.address, is.2);
     overrun = λ e. absurd (cc (refused, e));
     lost = λ e. absurd (cc (refused, e));
+    unsent = λ e. absurd (cc (refused, e));
+    sent = λ other. rose;
     never = λ clear all quiet. never_found track key look.BadCrc is.0 is.2 (λ deleted place e. cc e) all is.1.address;
   }
   cause_of (look.Found deleted place) is refused = absurd refused
@@ -151,7 +160,7 @@ module _ (bays : Two Bay) (memory after : List ℕ) (spares tries n address : �
 
   read_refused : (code : Code) → IsRefusedLook (met (in_bay bays n) key.c key.h) key code → IsReadRefused n key address before_read code after_read
   read_refused code refused = record {
-    cause = cause_of (met (in_bay bays n) key.c key.h) key tries n code before_read after_read refused.looked refused.is refused.by_code;
+    cause = cause_of (met (in_bay bays n) key.c key.h) key tries n code before_read after_read sent.rose refused.looked refused.is refused.by_code;
     memory =
         let room : address + length content ≤ length memory = omega arith in
         let outside = same_outside memory address content room in

@@ -101,6 +101,9 @@ wrote_absent written n before code old new none drives =
         bad_data = λ is quiet. absurd (absent_only _ written.key code BadCrc absent is (λ e. cc e) (λ e. cc e));
         overrun = λ is. absurd (absent_only _ written.key code Overrun absent is (λ e. cc e) (λ e. cc e));
         lost = λ is. absurd (absent_only _ written.key code Seek absent is (λ e. cc e) (λ e. cc e));
+        unsent = λ is. absurd (absent_only _ written.key code Seek absent is (λ e. cc e) (λ e. cc e));
+        sent = λ other. drives.sent.rose;
+        read_back = λ is. absurd (absent_only _ written.key code BadCrc absent is (λ e. cc e) (λ e. cc e));
         never = λ regular p address tidy quiet. absent.none p address;
       };
       regular = λ disk is regular. record {
@@ -215,8 +218,8 @@ module _ (written : Written) (fits : FitsKey written) (n p commands : ℕ) (d af
 
   -- ---- a window that isn't all inside the track
 
-  refused_cut : (changes : List Change) → length changes ≤ 1 → All (λ change. change.cylinder ≡ key.c) changes → Reaches written (bay_of old n).medium changes (bay_of new n).medium → HasWindowCut (met (bay_of new n) key.c key.h) key → (window_word p + window_words key.n ≤ length track → ⊥) → commands ≤ 2 → WritesDrive written n old (Err NoMark) new
-  refused_cut changes one here_alone reach cut outside few = record {
+  refused_cut : (changes : List Change) → length changes ≤ 1 → All (λ change. change.cylinder ≡ key.c) changes → Reaches written (bay_of old n).medium changes (bay_of new n).medium → HasWindowCut (met (bay_of new n) key.c key.h) key → (window_word p + window_words key.n ≤ length track → ⊥) → commands ≡ 1 → WritesDrive written n old (Err NoMark) new
+  refused_cut changes one here_alone reach cut outside single = record {
     changes = changes;
     few = let some = drives.some_tries in omega arith;
     reach = reach;
@@ -230,13 +233,16 @@ module _ (written : Written) (fits : FitsKey written) (n p commands : ℕ) (d af
       bad_data = λ is. absurd (cc is);
       overrun = λ is. absurd (cc is);
       lost = λ is. absurd (cc is);
+      unsent = λ is. absurd (cc is);
+      sent = λ other. subst (λ (k : ℕ). RoseBy k old.counters.data_commands new.counters.data_commands) single drives.sent.rose;
+      read_back = λ is. absurd (cc is);
       never = λ regular q address tidy quiet. outside (window_inside track key.c key.h p key (regular_track regular) here.address);
     };
     regular = λ disk is regular. record {
       none = λ no. absurd (no p address_old);
       one = λ q address tidy. absurd (outside (window_inside track key.c key.h p key (regular_here disk is regular key.c key.h here.meets.has) here.address));
     };
-    driven = few_commands few;
+    driven = few_commands (omega arith);
   }
 
   -- ---- a window, or its beginning, that was put on the track
@@ -271,8 +277,8 @@ module _ (written : Written) (fits : FitsKey written) (n p commands : ℕ) (d af
         subst (λ row. HasWindowCut row key) (sym met_now)
         (p, address_now, λ inside. outside (omega (arith, length-alike d after key.c key.h here.valid (keeps).alike here.meets.has)))
 
-  pub wrote_cut : (words : List ℕ) → words ≡ window_of written → PutsWindow key.c key.h p words d false after → commands ≤ 2 → WritesDrive written n old (Err NoMark) new
-  wrote_cut words is put few =
+  pub wrote_cut : (words : List ℕ) → words ≡ window_of written → PutsWindow key.c key.h p words d false after → commands ≡ 1 → WritesDrive written n old (Err NoMark) new
+  wrote_cut words is put single =
       let outside : window_word p + window_words key.n ≤ length track → ⊥ = λ inside. put.0 (omega (arith, ap length is, length-window_of written fits)) in
       elim put.1 [
         | inl same ↦
@@ -280,11 +286,11 @@ module _ (written : Written) (fits : FitsKey written) (n p commands : ℕ) (d af
             let now : met (bay_of new n) key.c key.h ≡ track = ap (λ b. met b key.c key.h) bay_same ∙ met_track before.medium before.rate key.c key.h d here.meets in
             refused_cut [] (omega arith) (All-nil (λ one. one.cylinder ≡ key.c))
             (reach_none written (bay_of old n).medium (bay_of new n).medium (medium_new ∙ ap (λ f. Some f) same ∙ sym medium_old))
-            (subst (λ row. HasWindowCut row key) (sym now) (p, here.address, outside)) outside few
+            (subst (λ row. HasWindowCut row key) (sym now) (p, here.address, outside)) outside single
         | inr (k, cut) ↦
             let Cut : List ℕ → Type 0 = λ row. IsCutTo key.c key.h p k row d after in
             let done = subst Cut is cut in
-            refused_cut (change k done ∷ []) (omega arith) (only_here k done) (one_change k done) (cut_now k done outside) outside few
+            refused_cut (change k done ∷ []) (omega arith) (only_here k done) (one_change k done) (cut_now k done outside) outside single
       ]
 
   -- ---- a window that is all inside the track
@@ -334,6 +340,9 @@ module _ (written : Written) (fits : FitsKey written) (n p commands : ℕ) (d af
       driven = few_commands (omega arith);
     }
 
+    both_sent : RoseBy 2 old.counters.data_commands new.counters.data_commands
+    both_sent = subst (λ (k : ℕ). RoseBy k old.counters.data_commands new.counters.data_commands) both drives.sent.rose
+
     pub wrote_whole : (answer : Result (Unit {0}) Code) → ReadsBack track_after p key.n written.deleted written.content answer → WritesDrive written n old answer new
     wrote_whole (Ok unit) (place, seen, is) =
         let sector : IsSector track_after key written.deleted written.content = (p, place, address_now all put, seen, is) in
@@ -343,7 +352,7 @@ module _ (written : Written) (fits : FitsKey written) (n p commands : ℕ) (d af
           same_rate = (meets_now all put).same_rate ∙ ap (λ (b : Bay). b.rate) (sym drives.was);
           under = (key.c, (meets_now all put).has, sector_under track_after key written.deleted written.content sector);
           last = λ quiet. ([], whole, refl, refl, sector);
-          commands = subst (λ k. RoseBy k old.counters.data_commands new.counters.data_commands) both drives.sent.rose;
+          commands = both_sent;
         }) tt
     wrote_whole (Err code) (looked, seen, refused) =
         let cause = back_cause track_after p written looked code (address_now all put) seen refused in
@@ -355,6 +364,9 @@ module _ (written : Written) (fits : FitsKey written) (n p commands : ℕ) (d af
           bad_data = λ is quiet. (last, subst (λ row. HasLook row key look.BadCrc ⊎ HasOtherContent row written) (sym (met_now all put)) (cause.bad_data is));
           overrun = λ is. absurd (cause.overrun is);
           lost = λ is. absurd (cause.lost is);
+          unsent = λ is. absurd (cause.lost is);
+          sent = λ other. let rose = both_sent in omega arith;
+          read_back = λ is. both_sent;
           never = λ regular q address tidy quiet.
               back_never track_after p written looked code (address_now all put) seen refused
               (change_is_written written d whole after (is_change all put) key.c key.h (regular_track regular) fits refl);

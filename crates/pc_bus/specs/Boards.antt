@@ -54,6 +54,15 @@ pub record IsEmpty (drive : DriveState) : Type 0 where
   pub medium : drive.medium ≡ None
   pub change : drive.change ≡ true
 
+-- a drive has its change line set where no medium is in
+abbrev pub IsSetIfEmpty : DriveState → Type 0
+IsSetIfEmpty drive = drive.medium ≡ None → drive.change ≡ true
+
+-- so it is with both drives
+pub record AreSetIfEmpty (board : Board) : Type 0 where
+  pub first : IsSetIfEmpty board.first
+  pub second : IsSetIfEmpty board.second
+
 -- the chips of a new machine: the controller in reset, memory all 00, nothing counted
 abbrev pub new_bus : Pace → Bus
 new_bus pace = record {

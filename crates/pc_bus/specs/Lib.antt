@@ -3,3 +3,4 @@ pub mod Boards
 pub mod Steps
 pub mod Ports
 pub mod Handling
+pub mod Calls

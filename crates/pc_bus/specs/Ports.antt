@@ -1,9 +1,10 @@
 -- Port accesses of the machine.
-use Rattle.std.specs.Prelude.{◌≡◌, ◌↔◌, ◌+◌, ℕ, Bool, true, false, ◌&&◌, ◌==◌, nat_le, if◌then◌else◌, IsTrue, IsBitSet}
+use Rattle.std.specs.Prelude.{◌≡◌, ◌↔◌, ◌+◌, ℕ, Bool, true, false, ◌&&◌, ◌||◌, ◌==◌, nat_le, if◌then◌else◌, IsTrue, IsBitSet}
 use Rattle.drive_model.specs.Drive.{DriveState, Becomes, with_motor}
 use Rattle.dma_8237.specs.Channel.{after_write, after_read, value_read}
-use Rattle.fdc_core.specs.Ports.{Writes, value_read as controller_value, after_read as controller_after}
+use Rattle.fdc_core.specs.Ports.{Writes, resets, value_read as controller_value, after_read as controller_after}
 use Rattle.fdc_core.specs.State.{dor_of}
+use Rattle.fdc_core.specs.Times.{Closes}
 use Rattle.fdc_core.specs.declared.controller.Fdc.{Fdc}
 use Rattle.fdc_core.specs.declared.controller.Lines.{Lines}
 use Rattle.machine_pace.specs.Entries.{next_entry, rest_of}
@@ -43,19 +44,32 @@ abbrev pub FollowsMotor : ℕ → Fdc → DriveState → DriveState → Type 0
 FollowsMotor bay controller before after =
     (on : Bool) × (IsTrue on ↔ IsBitSet (dor_of controller) (4 + bay)) × Becomes (with_motor on before) before after
 
--- a write of DOR turns the motors of both drives on and off, with no device step; another access leaves the drives
-pub record SetsMotors (port : ℕ) (controller : Fdc) (old new : Board) : Type 0 where
-  pub first : port ≡ 0x3F2 → FollowsMotor 0 controller old.first new.first
-  pub second : port ≡ 0x3F2 → FollowsMotor 1 controller old.second new.second
-  pub first_stays : (port == 0x3F2) ≡ false → new.first ≡ old.first
-  pub second_stays : (port == 0x3F2) ≡ false → new.second ≡ old.second
+-- where DOR was written the motor follows it; else the drive is as it was
+abbrev pub FollowsDor : Bool → ℕ → Fdc → DriveState → DriveState → Type 0
+FollowsDor true bay controller before after = FollowsMotor bay controller before after
+FollowsDor false bay controller before after = after ≡ before
+
+-- a drive at a write of a port, with no device step: the motor follows a write of DOR, and then a reset closes the gate
+pub record FollowsWrite (port value bay : ℕ) (controller : Fdc) (before after : DriveState) : Type 0 where
+  pub between : DriveState
+  pub motor : FollowsDor (port == 0x3F2) bay controller before between
+  pub gate : Closes (resets port value) between after
+
+-- both drives follow the write, whichever DOR selects
+pub record SetsLines (port value : ℕ) (controller : Fdc) (old new : Board) : Type 0 where
+  pub first : FollowsWrite port value 0 controller old.first new.first
+  pub second : FollowsWrite port value 1 controller old.second new.second
+
+-- DOR is written, or the controller is reset: another write leaves the drives
+abbrev pub sets_lines : ℕ → ℕ → Bool
+sets_lines port value = port == 0x3F2 || resets port value
 
 -- a byte is written to a port of the machine
 pub record WritesPort (port value : ℕ) (old new : Board) : Type 0 where
   pub chips : Chips
   pub writes : WritesChips port value (lines_of old) old.bus.chips chips
   pub bus : new.bus ≡ record old.bus { chips = chips; fresh = false }
-  pub motors : SetsMotors port chips.controller old new
+  pub lines : SetsLines port value chips.controller old new
 
 -- ---- the gap behind an access
 

@@ -1,12 +1,13 @@
 -- Device steps of the machine.
 use Rattle.std.specs.Prelude.{◌≡◌, ◌≤◌, ◌==◌, ℕ, zero, suc, Bool, true, false, not, ◌&&◌, ◌||◌}
-use Rattle.drive_model.specs.Drive.{DriveState, Becomes, at_index, passed}
+use Rattle.drive_model.specs.Drive.{DriveState, Becomes, at_index}
 use Rattle.irq_events.specs.Latch.{Latch}
 use Rattle.machine_pace.specs.Entries.{is_stray_due, strays_after}
 use Rattle.machine_pace.specs.Holds.{counted}
 use Rattle.fdc_core.specs.State.{interrupts}
 use Rattle.fdc_core.specs.Listening.{Listens, ListensToNone}
-use Rattle.fdc_core.specs.Steps.{polled, Rests, MovesDrive, Ends, Stays, Flows}
+use Rattle.fdc_core.specs.Steps.{polled, let_pass, Rests, MovesDrive, Ends, Stays, Flows}
+use Rattle.fdc_core.specs.Tasks.{StepsNowhere}
 use Rattle.fdc_core.specs.Waiting.{LastsOn}
 use Rattle.fdc_core.specs.Writes.{WritesOn}
 use Rattle.fdc_core.specs.declared.controller.Fdc.{Fdc}
@@ -31,13 +32,14 @@ pub record Works (old : Fdc) (before : DriveState) (new : Fdc) (after : DriveSta
 pub record WorksAlone (old new : Fdc) : Type 0 where
   pub rests : Rests false (polled old) new
   pub reads : ListensToNone (polled old) old new
+  pub nowhere : StepsNowhere old.phase (polled old) new
   pub ends : Ends old new
   pub stays : Stays old new
   pub flows : Flows old new
 
--- a word time passes at a drive that isn't selected
+-- a word time passes at a drive that isn't selected, with its gate closed
 abbrev pub Passes : DriveState → DriveState → Type 0
-Passes before after = Becomes (passed before) before after
+Passes before after = Becomes (let_pass before) before after
 
 -- the controller makes its device step with the selected drive, and the word time passes at the others
 pub record PassesWordTime (selected : ℕ) (old : Fdc) (first second : DriveState) (new : Fdc) (first_after second_after : DriveState) : Type 0 where

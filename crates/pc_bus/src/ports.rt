@@ -1,7 +1,8 @@
 // Port accesses.
 ghost use Rattle.std.specs.Prelude.{◌≡◌, ◌<◌};
 ghost use Rattle.pc_bus.specs.Boards.{board, lines_of, lines_of_drive};
-ghost use Rattle.pc_bus.specs.Ports.{port_value, port_read, Inputs, Outputs, RunsGap, WritesPort, SetsMotors, FollowsMotor};
+ghost use Rattle.pc_bus.specs.Ports.{port_value, port_read, Inputs, Outputs, RunsGap, WritesPort, SetsLines, FollowsWrite, FollowsDor, FollowsMotor};
+ghost use Rattle.fdc_core.specs.Times.{Closes};
 
 use crate::machine::MachineOf;
 use drive_model::Drive;
@@ -29,7 +30,7 @@ impl<D: Drive> MachineOf<D> {
     }
 
     /// Writes a port, and lets the device steps of the next gap pass. It is ignored where nothing answers. A write of
-    /// DOR turns motors at once.
+    /// DOR turns motors at once, and one that resets the controller closes the write gates.
     pub fn outb(&mut self, port: u16, value: u8)
         ensures { Outputs port value (board D.state self.old) (board D.state self.new) }
     {
@@ -37,24 +38,22 @@ impl<D: Drive> MachineOf<D> {
         self.run_gap();
     }
 
-    /// Writes a port. The motors follow a write of DOR.
+    /// Writes a port. The drives follow it.
     fn write_port(&mut self, port: u16, value: u8)
         ensures { WritesPort port value (board D.state self.old) (board D.state self.new) }
     {
         let lines = self.lines();
         self.bus.write_port(port, value, lines);
-        self.set_motors(port);
+        self.set_lines(port, value);
     }
 
-    /// The motor lines after an access to a port.
-    fn set_motors(&mut self, port: u16)
-        ensures motors { SetsMotors port self.old.bus.chips.controller (board D.state self.old) (board D.state self.new) }
+    /// The lines of both drives behind a write of a port.
+    fn set_lines(&mut self, port: u16, value: u8)
+        ensures lines { SetsLines port value self.old.bus.chips.controller (board D.state self.old) (board D.state self.new) }
         ensures bus { self.new.bus ≡ self.old.bus }
     {
-        if port == DOR {
-            follow_motor(&self.bus.chips.controller, 0, &mut self.first);
-            follow_motor(&self.bus.chips.controller, 1, &mut self.second);
-        }
+        follow_write(&self.bus.chips.controller, port, value, 0, &mut self.first);
+        follow_write(&self.bus.chips.controller, port, value, 1, &mut self.second);
     }
 
     /// The device steps behind an access.
@@ -85,6 +84,34 @@ fn lines_of_drive<D: Drive>(drive: &D) -> Lines
         track0: drive.track0(),
         protected: drive.protected(),
         changed: drive.changed(),
+    }
+}
+
+/// A drive follows a write of a port: its motor DOR, and its gate a reset.
+fn follow_write<D: Drive>(controller: &Fdc, port: u16, value: u8, bay: u8, drive: &mut D)
+    requires { bay < 4 }
+    ensures { FollowsWrite port value bay controller.now (D.state drive.old) (D.state drive.new) }
+{
+    follow_dor(port == DOR, controller, bay, drive);
+    close_gate(Fdc::is_reset_by(port, value), drive);
+}
+
+/// Gives a drive its motor line, where DOR was written.
+fn follow_dor<D: Drive>(written: bool, controller: &Fdc, bay: u8, drive: &mut D)
+    requires { bay < 4 }
+    ensures { FollowsDor written bay controller.now (D.state drive.old) (D.state drive.new) }
+{
+    if written {
+        follow_motor(controller, bay, drive);
+    }
+}
+
+/// Closes the write gate of a drive, where the controller was reset.
+fn close_gate<D: Drive>(reset: bool, drive: &mut D)
+    ensures { Closes reset (D.state drive.old) (D.state drive.new) }
+{
+    if reset {
+        drive.gate(false);
     }
 }
 

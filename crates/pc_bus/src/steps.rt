@@ -2,7 +2,7 @@
 ghost use Rattle.std.specs.Prelude.{◌≡◌, ◌≤◌, ◌+◌, min};
 ghost use Rattle.flop_base.specs.Counts.{last_count};
 ghost use Rattle.pc_bus.specs.Boards.{board, controller_of, selected_of};
-ghost use Rattle.pc_bus.specs.Steps.{Works, WorksAlone, PassesWordTime, Step, Runs, Waits, stirred};
+ghost use Rattle.pc_bus.specs.Steps.{Works, WorksAlone, Passes, PassesWordTime, Step, Runs, Waits, stirred};
 
 use crate::machine::MachineOf;
 use drive_model::Drive;
@@ -30,16 +30,16 @@ impl<D: Drive> MachineOf<D> {
         match self.bus.chips.controller.selected() {
             0 => {
                 work(&mut self.bus.chips.controller, &mut self.first);
-                self.second.pass();
+                pass(&mut self.second);
             }
             1 => {
                 work(&mut self.bus.chips.controller, &mut self.second);
-                self.first.pass();
+                pass(&mut self.first);
             }
             _ => {
                 work_alone(&mut self.bus.chips.controller);
-                self.first.pass();
-                self.second.pass();
+                pass(&mut self.first);
+                pass(&mut self.second);
             }
         }
     }
@@ -55,7 +55,7 @@ impl<D: Drive> MachineOf<D> {
         }
     }
 
-    /// Runs exactly so many device steps. One is a word time, 32 microseconds at 500 kbit/s.
+    /// Runs exactly so many device steps. One is a word time: 16 microseconds at 500 kbit/s, 32 at 250 kbit/s.
     pub fn wait(&mut self, steps: u32)
         ensures runs { Runs steps (stirred (board D.state self.old)) (board D.state self.new) }
         ensures steps { (board D.state self.new).bus.steps ≡ min ((board D.state self.old).bus.steps + steps) last_count }
@@ -92,4 +92,12 @@ fn work_alone(controller: &mut Fdc)
     ensures { WorksAlone controller.old controller.new }
 {
     controller.step_empty();
+}
+
+/// A word time passes at a drive that isn't selected. Its gate is closed.
+fn pass<D: Drive>(drive: &mut D)
+    ensures { Passes (D.state drive.old) (D.state drive.new) }
+{
+    drive.gate(false);
+    drive.pass();
 }

@@ -98,7 +98,7 @@ broken old mid new asked_for i asked refused ended so_far within item (AtStop ca
     prints = subst (λ (r : Option (List ℕ)). Prints (stop_text cause) (stop_status cause) r new.report ended) so_far.report prints;
   }),
 )
-broken old mid new asked_for i asked refused ended so_far within item (AtPut said does part fault) =
+broken old mid new asked_for i asked refused ended so_far within item (AtPut said tells does part fault) =
     let last : Taken = record { asked = asked; answer = said; after = new.bench } in (
       so_far.course ++ last ∷ [],
       BrokenOff (record {
@@ -108,6 +108,7 @@ broken old mid new asked_for i asked refused ended so_far within item (AtPut sai
         mid = mid.bench;
         run = so_far.run;
         does = does;
+        tells = tells;
         after = refl;
         course_is = refl;
         all = parted asked_for i asked within item ∙ ap (λ (before : List PortLine). before ++ asked ∷ drop (suc i) asked_for) so_far.all;

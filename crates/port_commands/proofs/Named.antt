@@ -1,15 +1,13 @@
 -- A bay keeps its name exactly as long as its medium.
-use Rattle.std.proofs.Common.{◌≡◌, ℕ, zero, suc, ◌==◌, Bool, true, false, Option, is_some, refl, sym, ap, ◌∙◌, inl, inr, arith}
-use Rattle.std.proofs.lemmas.Bool.Decides.{nat_tests}
+use Rattle.std.proofs.Common.{◌≡◌, ℕ, zero, suc, false, Option, is_some, sym, ap, ◌∙◌, inl, inr}
 use Rattle.raw_image.specs.Disk.{Disk}
-use Rattle.drive_model.specs.Drive.{DriveState}
-use Rattle.fdc_core.specs.declared.controller.Fdc.{Fdc}
 use Rattle.machine_pace.specs.Entries.{next_entry, rest_of}
 use Rattle.machine_laws.specs.OnWrites.Guards.{IsGuarded}
 use Rattle.machine_laws.proofs.OnWrites.Guards.{step_guards}
 use Rattle.pc_bus.specs.Boards.{Board}
-use Rattle.pc_bus.specs.Ports.{FollowsMotor, SetsMotors, WritesPort, Inputs, Outputs, port_read}
+use Rattle.pc_bus.specs.Ports.{WritesPort, Inputs, Outputs, port_read}
 use Rattle.pc_bus.specs.Steps.{Runs, stirred}
+use Rattle.pc_bus.proofs.Lines.{write_leaves}
 use Rattle.port_commands.specs.Benches.{Names, AreNamed}
 use Rattle.port_commands.specs.Guards.{SameMedia}
 
@@ -21,22 +19,9 @@ gapped old = record old { bus = record old.bus { gaps = rest_of old.bus.gaps } }
 abbrev pub read_board : ℕ → Board → Board
 read_board port old = record old { bus = record old.bus { chips = port_read port old.bus.chips; fresh = false } }
 
-motor_same : (bay : ℕ) (controller : Fdc) (before after : DriveState) → FollowsMotor bay controller before after → after.medium ≡ before.medium
-motor_same bay controller before after (on, lines, becomes) = ap (λ (s : DriveState). s.medium) becomes.becomes
-
-number_is : (a b : ℕ) → (a == b) ≡ true → a ≡ b
-number_is a b h = grind (arith, nat_tests)
-
-motors_same : (port : ℕ) (controller : Fdc) (old new : Board) → SetsMotors port controller old new → (is : Bool) → (port == 0x3F2) ≡ is → SameMedia old new
-motors_same port controller old new sets true is =
-    let at = number_is port 0x3F2 is in
-    record { first = motor_same 0 controller old.first new.first (sets.first at); second = motor_same 1 controller old.second new.second (sets.second at) }
-motors_same port controller old new sets false is =
-    record { first = ap (λ (s : DriveState). s.medium) (sets.first_stays is); second = ap (λ (s : DriveState). s.medium) (sets.second_stays is) }
-
 -- a write of a port leaves the media
 pub write_same : (port value : ℕ) (old between : Board) → WritesPort port value old between → SameMedia old between
-write_same port value old between writes = motors_same port writes.chips.controller old between writes.motors (port == 0x3F2) refl
+write_same port value old between writes = record { first = (write_leaves writes.lines.first).0; second = (write_leaves writes.lines.second).0 }
 
 -- ---- loaded bays
 

@@ -63,8 +63,9 @@ pub record StoresMedium (bay : ℕ) (old new : Bench) : Type 0 where
   pub takes : TakesOut bay old new
   pub files : new.files ≡ stored old.files name (file_of disk)
 
--- the medium was taken out, and its image couldn't be stored
+-- the medium of a bay was taken out, and its image couldn't be stored
 pub record DropsMedium (bay : ℕ) (old new : Bench) : Type 0 where
+  pub loaded : is_loaded old.names bay ≡ true
   pub takes : TakesOut bay old new
   pub files : new.files ≡ old.files
 

@@ -1,5 +1,5 @@
 -- How a text of port accesses is played: read, done and told, up to its end or to what stops it, with the status of the run.
-use Rattle.std.specs.Prelude.{◌≡◌, ℕ, Bool, List, [], ◌∷◌, ◌++◌, Option, Result, Ok, Err}
+use Rattle.std.specs.Prelude.{◌≡◌, ◌≢◌, ℕ, Bool, List, [], ◌∷◌, ◌++◌, Option, Result, Ok, Err}
 use Rattle.flop_base.specs.Shelf.{Files}
 use Rattle.flop_base.specs.Sink.{grown, GrowsByPart}
 use Rattle.flop_base.specs.declared.answers.LoadError.{LoadError}
@@ -16,6 +16,7 @@ use Rattle.sector_model.specs.Texts.{stop_text, stop_status, bad_line_text, abse
 use Rattle.sector_model.specs.Runs.{IsEndStop}
 use Rattle.sector_model.specs.Plays.{Prints, IsPutFault, IsText, most_job_bytes, whole_status}
 use Rattle.port_commands.specs.declared.answer.Answer.{Answer}
+use Rattle.port_commands.specs.declared.answer.Answer.TheVariants as answer
 use Rattle.port_commands.specs.Benches.{Bench, Names, bench_of}
 use Rattle.port_commands.specs.Courses.{Taken, PortRun, lines_of, course_text, has_refusal, Ends, EndStopsAt}
 use Rattle.port_commands.specs.Lines.{DoesLine, StopsAt, is_refusal}
@@ -39,11 +40,11 @@ pub record IsRound (asked : PortLine) (old : World) (refused : Bool) (new : Worl
   pub report : new.report ≡ grown old.report (answer_text asked answer)
   pub is_refused : refused ≡ is_refusal answer
 
--- a line stopped the run, or its answer couldn't be told whole
+-- a line stopped the run, or it has an answer that couldn't be told whole
 pub data Breaks (asked : PortLine) (old new : World) (ended : Status) : Type 0 where
   AtStop : (cause : Stop) → StopsAt asked old.bench cause new.bench
       → Prints (stop_text cause) (stop_status cause) old.report new.report ended → Breaks asked old new ended
-  AtPut : (said : Answer) → DoesLine asked old.bench said new.bench
+  AtPut : (said : Answer) → said ≢ answer.Nothing → DoesLine asked old.bench said new.bench
       → GrowsByPart old.report (answer_text asked said) new.report → IsPutFault ended → Breaks asked old new ended
 
 -- ---- all lines
@@ -84,6 +85,7 @@ pub record IsUnfinished (lines : List PortLine) (old : World) (course : List Tak
   pub mid : Bench
   pub run : PortRun old.bench before mid
   pub does : DoesLine last.asked mid last.answer last.after
+  pub tells : last.answer ≢ answer.Nothing
   pub after : new.bench ≡ last.after
   pub course_is : course ≡ before ++ last ∷ []
   pub all : lines ≡ lines_of before ++ last.asked ∷ later

@@ -1,5 +1,5 @@
 // The line that tells an answer.
-ghost use Rattle.std.specs.Prelude.{◌≡◌, ◌++◌, codes, Some, IfOk, IfErr, OnOk, OnErr, IsErrOf, string_bytes};
+ghost use Rattle.std.specs.Prelude.{◌≡◌, ◌≢◌, ◌++◌, codes, Some, IfOk, IfErr, OnOk, OnErr, IsErrOf, string_bytes};
 ghost use Rattle.flop_base.specs.Sink.{grown, GrowsByPart};
 ghost use Rattle.floppy_requests.specs.Spelling.{hex2};
 ghost use Rattle.sector_model.specs.Faults.{Blames};
@@ -91,6 +91,7 @@ pub(crate) fn put_answer<K: Sink>(
 ) -> Result<(), Status>
     ensures ok { OnOk result (K.told out.new ≡ grown (K.told out.old) (answer_text line.now answer.now)) }
     ensures err { OnErr result (GrowsByPart (K.told out.old) (answer_text line.now answer.now) (K.told out.new)) }
+    ensures tells { OnErr result (answer.now ≢ Answer.Nothing) }
     ensures only { IfErr result IsPutFault }
     ensures faults { Blames (IsErrOf result Status.SinkFault) (K.fault_count out.old)
         (K.fault_count out.new) }

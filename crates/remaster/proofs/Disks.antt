@@ -56,5 +56,3 @@ first_unfit disk after c (Unfit b g) cylinder so_far wrong = record {
       ];
 }
 first_unfit disk after c NoMemory cylinder so_far wrong = tt
-
--- ---- all

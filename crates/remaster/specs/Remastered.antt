@@ -2,7 +2,7 @@
 use Rattle.std.specs.Prelude.{◌≡◌, ℕ, ◌<◌, List, Result, Ok, Err}
 use Rattle.flop_base.specs.Standard.{words_at}
 use Rattle.flop_base.specs.declared.answers.Rate.{Rate}
-use Rattle.raw_image.specs.Disk.{Disk, HasTrack, track_of}
+use Rattle.raw_image.specs.Disk.{Disk, IsDisk, HasTrack, track_of}
 use Rattle.track_model.specs.Regular.{IsRegular}
 use Rattle.sector_map.specs.Disks.{IsRegularDisk}
 use Rattle.remaster.specs.declared.sectors.Sector.{Sector}
@@ -31,6 +31,7 @@ pub record IsTrackRemaster (rate : Rate) (c h : ℕ) (track after : List ℕ) : 
 
 -- the disk `after` is the disk laid out anew
 pub record IsRemaster (disk after : Disk) : Type 0 where
+  pub valid : IsDisk after
   pub shape : HasShapeOf disk after
   pub regular : IsRegularDisk after
   pub tracks : (c h : ℕ) → HasTrack disk c h → IsTrackRemaster disk.rate c h (track_of disk c h) (track_of after c h)

@@ -137,5 +137,7 @@ pub fn remaster(alloc: Global, medium: &Medium) -> Result<Medium, RemasterError>
     for c in 0..medium.cylinders() {
         remaster_cylinder(alloc, medium, &mut after, c)?;
     }
+    // A medium that is read is known to be valid.
+    let _words = after.words();
     Ok(after)
 }

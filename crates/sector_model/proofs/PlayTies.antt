@@ -15,7 +15,7 @@ use Rattle.sector_model.specs.Plays.{World, TellsAlone, PlaysRequests, Played, S
 use Rattle.sector_model.specs.Ties.{TiesCounts, accesses_of, accesses_of_job, IsJob}
 use Rattle.bay_model.proofs.Counted.{goes_on_itself}
 use Rattle.sector_model.proofs.Runs.{run_more, requests_more}
-use Rattle.sector_model.proofs.Ties.{Tied, tied_after, tied_more, tied_none, run_tied, stop_tied, ends_tied, end_stop_tied, stop_goes, ends_goes, end_stop_goes}
+use Rattle.sector_model.proofs.Ties.{Tied, tied_after, tied_more, tied_none, run_tied, run_counters, stop_accesses, stop_tied, ends_tied, end_stop_tied, stop_goes, ends_goes, end_stop_goes}
 use Rattle.sector_model.proofs.Courses.{told_paid, all_tell, since_came, all_undisturbed}
 
 -- the counters of a world
@@ -28,23 +28,29 @@ pub record PlayTied (old : Counters) (requests : List Request) (course : List Ta
   pub accesses : new.direct ≤ old.direct + accesses_of_job requests
 
 -- a run, and how counts go on after it
-run_ties : (old mid : State) (told after : Option Files) (course : List Taken) (new : Counters) (most : ℕ) → Run old told course mid after → GoesOn mid.station.counters new → Tied most old.station.counters new → TiesCounts old.station.counters course new
-run_ties old mid told after course new most run goes tied = record {
-  commands = tied.commands;
-  interrupts = tied.interrupts;
-  stalls = tied.stalls;
-  stalls_left = tied.stalls_left;
-  told = told_paid old mid told after course new run goes;
-  tells = all_tell old mid told after course new run goes;
-  since = λ bay is. since_came bay is new old mid told after course (faults_of old.station.counters bay) 0 run goes (omega arith);
-  undisturbed = all_undisturbed old mid told after course run;
-}
+run_ties : (old mid : State) (told after : Option Files) (course : List Taken) (new : Counters) (last : ℕ) → Run old told course mid after → GoesOn mid.station.counters new → Tied last mid.station.counters new → new.direct ≤ mid.station.counters.direct + 2 → TiesCounts old.station.counters course new
+run_ties old mid told after course new last run goes tied few =
+    let ran = run_tied old mid told after course run in
+    let all = tied_after (sum_by accesses_of (requests_of course)) last _ _ _ ran tied in
+    let there = ap (λ (c : Counters). c.direct) (run_counters old mid told after course run) in
+    record {
+      commands = all.commands;
+      interrupts = all.interrupts;
+      stalls = all.stalls;
+      stalls_left = all.stalls_left;
+      by_requests = omega (arith, ran.accesses, there);
+      at_the_end = omega (arith, few, there);
+      told = told_paid old mid told after course new run goes;
+      tells = all_tell old mid told after course new run goes;
+      since = λ bay is. since_came bay is new old mid told after course (faults_of old.station.counters bay) 0 run goes (omega arith);
+      undisturbed = all_undisturbed old mid told after course run;
+    }
 
-play_tied : (old mid : State) (told after : Option Files) (course : List Taken) (requests : List Request) (new : Counters) (last : ℕ) → Run old told course mid after → GoesOn mid.station.counters new → Tied last mid.station.counters new → sum_by accesses_of (requests_of course) + last ≤ accesses_of_job requests → PlayTied old.station.counters requests course new
-play_tied old mid told after course requests new last run goes tied within =
+play_tied : (old mid : State) (told after : Option Files) (course : List Taken) (requests : List Request) (new : Counters) (last : ℕ) → Run old told course mid after → GoesOn mid.station.counters new → Tied last mid.station.counters new → new.direct ≤ mid.station.counters.direct + 2 → sum_by accesses_of (requests_of course) + last ≤ accesses_of_job requests → PlayTied old.station.counters requests course new
+play_tied old mid told after course requests new last run goes tied few within =
     let all = tied_after (sum_by accesses_of (requests_of course)) last _ _ _ (run_tied old mid told after course run) tied in
     record {
-      ties = run_ties old mid told after course new (sum_by accesses_of (requests_of course) + last) run goes all;
+      ties = run_ties old mid told after course new last run goes tied few;
       accesses = (tied_more _ (accesses_of_job requests) _ _ within all).accesses;
     }
 
@@ -67,32 +73,32 @@ up_to_last before last requests later all =
 
 pub requests_tied : (old new : World) (requests : List Request) (course : List Taken) (ended : Status) → PlaysRequests requests old course new ended → PlayTied (counters_of old) requests course (counters_of new)
 requests_tied old new requests course ended (Played p) =
-    play_tied old.state p.mid old.files p.files course requests (counters_of new) 2 p.run (ends_goes p.mid new.state p.files new.files p.stored) (ends_tied p.mid new.state p.files new.files p.stored) (to_the_end course requests p.all)
+    play_tied old.state p.mid old.files p.files course requests (counters_of new) 2 p.run (ends_goes p.mid new.state p.files new.files p.stored) (ends_tied p.mid new.state p.files new.files p.stored) (ends_tied p.mid new.state p.files new.files p.stored).accesses (to_the_end course requests p.all)
 requests_tied old new requests course ended (Stopped p) =
-    play_tied old.state p.mid old.files p.files course requests (counters_of new) (accesses_of p.asked) p.run (stop_goes p.mid new.state p.files new.files p.asked p.cause p.stops) (stop_tied p.mid new.state p.files new.files p.asked p.cause p.stops) (up_to_one course requests p.later p.asked p.all)
+    play_tied old.state p.mid old.files p.files course requests (counters_of new) (accesses_of p.asked) p.run (stop_goes p.mid new.state p.files new.files p.asked p.cause p.stops) (stop_tied p.mid new.state p.files new.files p.asked p.cause p.stops) (omega (arith, stop_accesses p.mid new.state p.files new.files p.asked p.cause p.stops)) (up_to_one course requests p.later p.asked p.all)
 requests_tied old new requests course ended (BrokenOff p) =
     let run = run_more old.state p.mid old.files p.files new.files p.before p.last p.run p.step in
-    let tied = play_tied old.state p.last.after old.files new.files (p.before ++ p.last ∷ []) requests p.last.after.station.counters 0 run (goes_on_itself _) (tied_none _) (up_to_last p.before p.last requests p.later p.all) in
+    let tied = play_tied old.state p.last.after old.files new.files (p.before ++ p.last ∷ []) requests p.last.after.station.counters 0 run (goes_on_itself _) (tied_none _) (omega arith) (up_to_last p.before p.last requests p.later p.all) in
     subst (λ (steps : List Taken). PlayTied (counters_of old) requests steps (counters_of new)) (sym p.course_is)
     (subst (λ (s : State). PlayTied (counters_of old) requests (p.before ++ p.last ∷ []) s.station.counters) (sym p.after) tied)
 requests_tied old new requests course ended (EndStopped p) =
-    play_tied old.state p.mid old.files p.files course requests (counters_of new) 2 p.run (end_stop_goes p.mid new.state p.files new.files p.stops) (end_stop_tied p.mid new.state p.files new.files p.stops) (to_the_end course requests p.all)
+    play_tied old.state p.mid old.files p.files course requests (counters_of new) 2 p.run (end_stop_goes p.mid new.state p.files new.files p.stops) (end_stop_tied p.mid new.state p.files new.files p.stops) (end_stop_tied p.mid new.state p.files new.files p.stops).accesses (to_the_end course requests p.all)
 
 -- a run alone
 pub ran_ties : (old new : State) (told after : Option Files) (course : List Taken) → Run old told course new after → TiesCounts old.station.counters course new.station.counters
-ran_ties old new told after course run = (play_tied old new told after course (requests_of course) new.station.counters 0 run (goes_on_itself _) (tied_none _) (omega arith)).ties
+ran_ties old new told after course run = (play_tied old new told after course (requests_of course) new.station.counters 0 run (goes_on_itself _) (tied_none _) (omega arith) (omega arith)).ties
 
 -- a run that a request stopped
 pub stopped_ties : (old mid new : State) (told mid_told after : Option Files) (course : List Taken) (asked : Request) (cause : Stop) → Run old told course mid mid_told → StopsAt asked mid mid_told cause new after → TiesCounts old.station.counters course new.station.counters
 stopped_ties old mid new told mid_told after course asked cause run stops =
-    (play_tied old mid told mid_told course (requests_of course ++ asked ∷ []) new.station.counters (accesses_of asked) run (stop_goes mid new mid_told after asked cause stops) (stop_tied mid new mid_told after asked cause stops) (up_to_one course (requests_of course ++ asked ∷ []) [] asked refl)).ties
+    (play_tied old mid told mid_told course (requests_of course ++ asked ∷ []) new.station.counters (accesses_of asked) run (stop_goes mid new mid_told after asked cause stops) (stop_tied mid new mid_told after asked cause stops) (omega (arith, stop_accesses mid new mid_told after asked cause stops)) (up_to_one course (requests_of course ++ asked ∷ []) [] asked refl)).ties
 
 -- where nothing was run and the state stays, nothing was counted
 stays_tied : (old new : World) (requests : List Request) (course : List Taken) → course ≡ [] → new.state ≡ old.state → PlayTied (counters_of old) requests course (counters_of new)
 stays_tied old new requests course nothing same =
     subst (λ (steps : List Taken). PlayTied (counters_of old) requests steps (counters_of new)) (sym nothing)
     (subst (λ (s : State). PlayTied (counters_of old) requests [] s.station.counters) (sym same)
-    (play_tied old.state old.state old.files old.files [] requests (counters_of old) 0 (refl, refl) (goes_on_itself _) (tied_none _) (omega arith)))
+    (play_tied old.state old.state old.files old.files [] requests (counters_of old) 0 (refl, refl) (goes_on_itself _) (tied_none _) (omega arith) (omega arith)))
 
 -- a line alone
 pub alone_ties : (old new : World) (line : List ℕ) (wanted : Status) (course : List Taken) (ended : Status) → TellsAlone line wanted old course new ended → TiesCounts (counters_of old) course (counters_of new)

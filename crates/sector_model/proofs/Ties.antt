@@ -1,5 +1,5 @@
 -- Each step ties its counts, so a run does.
-use Rattle.std.proofs.Common.{arith, ◌≡◌, ℕ, ◌+◌, ◌-◌, ◌≤◌, Bool, true, false, List, [], ◌∷◌, refl, sym, subst, Option, Some, None, Result}
+use Rattle.std.proofs.Common.{arith, ◌≡◌, ℕ, ◌+◌, ◌-◌, ◌≤◌, Bool, true, false, List, [], ◌∷◌, refl, sym, ap, subst, Option, Some, None, Result}
 use Rattle.std.proofs.lemmas.List.Sums.{sum_by-cons}
 use Rattle.std.specs.Prelude.{MatchOption, MatchBool, sum_by}
 use Rattle.flop_base.specs.Counts.{RoseBy}
@@ -17,7 +17,7 @@ use Rattle.sector_model.specs.Orders.{IsRefusedAtOnce, read_refusal, write_refus
 use Rattle.sector_model.specs.States.{State, IsSame, ChangesMedium}
 use Rattle.sector_model.specs.Steps.{Step, Does, refusal_of, StopsAt, AfterStop}
 use Rattle.sector_model.specs.Runs.{Taken, Run, requests_of, Ends, EndsBay, Stored, Left, EndStopsAt, AtFirst, AtSecond}
-use Rattle.sector_model.specs.Ties.{entered_by, accesses_of}
+use Rattle.sector_model.specs.Ties.{entered_by, accesses_of, counters_after}
 use Rattle.bay_model.proofs.Counted.{goes_on_after}
 use Rattle.sector_model.proofs.Counted.{exchange_goes}
 
@@ -123,6 +123,11 @@ run_tied old new told after [] run = subst (λ (s : State). Tied 0 old.station.c
 run_tied old new told after (taken ∷ later) run =
     subst (λ (n : ℕ). Tied n old.station.counters new.station.counters) (sym (sum_by-cons accesses_of taken.asked (requests_of later))) (tied_after (accesses_of taken.asked) (sum_by accesses_of (requests_of later)) _ _ _ (step_tied old taken.after told run.0 taken.asked taken.answer run.1) (run_tied taken.after new run.0 after later run.2))
 
+-- the counters after its course are those that it left
+pub run_counters : (old new : State) (told after : Option Files) (course : List Taken) → Run old told course new after → counters_after old.station.counters course ≡ new.station.counters
+run_counters old new told after [] run = ap (λ (s : State). s.station.counters) (sym run.0)
+run_counters old new told after (taken ∷ later) run = run_counters taken.after new run.0 after later run.2
+
 -- what stands after a stop
 stopped_tied : (old new : State) (asked : Request) → AfterStop asked old new → Tied (accesses_of asked) old.station.counters new.station.counters
 stopped_tied old new (request.Eject bay) stopped = changed_tied old new bay _ _ stopped
@@ -139,6 +144,14 @@ stopped_tied old new (request.Format bay c h) stopped = same_tied old new stoppe
 stopped_tied old new (request.Dump address count) stopped = same_tied old new stopped
 stopped_tied old new (request.SetRate bay rate) stopped = same_tied old new stopped
 stopped_tied old new (request.Tries tries) stopped = same_tied old new stopped
+
+-- one access at most is past the driver in a stop: of an eject, which drops the medium
+stopped_accesses : (old new : State) (asked : Request) → AfterStop asked old new → new.station.counters.direct ≤ old.station.counters.direct + 1
+stopped_accesses old new (request.Eject bay) stopped = stopped.exchanged.access.accesses
+stopped_accesses old new _ stopped = let idle = stopped.idle.accesses in omega arith
+
+pub stop_accesses : (old new : State) (told after : Option Files) (asked : Request) (cause : Stop) → StopsAt asked old told cause new after → new.station.counters.direct ≤ old.station.counters.direct + 1
+stop_accesses old new told after asked cause stops = stopped_accesses old new asked stops.after
 
 -- a request that stopped the run
 pub stop_tied : (old new : State) (told after : Option Files) (asked : Request) (cause : Stop) → StopsAt asked old told cause new after → Tied (accesses_of asked) old.station.counters new.station.counters

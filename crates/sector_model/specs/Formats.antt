@@ -1,7 +1,7 @@
 -- A format of a track.
-use Rattle.std.specs.Prelude.{◌≡◌, ◌↔◌, ℕ, ◌+◌, ◌*◌, ◌≤◌, List, [], ◌∷◌, length, All, Option, Some, None, Result, IsOk, IfErr, MatchOption}
+use Rattle.std.specs.Prelude.{◌≡◌, ◌≢◌, ◌↔◌, ◌⊎◌, ℕ, ◌+◌, ◌-◌, ◌*◌, ◌≤◌, List, [], ◌∷◌, length, All, Option, Some, None, Result, IsOk, IfErr, MatchOption}
 use Rattle.flop_base.specs.declared.answers.Code.{Code}
-use Rattle.flop_base.specs.declared.answers.Code.TheVariants.{NoMark, Overrun, Seek}
+use Rattle.flop_base.specs.declared.answers.Code.TheVariants.{NoMark, NotFound, Overrun, BadCrc, Seek}
 use Rattle.raw_image.specs.Disk.{Disk, HasTrack, track_of}
 use Rattle.flop_base.specs.Standard.{sectors_at}
 use Rattle.sector_map.specs.Layings.{Format, Laying, IsLaying, formatted, IsFormattable}
@@ -41,6 +41,12 @@ pub record IsFormatCause (format : Format) (medium : Option Disk) (bay : ℕ) (o
   pub undisturbed : IsUndisturbed bay old.counters new.counters → code ≡ NoMark
   pub overrun : code ≡ Overrun → RoseBy 1 old.counters.stalls new.counters.stalls
   pub lost : code ≡ Seek → FaultsRoseBy 77 bay old.counters new.counters
+  -- 40 tells that the last attempt sent no data command, and any other code that it sent one; 04 and 10 that it read back,
+  -- behind a format that was done
+  pub unsent : code ≡ Seek
+      → new.counters.data_commands ≤ old.counters.data_commands + (old.tries - 1) * (1 + sectors_at format.rate)
+  pub sent : code ≢ Seek → RoseBy 1 old.counters.data_commands new.counters.data_commands
+  pub read_back : (code ≡ NotFound ⊎ code ≡ BadCrc) → RoseBy 2 old.counters.data_commands new.counters.data_commands
   pub never : IsFormattable format medium → DisturbedLess (spoilable old.tries) bay old.counters new.counters → ⊥
 
 -- a format that reached the drive: all that it changes is the medium in the bay, by a few layouts from the index on

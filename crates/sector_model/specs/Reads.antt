@@ -1,5 +1,5 @@
 -- A read of a sector to memory.
-use Rattle.std.specs.Prelude.{◌≡◌, ℕ, ◌-◌, Bool, List, max, Some, Result, IfOk, IfErr, MatchOption, ◌⊎◌}
+use Rattle.std.specs.Prelude.{◌≡◌, ◌≢◌, ℕ, ◌+◌, ◌-◌, ◌≤◌, Bool, List, max, Some, Result, IfOk, IfErr, MatchOption, ◌⊎◌}
 use Rattle.flop_base.specs.declared.key.Chrn.{Chrn}
 use Rattle.flop_base.specs.declared.answers.Code.{Code}
 use Rattle.flop_base.specs.declared.answers.Code.TheVariants.{NoMark, NotFound, Overrun, BadCrc, Seek}
@@ -49,6 +49,9 @@ pub record IsReadCause (track : List ℕ) (key : Chrn) (tries bay : ℕ) (old : 
   pub bad_data : code ≡ BadCrc → IsUndisturbed bay old.counters new.counters → HasLook track key look.BadCrc
   pub overrun : code ≡ Overrun → RoseBy 1 old.counters.stalls new.counters.stalls
   pub lost : code ≡ Seek → FaultsRoseBy 77 bay old.counters new.counters
+  -- 40 tells that the last attempt sent no data command, and any other code that it sent one
+  pub unsent : code ≡ Seek → new.counters.data_commands ≤ old.counters.data_commands + (tries - 1)
+  pub sent : code ≢ Seek → RoseBy 1 old.counters.data_commands new.counters.data_commands
   pub never : HasClearAddress track key → AllFound track key
       → DisturbedLess (spoilable tries) bay old.counters new.counters → ⊥
 

@@ -10,7 +10,7 @@ use Rattle.floppy_requests.specs.declared.request.Request.{Request}
 use Rattle.floppy_requests.specs.declared.request.Request.TheVariants as request
 use Rattle.sector_model.specs.declared.reply.Reply.{Reply}
 use Rattle.sector_model.specs.declared.reply.Reply.TheVariants as reply
-use Rattle.sector_model.specs.Runs.{Taken}
+use Rattle.sector_model.specs.Runs.{Taken, requests_of}
 
 -- ---- Each step, with the drives that stand in the bays in it.
 
@@ -106,24 +106,6 @@ AreUndisturbed counters (taken ∷ later) =
     IsUndisturbed 0 (entered counters taken) (left_by taken) × IsUndisturbed 1 (entered counters taken) (left_by taken)
     × AreUndisturbed (left_by taken) later
 
--- what holds of the counts before a course and at some time after it
-pub record TiesCounts (old : Counters) (course : List Taken) (new : Counters) : Type 0 where
-  -- an interrupt was taken for each data command
-  pub commands : old.data_commands ≤ new.data_commands
-  pub interrupts : RoseBy (new.data_commands - old.data_commands) old.taken new.taken
-  -- what is left of stalls pays for those that came
-  pub stalls : old.stalls ≤ new.stalls
-  pub stalls_left : new.stalls + new.stalls_left ≤ old.stalls + old.stalls_left
-  -- what was left of the faults of all drives that tell it pays for theirs in all steps
-  pub told : sum_told old course + all_left new ≤ all_left old
-  -- and drives that all told it still do
-  pub tells : OfAllDrives TellsFaults old → OfAllDrives TellsFaults new
-  -- for each bay, its faults since its last exchange are faults of the drive that stands in it
-  pub since : (bay : ℕ) → bay ≤ 1
-      → came_with bay (faults_of old bay) old course + faults_since bay 0 old course ≤ faults_of new bay
-  -- so with nothing left, no step was disturbed
-  pub undisturbed : HasNothingLeft old → AreUndisturbed old course
-
 -- ---- Accesses past the driver.
 
 -- the most accesses past the driver that a request makes
@@ -142,6 +124,40 @@ accesses_of (request.Format bay c h) = 0
 accesses_of (request.Dump address count) = 0
 accesses_of (request.SetRate bay rate) = 0
 accesses_of (request.Tries tries) = 0
+
+-- and those of a course: what its requests make
+abbrev pub accesses_of_course : List Taken → ℕ
+accesses_of_course course = sum_by accesses_of (requests_of course)
+
+-- the counters after a course
+abbrev pub counters_after : Counters → List Taken → Counters
+counters_after counters [] = counters
+counters_after counters (taken ∷ later) = counters_after (left_by taken) later
+
+-- ---- Before and after a course.
+
+-- what holds of the counts before a course and at some time after it
+pub record TiesCounts (old : Counters) (course : List Taken) (new : Counters) : Type 0 where
+  -- an interrupt was taken for each data command
+  pub commands : old.data_commands ≤ new.data_commands
+  pub interrupts : RoseBy (new.data_commands - old.data_commands) old.taken new.taken
+  -- what is left of stalls pays for those that came
+  pub stalls : old.stalls ≤ new.stalls
+  pub stalls_left : new.stalls + new.stalls_left ≤ old.stalls + old.stalls_left
+  -- past the driver the requests made no more accesses than they may, and what came after them one for each bay at most
+  pub by_requests : (counters_after old course).direct ≤ old.direct + accesses_of_course course
+  pub at_the_end : new.direct ≤ (counters_after old course).direct + 2
+  -- what was left of the faults of all drives that tell it pays for theirs in all steps
+  pub told : sum_told old course + all_left new ≤ all_left old
+  -- and drives that all told it still do
+  pub tells : OfAllDrives TellsFaults old → OfAllDrives TellsFaults new
+  -- for each bay, its faults since its last exchange are faults of the drive that stands in it
+  pub since : (bay : ℕ) → bay ≤ 1
+      → came_with bay (faults_of old bay) old course + faults_since bay 0 old course ≤ faults_of new bay
+  -- so with nothing left, no step was disturbed
+  pub undisturbed : HasNothingLeft old → AreUndisturbed old course
+
+-- ---- Jobs.
 
 -- the most accesses of a whole job: those of its requests, and one for each bay at the end
 abbrev pub accesses_of_job : List Request → ℕ

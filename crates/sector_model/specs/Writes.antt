@@ -1,5 +1,5 @@
 -- A write of memory to a sector.
-use Rattle.std.specs.Prelude.{◌≡◌, ◌≢◌, ◌↔◌, ℕ, ◌+◌, ◌*◌, ◌≤◌, Bool, List, [], ◌∷◌, ◌++◌, length, All, Option, Some, None, Result, IsOk, IfErr, MatchOption, ◌⊎◌}
+use Rattle.std.specs.Prelude.{◌≡◌, ◌≢◌, ◌↔◌, ℕ, ◌+◌, ◌-◌, ◌*◌, ◌≤◌, Bool, List, [], ◌∷◌, ◌++◌, length, All, Option, Some, None, Result, IsOk, IfErr, MatchOption, ◌⊎◌}
 use Rattle.flop_base.specs.declared.key.Chrn.{Chrn}
 use Rattle.flop_base.specs.declared.answers.Code.{Code}
 use Rattle.flop_base.specs.declared.answers.Code.TheVariants.{NoMark, NotFound, Overrun, BadCrc, Seek}
@@ -78,6 +78,10 @@ pub record IsWriteCause (written : Written) (before track : List ℕ) (changes :
       → IsLastWhole written changes × (HasLook track written.key look.BadCrc ⊎ HasOtherContent track written)
   pub overrun : code ≡ Overrun → RoseBy 1 old.counters.stalls new.counters.stalls
   pub lost : code ≡ Seek → FaultsRoseBy 77 bay old.counters new.counters
+  -- 40 tells that the last attempt sent no data command, and any other code that it sent one; 10 that it read back, by a second
+  pub unsent : code ≡ Seek → new.counters.data_commands ≤ old.counters.data_commands + 2 * (old.tries - 1)
+  pub sent : code ≢ Seek → RoseBy 1 old.counters.data_commands new.counters.data_commands
+  pub read_back : code ≡ BadCrc → RoseBy 2 old.counters.data_commands new.counters.data_commands
   pub never : IsRegular before written.key.c written.key.h
       → (p : ℕ) → IsAddressAt before p written.key
       → (IsTidy before p written.deleted written.content ⊎ IsUndisturbed bay old.counters new.counters)

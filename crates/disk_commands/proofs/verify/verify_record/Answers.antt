@@ -12,7 +12,7 @@ returns-in-Ok-put_failure-clause-goes g c =
     verified_one (request.Read 0 c.args.key track_address) c.in-Ok.reply (world_of g.D.Station.shown g.S.Shelf.told g.K.Sink.told c.args.session.now c.args.shelf.now c.args.out.now) (world_of g.D.Station.shown g.S.Shelf.told g.K.Sink.told c.run.new.self c.run.new.shelf c.put_failure.new.out) c.one.result c.in-Ok.ensures.step c.in-Ok-put_failure.ensures.ok (c.one.ensures.well ∙ ap (λ (b : Bool). if b then 0 else 1) c.is_refusal.ensures) (c.one.ensures.refused ∙ c.is_refusal.ensures)
 
 pub returns-in-Ok-clause-goes : goal.returns-in-Ok-clause-goes
-returns-in-Ok-clause-goes g c = broken_one (request.Read 0 c.args.key track_address) (world_of g.D.Station.shown g.S.Shelf.told g.K.Sink.told c.args.session.now c.args.shelf.now c.args.out.now) (world_of g.D.Station.shown g.S.Shelf.told g.K.Sink.told c.run.new.self c.run.new.shelf c.put_failure.new.out) c.in-Err-put_failure.ended _ (LineIsCut c.in-Ok.reply refl c.in-Ok.ensures.step c.in-Err-put_failure.ensures.err c.in-Err-put_failure.ensures.only)
+returns-in-Ok-clause-goes g c = broken_one (request.Read 0 c.args.key track_address) (world_of g.D.Station.shown g.S.Shelf.told g.K.Sink.told c.args.session.now c.args.shelf.now c.args.out.now) (world_of g.D.Station.shown g.S.Shelf.told g.K.Sink.told c.run.new.self c.run.new.shelf c.put_failure.new.out) c.in-Err-put_failure.ended _ (LineIsCut c.in-Ok.reply c.in-Err-put_failure.ensures.refused refl c.in-Ok.ensures.step c.in-Err-put_failure.ensures.err c.in-Err-put_failure.ensures.only)
 
 pub returns-clause-goes : goal.returns-clause-goes
 returns-clause-goes g c = broken_one (request.Read 0 c.args.key track_address) (world_of g.D.Station.shown g.S.Shelf.told g.K.Sink.told c.args.session.now c.args.shelf.now c.args.out.now) (world_of g.D.Station.shown g.S.Shelf.told g.K.Sink.told c.run.new.self c.run.new.shelf c.put_last.new.out) c.put_last.result [] (ReadStops c.in-Err.stop refl c.in-Err.ensures.stop c.put_last.ensures.prints)

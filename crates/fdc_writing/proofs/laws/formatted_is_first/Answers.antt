@@ -1,5 +1,4 @@
-use Rattle.fdc_writing.proofs.Ended.{first_laid}
 use Rattle.fdc_writing.proofs.laws.formatted_is_first.Goals as goal
 
 pub returns : goal.returns
-returns c = λ past numbers handed formatted. first_laid past numbers handed formatted.begun
+returns c = λ past numbers handed formatted. formatted.begun.first

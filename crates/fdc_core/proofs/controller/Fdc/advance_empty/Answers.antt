@@ -1,4 +1,5 @@
-use Rattle.std.proofs.Common.{false}
+use Rattle.std.proofs.Common.{false, sym, subst}
+use Rattle.fdc_core.specs.Tasks.{StepsNowhere}
 use Rattle.fdc_core.proofs.Ending.{executes_left_none}
 use Rattle.fdc_core.proofs.Hearing.{executes_hears_none, rests_follows}
 use Rattle.fdc_core.proofs.Staying.{executes_stays_none, executes_flows_none}
@@ -23,3 +24,7 @@ returns-in-Execute-clause-flows c =
 pub returns-in_default-clause-reads : goal.returns-in_default-clause-reads
 returns-in_default-clause-reads c =
     rests_follows false false c.args.self.now c.step_seek.new.self c.step_seek.ensures.state c.in_default.not-Execute
+
+pub returns-in-Execute-clause-nowhere : goal.returns-in-Execute-clause-nowhere
+returns-in-Execute-clause-nowhere c =
+    subst (λ phase. StepsNowhere phase c.args.self.now c.execute_empty.new.self) (sym c.in-Execute.is) c.execute_empty.ensures

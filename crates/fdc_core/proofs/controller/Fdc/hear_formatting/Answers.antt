@@ -11,5 +11,5 @@ returns g c = record {
     sees = subst (λ head. SeesUnder c.args.self.now.rate head (g.D.Drive.state c.args.drive.now) c.listen-passing.result.word (g.D.Drive.state c.listen-passing.new.drive)) c.head_of.ensures c.listen-passing.ensures.word;
     passes = c.listen-passing.ensures.drive;
   };
-  does = record { few = c.requires; next = c.hear-next.result; hears = (c.hear-next.ensures.hears, c.hear-next.ensures.well, c.hear-next.ensures.lead); after_is = c.follow_formatting.ensures };
+  does = record { few = c.requires; next = c.hear-next.result; hears = (c.hear-next.ensures.hears, c.hear-next.ensures.well, c.hear-next.ensures.lead, c.hear-next.ensures.stays); after_is = c.follow_formatting.ensures };
 }

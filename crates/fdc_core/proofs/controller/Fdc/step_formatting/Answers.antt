@@ -12,6 +12,7 @@ returns-then-protected g c = record {
     does = record {
       ending = Protected;
       needs = false;
+      takes = λ up. absurd (false≢true up);
       needed = λ lead has up. absurd (false≢true up);
       stops = (c.if-steps-eq0.true, sym c.protected.ensures ∙ c.if-protected.true);
       after_is = c.stop-then-protected.ensures.state;

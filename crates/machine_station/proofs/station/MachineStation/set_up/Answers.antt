@@ -8,13 +8,13 @@ use Rattle.floppy_driver.specs.Attached.{CanSetUp}
 use Rattle.machine_laws.specs.OnCounts.Counts.{counts_of}
 use Rattle.machine_commands.specs.Shown.{rig_of, rig_shown}
 use Rattle.machine_station.specs.Shown.{all_counts}
-use Rattle.machine_station.proofs.Starting.{can_set_up, flags_free, starts_fresh, starts_so}
+use Rattle.machine_station.proofs.Starting.{fresh_can_set_up, flags_free, starts_fresh, starts_so}
 use Rattle.machine_station.proofs.station.MachineStation.set_up.Goals as goal
 
 pub set_up-driver-requires : goal.set_up-driver-requires
 set_up-driver-requires g c =
     let state = g.D.Drive.state in
-    record { empty = subst (λ (b : Board). CanSetUp (rig_of b)) (sym c.new-machine.ensures) (can_set_up (board state c.args.machine) c.requires.machine) }
+    record { empty = subst (λ (b : Board). CanSetUp (rig_of b)) (sym c.new-machine.ensures) (fresh_can_set_up (board state c.args.machine) c.requires.machine) }
 
 pub returns-clause-fresh : goal.returns-clause-fresh
 returns-clause-fresh g c =

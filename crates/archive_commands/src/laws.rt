@@ -1,0 +1,16 @@
+// What is known of the files that commands make.
+ghost use Rattle.std.specs.Prelude.{◌≡◌, ℕ, List, Ok};
+ghost use Rattle.raw_image.specs.Disk.{Disk};
+ghost use Rattle.raw_image.specs.Image.{file_of};
+ghost use Rattle.imagedisk.specs.declared.image.ImdImage.{ImdImage};
+ghost use Rattle.imagedisk.specs.Found.{SharesSectors};
+ghost use Rattle.imagedisk.specs.Reading.{image_of as imd_of};
+ghost use Rattle.archive_commands.specs.Making.{IsDiskFile, IsImdFile};
+
+/// A law: the disk that is made of the ImageDisk file of a disk has the same sectors, track by track and in the same order, and
+/// no others.
+pub fn back_again_is_same(_imd: &[u8])
+    ensures { (disk : Disk) (image : ImdImage) (file : List ℕ) (taken made : ℕ)
+        → IsImdFile disk _imd.now taken → imd_of _imd.now ≡ Ok image → IsDiskFile image file made
+        → (after : Disk) × (file ≡ file_of after) × SharesSectors disk after × SharesSectors after disk }
+{}

@@ -1,0 +1,262 @@
+-- The write gates, step by step.
+use Rattle.std.proofs.Common.{◌≡◌, ◌⊎◌, inl, inr, ℕ, zero, suc, ◌+◌, ◌<◌, ◌/◌, ◌%◌, ◌&&◌, not, Bool, true, false, Option, Some, None, if◌then◌else◌, refl, sym, ◌∙◌, ap, subst, arith}
+use Rattle.std.proofs.lemmas.Bool.{false≢true}
+use Rattle.drive_model.specs.Drive.{DriveState, Writes, at_speed, can_write, rewritten}
+use Rattle.fdc_fifo.specs.Fifo.{Fifo}
+use Rattle.fdc_writing.specs.declared.formatting.FormatNext.{FormatNext}
+use Rattle.fdc_writing.specs.declared.formatting.FormatNext.TheVariants as format_next
+use Rattle.fdc_writing.specs.declared.writing.WriteNext.{WriteNext}
+use Rattle.fdc_writing.specs.declared.writing.WriteNext.TheVariants as write_next
+use Rattle.fdc_core.specs.Formatting.{FormatDoes, after_laid}
+use Rattle.fdc_core.specs.Formatting as laying
+use Rattle.fdc_core.specs.Phases.{is_listening}
+use Rattle.fdc_core.specs.Steps.{polled, Moves, MovesIn, MovesTask}
+use Rattle.fdc_core.specs.Times.{WordTime, Saw, KeptOut, Wrote, Stopped, IsTime, Closes, Opens}
+use Rattle.fdc_core.specs.Writes.{WritesIn, WritesTask}
+use Rattle.fdc_core.specs.Writing.{WriteDoes, after_next, is_ended}
+use Rattle.fdc_core.specs.declared.controller.Fdc.{Fdc}
+use Rattle.fdc_core.specs.declared.phases.Phase.{Phase}
+use Rattle.fdc_core.specs.declared.phases.Phase.TheVariants.{Command, Execute, Result}
+use Rattle.fdc_core.specs.declared.phases.Task.{Task}
+use Rattle.fdc_core.specs.declared.phases.Task.TheVariants.{ReadId, Read, Write, Format}
+use Rattle.fdc_core.specs.declared.rates.DataRate.{DataRate}
+use Rattle.fdc_core.specs.declared.transfers.Formatting.{Formatting}
+use Rattle.fdc_core.specs.declared.transfers.Writing.{Writing}
+use Rattle.pc_bus.specs.Boards.{Board, controller_of, selected_of}
+use Rattle.pc_bus.specs.Steps.{Passes, Works, Step, Runs, RunsUnset}
+use Rattle.machine_laws.specs.OnWrites.Guards.{GatesDrives, HoldsGates, IsGated, IsGateOf, IsGivenWord, MakesTask, MakesTime, PassesClosed, is_recording}
+use Rattle.machine_laws.proofs.OnQuiet.Steps.{listens_told}
+use Rattle.machine_laws.proofs.OnReads.Steps.{polled_phase}
+use Rattle.machine_laws.proofs.OnWrites.Guards.{closes_same, first_second_or_none, moves_same, opens_same, step_leaves}
+use Rattle.machine_laws.proofs.OnWrites.Kept.{dma_controller}
+
+-- ---- a drive
+
+moves_closed : (pulse : Option Bool) (before after : DriveState) → Moves pulse before after → PassesClosed before after
+moves_closed None before after becomes =
+    record { pulse = None; moves = becomes; gate = ap (λ s. s.gate) becomes.becomes; medium = ap (λ s. s.medium) becomes.becomes }
+moves_closed (Some inward) before after (between, pulses, becomes) = record {
+  pulse = Some inward;
+  moves = (between, pulses, becomes);
+  gate = ap (λ s. s.gate) becomes.becomes;
+  medium = moves_same (Some inward) before after (between, pulses, becomes);
+}
+
+not_closed : (drive : DriveState) → drive.gate ≡ false → drive.gate ≡ true → ⊥
+not_closed drive closed on = false≢true (sym closed ∙ on)
+
+second_true : (a b : Bool) → (a && b) ≡ true → b ≡ true
+second_true true b h = h
+second_true false b h = absurd cc
+
+first_true : (a b : Bool) → (a && b) ≡ true → a ≡ true
+first_true true b h = refl
+first_true false b h = absurd cc
+
+-- a word is recorded through an open gate
+recorded : (from : DriveState) (head word : ℕ) (can : Bool) → can_write from ≡ can
+    → ((if can then rewritten from.medium from.cylinder head from.place word else from.medium) ≡ from.medium) ⊎ (from.gate ≡ true)
+recorded from head word true can = inr (first_true from.gate (not from.cut) (second_true (at_speed from) (from.gate && not from.cut) can))
+recorded from head word false can = inl refl
+
+writes_gated : (from mid : DriveState) (head word : ℕ) → Writes head word from mid → (mid.medium ≡ from.medium) ⊎ (from.gate ≡ true)
+writes_gated from mid head word (inl wrote) =
+    elim (recorded from head word (can_write from) refl) [ inl same ↦ inl (ap (λ s. s.medium) wrote.becomes ∙ same) | inr on ↦ inr on ]
+writes_gated from mid head word (inr (can, becomes, rose)) = inl (ap (λ s. s.medium) becomes.becomes)
+
+-- ---- the word time of a command that records
+
+-- a drive is given a word in a word time that a command makes
+record IsGivenIn (Makes : WordTime → Type 0) (before after : DriveState) : Type 0 where
+  head : ℕ
+  opened : Bool
+  closed : Bool
+  index : Bool
+  word : ℕ
+  makes : Makes (Wrote opened closed index word)
+  from : DriveState
+  mid : DriveState
+  opens : Opens opened before from
+  writes : Writes head word from mid
+  closes : Closes closed mid after
+  gate : (after.medium ≡ before.medium) ⊎ (from.gate ≡ true)
+
+time_gates : (Makes : WordTime → Type 0) (time : WordTime) (rate : DataRate) (head : ℕ) (before after : DriveState) → IsTime time rate head before after → Makes time
+    → PassesClosed before after ⊎ IsGivenIn Makes before after
+time_gates Makes (Saw index word) rate head before after is makes = inl (moves_closed None before after is.passes)
+time_gates Makes (KeptOut index word) rate head before after (other, is) makes = inl (moves_closed None before after is.passes)
+time_gates Makes (Wrote opened closed index word) rate head before after is makes = inr (record {
+  head = head;
+  opened = opened;
+  closed = closed;
+  index = index;
+  word = word;
+  makes = makes;
+  from = is.from;
+  mid = is.mid;
+  opens = is.opens;
+  writes = is.writes;
+  closes = is.closes;
+  gate = elim (writes_gated is.from is.mid head word is.writes) [
+    | inl same ↦ inl (closes_same closed is.mid after is.closes ∙ (same ∙ opens_same opened before is.from is.opens))
+    | inr on ↦ inr on
+  ];
+})
+time_gates Makes Stopped rate head before after is makes = inl (moves_closed None before after is)
+
+closes_gate : (closed : Bool) (mid after : DriveState) → Closes closed mid after → closed ≡ true → after.gate ≡ false
+closes_gate true mid after becomes is = ap (λ s. s.gate) becomes.becomes
+closes_gate false mid after same wrong = absurd cc
+
+-- where a word leaves the gate open, the write goes on
+next_records : (next : WriteNext) (head_drive steps : ℕ) (writing : Writing) (old new : Fdc) (closed : Bool) (mid after : DriveState) → new ≡ after_next head_drive steps writing next old
+    → closed ≡ is_ended next → Closes closed mid after → after.gate ≡ true → is_recording new.phase ≡ true
+next_records (write_next.On stage) head_drive steps writing old new closed mid after is goes closes on = ap (λ f. is_recording f.phase) is
+next_records (write_next.Ended ending) head_drive steps writing old new closed mid after is over closes on = absurd (not_closed after (closes_gate closed mid after closes over) on)
+
+laid_records : (next : FormatNext) (head_drive steps : ℕ) (formatting : Formatting) (old new : Fdc) (closed : Bool) (mid after : DriveState)
+    → new ≡ after_laid head_drive steps formatting next old → closed ≡ laying.is_ended next → Closes closed mid after → after.gate ≡ true → is_recording new.phase ≡ true
+laid_records (format_next.On stage) head_drive steps formatting old new closed mid after is goes closes on = ap (λ f. is_recording f.phase) is
+laid_records (format_next.Ended ending key) head_drive steps formatting old new closed mid after is over closes on = absurd (not_closed after (closes_gate closed mid after closes over) on)
+
+write_goes : (time : WordTime) (rate : DataRate) (head head_drive steps : ℕ) (writing : Writing) (old : Fdc) (before after : DriveState) (new : Fdc) → IsTime time rate head before after
+    → WriteDoes time head_drive steps writing old before new → after.gate ≡ true → is_recording new.phase ≡ true
+write_goes (Saw index word) rate head head_drive steps writing old before after new is does on = absurd (not_closed after (ap (λ s. s.gate) is.passes.becomes) on)
+write_goes (KeptOut index word) rate head head_drive steps writing old before after new (other, is) does on = absurd (not_closed after (ap (λ s. s.gate) is.passes.becomes) on)
+write_goes (Wrote opened closed index word) rate head head_drive steps writing old before after new is does on =
+    next_records does.next head_drive (steps + 1) writing _ new closed is.mid after does.after_is does.closed_is is.closes on
+write_goes Stopped rate head head_drive steps writing old before after new is does on = absurd (not_closed after (ap (λ s. s.gate) is.becomes) on)
+
+format_goes : (time : WordTime) (rate : DataRate) (head head_drive steps : ℕ) (formatting : Formatting) (old : Fdc) (before after : DriveState) (new : Fdc) → IsTime time rate head before after
+    → FormatDoes time head_drive steps formatting old before new → after.gate ≡ true → is_recording new.phase ≡ true
+format_goes (Saw index word) rate head head_drive steps formatting old before after new is does on = absurd (not_closed after (ap (λ s. s.gate) is.passes.becomes) on)
+format_goes (KeptOut index word) rate head head_drive steps formatting old before after new (other, is) does on = absurd (not_closed after (ap (λ s. s.gate) is.passes.becomes) on)
+format_goes (Wrote opened closed index word) rate head head_drive steps formatting old before after new is does on =
+    laid_records does.next head_drive (steps + 1) formatting _ new closed is.mid after does.after_is does.closed_is is.closes on
+format_goes Stopped rate head head_drive steps formatting old before after new is does on = absurd (not_closed after (ap (λ s. s.gate) is.becomes) on)
+
+-- ---- the selected drive
+
+-- what it made of its word time, where a command that records was in execution or not
+record IsWorked (records : Bool) (Makes : WordTime → Type 0) (before after : DriveState) (new : Fdc) : Type 0 where
+  time : PassesClosed before after ⊎ ((records ≡ true) × IsGivenIn Makes before after)
+  goes_on : after.gate ≡ true → is_recording new.phase ≡ true
+
+worked_closed : (records : Bool) (Makes : WordTime → Type 0) (before after : DriveState) (new : Fdc) → PassesClosed before after → IsWorked records Makes before after new
+worked_closed records Makes before after new closed = record { time = inl closed; goes_on = λ on. absurd (not_closed after closed.gate on) }
+
+recording : {A B : Type 0} → A ⊎ B → A ⊎ ((true ≡ true) × B)
+recording (inl closed) = inl closed
+recording (inr given) = inr (refl, given)
+
+by_task : (task : Task) (head_drive steps : ℕ) (asking : Bool) (fifo : Fifo) (polls : Fdc) (before after : DriveState) (new : Fdc) → MovesTask (is_listening task) before after
+    → WritesTask task head_drive steps asking fifo polls before after new
+    → IsWorked (not (is_listening task)) (λ time. MakesTask task head_drive steps time polls before new) before after new
+by_task (ReadId search) head_drive steps asking fifo polls before after new moves writes = worked_closed false _ before after new (moves_closed None before after moves)
+by_task (Read reading) head_drive steps asking fifo polls before after new moves writes = worked_closed false _ before after new (moves_closed None before after moves)
+by_task (Write writing) head_drive steps asking fifo polls before after new moves writes =
+    let does = writes.step.does in record {
+      time = recording (time_gates (λ time. WriteDoes time head_drive steps writing polls before new) does.time polls.rate (head_drive / 4 % 2) before after does.is does.does);
+      goes_on = write_goes does.time polls.rate (head_drive / 4 % 2) head_drive steps writing polls before after new does.is does.does;
+    }
+by_task (Format formatting) head_drive steps asking fifo polls before after new moves writes =
+    let does = writes.step.does in record {
+      time = recording (time_gates (λ time. FormatDoes time head_drive steps formatting polls before new) does.time polls.rate (head_drive / 4 % 2) before after does.is does.does);
+      goes_on = format_goes does.time polls.rate (head_drive / 4 % 2) head_drive steps formatting polls before after new does.is does.does;
+    }
+
+by_phase : (phase : Phase) (asking : Bool) (fifo : Fifo) (polls : Fdc) (before after : DriveState) (new : Fdc) → MovesIn phase polls before after
+    → WritesIn phase asking fifo polls before after new → IsWorked (is_recording phase) (λ time. MakesTime phase time polls before new) before after new
+by_phase Command asking fifo polls before after new moves writes = worked_closed false _ before after new (moves_closed _ before after moves)
+by_phase (Result answer) asking fifo polls before after new moves writes = worked_closed false _ before after new (moves_closed _ before after moves)
+by_phase (Execute execution) asking fifo polls before after new moves writes =
+    by_task execution.task execution.head_drive execution.steps asking fifo polls before after new moves writes
+
+works_gate : (old : Fdc) (before : DriveState) (new : Fdc) (after : DriveState) → Works old before new after
+    → IsWorked (is_recording old.phase) (λ time. MakesTime old.phase time (polled old) before new) before after new
+works_gate old before new after works =
+    by_phase old.phase old.asking old.fifo (polled old) before after new
+    (subst (λ phase. MovesIn phase (polled old) before after) (polled_phase old) works.drive) works.writes
+
+-- ---- the device step
+
+given_word : (old new : Fdc) (before after : DriveState) → IsGivenIn (λ time. MakesTime old.phase time (polled old) before new) before after → IsGivenWord old before after
+given_word old new before after given = record {
+  head = given.head;
+  opened = given.opened;
+  closed = given.closed;
+  index = given.index;
+  word = given.word;
+  new = new;
+  makes = given.makes;
+  from = given.from;
+  mid = given.mid;
+  opens = given.opens;
+  writes = given.writes;
+  closes = given.closes;
+  gate = given.gate;
+}
+
+selected_gated : (old : Board) (bay : ℕ) (before : DriveState) (new : Fdc) (after : DriveState) → selected_of old ≡ bay → Works (controller_of old) before new after → IsGated old bay before after
+selected_gated old bay before new after at works = elim (works_gate (controller_of old) before new after works).time [
+  | inl closed ↦ inl closed
+  | inr (records, given) ↦ inr (at, records, given_word (controller_of old) new before after given)
+]
+
+passes_closed : (before after : DriveState) → Passes before after → PassesClosed before after
+passes_closed before after passes = moves_closed None before after passes
+
+pub step_gates : (old new : Board) → Step old new → GatesDrives old new
+step_gates old new step = elim (first_second_or_none (selected_of old)) [
+  | inl at ↦ let (works, passes) = step.word_time.at_first at in record {
+    first = selected_gated old 0 old.first step.between new.first at works;
+    second = inl (passes_closed old.second new.second passes);
+  }
+  | inr (inl at) ↦ let (works, passes) = step.word_time.at_second at in record {
+    first = inl (passes_closed old.first new.first passes);
+    second = selected_gated old 1 old.second step.between new.second at works;
+  }
+  | inr (inr at) ↦ let (works, first, second) = step.word_time.at_none at in record {
+    first = inl (passes_closed old.first new.first first);
+    second = inl (passes_closed old.second new.second second);
+  }
+]
+
+-- ---- behind a device step
+
+-- transfers leave the command in execution
+recording_after : (old new : Board) → (step : Step old new) → is_recording step.between.phase ≡ true → is_recording (controller_of new).phase ≡ true
+recording_after old new step is =
+    ap (λ bus. is_recording bus.chips.controller.phase) step.bus
+    ∙ dma_controller (λ fdc. is_recording fdc.phase) (λ fdc. ap not (listens_told fdc.phase)) (λ fdc. refl) (λ byte fdc. refl) true (record old.bus.chips { controller = step.between }) is
+
+gate_of_none : (board : Board) (bay : ℕ) (before after : DriveState) → Passes before after → IsGateOf board bay after
+gate_of_none board bay before after passes on = absurd (not_closed after (passes_closed before after passes).gate on)
+
+step_holds : (old new : Board) → Step old new → HoldsGates new
+step_holds old new step =
+    let same : selected_of new ≡ selected_of old = ap (λ byte. byte % 4) (step_leaves old new step).dor in
+    elim (first_second_or_none (selected_of old)) [
+      | inl at ↦ let (works, passes) = step.word_time.at_first at in record {
+        first = λ on. (same ∙ at, recording_after old new step ((works_gate (controller_of old) old.first step.between new.first works).goes_on on));
+        second = gate_of_none new 1 old.second new.second passes;
+      }
+      | inr (inl at) ↦ let (works, passes) = step.word_time.at_second at in record {
+        first = gate_of_none new 0 old.first new.first passes;
+        second = λ on. (same ∙ at, recording_after old new step ((works_gate (controller_of old) old.second step.between new.second works).goes_on on));
+      }
+      | inr (inr at) ↦ let (works, first, second) = step.word_time.at_none at in record {
+        first = gate_of_none new 0 old.first new.first first;
+        second = gate_of_none new 1 old.second new.second second;
+      }
+    ]
+
+pub runs_gate : (n : ℕ) (old new : Board) → 0 < n → Runs n old new → HoldsGates new
+unfolding Runs
+runs_gate zero old new wrong same = absurd (omega arith)
+runs_gate (suc n) old new some (between, runs, step) = step_holds between new step
+
+pub unset_gates : (n : ℕ) (old new : Board) → 0 < n → RunsUnset n old new → HoldsGates new
+unfolding RunsUnset
+unset_gates zero old new wrong same = absurd (omega arith)
+unset_gates (suc n) old new some (between, runs, unset, step) = step_holds between new step
