@@ -1,0 +1,172 @@
+/* telwyddus.h - the diskette path of a PC/AT, device step by device step: for emulators and for tests of drivers.
+ *
+ * Three faces, one page each: the controller with its two drives, for a bus of your own; the whole machine, for benches of
+ * drivers; and trays, in which media lie outside drives. The code behind them is proved: docs/C.md says what of, and how to
+ * build. For C and for C++.
+ *
+ * SLOTS. A slot holds one object or none. It is yours: on your stack, in your device's state. Begin it all 0 ("= {0}"). Don't
+ * write its fields, and don't copy or move it while it holds something: a copy that is freed besides frees twice. A call on a
+ * slot that holds nothing answers TELWYDDUS_EMPTY and does nothing, so freeing twice is harmless.
+ *
+ * WHAT YOU OWE. Pointers aren't null (a buffer's too, with length 0). A buffer has the length that is told, and no two pointers
+ * of a call overlap. Calls on one slot come one at a time: a slot may go to another thread under a lock. No call comes from a
+ * signal handler.
+ *
+ * WHAT YOU GET. Each call answers a code, below. What a call hands out through a pointer is set where it answers
+ * TELWYDDUS_DONE; where it answers anything else it is left, but for the length of TELWYDDUS_TOO_SHORT and the line of
+ * TELWYDDUS_BAD_PLAN, and so is the object, but where it says more.
+ *
+ * TIME. Nothing moves between calls. A device step is a word time, in which 16 cells (a byte) pass under the heads:
+ * 16 microseconds at 500 kbit/s, 32 at 250. A medium of 12,500 words a track at 500 kbit/s turns in 200 milliseconds, as one of
+ * 6,250 words at 250 kbit/s does. */
+#ifndef TELWYDDUS_H
+#define TELWYDDUS_H
+
+#include <stddef.h>
+#include <stdint.h>
+
+#if defined(__GNUC__)
+#define TELWYDDUS_CALL __attribute__((nonnull, warn_unused_result))
+#else
+#define TELWYDDUS_CALL
+#endif
+
+#ifdef __cplusplus
+extern "C" {
+#endif
+
+typedef struct telwyddus_controller { void *at_; uint32_t tag_; } telwyddus_controller;
+typedef struct telwyddus_machine { void *at_; uint32_t tag_; } telwyddus_machine;
+typedef struct telwyddus_tray { void *at_; uint32_t tag_; } telwyddus_tray;
+
+enum telwyddus_code {
+    TELWYDDUS_DONE = 0,
+    TELWYDDUS_EMPTY = 1,        /* the slot holds nothing */
+    TELWYDDUS_FULL = 2,         /* the slot that was to be filled holds something already */
+    TELWYDDUS_NO_MEMORY = 3,    /* memory is out */
+    TELWYDDUS_OUT_OF_RANGE = 4, /* a bay above 1, or addresses beyond memory */
+    TELWYDDUS_BAD_IMAGE = 5,    /* the bytes are no image file */
+    TELWYDDUS_HAS_MEDIUM = 6,   /* the bay has a medium in: the new one stays in its tray */
+    TELWYDDUS_NO_MEDIUM = 7,    /* the bay, or the tray, has none */
+    TELWYDDUS_NOT_ASKED = 8,    /* the request line is down, or bytes go the other way */
+    TELWYDDUS_BAD_PLAN = 9,     /* a line of the plan isn't understood */
+    TELWYDDUS_TOO_SHORT = 10    /* the buffer is too short */
+};
+
+/* ---------------------------------------------------------------------------------------------------------------------------
+ * TRAYS. A medium outside a drive. Image files are those of the program `floppy`: raw cells of all tracks. */
+
+/* Makes a tray with the medium of an image file. DONE, FULL, NO_MEMORY, BAD_IMAGE. */
+TELWYDDUS_CALL uint32_t telwyddus_tray_read(telwyddus_tray *tray, const uint8_t *bytes, size_t length);
+
+/* Writes the image file of its medium to the beginning of a buffer. *length is the file's, told where the buffer is too short
+ * too. DONE, EMPTY, NO_MEMORY, NO_MEDIUM, TOO_SHORT. */
+TELWYDDUS_CALL uint32_t telwyddus_tray_write(telwyddus_tray *tray, uint8_t *out, size_t room, size_t *length);
+
+/* Frees a tray and its medium, if any. DONE, EMPTY. */
+TELWYDDUS_CALL uint32_t telwyddus_tray_free(telwyddus_tray *tray);
+
+/* ---------------------------------------------------------------------------------------------------------------------------
+ * THE CONTROLLER (82077AA, PC/AT mode, one sector a command), with two drives. Your emulator has the DMA controller, the
+ * interrupt controller and the clock.
+ *
+ *   - Port accesses go to read and write as they come. Each word time is a step; run makes many.
+ *   - LOOK AT THE LINES AFTER EVERY CALL, port accesses too: INT falls and rises in them, and DRQ may rise with the last byte of
+ *     a command. Then DACK bytes while DRQ is up, as your channel lets you, and TC with the last one: before the next step.
+ *   - Let the time that word_time tells pass for each step. */
+
+enum telwyddus_lines { TELWYDDUS_INT = 1, TELWYDDUS_DRQ = 2, TELWYDDUS_TO_MEMORY = 4 };
+
+/* Makes a controller, held in reset, with two drives that have no medium in. DONE, FULL, NO_MEMORY. */
+TELWYDDUS_CALL uint32_t telwyddus_controller_new(telwyddus_controller *controller);
+
+/* Frees it with its drives and media. DONE, EMPTY. */
+TELWYDDUS_CALL uint32_t telwyddus_controller_free(telwyddus_controller *controller);
+
+/* A port, 3F0 to 3F7, is read or written. A port that nothing answers gives FF. DONE, EMPTY. */
+TELWYDDUS_CALL uint32_t telwyddus_controller_read(telwyddus_controller *controller, uint16_t port, uint8_t *value);
+TELWYDDUS_CALL uint32_t telwyddus_controller_write(telwyddus_controller *controller, uint16_t port, uint8_t value);
+
+/* One device step; device steps up to the one in which INT or DRQ changes, at most so many, and how many were made.
+ * DONE, EMPTY. */
+TELWYDDUS_CALL uint32_t telwyddus_controller_step(telwyddus_controller *controller);
+TELWYDDUS_CALL uint32_t telwyddus_controller_run(telwyddus_controller *controller, uint32_t most, uint32_t *made);
+
+/* INT, DRQ, and whether bytes go to memory. DONE, EMPTY. */
+TELWYDDUS_CALL uint32_t telwyddus_controller_lines(telwyddus_controller *controller, uint8_t *lines);
+
+/* DACK: your channel takes a byte, or gives one. DONE, EMPTY, NOT_ASKED. */
+TELWYDDUS_CALL uint32_t telwyddus_controller_dack_read(telwyddus_controller *controller, uint8_t *byte);
+TELWYDDUS_CALL uint32_t telwyddus_controller_dack_write(telwyddus_controller *controller, uint8_t byte);
+
+/* Terminal count: tell it with the last byte, behind its DACK. DONE, EMPTY. */
+TELWYDDUS_CALL uint32_t telwyddus_controller_tc(telwyddus_controller *controller);
+
+/* Nanoseconds of a device step at the rate that was chosen last: 16,000 at 500 kbit/s, 26,667 at 300 (two thirds, rounded up),
+ * 32,000 at 250, as at power-up, 8,000 at 1 Mbit/s. DONE, EMPTY. */
+TELWYDDUS_CALL uint32_t telwyddus_controller_word_time(telwyddus_controller *controller, uint32_t *nanoseconds);
+
+/* Puts the medium of a tray into a bay, 0 or 1; the tray stays, with nothing in it. DONE, EMPTY, OUT_OF_RANGE, HAS_MEDIUM,
+ * NO_MEDIUM. */
+TELWYDDUS_CALL uint32_t telwyddus_controller_insert(telwyddus_controller *controller, uint32_t bay, telwyddus_tray *tray);
+
+/* Takes the medium out of a bay into a tray, which is made. DONE, EMPTY, FULL (the tray), NO_MEMORY, OUT_OF_RANGE, NO_MEDIUM. */
+TELWYDDUS_CALL uint32_t telwyddus_controller_eject(telwyddus_controller *controller, uint32_t bay, telwyddus_tray *tray);
+
+/* Writes the image file of a bay's medium, which stays in and turns on, to the beginning of a buffer. DONE, EMPTY, NO_MEMORY,
+ * OUT_OF_RANGE, NO_MEDIUM, TOO_SHORT. */
+TELWYDDUS_CALL uint32_t telwyddus_controller_image(telwyddus_controller *controller, uint32_t bay, uint8_t *out, size_t room,
+    size_t *length);
+
+/* 1 where a word of a bay's medium was replaced since it was put in, or since this was asked last. DONE, EMPTY, OUT_OF_RANGE. */
+TELWYDDUS_CALL uint32_t telwyddus_controller_written(telwyddus_controller *controller, uint32_t bay, uint8_t *written);
+
+/* For lights and sounds: the cylinder under a bay's heads, and its signs. DONE, EMPTY, OUT_OF_RANGE. */
+enum telwyddus_signs { TELWYDDUS_MOTOR = 1, TELWYDDUS_SELECTED = 2, TELWYDDUS_GATE = 4, TELWYDDUS_MEDIUM = 8 };
+TELWYDDUS_CALL uint32_t telwyddus_controller_bay(telwyddus_controller *controller, uint32_t bay, uint8_t *cylinder,
+    uint8_t *signs);
+
+/* The drive that is selected, 0 to 3; those of bays 2 and 3 are absent. DONE, EMPTY. */
+TELWYDDUS_CALL uint32_t telwyddus_controller_selected(telwyddus_controller *controller, uint8_t *bay);
+
+/* ---------------------------------------------------------------------------------------------------------------------------
+ * THE MACHINE: the controller, channel 2 of an 8237A (ports 04, 05, 08 to 0F, 81), 1 MiB of memory, and a latch for IRQ 6. The
+ * latch looks at the line once a device step. For benches of drivers: its drives may have planned faults, its DMA delays, its
+ * interrupt line strays. */
+
+/* Makes a machine with two drives that have no faults. DONE, FULL, NO_MEMORY. */
+TELWYDDUS_CALL uint32_t telwyddus_machine_new(telwyddus_machine *machine);
+
+/* Makes one with the faults and delays of a plan: the text that FLOPPY_PLAN names for the program `floppy`; what it plans for
+ * spare drives isn't used. Where a line isn't understood, *line is its number, counted from 1; 0 where the text is too long.
+ * DONE, FULL, NO_MEMORY, BAD_PLAN. */
+TELWYDDUS_CALL uint32_t telwyddus_machine_new_planned(telwyddus_machine *machine, const uint8_t *plan, size_t length,
+    size_t *line);
+
+/* Frees it with its drives and media. DONE, EMPTY. */
+TELWYDDUS_CALL uint32_t telwyddus_machine_free(telwyddus_machine *machine);
+
+/* A port is read or written, and the device steps of the plan's next gap run. DONE, EMPTY. */
+TELWYDDUS_CALL uint32_t telwyddus_machine_inb(telwyddus_machine *machine, uint16_t port, uint8_t *value);
+TELWYDDUS_CALL uint32_t telwyddus_machine_outb(telwyddus_machine *machine, uint16_t port, uint8_t value);
+
+/* Device steps; device steps until the latch is set, at most so many, and whether it is (1). DONE, EMPTY. */
+TELWYDDUS_CALL uint32_t telwyddus_machine_wait(telwyddus_machine *machine, uint32_t steps);
+TELWYDDUS_CALL uint32_t telwyddus_machine_wait_irq(telwyddus_machine *machine, uint32_t most, uint8_t *is_set);
+
+/* Takes the interrupt: the latch is cleared, and it is told whether it was set (1). DONE, EMPTY. */
+TELWYDDUS_CALL uint32_t telwyddus_machine_take_irq(telwyddus_machine *machine, uint8_t *was_set);
+
+/* Bytes of memory from an address on: copied out, copied in. DONE, EMPTY, OUT_OF_RANGE. */
+TELWYDDUS_CALL uint32_t telwyddus_machine_memory_get(telwyddus_machine *machine, size_t address, uint8_t *out, size_t length);
+TELWYDDUS_CALL uint32_t telwyddus_machine_memory_set(telwyddus_machine *machine, size_t address, const uint8_t *bytes,
+    size_t length);
+
+/* Media in and out, as at the controller. */
+TELWYDDUS_CALL uint32_t telwyddus_machine_insert(telwyddus_machine *machine, uint32_t bay, telwyddus_tray *tray);
+TELWYDDUS_CALL uint32_t telwyddus_machine_eject(telwyddus_machine *machine, uint32_t bay, telwyddus_tray *tray);
+
+#ifdef __cplusplus
+}
+#endif
+#endif

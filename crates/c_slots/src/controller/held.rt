@@ -1,0 +1,70 @@
+// A controller behind a pointer, or nothing.
+ghost use Rattle.std.specs.Prelude.{◌≡◌, None, Some, Option};
+ghost use Rattle.c_slots.specs.Controllers.{ControllerValue, held_owns, held_coded};
+
+use crate::InspectedBoard;
+use loose_box::Loose;
+use std::alloc::Global;
+use std::marker::Model;
+use std::ptr::null_mut;
+
+/// A pointer, with the controller that it owns, if any.
+#[repr(C)]
+#[derive(Drop)]
+pub struct Held {
+    at: *mut (),
+    pub alloc: Global,
+    pub ghost controller: { Option ControllerValue } by { held_coded },
+}
+
+impl Model for Held {
+    ghost also_owns = { λ h. held_owns h.alloc h.at h.controller };
+}
+
+impl Held {
+    pub fn empty(alloc: Global) -> Held
+        ensures { result.controller ≡ None }
+    {
+        Held {
+            at: null_mut(),
+            alloc,
+        }
+    }
+
+    pub fn of(controller: Box<InspectedBoard>) -> Held
+        ensures { result.controller ≡ Some controller.value }
+    {
+        Held::of_loose(Loose::of(controller))
+    }
+
+    pub fn into_box(self) -> Box<InspectedBoard>
+        requires { (controller : ControllerValue) × (self.controller ≡ Some controller) }
+        ensures { self.controller ≡ Some result.value }
+    {
+        self.into_loose().into_box()
+    }
+
+    fn of_loose(loose: Loose<InspectedBoard, Global>) -> Held
+        ensures { result.controller ≡ Some loose.value }
+    {
+        let Loose { at, alloc } = loose;
+        Held {
+            at: at as *mut (),
+            alloc,
+        }
+    }
+
+    fn into_loose(self) -> Loose<InspectedBoard, Global>
+        requires { (controller : ControllerValue) × (self.controller ≡ Some controller) }
+        ensures { self.controller ≡ Some result.value }
+    {
+        let Held { at, alloc } = self;
+        Loose {
+            at: at as *mut InspectedBoard,
+            alloc,
+        }
+    }
+}
+
+// It may go to another thread, as what it owns may.
+unsafe impl Send for Held {}

@@ -1,0 +1,45 @@
+//! What C keeps of a controller, of a machine and of a medium: slots that hold one or none.
+#![tactic(auto)]
+
+mod controller;
+mod machine;
+mod tray;
+
+use any_drive::AnyDrive;
+pub use controller::ControllerSlot;
+use fdc_board::FdcBoard;
+use inspected_drive::InspectedDrive;
+pub use machine::MachineSlot;
+use pc_bus::MachineOf;
+use raw_image::Medium;
+pub use tray::TraySlot;
+
+/// The machine with drives that have no faults, or planned ones.
+pub type BenchMachine = MachineOf<AnyDrive>;
+
+/// The controller with drives that have no faults and can be looked into.
+pub type InspectedBoard = FdcBoard<InspectedDrive>;
+
+/// What a medium lies in outside a drive.
+#[derive(Drop)]
+pub struct MediumTray {
+    pub medium: Option<Medium>,
+}
+
+/// A slot may go to another thread with what it holds.
+fn crosses<T: Send + Drop>(_slot: T) {}
+
+/// That of a machine does.
+pub fn machine_crosses(slot: MachineSlot) {
+    crosses(slot);
+}
+
+/// That of a controller does.
+pub fn controller_crosses(slot: ControllerSlot) {
+    crosses(slot);
+}
+
+/// That of a tray does.
+pub fn tray_crosses(slot: TraySlot) {
+    crosses(slot);
+}

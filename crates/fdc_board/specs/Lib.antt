@@ -1,0 +1,2 @@
+pub mod WordTimes
+pub mod Boards

@@ -1,0 +1,199 @@
+// The controller and its drives: ports, device steps, and the controller's lines.
+ghost use Rattle.std.specs.Prelude.{◌≡◌, ◌%◌, IfOk, IsTrue, IsFalse, true};
+ghost use Rattle.fdc_board.specs.WordTimes.{nanoseconds, data_rate};
+ghost use Rattle.fdc_core.specs.Dma.{told_count, to_memory_of};
+ghost use Rattle.fdc_core.specs.Ports.{value_read, after_read, Writes};
+ghost use Rattle.fdc_core.specs.State.{asks, interrupts, dor_of};
+ghost use Rattle.fdc_core.specs.declared.controller.Lines.{Lines as LinesValue};
+
+use crate::lines::{ABSENT, follow_write, lines_of_drive, pass, work, work_alone};
+use crate::rates::word_time_after;
+use fdc_core::{Fdc, Lines};
+use flop_base::NoMemory;
+use inspected_drive::Inspect;
+use std::alloc::Global;
+
+/// A controller with a drive in each of its two bays.
+#[derive(Drop)]
+pub struct FdcBoard<D> {
+    pub(crate) controller: Fdc,
+    pub(crate) first: D,
+    pub(crate) second: D,
+    /// The nanoseconds of a word time.
+    word_time: u32,
+    ghost at_rate: { word_time ≡ nanoseconds (data_rate controller) },
+}
+
+impl<D: Inspect> FdcBoard<D> {
+    ghost use Rattle.fdc_board.specs.Boards.{board_state, controller_of, lines_at, SameDrives, IsNewBoard, WritesBoard, Takes, Gives, HasLines, StepsBoard, RunsTo};
+
+    /// The controller in reset, with two drives, whose motors it turns off.
+    pub fn new(alloc: Global, bay0: D, bay1: D) -> Result<FdcBoard<D>, NoMemory>
+        ensures { IfOk result (λ board. IsNewBoard (D.state bay0) (D.state bay1) (board_state D.state board)) }
+    {
+        let controller = Fdc::new(alloc)?;
+        let mut first = bay0;
+        first.motor(false);
+        let mut second = bay1;
+        second.motor(false);
+        Ok(FdcBoard {
+            controller,
+            first,
+            second,
+            word_time: 32_000,
+        })
+    }
+
+    /// Reads a port, 3F0 to 3F7.
+    pub fn read(&mut self, port: u16) -> u8
+        ensures value { result ≡ value_read port (lines_at (board_state D.state self.old)) (controller_of self.old) }
+        ensures after { controller_of self.new ≡ after_read port (controller_of self.old) }
+        ensures drives { SameDrives self.old self.new }
+    {
+        let lines = self.lines();
+        self.controller.read(port, lines)
+    }
+
+    /// Writes a port, 3F0 to 3F7. The motors follow DOR at once, and a reset closes the write gates of both drives.
+    pub fn write(&mut self, port: u16, value: u8)
+        ensures { WritesBoard port value (board_state D.state self.old) (board_state D.state self.new) }
+    {
+        let lines = self.lines();
+        self.write_controller(port, value, lines);
+        follow_write(&self.controller, port, value, 0, &mut self.first);
+        follow_write(&self.controller, port, value, 1, &mut self.second);
+    }
+
+    /// Writes a port of the controller.
+    fn write_controller(&mut self, port: u16, value: u8, lines: Lines)
+        ensures writes { Writes port value lines (controller_of self.old) (controller_of self.new) }
+        ensures drives { SameDrives self.old self.new }
+    {
+        self.word_time = word_time_after(port, value, self.word_time);
+        self.controller.write(port, value, lines);
+    }
+
+    /// One device step: the controller's, with the selected drive, and the word time of the others.
+    pub fn step(&mut self)
+        ensures { StepsBoard (board_state D.state self.old) (board_state D.state self.new) }
+    {
+        match self.controller.selected() {
+            0 => {
+                work(&mut self.controller, &mut self.first);
+                pass(&mut self.second);
+            }
+            1 => {
+                work(&mut self.controller, &mut self.second);
+                pass(&mut self.first);
+            }
+            _ => {
+                work_alone(&mut self.controller);
+                pass(&mut self.first);
+                pass(&mut self.second);
+            }
+        }
+    }
+
+    /// Device steps until the interrupt line or the request line changes, at most `most`, and how many were made.
+    pub fn run(&mut self, most: u32) -> u32
+        ensures { RunsTo most (board_state D.state self.old) result (board_state D.state self.new) }
+    {
+        let int = self.int();
+        let drq = self.drq();
+        for i in 0..most {
+            self.step();
+            if !self.has_lines(int, drq) {
+                return i + 1;
+            }
+        }
+        most
+    }
+
+    /// Whether the lines are these.
+    fn has_lines(&self, int: bool, drq: bool) -> bool
+        ensures yes { IsTrue result → HasLines int drq (board_state D.state self.now) }
+        ensures no { IsFalse result → HasLines int drq (board_state D.state self.now) → ⊥ }
+    {
+        self.int() == int && self.drq() == drq
+    }
+
+    /// The interrupt line.
+    pub fn int(&self) -> bool
+        ensures { result ≡ interrupts (controller_of self.now) }
+    {
+        self.controller.int()
+    }
+
+    /// The DMA request line.
+    pub fn drq(&self) -> bool
+        ensures { result ≡ asks (controller_of self.now) }
+    {
+        self.controller.drq()
+    }
+
+    /// Whether the bytes of the command in execution go to memory.
+    pub fn to_memory(&self) -> bool
+        ensures { result ≡ to_memory_of (controller_of self.now) }
+    {
+        self.controller.to_memory()
+    }
+
+    /// The channel takes a byte, where one is asked for.
+    pub fn dack_read(&mut self) -> Option<u8>
+        ensures takes { Takes (controller_of self.old) result (controller_of self.new) }
+        ensures drives { SameDrives self.old self.new }
+    {
+        if self.controller.drq() && self.controller.to_memory() {
+            Some(self.controller.dma_out())
+        } else {
+            None
+        }
+    }
+
+    /// The channel gives a byte, where one is asked for, and it is told whether one was.
+    pub fn dack_write(&mut self, byte: u8) -> bool
+        ensures gives { Gives byte (controller_of self.old) result (controller_of self.new) }
+        ensures drives { SameDrives self.old self.new }
+    {
+        if self.controller.drq() && !self.controller.to_memory() {
+            self.controller.dma_in(byte);
+            true
+        } else {
+            false
+        }
+    }
+
+    /// The channel tells the terminal count.
+    pub fn tc(&mut self)
+        ensures told { controller_of self.new ≡ told_count (controller_of self.old) }
+        ensures drives { SameDrives self.old self.new }
+    {
+        self.controller.tc();
+    }
+
+    /// The drive that DOR selects: those of bays 2 and 3 are absent.
+    pub fn selected(&self) -> u8
+        ensures { result ≡ dor_of (controller_of self.now) % 4 }
+    {
+        self.controller.selected()
+    }
+
+    /// The nanoseconds of a word time at the rate that was chosen last: 16,000 at 500 kbit/s, 26,667 at 300, 32,000 at
+    /// 250, as at power-up, and 8,000 at 1 Mbit/s.
+    pub fn word_time(&self) -> u32
+        ensures { result ≡ nanoseconds (data_rate (controller_of self.now)) }
+    {
+        self.word_time
+    }
+
+    /// The lines of the selected drive.
+    fn lines(&self) -> Lines
+        ensures { result ≡ lines_at (board_state D.state self.now) }
+    {
+        match self.controller.selected() {
+            0 => lines_of_drive(&self.first),
+            1 => lines_of_drive(&self.second),
+            _ => ABSENT,
+        }
+    }
+}

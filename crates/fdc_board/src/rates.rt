@@ -1,0 +1,34 @@
+// How long a word time lasts.
+ghost use Rattle.std.specs.Prelude.{◌≡◌, ◌==◌, ◌||◌, if◌then◌else◌};
+ghost use Rattle.fdc_board.specs.WordTimes.{nanoseconds};
+ghost use Rattle.fdc_core.specs.Rates.{rate_chosen};
+
+/// The data rate select register.
+const DSR: u16 = 0x3F4;
+
+/// The configuration control register.
+const CCR: u16 = 0x3F7;
+
+/// The nanoseconds of a word time once a byte is written to a port: DSR and CCR choose the rate.
+pub(crate) fn word_time_after(port: u16, byte: u8, before: u32) -> u32
+    ensures { result ≡ (if port == 0x3F4 || port == 0x3F7 then nanoseconds (rate_chosen byte) else before) }
+{
+    if port == DSR || port == CCR {
+        word_time_at(byte)
+    } else {
+        before
+    }
+}
+
+/// The nanoseconds of a word time at the rate that a byte written to DSR or CCR chooses. At 300 kbit/s it is 26,666 and
+/// two thirds, here rounded up.
+fn word_time_at(byte: u8) -> u32
+    ensures { result ≡ nanoseconds (rate_chosen byte) }
+{
+    match byte % 4 {
+        0 => 16_000,
+        1 => 26_667,
+        2 => 32_000,
+        _ => 8_000,
+    }
+}

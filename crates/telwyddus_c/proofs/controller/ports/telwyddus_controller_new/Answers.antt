@@ -1,0 +1,13 @@
+use Rattle.std.proofs.Common.{sym, ◌∙◌}
+use Rattle.telwyddus_c.proofs.Options.{none_in}
+use Rattle.telwyddus_c.proofs.controller.ports.telwyddus_controller_new.Goals as goal
+
+pub returns-in-Ok-new : goal.returns-in-Ok-new
+returns-in-Ok-new c = (
+  none_in c.args.slot.now.held.controller (sym c.is_full.ensures ∙ c.if-is_full.false),
+  (
+    _,
+    c.put.ensures,
+    rw c.in-Ok-new.ensures.ok (rw c.new.ensures.state at (rw c.new-2.ensures.state at c.in-Ok.ensures)),
+  ),
+)

@@ -1,0 +1,19 @@
+use Rattle.std.proofs.Common.{sym, ◌∙◌}
+use Rattle.telwyddus_c.proofs.Options.{none_in}
+use Rattle.telwyddus_c.proofs.machine.making.telwyddus_machine_new.Goals as goal
+
+pub returns-in-Ok-new : goal.returns-in-Ok-new
+returns-in-Ok-new c = (
+  none_in c.args.slot.now.held.machine (sym c.is_full.ensures ∙ c.if-is_full.false),
+  (
+    _,
+    c.put.ensures,
+    record {
+      pace = record { gaps = c.new.result; holds = c.new-2.result; strays = c.new-3.result };
+      gaps = c.new.ensures.items;
+      holds = c.new-2.ensures.items;
+      strays = c.new-3.ensures.items;
+      new = rw c.in-Ok-new.ensures.ok (rw c.new-4.ensures at (rw c.new-5.ensures at c.in-Ok.ensures));
+    },
+  ),
+)

@@ -1,0 +1,98 @@
+-- Calls on the machine.
+use Rattle.std.specs.Prelude.{◌≡◌, ◌≤◌, ◌<◌, ◌+◌, ◌==◌, ◌⊎◌, ℕ, List, [], length, slice_index, Option, Some, Ok, Err, MatchBool}
+use Rattle.any_drive.specs.AnyDrive.{any_state}
+use Rattle.c_slots.specs.Machines.{MachineValue}
+use Rattle.c_slots.specs.Trays.{TrayValue}
+use Rattle.drive_model.specs.Fault.{total_left}
+use Rattle.drive_model.specs.Mechanics.{at_rest}
+use Rattle.drive_model.specs.ScriptDrive.{told}
+use Rattle.fault_plan.specs.Plan.{Plan, plan_spelled}
+use Rattle.irq_events.specs.declared.pace.Pace.{Pace}
+use Rattle.pc_bus.specs.Boards.{Board, board, drive_in, memory_of, IsNew}
+use Rattle.pc_bus.specs.Handling.{Touches}
+use Rattle.telwyddus_c.specs.Media.{Inserts, Ejects}
+use Rattle.telwyddus_c.specs.Slots.{Fills}
+
+-- the chips and the states of both drives
+abbrev pub board_of : MachineValue → Board
+board_of machine = board any_state machine
+
+-- ---- new ones
+
+-- a new machine whose drives have no faults, and which nothing delays or disturbs
+pub record IsPlain (machine : MachineValue) : Type 0 where
+  pub pace : Pace
+  pub gaps : pace.gaps.items ≡ []
+  pub holds : pace.holds.items ≡ []
+  pub strays : pace.strays.items ≡ []
+  pub new : IsNew pace (at_rest (Some 0)) (at_rest (Some 0)) (board_of machine)
+
+-- a new machine at a plan's pace, whose drives have as many faults to come as the plan has for them
+pub record IsPlanned (plan : Plan) (machine : MachineValue) : Type 0 where
+  pub pace : Pace
+  pub gaps : pace.gaps.items ≡ plan.gaps
+  pub holds : pace.holds.items ≡ plan.holds
+  pub strays : pace.strays.items ≡ plan.strays
+  pub new : IsNew pace (at_rest (told 0 (total_left plan.bay0))) (at_rest (told 0 (total_left plan.bay1))) (board_of machine)
+
+-- the machine of the plan that a text spells
+abbrev pub IsPlannedBy : List ℕ → MachineValue → Type 0
+IsPlannedBy text machine = (plan : Plan) × (plan_spelled text ≡ Ok plan) × IsPlanned plan machine
+
+-- a slot is filled with the machine of a plan: 0, 2 and 3 as for any. The text is no plan, 9: its first bad line is told, and the slot
+-- stays
+abbrev pub FillsPlanned : List ℕ → ℕ → (was line : ℕ) → Option MachineValue → Option MachineValue → Type 0
+FillsPlanned text code was line old new =
+    MatchBool (code == 9) ((plan_spelled text ≡ Err line) × (new ≡ old)) (Fills (IsPlannedBy text) code old new × (line ≡ was))
+
+-- ---- memory
+
+-- these are the bytes from an address on
+pub record Copied (memory : List ℕ) (address : ℕ) (old new : List ℕ) : Type 0 where
+  pub within : address + length old ≤ 1048576
+  pub all : length new ≡ length old
+  pub each : (k : ℕ) → k < length old → slice_index new k ≡ slice_index memory (address + k)
+
+-- a range of memory is copied out: 0. It isn't within memory, 4: the buffer stays
+abbrev pub CopiesOut : ℕ → List ℕ → ℕ → List ℕ → List ℕ → Type 0
+CopiesOut address memory code old new =
+    MatchBool (code == 0) (Copied memory address old new) (MatchBool (code == 4) ((1048576 < address + length old) × (new ≡ old)) ⊥)
+
+-- memory, where so many bytes from an address on are replaced by these
+pub record IsStored (address count : ℕ) (bytes old new : List ℕ) : Type 0 where
+  pub inside : (k : ℕ) → k < count → slice_index new (address + k) ≡ slice_index bytes k
+  pub outside : (k : ℕ) → (k < address) ⊎ (address + count ≤ k) → slice_index new k ≡ slice_index old k
+
+-- all but memory and the count of accesses past the controller is as it was
+abbrev pub KeepsAllBut : Board → Board → Type 0
+KeepsAllBut old new = new ≡ record old {
+  bus = record old.bus {
+    chips = record old.bus.chips { memory = memory_of new };
+    direct = new.bus.direct;
+    fresh = new.bus.fresh;
+  };
+}
+
+-- bytes are in memory from an address on
+pub record Stores (address : ℕ) (bytes : List ℕ) (old new : Board) : Type 0 where
+  pub within : address + length bytes ≤ 1048576
+  pub stored : IsStored address (length bytes) bytes (memory_of old) (memory_of new)
+  pub rest : KeepsAllBut old new
+
+-- bytes are copied into memory: 0. Their range isn't within memory, 4: the machine stays
+abbrev pub CopiesIn : ℕ → List ℕ → ℕ → MachineValue → MachineValue → Type 0
+CopiesIn address bytes code old new =
+    MatchBool (code == 0) (Stores address bytes (board_of old) (board_of new))
+    (MatchBool (code == 4) ((1048576 < address + length bytes) × (new ≡ old)) ⊥)
+
+-- ---- media
+
+-- the medium of a tray goes into a bay; where the tray has none, the machine stays
+pub record InsertsAt (bay code : ℕ) (tray left : Option TrayValue) (old new : MachineValue) : Type 0 where
+  pub drive : Inserts code tray left (drive_in (board_of old) bay) (drive_in (board_of new) bay)
+  pub beside : MatchBool (code == 7) (new ≡ old) (Touches bay (board_of old) (board_of new))
+
+-- the medium of a bay goes into a tray; where none can be made, the machine stays
+pub record EjectsAt (bay code : ℕ) (tray left : Option TrayValue) (old new : MachineValue) : Type 0 where
+  pub drive : Ejects code tray left (drive_in (board_of old) bay) (drive_in (board_of new) bay)
+  pub beside : MatchBool (code == 2) (new ≡ old) (MatchBool (code == 3) (new ≡ old) (Touches bay (board_of old) (board_of new)))

@@ -1,0 +1,27 @@
+-- What a call makes of a slot, by the code that it answers. No call answers another code than those that are named.
+use Rattle.std.specs.Prelude.{◌≡◌, ◌≤◌, ◌<◌, ℕ, ◌==◌, Option, None, Some, IsSome, MatchBool}
+
+-- done, 0, or refused by one other code
+abbrev pub DoneOr : (refusal code : ℕ) → Type 0 → Type 0 → Type 0
+DoneOr refusal code done refused = MatchBool (code == 0) done (MatchBool (code == refusal) refused ⊥)
+
+-- a call on what a slot holds. It holds nothing: 1, it stays so, and so does what is beside
+abbrev pub Serves : {V : Type 0} → (ℕ → V → V → Type 0) → Type 0 → ℕ → Option V → Option V → Type 0
+Serves called stays code None new = (code ≡ 1) × (new ≡ None) × stays
+Serves {V} called stays code (Some old) new = (after : V) × (new ≡ Some after) × called code old after
+
+-- a slot is filled: 0. It holds something already, 2, or memory is out, 3: it stays
+abbrev pub Fills : {V : Type 0} → (V → Type 0) → ℕ → Option V → Option V → Type 0
+Fills {V} made code old new =
+    MatchBool (code == 0) ((old ≡ None) × ((value : V) × (new ≡ Some value) × made value))
+    (MatchBool (code == 2) (IsSome old × (new ≡ old))
+    (MatchBool (code == 3) (new ≡ old) ⊥))
+
+-- what a slot holds is freed: 0. It holds nothing: 1
+abbrev pub Frees : {V : Type 0} → ℕ → Option V → Option V → Type 0
+Frees code old new = DoneOr 1 code (IsSome old × (new ≡ None)) ((old ≡ None) × (new ≡ None))
+
+-- a bay is 0 or 1: at any other the code is 4, and all stays
+pub record InBay (bay code : ℕ) (stays served : Type 0) : Type 0 where
+  pub out_of_range : 1 < bay → (code ≡ 4) × stays
+  pub within : bay ≤ 1 → served

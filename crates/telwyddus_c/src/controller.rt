@@ -1,0 +1,4 @@
+// The controller with its drives, for a bus of C's own.
+mod bays;
+mod dack;
+mod ports;

@@ -1,0 +1,248 @@
+// The bays of the controller: media in and out, and what a front end shows.
+ghost use Rattle.std.specs.Prelude.{◌≡◌, ◌≤◌, ⊤};
+ghost use Rattle.telwyddus_c.specs.Controllers.{drive_of, InsertsAt, EjectsAt, TellsWritten, Shows};
+ghost use Rattle.telwyddus_c.specs.Images.{WritesImage};
+ghost use Rattle.telwyddus_c.specs.Media.{PutsIn};
+ghost use Rattle.telwyddus_c.specs.Controllers.{state_of, KeepsBeside};
+ghost use Rattle.telwyddus_c.specs.Slots.{Serves, InBay};
+
+use crate::code::{DONE, EMPTY, FULL, HAS_MEDIUM, NO_MEDIUM, NO_MEMORY, OUT_OF_RANGE};
+use crate::image::write_medium;
+use c_slots::{ControllerSlot, InspectedBoard, MediumTray, TraySlot};
+use std::alloc::Global;
+
+/// The motor is on.
+const MOTOR: u8 = 1;
+
+/// DOR selects the drive.
+const SELECTED: u8 = 2;
+
+/// The write gate is open.
+const GATE: u8 = 4;
+
+/// A medium is in.
+const MEDIUM: u8 = 8;
+
+/// Puts the medium of a tray into a bay. Where one is in already, it stays in the tray.
+#[unsafe(no_mangle)]
+pub extern "C" fn telwyddus_controller_insert(
+    alloc: Global,
+    slot: &mut ControllerSlot,
+    bay: u32,
+    tray: &mut TraySlot,
+) -> u32
+    ensures { Serves (λ code old new. InBay bay code ((new ≡ old) × (tray.new.held.tray ≡ tray.old.held.tray))
+        (InsertsAt bay code tray.old.held.tray tray.new.held.tray old new)) (tray.new.held.tray ≡ tray.old.held.tray)
+        result slot.old.held.controller slot.new.held.controller }
+{
+    match slot.take(alloc) {
+        None => EMPTY,
+        Some(mut board) => {
+            let code = insert_from(alloc, &mut board, bay, tray);
+            slot.put(board);
+            code
+        }
+    }
+}
+
+/// The same of a controller.
+fn insert_from(alloc: Global, board: &mut InspectedBoard, bay: u32, tray: &mut TraySlot) -> u32
+    ensures { InBay bay result ((board.new ≡ board.old) × (tray.new.held.tray ≡ tray.old.held.tray))
+        (InsertsAt bay result tray.old.held.tray tray.new.held.tray board.old board.new) }
+{
+    if bay > 1 {
+        return OUT_OF_RANGE;
+    }
+    match tray.take(alloc) {
+        None => NO_MEDIUM,
+        Some(mut inside) => {
+            let code = insert(board, bay as u8, &mut inside);
+            tray.put(inside);
+            code
+        }
+    }
+}
+
+/// The same of a controller and a tray.
+fn insert(board: &mut InspectedBoard, bay: u8, tray: &mut MediumTray) -> u32
+    requires { bay ≤ 1 }
+    ensures drive { PutsIn result tray.old tray.new (drive_of board.old bay) (drive_of board.new bay) }
+    ensures beside { KeepsBeside bay (state_of board.old) (state_of board.new) }
+{
+    match tray.medium.take() {
+        None => NO_MEDIUM,
+        Some(medium) => match board.insert(bay, medium) {
+            Ok(()) => DONE,
+            Err(back) => {
+                tray.medium = Some(back);
+                HAS_MEDIUM
+            }
+        },
+    }
+}
+
+/// Takes the medium out of a bay, into a new tray.
+#[unsafe(no_mangle)]
+pub extern "C" fn telwyddus_controller_eject(
+    alloc: Global,
+    slot: &mut ControllerSlot,
+    bay: u32,
+    tray: &mut TraySlot,
+) -> u32
+    ensures { Serves (λ code old new. InBay bay code ((new ≡ old) × (tray.new.held.tray ≡ tray.old.held.tray))
+        (EjectsAt bay code tray.old.held.tray tray.new.held.tray old new)) (tray.new.held.tray ≡ tray.old.held.tray)
+        result slot.old.held.controller slot.new.held.controller }
+{
+    match slot.take(alloc) {
+        None => EMPTY,
+        Some(mut board) => {
+            let code = eject_into(alloc, &mut board, bay, tray);
+            slot.put(board);
+            code
+        }
+    }
+}
+
+/// The same of a controller.
+fn eject_into(alloc: Global, board: &mut InspectedBoard, bay: u32, tray: &mut TraySlot) -> u32
+    ensures { InBay bay result ((board.new ≡ board.old) × (tray.new.held.tray ≡ tray.old.held.tray))
+        (EjectsAt bay result tray.old.held.tray tray.new.held.tray board.old board.new) }
+{
+    if bay > 1 {
+        return OUT_OF_RANGE;
+    }
+    if tray.is_full() {
+        return FULL;
+    }
+    let Ok(mut inside) = Box::new(alloc, MediumTray { medium: None }) else {
+        return NO_MEMORY;
+    };
+    match board.eject(bay as u8) {
+        None => NO_MEDIUM,
+        Some(medium) => {
+            inside.medium = Some(medium);
+            tray.put(inside);
+            DONE
+        }
+    }
+}
+
+/// Writes the image file of the medium in a bay to a buffer, and tells its length. The medium stays in.
+#[unsafe(no_mangle)]
+pub extern "C" fn telwyddus_controller_image(
+    alloc: Global,
+    slot: &mut ControllerSlot,
+    bay: u32,
+    out: &mut [u8],
+    length: &mut usize,
+) -> u32
+    ensures { Serves (λ code old new. (new ≡ old) × InBay bay code ((out.new ≡ out.old) × (length.new ≡ length.old))
+        (WritesImage (drive_of old bay).medium code out.old out.new length.old length.new)) ((out.new ≡ out.old) × (length.new ≡ length.old))
+        result slot.old.held.controller slot.new.held.controller }
+{
+    match slot.take(alloc) {
+        None => EMPTY,
+        Some(board) => {
+            let code = image_of(alloc, &board, bay, out, length);
+            slot.put(board);
+            code
+        }
+    }
+}
+
+/// The same of a controller.
+fn image_of(
+    alloc: Global,
+    board: &InspectedBoard,
+    bay: u32,
+    out: &mut [u8],
+    length: &mut usize,
+) -> u32
+    ensures { InBay bay result ((out.new ≡ out.old) × (length.new ≡ length.old))
+        (WritesImage (drive_of board.now bay).medium result out.old out.new length.old length.new) }
+{
+    if bay > 1 {
+        return OUT_OF_RANGE;
+    }
+    write_medium(alloc, board.medium(bay as u8), out, length)
+}
+
+/// Tells whether a word of the medium in a bay was replaced since it was put in, or since this was asked last.
+#[unsafe(no_mangle)]
+pub extern "C" fn telwyddus_controller_written(
+    alloc: Global,
+    slot: &mut ControllerSlot,
+    bay: u32,
+    written: &mut u8,
+) -> u32
+    ensures { Serves (λ code old new. InBay bay code ((new ≡ old) × (written.new ≡ written.old))
+        ((code ≡ 0) × TellsWritten bay old written.new new)) (written.new ≡ written.old)
+        result slot.old.held.controller slot.new.held.controller }
+{
+    match slot.take(alloc) {
+        None => EMPTY,
+        Some(mut board) => {
+            let code = tell_written(&mut board, bay, written);
+            slot.put(board);
+            code
+        }
+    }
+}
+
+/// The same of a controller.
+fn tell_written(board: &mut InspectedBoard, bay: u32, written: &mut u8) -> u32
+    ensures { InBay bay result ((board.new ≡ board.old) × (written.new ≡ written.old))
+        ((result ≡ 0) × TellsWritten bay board.old written.new board.new) }
+{
+    if bay > 1 {
+        return OUT_OF_RANGE;
+    }
+    *written = u8::from(board.take_written(bay as u8));
+    DONE
+}
+
+/// What a front end shows of a bay: the cylinder under the heads, and in a byte 1 the motor, 2 the selection, 4 the write
+/// gate and 8 a medium.
+#[unsafe(no_mangle)]
+pub extern "C" fn telwyddus_controller_bay(
+    alloc: Global,
+    slot: &mut ControllerSlot,
+    bay: u32,
+    cylinder: &mut u8,
+    signs: &mut u8,
+) -> u32
+    ensures { Serves (λ code old new. (new ≡ old) × InBay bay code ((cylinder.new ≡ cylinder.old) × (signs.new ≡ signs.old))
+        ((code ≡ 0) × Shows bay old cylinder.new signs.new)) ((cylinder.new ≡ cylinder.old) × (signs.new ≡ signs.old))
+        result slot.old.held.controller slot.new.held.controller }
+{
+    match slot.take(alloc) {
+        None => EMPTY,
+        Some(board) => {
+            let code = show(&board, bay, cylinder, signs);
+            slot.put(board);
+            code
+        }
+    }
+}
+
+/// The same of a controller.
+fn show(board: &InspectedBoard, bay: u32, cylinder: &mut u8, signs: &mut u8) -> u32
+    ensures { InBay bay result ((cylinder.new ≡ cylinder.old) × (signs.new ≡ signs.old))
+        ((result ≡ 0) × Shows bay board.now cylinder.new signs.new) }
+{
+    if bay > 1 {
+        return OUT_OF_RANGE;
+    }
+    let bay = bay as u8;
+    *cylinder = board.cylinder(bay);
+    let motor = if board.is_motor_on(bay) { MOTOR } else { 0 };
+    let selected = if board.selected() == bay { SELECTED } else { 0 };
+    let gate = if board.is_gate_open(bay) { GATE } else { 0 };
+    let medium = if board.medium(bay).is_some() {
+        MEDIUM
+    } else {
+        0
+    };
+    *signs = motor + selected + gate + medium;
+    DONE
+}

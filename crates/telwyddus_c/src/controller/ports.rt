@@ -1,0 +1,205 @@
+// The controller's making, its ports, its device steps and its lines.
+ghost use Rattle.std.specs.Prelude.{◌≡◌, ⊤, Some};
+ghost use Rattle.drive_model.specs.Mechanics.{at_rest};
+ghost use Rattle.fdc_board.specs.Boards.{controller_of, lines_at, selected_at, SameDrives, IsNewBoard, WritesBoard, StepsBoard, RunsTo};
+ghost use Rattle.fdc_board.specs.WordTimes.{nanoseconds, data_rate};
+ghost use Rattle.fdc_core.specs.Ports.{value_read, after_read};
+ghost use Rattle.telwyddus_c.specs.Controllers.{state_of, lines_byte};
+ghost use Rattle.telwyddus_c.specs.Slots.{Fills, Frees, Serves};
+
+use crate::code::{DONE, EMPTY, FULL, NO_MEMORY};
+use c_slots::{ControllerSlot, InspectedBoard};
+use fdc_board::FdcBoard;
+use inspected_drive::InspectedDrive;
+use std::alloc::Global;
+
+/// The interrupt line is up.
+const INT: u8 = 1;
+
+/// The DMA request line is up.
+const DRQ: u8 = 2;
+
+/// Bytes go to memory.
+const TO_MEMORY: u8 = 4;
+
+/// Makes a controller with two empty drives.
+#[unsafe(no_mangle)]
+pub extern "C" fn telwyddus_controller_new(alloc: Global, slot: &mut ControllerSlot) -> u32
+    ensures { Fills (λ controller. IsNewBoard (at_rest (Some 0)) (at_rest (Some 0)) (state_of controller))
+        result slot.old.held.controller slot.new.held.controller }
+{
+    if slot.is_full() {
+        return FULL;
+    }
+    match FdcBoard::new(alloc, InspectedDrive::new(), InspectedDrive::new()) {
+        Ok(board) => match Box::new(alloc, board) {
+            Ok(board) => {
+                slot.put(board);
+                DONE
+            }
+            Err(_) => NO_MEMORY,
+        },
+        Err(_) => NO_MEMORY,
+    }
+}
+
+/// Frees the controller with its drives and media.
+#[unsafe(no_mangle)]
+pub extern "C" fn telwyddus_controller_free(alloc: Global, slot: &mut ControllerSlot) -> u32
+    ensures { Frees result slot.old.held.controller slot.new.held.controller }
+{
+    match slot.take(alloc) {
+        None => EMPTY,
+        Some(_board) => DONE,
+    }
+}
+
+/// Reads a port, 3F0 to 3F7.
+#[unsafe(no_mangle)]
+pub extern "C" fn telwyddus_controller_read(
+    alloc: Global,
+    slot: &mut ControllerSlot,
+    port: u16,
+    value: &mut u8,
+) -> u32
+    ensures { Serves (λ code old new. (code ≡ 0) × (value.new ≡ value_read port (lines_at (state_of old)) (controller_of old))
+        × (controller_of new ≡ after_read port (controller_of old)) × SameDrives old new) (value.new ≡ value.old)
+        result slot.old.held.controller slot.new.held.controller }
+{
+    match slot.take(alloc) {
+        None => EMPTY,
+        Some(mut board) => {
+            *value = board.read(port);
+            slot.put(board);
+            DONE
+        }
+    }
+}
+
+/// Writes a port, 3F0 to 3F7.
+#[unsafe(no_mangle)]
+pub extern "C" fn telwyddus_controller_write(
+    alloc: Global,
+    slot: &mut ControllerSlot,
+    port: u16,
+    value: u8,
+) -> u32
+    ensures { Serves (λ code old new. (code ≡ 0) × WritesBoard port value (state_of old) (state_of new)) ⊤
+        result slot.old.held.controller slot.new.held.controller }
+{
+    match slot.take(alloc) {
+        None => EMPTY,
+        Some(mut board) => {
+            board.write(port, value);
+            slot.put(board);
+            DONE
+        }
+    }
+}
+
+/// One device step.
+#[unsafe(no_mangle)]
+pub extern "C" fn telwyddus_controller_step(alloc: Global, slot: &mut ControllerSlot) -> u32
+    ensures { Serves (λ code old new. (code ≡ 0) × StepsBoard (state_of old) (state_of new)) ⊤
+        result slot.old.held.controller slot.new.held.controller }
+{
+    match slot.take(alloc) {
+        None => EMPTY,
+        Some(mut board) => {
+            board.step();
+            slot.put(board);
+            DONE
+        }
+    }
+}
+
+/// Device steps until the interrupt line or the request line changes, at most `most`, and how many were made.
+#[unsafe(no_mangle)]
+pub extern "C" fn telwyddus_controller_run(
+    alloc: Global,
+    slot: &mut ControllerSlot,
+    most: u32,
+    made: &mut u32,
+) -> u32
+    ensures { Serves (λ code old new. (code ≡ 0) × RunsTo most (state_of old) made.new (state_of new)) (made.new ≡ made.old)
+        result slot.old.held.controller slot.new.held.controller }
+{
+    match slot.take(alloc) {
+        None => EMPTY,
+        Some(mut board) => {
+            *made = board.run(most);
+            slot.put(board);
+            DONE
+        }
+    }
+}
+
+/// The lines: 1 the interrupt's, 2 the DMA request's, 4 where bytes go to memory.
+#[unsafe(no_mangle)]
+pub extern "C" fn telwyddus_controller_lines(
+    alloc: Global,
+    slot: &mut ControllerSlot,
+    lines: &mut u8,
+) -> u32
+    ensures { Serves (λ code old new. (code ≡ 0) × (new ≡ old) × (lines.new ≡ lines_byte (controller_of old))) (lines.new ≡ lines.old)
+        result slot.old.held.controller slot.new.held.controller }
+{
+    match slot.take(alloc) {
+        None => EMPTY,
+        Some(board) => {
+            *lines = lines_of(&board);
+            slot.put(board);
+            DONE
+        }
+    }
+}
+
+/// The same of a controller.
+fn lines_of(board: &InspectedBoard) -> u8
+    ensures { result ≡ lines_byte (controller_of board.now) }
+{
+    let int = if board.int() { INT } else { 0 };
+    let drq = if board.drq() { DRQ } else { 0 };
+    let to_memory = if board.to_memory() { TO_MEMORY } else { 0 };
+    int + drq + to_memory
+}
+
+/// The drive that DOR selects, 0 to 3: those of bays 2 and 3 are absent.
+#[unsafe(no_mangle)]
+pub extern "C" fn telwyddus_controller_selected(
+    alloc: Global,
+    slot: &mut ControllerSlot,
+    bay: &mut u8,
+) -> u32
+    ensures { Serves (λ code old new. (code ≡ 0) × (new ≡ old) × (bay.new ≡ selected_at (state_of old))) (bay.new ≡ bay.old)
+        result slot.old.held.controller slot.new.held.controller }
+{
+    match slot.take(alloc) {
+        None => EMPTY,
+        Some(board) => {
+            *bay = board.selected();
+            slot.put(board);
+            DONE
+        }
+    }
+}
+
+/// The nanoseconds of a device step at the rate that was chosen last.
+#[unsafe(no_mangle)]
+pub extern "C" fn telwyddus_controller_word_time(
+    alloc: Global,
+    slot: &mut ControllerSlot,
+    word_time: &mut u32,
+) -> u32
+    ensures { Serves (λ code old new. (code ≡ 0) × (new ≡ old) × (word_time.new ≡ nanoseconds (data_rate (controller_of old)))) (word_time.new ≡ word_time.old)
+        result slot.old.held.controller slot.new.held.controller }
+{
+    match slot.take(alloc) {
+        None => EMPTY,
+        Some(board) => {
+            *word_time = board.word_time();
+            slot.put(board);
+            DONE
+        }
+    }
+}

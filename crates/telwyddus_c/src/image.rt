@@ -1,0 +1,34 @@
+// Image files in buffers of C.
+ghost use Rattle.std.specs.Prelude.{◌≡◌};
+ghost use Rattle.std.specs.Option.{option_copied};
+ghost use Rattle.telwyddus_c.specs.Images.{WritesImage};
+
+use crate::code::{DONE, NO_MEDIUM, NO_MEMORY, TOO_SHORT};
+use raw_image::{Medium, write_image};
+use std::alloc::Global;
+
+/// Writes the image file of a medium to the beginning of a buffer, and tells its length. Where the buffer is too short it
+/// is left, and the length is told all the same.
+pub(crate) fn write_medium(
+    alloc: Global,
+    medium: Option<&Medium>,
+    out: &mut [u8],
+    length: &mut usize,
+) -> u32
+    ensures { WritesImage (option_copied medium.entry) result out.old out.new length.old length.new }
+{
+    let Some(medium) = medium else {
+        return NO_MEDIUM;
+    };
+    match write_image(alloc, medium) {
+        Err(_) => NO_MEMORY,
+        Ok(bytes) => {
+            *length = bytes.len();
+            if out.len() < bytes.len() {
+                return TOO_SHORT;
+            }
+            out[..bytes.len()].copy_from_slice(bytes.as_slice());
+            DONE
+        }
+    }
+}

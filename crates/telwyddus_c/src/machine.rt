@@ -1,0 +1,5 @@
+// The machine, for benches of drivers.
+mod bays;
+mod making;
+mod memory;
+mod ports;

@@ -1,0 +1,115 @@
+// The bays of the machine.
+ghost use Rattle.std.specs.Prelude.{◌≡◌, ◌≤◌, ◌==◌, MatchBool};
+ghost use Rattle.pc_bus.specs.Boards.{drive_in};
+ghost use Rattle.pc_bus.specs.Handling.{Touches};
+ghost use Rattle.telwyddus_c.specs.Machines.{board_of, InsertsAt, EjectsAt};
+ghost use Rattle.telwyddus_c.specs.Media.{PutsIn};
+ghost use Rattle.telwyddus_c.specs.Slots.{Serves, InBay};
+
+use crate::code::{DONE, EMPTY, FULL, HAS_MEDIUM, NO_MEDIUM, NO_MEMORY, OUT_OF_RANGE};
+use c_slots::{BenchMachine, MachineSlot, MediumTray, TraySlot};
+use std::alloc::Global;
+
+/// Puts the medium of a tray into a bay. Where one is in already, it stays in the tray.
+#[unsafe(no_mangle)]
+pub extern "C" fn telwyddus_machine_insert(
+    alloc: Global,
+    slot: &mut MachineSlot,
+    bay: u32,
+    tray: &mut TraySlot,
+) -> u32
+    ensures { Serves (λ code old new. InBay bay code ((new ≡ old) × (tray.new.held.tray ≡ tray.old.held.tray))
+        (InsertsAt bay code tray.old.held.tray tray.new.held.tray old new)) (tray.new.held.tray ≡ tray.old.held.tray)
+        result slot.old.held.machine slot.new.held.machine }
+{
+    match slot.take(alloc) {
+        None => EMPTY,
+        Some(mut machine) => {
+            let code = insert_from(alloc, &mut machine, bay, tray);
+            slot.put(machine);
+            code
+        }
+    }
+}
+
+/// The same of a machine.
+fn insert_from(alloc: Global, machine: &mut BenchMachine, bay: u32, tray: &mut TraySlot) -> u32
+    ensures { InBay bay result ((machine.new ≡ machine.old) × (tray.new.held.tray ≡ tray.old.held.tray))
+        (InsertsAt bay result tray.old.held.tray tray.new.held.tray machine.old machine.new) }
+{
+    if bay > 1 {
+        return OUT_OF_RANGE;
+    }
+    match tray.take(alloc) {
+        None => NO_MEDIUM,
+        Some(mut inside) => {
+            let code = insert(machine, bay as u8, &mut inside);
+            tray.put(inside);
+            code
+        }
+    }
+}
+
+/// The same of a machine and a tray.
+fn insert(machine: &mut BenchMachine, bay: u8, tray: &mut MediumTray) -> u32
+    requires { bay ≤ 1 }
+    ensures drive { PutsIn result tray.old tray.new (drive_in (board_of machine.old) bay) (drive_in (board_of machine.new) bay) }
+    ensures beside { MatchBool (result == 7) (machine.new ≡ machine.old) (Touches bay (board_of machine.old) (board_of machine.new)) }
+{
+    match tray.medium.take() {
+        None => NO_MEDIUM,
+        Some(medium) => match machine.insert(bay, medium) {
+            Ok(()) => DONE,
+            Err(back) => {
+                tray.medium = Some(back);
+                HAS_MEDIUM
+            }
+        },
+    }
+}
+
+/// Takes the medium out of a bay, into a new tray.
+#[unsafe(no_mangle)]
+pub extern "C" fn telwyddus_machine_eject(
+    alloc: Global,
+    slot: &mut MachineSlot,
+    bay: u32,
+    tray: &mut TraySlot,
+) -> u32
+    ensures { Serves (λ code old new. InBay bay code ((new ≡ old) × (tray.new.held.tray ≡ tray.old.held.tray))
+        (EjectsAt bay code tray.old.held.tray tray.new.held.tray old new)) (tray.new.held.tray ≡ tray.old.held.tray)
+        result slot.old.held.machine slot.new.held.machine }
+{
+    match slot.take(alloc) {
+        None => EMPTY,
+        Some(mut machine) => {
+            let code = eject_into(alloc, &mut machine, bay, tray);
+            slot.put(machine);
+            code
+        }
+    }
+}
+
+/// The same of a machine.
+fn eject_into(alloc: Global, machine: &mut BenchMachine, bay: u32, tray: &mut TraySlot) -> u32
+    ensures { InBay bay result ((machine.new ≡ machine.old) × (tray.new.held.tray ≡ tray.old.held.tray))
+        (EjectsAt bay result tray.old.held.tray tray.new.held.tray machine.old machine.new) }
+{
+    if bay > 1 {
+        return OUT_OF_RANGE;
+    }
+    if tray.is_full() {
+        return FULL;
+    }
+    let Ok(mut inside) = Box::new(alloc, MediumTray { medium: None }) else {
+        return NO_MEMORY;
+    };
+    match machine.eject(bay as u8) {
+        None => NO_MEDIUM,
+        Some(medium) => {
+            inside.medium = Some(medium);
+            tray.put(inside);
+            DONE
+        }
+    }
+}

@@ -1,0 +1,88 @@
+// The machine's making.
+ghost use Rattle.std.specs.Prelude.{◌≡◌};
+ghost use Rattle.telwyddus_c.specs.Machines.{IsPlain, FillsPlanned};
+ghost use Rattle.telwyddus_c.specs.Slots.{Fills, Frees};
+
+use crate::code::{BAD_PLAN, DONE, EMPTY, FULL, NO_MEMORY};
+use any_drive::AnyDrive;
+use c_slots::MachineSlot;
+use drive_model::{PlainDrive, ScriptDrive};
+use fault_plan::{PlanError, plan_of};
+use irq_events::Pace;
+use pc_bus::MachineOf;
+use std::alloc::Global;
+
+/// Makes a machine with two empty drives that have no faults. Nothing delays or disturbs it.
+#[unsafe(no_mangle)]
+pub extern "C" fn telwyddus_machine_new(alloc: Global, slot: &mut MachineSlot) -> u32
+    ensures { Fills IsPlain result slot.old.held.machine slot.new.held.machine }
+{
+    if slot.is_full() {
+        return FULL;
+    }
+    let pace = Pace {
+        gaps: Vec::new(alloc),
+        holds: Vec::new(alloc),
+        strays: Vec::new(alloc),
+    };
+    let first = AnyDrive::Plain(PlainDrive::new());
+    let second = AnyDrive::Plain(PlainDrive::new());
+    match MachineOf::new(alloc, first, second, pace) {
+        Ok(machine) => match Box::new(alloc, machine) {
+            Ok(machine) => {
+                slot.put(machine);
+                DONE
+            }
+            Err(_) => NO_MEMORY,
+        },
+        Err(_) => NO_MEMORY,
+    }
+}
+
+/// Makes a machine with two empty drives that have the faults of a plan's text, at the plan's pace. Where a line isn't
+/// understood, its number is told, counted from 1; 0 where the text is too long.
+#[unsafe(no_mangle)]
+pub extern "C" fn telwyddus_machine_new_planned(
+    alloc: Global,
+    slot: &mut MachineSlot,
+    plan: &[u8],
+    line: &mut usize,
+) -> u32
+    ensures { FillsPlanned plan.now result line.old line.new slot.old.held.machine slot.new.held.machine }
+{
+    if slot.is_full() {
+        return FULL;
+    }
+    match plan_of(alloc, plan) {
+        Err(PlanError::NoMemory) => NO_MEMORY,
+        Err(PlanError::BadLine { line: bad }) => {
+            *line = bad;
+            BAD_PLAN
+        }
+        Ok(plan) => {
+            let first = AnyDrive::Scripted(ScriptDrive::new(plan.bay0));
+            let second = AnyDrive::Scripted(ScriptDrive::new(plan.bay1));
+            match MachineOf::new(alloc, first, second, plan.pace) {
+                Ok(machine) => match Box::new(alloc, machine) {
+                    Ok(machine) => {
+                        slot.put(machine);
+                        DONE
+                    }
+                    Err(_) => NO_MEMORY,
+                },
+                Err(_) => NO_MEMORY,
+            }
+        }
+    }
+}
+
+/// Frees the machine with its drives and media.
+#[unsafe(no_mangle)]
+pub extern "C" fn telwyddus_machine_free(alloc: Global, slot: &mut MachineSlot) -> u32
+    ensures { Frees result slot.old.held.machine slot.new.held.machine }
+{
+    match slot.take(alloc) {
+        None => EMPTY,
+        Some(_machine) => DONE,
+    }
+}

@@ -1,0 +1,150 @@
+/* read_sector IMAGE BAY RATE C H R WANTED CONTENT AFTER
+ *
+ * Puts the image file IMAGE into BAY, reads the sector C H R at RATE (500 or 250) at the ports of the bare controller, and
+ * compares its 512 bytes with the file WANTED. Then it writes the file CONTENT there, takes the image while the medium is in,
+ * and compares it with the file AFTER; a reset cuts a last write short. DACK and TC are its own: `serve` is its DMA channel. */
+#include "common.h"
+
+static telwyddus_controller controller;
+static unsigned long steps;
+
+/* ---- the channel: bytes between a buffer and the controller, TC with the last */
+
+static uint8_t *place;
+static size_t left;
+
+static uint8_t serve(void) {
+    for (;;) {
+        uint8_t lines;
+        MUST(telwyddus_controller_lines(&controller, &lines));
+        if (!(lines & TELWYDDUS_DRQ) || left == 0) return lines;
+        if (lines & TELWYDDUS_TO_MEMORY) MUST(telwyddus_controller_dack_read(&controller, place));
+        else MUST(telwyddus_controller_dack_write(&controller, *place));
+        place++;
+        if (--left == 0) MUST(telwyddus_controller_tc(&controller));
+    }
+}
+
+/* Runs up to `most` steps, with the channel, and stops where INT is up. */
+static int run(unsigned long most) {
+    while (!(serve() & TELWYDDUS_INT) && most > 0) {
+        uint32_t made;
+        MUST(telwyddus_controller_run(&controller, most > 1000000 ? 1000000 : (uint32_t)most, &made));
+        most -= made;
+        steps += made;
+    }
+    return serve() & TELWYDDUS_INT;
+}
+
+/* ---- ports */
+
+static uint8_t in(uint16_t port) {
+    uint8_t value;
+    MUST(telwyddus_controller_read(&controller, port, &value));
+    return value;
+}
+
+static void out(uint16_t port, uint8_t value) { MUST(telwyddus_controller_write(&controller, port, value)); }
+
+static void put(uint8_t value) {
+    check((in(0x3F4) & 0xC0) == 0x80, "a byte can go to the controller");
+    out(0x3F5, value);
+}
+
+static uint8_t get(void) {
+    check((in(0x3F4) & 0xC0) == 0xC0, "a byte can come from the controller");
+    return in(0x3F5);
+}
+
+static void sense(uint8_t status, uint8_t cylinder) {
+    put(0x08);
+    check(get() == status, "ST0");
+    check(get() == cylinder, "the cylinder");
+}
+
+static void begin(uint8_t code, int bay, const uint8_t *key, uint8_t *bytes) {
+    uint8_t command[9] = {code, (uint8_t)(key[1] << 2 | bay), key[0], key[1], key[2], 2, key[2], 0x1B, 0xFF};
+    place = bytes;
+    left = 512;
+    for (int i = 0; i < 9; i++) put(command[i]);
+}
+
+static void transfer(uint8_t code, int bay, const uint8_t *key, uint8_t *bytes) {
+    begin(code, bay, key, bytes);
+    check(run(65536) != 0, "the command ends");
+    check(left == 0, "all bytes were moved");
+    for (int i = 0; i < 7; i++) {
+        uint8_t byte = get();
+        if (i < 3) check(byte == (i == 0 ? (key[1] << 2 | bay) : 0), "ST0, ST1, ST2");
+    }
+}
+
+static int is_gate_open(int bay) {
+    uint8_t cylinder, signs;
+    MUST(telwyddus_controller_bay(&controller, (uint32_t)bay, &cylinder, &signs));
+    return signs & TELWYDDUS_GATE;
+}
+
+/* A write is cut short: a reset closes the gate. */
+static void interrupt_write(int bay, const uint8_t *key, uint8_t *bytes) {
+    begin(0x45, bay, key, bytes);
+    for (long i = 0; i < 30000 && !is_gate_open(bay); i++) {
+        serve();
+        MUST(telwyddus_controller_step(&controller));
+        steps++;
+    }
+    check(is_gate_open(bay), "the gate opens");
+    out(0x3F2, (uint8_t)(0x10 << bay | bay));
+    check(!is_gate_open(bay), "a reset closes it");
+}
+
+int main(int count, char **words) {
+    if (count != 10) return 2;
+    int bay = atoi(words[2]);
+    uint8_t rate = atoi(words[3]) == 500 ? 0 : 2, written;
+    uint8_t key[3] = {(uint8_t)atoi(words[4]), (uint8_t)atoi(words[5]), (uint8_t)atoi(words[6])}, bytes[512];
+    size_t length, wanted_length, content_length, after_length, told;
+    uint8_t *image = file_of(words[1], &length), *wanted = file_of(words[7], &wanted_length);
+    uint8_t *content = file_of(words[8], &content_length), *after = file_of(words[9], &after_length);
+    uint8_t *now = (uint8_t *)malloc(length);
+    telwyddus_tray tray = {0};
+    uint32_t nanoseconds;
+
+    check(wanted_length == 512 && content_length == 512, "sectors have 512 bytes");
+    MUST(telwyddus_controller_new(&controller));
+    MUST(telwyddus_tray_read(&tray, image, length));
+    MUST(telwyddus_controller_insert(&controller, (uint32_t)bay, &tray));
+    MUST(telwyddus_tray_free(&tray));
+
+    out(0x3F2, (uint8_t)(0x0C | 0x10 << bay | bay));
+    out(0x3F7, rate);
+    check(run(1000) != 0, "INT follows the reset");
+    for (int drive = 0; drive < 4; drive++) sense((uint8_t)(0xC0 | drive), 0);
+    put(0x03), put(0xDF), put(0x02);
+    run(7000);
+    put(0x0F), put((uint8_t)(key[1] << 2 | bay)), put(key[0]);
+    check(run(1000000) != 0, "the seek ends");
+    sense((uint8_t)(0x20 | bay), key[0]);
+
+    transfer(0x46, bay, key, bytes);
+    check(memcmp(bytes, wanted, 512) == 0, "the sector is the one that was wanted");
+    MUST(telwyddus_controller_written(&controller, (uint32_t)bay, &written));
+    check(!written, "no word was replaced");
+
+    transfer(0x45, bay, key, content);
+    MUST(telwyddus_controller_image(&controller, (uint32_t)bay, now, length, &told));
+    check(told == after_length && told == length && memcmp(now, after, told) == 0, "the image is the one that was wanted");
+    MUST(telwyddus_controller_written(&controller, (uint32_t)bay, &written));
+    check(written, "words were replaced");
+    transfer(0x46, bay, key, bytes);
+    check(memcmp(bytes, content, 512) == 0, "the sector is the one that was written");
+
+    interrupt_write(bay, key, content);
+
+    MUST(telwyddus_controller_word_time(&controller, &nanoseconds));
+    check(nanoseconds == (rate == 0 ? 16000 : 32000), "the word time");
+    printf("%lu device steps, %lu microseconds\n", steps, (unsigned long)(steps * (nanoseconds / 1000.0)));
+    MUST(telwyddus_controller_free(&controller));
+    free(image), free(wanted), free(content), free(after), free(now);
+    return 0;
+}
