@@ -37,6 +37,7 @@ pub fn run_plain<S: Shelf, K: Sink>(
     ensures runs { IfSome result.machine (λ machine. RunsNew plain_state plain_parts (map string_bytes words.now)
         (desk_of S.told K.told shelf.old out.old) machine (desk_of S.told K.told shelf.new out.new) result.status) }
     ensures no_machine { result.machine ≡ None → Silent Status.NoMemory (K.told out.old) (K.told out.new) result.status }
+    ensures untouched { result.machine ≡ None → S.told shelf.new ≡ S.told shelf.old }
     ensures shelf_faults { Blames (result.status ≡ Status.FileFault) (S.fault_count shelf.old) (S.fault_count shelf.new) }
     ensures sink_faults { Blames (result.status ≡ Status.SinkFault) (K.fault_count out.old) (K.fault_count out.new) }
 {
@@ -132,6 +133,7 @@ fn run_on<S: Shelf, K: Sink, D: Drive>(
         (map string_bytes words.now) (desk_of S.told K.told shelf.old out.old) machine
         (desk_of S.told K.told shelf.new out.new) result.status) }
     ensures no_machine { result.machine ≡ None → Silent Status.NoMemory (K.told out.old) (K.told out.new) result.status }
+    ensures untouched { result.machine ≡ None → S.told shelf.new ≡ S.told shelf.old }
     ensures shelf_faults { Blames (result.status ≡ Status.FileFault) (S.fault_count shelf.old) (S.fault_count shelf.new) }
     ensures sink_faults { Blames (result.status ≡ Status.SinkFault) (K.fault_count out.old) (K.fault_count out.new) }
 {
