@@ -1,8 +1,9 @@
-/* telwyddus.h - the diskette path of a PC/AT, device step by device step: for emulators and for tests of drivers.
+/* telwyddus.h - the diskette path of a PC/AT, device step by device step: for emulators and for tests of drivers. And the
+ * program `floppy` over files in memory, for tools.
  *
- * Three faces, one page each: the controller with its two drives, for a bus of your own; the whole machine, for benches of
- * drivers; and trays, in which media lie outside drives. The code behind them is proved: docs/C.md says what of, and how to
- * build. For C and for C++.
+ * Four faces, one page each: the controller with its two drives, for a bus of your own; the whole machine, for benches of
+ * drivers; trays, in which media lie outside drives; and shelves, on which the program runs. The code behind them is proved:
+ * docs/C.md says what of, and how to build. For C and for C++.
  *
  * SLOTS. A slot holds one object or none. It is yours: on your stack, in your device's state. Begin it all 0 ("= {0}"). Don't
  * write its fields, and don't copy or move it while it holds something: a copy that is freed besides frees twice. A call on a
@@ -38,6 +39,7 @@ extern "C" {
 typedef struct telwyddus_controller { void *at_; uint32_t tag_; } telwyddus_controller;
 typedef struct telwyddus_machine { void *at_; uint32_t tag_; } telwyddus_machine;
 typedef struct telwyddus_tray { void *at_; uint32_t tag_; } telwyddus_tray;
+typedef struct telwyddus_shelf { void *at_; uint32_t tag_; } telwyddus_shelf;
 
 enum telwyddus_code {
     TELWYDDUS_DONE = 0,
@@ -50,7 +52,9 @@ enum telwyddus_code {
     TELWYDDUS_NO_MEDIUM = 7,    /* the bay, or the tray, has none */
     TELWYDDUS_NOT_ASKED = 8,    /* the request line is down, or bytes go the other way */
     TELWYDDUS_BAD_PLAN = 9,     /* a line of the plan isn't understood */
-    TELWYDDUS_TOO_SHORT = 10    /* the buffer is too short */
+    TELWYDDUS_TOO_SHORT = 10,   /* the buffer is too short */
+    TELWYDDUS_NOT_TEXT = 11,    /* a name, or a word, isn't UTF-8 */
+    TELWYDDUS_NO_FILE = 12      /* no file has the name */
 };
 
 /* ---------------------------------------------------------------------------------------------------------------------------
@@ -165,6 +169,37 @@ TELWYDDUS_CALL uint32_t telwyddus_machine_memory_set(telwyddus_machine *machine,
 /* Media in and out, as at the controller. */
 TELWYDDUS_CALL uint32_t telwyddus_machine_insert(telwyddus_machine *machine, uint32_t bay, telwyddus_tray *tray);
 TELWYDDUS_CALL uint32_t telwyddus_machine_eject(telwyddus_machine *machine, uint32_t bay, telwyddus_tray *tray);
+
+/* ---------------------------------------------------------------------------------------------------------------------------
+ * SHELVES. Files in memory, and the program `floppy` run on them, as often as you like: it formats, copies, verifies, imports
+ * and exports flat sector files and ImageDisk files, surveys, remasters, rescues, plays jobs of single requests, serves calls of
+ * INT 13h and port accesses. Its words, its texts and what it prints are those of the command line. No file of the machine is
+ * touched. */
+
+/* Makes a shelf with no file. DONE, FULL, NO_MEMORY. */
+TELWYDDUS_CALL uint32_t telwyddus_shelf_new(telwyddus_shelf *shelf);
+
+/* Frees it with its files. DONE, EMPTY. */
+TELWYDDUS_CALL uint32_t telwyddus_shelf_free(telwyddus_shelf *shelf);
+
+/* Places a file under a name, in place of one of that name. Names are UTF-8. DONE, EMPTY, NO_MEMORY, NOT_TEXT. */
+TELWYDDUS_CALL uint32_t telwyddus_shelf_put(telwyddus_shelf *shelf, const uint8_t *name, size_t name_length,
+    const uint8_t *bytes, size_t length);
+
+/* Copies a file to the beginning of a buffer. *length is the file's, told where the buffer is too short too. DONE, EMPTY,
+ * NOT_TEXT, NO_FILE, TOO_SHORT. */
+TELWYDDUS_CALL uint32_t telwyddus_shelf_get(telwyddus_shelf *shelf, const uint8_t *name, size_t name_length, uint8_t *out,
+    size_t room, size_t *length);
+
+/* Runs the program with words, which line feeds separate ("export\ndisk.rt\ndisk.flat", none at the end), on a new machine of
+ * drives without faults. *status is its exit status: 0 where all was done, 2 where the words aren't understood, 7 where memory
+ * ran out within. Where the call answers anything but DONE nothing ran, and the shelf is as it was. DONE, EMPTY, NO_MEMORY,
+ * NOT_TEXT. */
+TELWYDDUS_CALL uint32_t telwyddus_shelf_run(telwyddus_shelf *shelf, const uint8_t *words, size_t length, uint32_t *status);
+
+/* Copies all that runs printed since the report was had last to the beginning of a buffer, and forgets it. Where the buffer is
+ * too short it is kept, and *length is its length. DONE, EMPTY, TOO_SHORT. */
+TELWYDDUS_CALL uint32_t telwyddus_shelf_report(telwyddus_shelf *shelf, uint8_t *out, size_t room, size_t *length);
 
 #ifdef __cplusplus
 }

@@ -18,7 +18,7 @@ static void check(int is_so, const char *what) {
     if (!is_so) exit(1);
 }
 
-static uint8_t *file_of(const char *name, size_t *length) {
+static inline uint8_t *file_of(const char *name, size_t *length) {
     FILE *file = fopen(name, "rb");
     if (file == NULL) { perror(name); exit(1); }
     fseek(file, 0, SEEK_END);

@@ -1,3 +1,4 @@
 pub mod Controllers
 pub mod Machines
+pub mod Shelves
 pub mod Trays

@@ -1,8 +1,9 @@
-//! What C keeps of a controller, of a machine and of a medium: slots that hold one or none.
+//! What C keeps of a controller, of a machine, of a medium and of a shelf: slots that hold one or none.
 #![tactic(auto)]
 
 mod controller;
 mod machine;
+mod shelf;
 mod tray;
 
 use any_drive::AnyDrive;
@@ -12,6 +13,7 @@ use inspected_drive::InspectedDrive;
 pub use machine::MachineSlot;
 use pc_bus::MachineOf;
 use raw_image::Medium;
+pub use shelf::ShelfSlot;
 pub use tray::TraySlot;
 
 /// The machine with drives that have no faults, or planned ones.
@@ -41,5 +43,10 @@ pub fn controller_crosses(slot: ControllerSlot) {
 
 /// That of a tray does.
 pub fn tray_crosses(slot: TraySlot) {
+    crosses(slot);
+}
+
+/// That of a shelf does.
+pub fn shelf_crosses(slot: ShelfSlot) {
     crosses(slot);
 }

@@ -1,22 +1,15 @@
 -- Media in buffers of C.
-use Rattle.std.specs.Prelude.{◌≡◌, ◌<◌, ℕ, ◌==◌, List, length, take, drop, Option, None, Some, IsSome, MatchBool}
+use Rattle.std.specs.Prelude.{◌≡◌, ℕ, ◌==◌, List, Option, None, Some, IsSome, MatchBool}
 use Rattle.c_slots.specs.Trays.{TrayValue}
 use Rattle.raw_image.specs.Disk.{Disk}
 use Rattle.raw_image.specs.Image.{Spells, file_of}
-
--- a buffer then begins with these bytes, and its rest stays
-pub record BeginsWith (bytes old new : List ℕ) : Type 0 where
-  pub begins : take (length bytes) new ≡ bytes
-  pub rest : drop (length bytes) new ≡ drop (length bytes) old
+use Rattle.telwyddus_c.specs.Buffers.{WritesOr}
 
 -- the image file of a medium is written to a buffer, and its length told: 0. There is no medium, 7, or memory is out, 3: the buffer
 -- and what was told stay. The buffer is too short, 10: it stays, and the length is told
 abbrev pub WritesImage : Option Disk → ℕ → List ℕ → List ℕ → (was told : ℕ) → Type 0
 WritesImage None code old new was told = (code ≡ 7) × (new ≡ old) × (told ≡ was)
-WritesImage (Some disk) code old new was told =
-    MatchBool (code == 0) ((told ≡ length (file_of disk)) × BeginsWith (file_of disk) old new)
-    (MatchBool (code == 10) ((told ≡ length (file_of disk)) × (length old < told) × (new ≡ old))
-    (MatchBool (code == 3) ((new ≡ old) × (told ≡ was)) ⊥))
+WritesImage (Some disk) code old new was told = WritesOr (MatchBool (code == 3) ((new ≡ old) × (told ≡ was)) ⊥) (file_of disk) code old new told
 
 -- a tray is made with the medium that the bytes spell: 0. They spell none, 5, the slot holds a tray already, 2, or memory is out,
 -- 3: it stays

@@ -1,5 +1,7 @@
-pub mod Slots
-pub mod Images
-pub mod Media
+pub mod Buffers
 pub mod Controllers
+pub mod Images
 pub mod Machines
+pub mod Media
+pub mod Shelves
+pub mod Slots

@@ -32,3 +32,9 @@ pub const BAD_PLAN: u32 = 9;
 
 /// The buffer is too short.
 pub const TOO_SHORT: u32 = 10;
+
+/// A name, or a word, isn't UTF-8.
+pub const NOT_TEXT: u32 = 11;
+
+/// No file has the name.
+pub const NO_FILE: u32 = 12;

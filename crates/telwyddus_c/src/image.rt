@@ -1,9 +1,9 @@
 // Image files in buffers of C.
-ghost use Rattle.std.specs.Prelude.{◌≡◌};
 ghost use Rattle.std.specs.Option.{option_copied};
 ghost use Rattle.telwyddus_c.specs.Images.{WritesImage};
 
-use crate::code::{DONE, NO_MEDIUM, NO_MEMORY, TOO_SHORT};
+use crate::buffer::write_bytes;
+use crate::code::{NO_MEDIUM, NO_MEMORY};
 use raw_image::{Medium, write_image};
 use std::alloc::Global;
 
@@ -22,13 +22,6 @@ pub(crate) fn write_medium(
     };
     match write_image(alloc, medium) {
         Err(_) => NO_MEMORY,
-        Ok(bytes) => {
-            *length = bytes.len();
-            if out.len() < bytes.len() {
-                return TOO_SHORT;
-            }
-            out[..bytes.len()].copy_from_slice(bytes.as_slice());
-            DONE
-        }
+        Ok(bytes) => write_bytes(bytes.as_slice(), out, length),
     }
 }

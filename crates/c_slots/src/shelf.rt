@@ -1,0 +1,5 @@
+// A shelf for C.
+mod held;
+mod slot;
+
+pub use slot::ShelfSlot;

@@ -1,0 +1,45 @@
+-- Calls on a shelf on which the program runs.
+use Rattle.std.specs.Prelude.{◌≡◌, ◌==◌, ℕ, List, [], All, Option, None, Some, MatchBool, if◌then◌else◌}
+use Rattle.std.specs.Str.{IsUtf8}
+use Rattle.archive_commands.specs.Files.{Desk}
+use Rattle.c_slots.specs.Shelves.{ShelfValue}
+use Rattle.flop_base.specs.Numbers.{status_number}
+use Rattle.flop_base.specs.Shelf.{no_files, stored}
+use Rattle.flop_base.specs.declared.answers.Status.{Status}
+use Rattle.run_shelf.specs.Shelves.{files_in, report_in, RanPlain}
+use Rattle.run_shelf.specs.Words.{words_in}
+use Rattle.telwyddus_c.specs.Buffers.{WritesOr, WritesBytes}
+
+-- no file, and nothing printed
+pub record IsBare (shelf : ShelfValue) : Type 0 where
+  pub files : files_in shelf ≡ no_files
+  pub report : report_in shelf ≡ []
+
+-- a file is placed: 0. Memory is out, 3, or its name isn't UTF-8, 11: all stays
+abbrev pub Puts : (name bytes : List ℕ) → ℕ → Desk → Desk → Type 0
+Puts name bytes code old new =
+    MatchBool (code == 0) ((new.files ≡ stored old.files name bytes) × (new.report ≡ old.report))
+    (MatchBool (code == 3) (new ≡ old)
+    (MatchBool (code == 11) (¬ (IsUtf8 name) × (new ≡ old)) ⊥))
+
+-- a file, where one has the name, is copied to a buffer: 0, or 10 where the buffer is too short. No file has the name, 12, or it isn't
+-- UTF-8, 11: the buffer and what was told stay
+abbrev pub Gets : (name : List ℕ) → Option (List ℕ) → ℕ → List ℕ → List ℕ → (was told : ℕ) → Type 0
+Gets name None code old new was told =
+    MatchBool (code == 12) ((new ≡ old) × (told ≡ was)) (MatchBool (code == 11) (¬ (IsUtf8 name) × (new ≡ old) × (told ≡ was)) ⊥)
+Gets name (Some bytes) code old new was told =
+    WritesOr (MatchBool (code == 11) (¬ (IsUtf8 name) × (new ≡ old) × (told ≡ was)) ⊥) bytes code old new told
+
+-- the program ran with the words of a text, and its exit status is told: 0. Memory was out before it ran, 3, or some word isn't
+-- UTF-8, 11: all stays
+abbrev pub RunsWords : List ℕ → ℕ → (was status : ℕ) → Desk → Desk → Type 0
+RunsWords text code was status old new =
+    MatchBool (code == 0) ((ended : Status) × (status ≡ status_number ended) × RanPlain (words_in text) old new ended)
+    (MatchBool (code == 3) ((new ≡ old) × (status ≡ was))
+    (MatchBool (code == 11) (¬ (All IsUtf8 (words_in text)) × (new ≡ old) × (status ≡ was)) ⊥))
+
+-- what was printed is copied to a buffer and forgotten: 0. The buffer is too short, 10: it is kept
+pub record HandsOut (code : ℕ) (old new : List ℕ) (told : ℕ) (before after : ShelfValue) : Type 0 where
+  pub copied : WritesBytes (report_in before) code old new told
+  pub left : report_in after ≡ if code == 0 then [] else report_in before
+  pub files : files_in after ≡ files_in before

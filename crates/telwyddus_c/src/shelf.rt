@@ -1,0 +1,182 @@
+// The program over files in memory.
+ghost use Rattle.std.specs.Prelude.{◌≡◌, ⊤};
+ghost use Rattle.flop_base.specs.Shelf.{file_at};
+ghost use Rattle.run_shelf.specs.Shelves.{desk_in, files_in};
+ghost use Rattle.telwyddus_c.specs.Shelves.{IsBare, Puts, Gets, RunsWords, HandsOut};
+ghost use Rattle.telwyddus_c.specs.Slots.{Fills, Frees, Serves};
+
+use crate::buffer::write_bytes;
+use crate::code::{DONE, EMPTY, FULL, NO_FILE, NO_MEMORY, NOT_TEXT};
+use c_slots::ShelfSlot;
+use run_shelf::{RunShelf, WordsError, split_words};
+use std::alloc::Global;
+
+/// Makes a shelf with no file.
+#[unsafe(no_mangle)]
+pub extern "C" fn telwyddus_shelf_new(alloc: Global, slot: &mut ShelfSlot) -> u32
+    ensures { Fills IsBare result slot.old.held.shelf slot.new.held.shelf }
+{
+    if slot.is_full() {
+        return FULL;
+    }
+    match Box::new(alloc, RunShelf::new(alloc)) {
+        Ok(shelf) => {
+            slot.put(shelf);
+            DONE
+        }
+        Err(_) => NO_MEMORY,
+    }
+}
+
+/// Frees a shelf with its files.
+#[unsafe(no_mangle)]
+pub extern "C" fn telwyddus_shelf_free(alloc: Global, slot: &mut ShelfSlot) -> u32
+    ensures { Frees result slot.old.held.shelf slot.new.held.shelf }
+{
+    match slot.take(alloc) {
+        None => EMPTY,
+        Some(_shelf) => DONE,
+    }
+}
+
+/// Places a file, in place of one of that name.
+#[unsafe(no_mangle)]
+pub extern "C" fn telwyddus_shelf_put(
+    alloc: Global,
+    slot: &mut ShelfSlot,
+    name: &[u8],
+    bytes: &[u8],
+) -> u32
+    ensures { Serves (λ code old new. Puts name.now bytes.now code (desk_in old) (desk_in new)) ⊤
+        result slot.old.held.shelf slot.new.held.shelf }
+{
+    match slot.take(alloc) {
+        None => EMPTY,
+        Some(mut shelf) => {
+            let code = put(&mut shelf, name, bytes);
+            slot.put(shelf);
+            code
+        }
+    }
+}
+
+/// The same of a shelf.
+fn put(shelf: &mut RunShelf, name: &[u8], bytes: &[u8]) -> u32
+    ensures { Puts name.now bytes.now result (desk_in shelf.old) (desk_in shelf.new) }
+{
+    let Ok(name) = str::from_utf8(name) else {
+        return NOT_TEXT;
+    };
+    match shelf.put(name, bytes) {
+        Ok(()) => DONE,
+        Err(_) => NO_MEMORY,
+    }
+}
+
+/// Writes a file's bytes to the beginning of a buffer, and tells their number.
+#[unsafe(no_mangle)]
+pub extern "C" fn telwyddus_shelf_get(
+    alloc: Global,
+    slot: &mut ShelfSlot,
+    name: &[u8],
+    out: &mut [u8],
+    length: &mut usize,
+) -> u32
+    ensures { Serves (λ code old new. (new ≡ old) × Gets name.now (file_at (files_in old) name.now) code out.old out.new length.old length.new)
+        ((out.new ≡ out.old) × (length.new ≡ length.old)) result slot.old.held.shelf slot.new.held.shelf }
+{
+    match slot.take(alloc) {
+        None => EMPTY,
+        Some(shelf) => {
+            let code = get(&shelf, name, out, length);
+            slot.put(shelf);
+            code
+        }
+    }
+}
+
+/// The same of a shelf.
+fn get(shelf: &RunShelf, name: &[u8], out: &mut [u8], length: &mut usize) -> u32
+    ensures { Gets name.now (file_at (files_in shelf.now) name.now) result out.old out.new length.old length.new }
+{
+    let Ok(name) = str::from_utf8(name) else {
+        return NOT_TEXT;
+    };
+    match shelf.file(name) {
+        None => NO_FILE,
+        Some(bytes) => write_bytes(bytes, out, length),
+    }
+}
+
+/// Runs the program with the words of a text, which line feeds separate, on a new machine whose drives have no faults, and
+/// tells its exit status.
+#[unsafe(no_mangle)]
+pub extern "C" fn telwyddus_shelf_run(
+    alloc: Global,
+    slot: &mut ShelfSlot,
+    text: &[u8],
+    status: &mut u32,
+) -> u32
+    ensures { Serves (λ code old new. RunsWords text.now code status.old status.new (desk_in old) (desk_in new)) (status.new ≡ status.old)
+        result slot.old.held.shelf slot.new.held.shelf }
+{
+    match slot.take(alloc) {
+        None => EMPTY,
+        Some(mut shelf) => {
+            let code = run(alloc, &mut shelf, text, status);
+            slot.put(shelf);
+            code
+        }
+    }
+}
+
+/// The same of a shelf.
+fn run(alloc: Global, shelf: &mut RunShelf, text: &[u8], status: &mut u32) -> u32
+    ensures { RunsWords text.now result status.old status.new (desk_in shelf.old) (desk_in shelf.new) }
+{
+    let words = match split_words(alloc, text) {
+        Ok(words) => words,
+        Err(WordsError::NotText) => return NOT_TEXT,
+        Err(WordsError::NoMemory) => return NO_MEMORY,
+    };
+    match shelf.run(alloc, words.as_slice()) {
+        None => NO_MEMORY,
+        Some(ended) => {
+            *status = u32::from(ended.number());
+            DONE
+        }
+    }
+}
+
+/// Writes what runs printed since it was asked last to the beginning of a buffer, and tells the number of bytes. What fitted
+/// is forgotten.
+#[unsafe(no_mangle)]
+pub extern "C" fn telwyddus_shelf_report(
+    alloc: Global,
+    slot: &mut ShelfSlot,
+    out: &mut [u8],
+    length: &mut usize,
+) -> u32
+    ensures { Serves (λ code old new. HandsOut code out.old out.new length.new old new) ((out.new ≡ out.old) × (length.new ≡ length.old))
+        result slot.old.held.shelf slot.new.held.shelf }
+{
+    match slot.take(alloc) {
+        None => EMPTY,
+        Some(mut shelf) => {
+            let code = hand_out(alloc, &mut shelf, out, length);
+            slot.put(shelf);
+            code
+        }
+    }
+}
+
+/// The same of a shelf.
+fn hand_out(alloc: Global, shelf: &mut RunShelf, out: &mut [u8], length: &mut usize) -> u32
+    ensures { HandsOut result out.old out.new length.new shelf.old shelf.new }
+{
+    let code = write_bytes(shelf.report(), out, length);
+    if code == DONE {
+        shelf.forget_report(alloc);
+    }
+    code
+}
