@@ -1,0 +1,121 @@
+/* Both faces of the library. Only this file knows its calls. */
+#include "machine.h"
+#include "telwyddus.h"
+#include <stdio.h>
+#include <stdlib.h>
+
+static telwyddus_machine machine;
+static telwyddus_controller controller;
+
+static void must(uint32_t code, const char *what) {
+    if (code == TELWYDDUS_DONE) return;
+    fprintf(stderr, "%s gives code %u\n", what, (unsigned)code);
+    exit(3);
+}
+
+/* ---- the whole machine */
+
+static void machine_make(void) { must(telwyddus_machine_new(&machine), "machine_new"); }
+
+static bool machine_insert(const uint8_t *image, size_t length) {
+    telwyddus_tray tray = {0};
+    if (telwyddus_tray_read(&tray, image, length) != TELWYDDUS_DONE) return false;
+    must(telwyddus_machine_insert(&machine, 0, &tray), "machine_insert");
+    must(telwyddus_tray_free(&tray), "tray_free");
+    return true;
+}
+
+/* The medium goes out for it. */
+static uint8_t *machine_image(size_t *length) {
+    telwyddus_tray tray = {0};
+    uint8_t none, *image;
+    must(telwyddus_machine_eject(&machine, 0, &tray), "machine_eject");
+    if (telwyddus_tray_write(&tray, &none, 0, length) != TELWYDDUS_TOO_SHORT) exit(3);
+    image = malloc(*length);
+    must(telwyddus_tray_write(&tray, image, *length, length), "tray_write");
+    must(telwyddus_tray_free(&tray), "tray_free");
+    return image;
+}
+
+static uint8_t machine_in(uint16_t port) {
+    uint8_t value = 0;
+    must(telwyddus_machine_inb(&machine, port, &value), "machine_inb");
+    return value;
+}
+
+static void machine_out(uint16_t port, uint8_t value) { must(telwyddus_machine_outb(&machine, port, value), "machine_outb"); }
+
+/* wait_irq doesn't tell how many steps it made, so they are made one by one. */
+static uint32_t machine_run(uint32_t most) {
+    uint8_t is_set = 0;
+    uint32_t made = 0;
+    must(telwyddus_machine_wait_irq(&machine, 0, &is_set), "machine_wait_irq");
+    for (; made < most && !is_set; made++) must(telwyddus_machine_wait_irq(&machine, 1, &is_set), "machine_wait_irq");
+    return made;
+}
+
+static bool machine_take_irq(void) {
+    uint8_t was_set = 0;
+    must(telwyddus_machine_take_irq(&machine, &was_set), "machine_take_irq");
+    return was_set;
+}
+
+static void machine_get(uint32_t address, uint8_t *to, size_t length) {
+    must(telwyddus_machine_memory_get(&machine, address, to, length), "machine_memory_get");
+}
+
+static void machine_set(uint32_t address, const uint8_t *from, size_t length) {
+    must(telwyddus_machine_memory_set(&machine, address, from, length), "machine_memory_set");
+}
+
+const Machine whole_machine = {machine_make, machine_insert, machine_image, machine_in, machine_out, machine_run, machine_take_irq, machine_get, machine_set};
+
+/* ---- the bare controller */
+
+void chip_make(void) { must(telwyddus_controller_new(&controller), "controller_new"); }
+
+bool chip_insert(const uint8_t *image, size_t length) {
+    telwyddus_tray tray = {0};
+    if (telwyddus_tray_read(&tray, image, length) != TELWYDDUS_DONE) return false;
+    must(telwyddus_controller_insert(&controller, 0, &tray), "controller_insert");
+    must(telwyddus_tray_free(&tray), "tray_free");
+    return true;
+}
+
+uint8_t *chip_image(size_t *length) {
+    uint8_t none, *image;
+    if (telwyddus_controller_image(&controller, 0, &none, 0, length) != TELWYDDUS_TOO_SHORT) exit(3);
+    image = malloc(*length);
+    must(telwyddus_controller_image(&controller, 0, image, *length, length), "controller_image");
+    return image;
+}
+
+uint8_t chip_in(uint16_t port) {
+    uint8_t value = 0;
+    must(telwyddus_controller_read(&controller, port, &value), "controller_read");
+    return value;
+}
+
+void chip_out(uint16_t port, uint8_t value) { must(telwyddus_controller_write(&controller, port, value), "controller_write"); }
+
+uint32_t chip_run(uint32_t most) {
+    uint32_t made = 0;
+    must(telwyddus_controller_run(&controller, most, &made), "controller_run");
+    return made;
+}
+
+uint8_t chip_lines(void) {
+    uint8_t lines = 0;
+    must(telwyddus_controller_lines(&controller, &lines), "controller_lines");
+    return lines;
+}
+
+uint8_t chip_dack_read(void) {
+    uint8_t byte = 0;
+    must(telwyddus_controller_dack_read(&controller, &byte), "controller_dack_read");
+    return byte;
+}
+
+void chip_dack_write(uint8_t byte) { must(telwyddus_controller_dack_write(&controller, byte), "controller_dack_write"); }
+
+void chip_tc(void) { must(telwyddus_controller_tc(&controller), "controller_tc"); }
