@@ -1,0 +1,192 @@
+"""The library for C (c/telwyddus.h) in Python, by ctypes and the standard library alone. The header tells what each call does.
+
+    with Tray(image) as tray, Controller() as controller:
+        controller.insert(0, tray)
+        controller.write(0x3F2, 0x1C)
+
+TELWYDDUS_LIBRARY names the shared library; docs/C.md says how to build it. Each object frees what it holds where its `with` ends.
+A code other than DONE is raised as the exception of its name. Calls keep the interpreter's lock, so they come one at a time.
+"""
+import ctypes
+import enum
+import os
+
+library = ctypes.PyDLL(os.environ.get("TELWYDDUS_LIBRARY", "libtelwyddus.so"))
+
+
+class Refused(Exception):
+    """A call answered a code other than DONE."""
+
+
+class Empty(Refused): """The object holds nothing, or no more."""
+class Full(Refused): """The object holds something already."""
+class NoMemory(Refused): """Memory is out."""
+class OutOfRange(Refused): """A bay above 1, or addresses beyond memory."""
+class BadImage(Refused): """The bytes are no image file."""
+class HasMedium(Refused): """The bay has a medium in: the new one stays in its tray."""
+class NoMedium(Refused): """The bay, or the tray, has none."""
+class NotAsked(Refused): """The request line is down, or bytes go the other way."""
+class BadPlan(Refused): """A line of the plan isn't understood: `line`, counted from 1; 0 where the text is too long."""
+class TooShort(Refused): """The buffer is too short."""
+
+
+CODES = (None, Empty, Full, NoMemory, OutOfRange, BadImage, HasMedium, NoMedium, NotAsked, BadPlan, TooShort)
+
+
+class Lines(enum.IntFlag):
+    INT, DRQ, TO_MEMORY = 1, 2, 4
+
+
+class Signs(enum.IntFlag):
+    MOTOR, SELECTED, GATE, MEDIUM = 1, 2, 4, 8
+
+
+class Slot(ctypes.Structure):
+    _fields_ = [("at", ctypes.c_void_p), ("tag", ctypes.c_uint32)]
+
+
+def number(kind, value):
+    """A number as C has it; ctypes itself would cut it."""
+    if not 0 <= value < 256 ** ctypes.sizeof(kind):
+        raise OverflowError(value)
+    return kind(value)
+
+
+def byte(value): return number(ctypes.c_uint8, value)
+def port(value): return number(ctypes.c_uint16, value)
+def count(value): return number(ctypes.c_uint32, value)
+def size(value): return number(ctypes.c_size_t, value)
+
+
+def given(data):
+    """Bytes that go in: where they are, and how many."""
+    return ctypes.create_string_buffer(bytes(data)), size(len(data))
+
+
+class Holder:
+    """An object of the library, in a slot of its own."""
+
+    kind = None
+
+    def __init__(self):
+        self._slot = Slot()
+
+    def __enter__(self):
+        return self
+
+    def __exit__(self, *_):
+        self.close()
+
+    def __del__(self):
+        self.close()
+
+    def close(self):
+        """Frees it. Once more is harmless."""
+        getattr(library, f"telwyddus_{self.kind}_free")(ctypes.byref(self._slot))
+
+    def _call(self, name, *values):
+        answer = getattr(library, f"telwyddus_{self.kind}_{name}")
+        answer.restype = ctypes.c_uint32
+        code = answer(ctypes.byref(self._slot), *values)
+        if code:
+            raise CODES[code](f"{self.kind}_{name}")
+
+    def _told(self, kind, name, *values):
+        """What a call hands out through its last pointer."""
+        told = kind()
+        self._call(name, *values, ctypes.byref(told))
+        return told.value
+
+    def _bytes(self, name, *values):
+        """Bytes whose number the call tells."""
+        room, length = 0, ctypes.c_size_t()
+        while True:
+            out = ctypes.create_string_buffer(room + 1)
+            try:
+                self._call(name, *values, out, size(room), ctypes.byref(length))
+                return out.raw[:length.value]
+            except TooShort:
+                room = length.value
+
+
+class Tray(Holder):
+    """A medium outside a drive, of an image file's bytes; without them, what an eject fills."""
+
+    kind = "tray"
+
+    def __init__(self, image=None):
+        super().__init__()
+        if image is not None:
+            self._call("read", *given(image))
+
+    def image(self): return self._bytes("write")
+
+
+class Drives(Holder):
+    """What a controller and a machine have in common: two bays."""
+
+    def insert(self, bay, tray): self._call("insert", count(bay), ctypes.byref(tray._slot))
+
+    def eject(self, bay):
+        tray = Tray()
+        self._call("eject", count(bay), ctypes.byref(tray._slot))
+        return tray
+
+
+class Controller(Drives):
+    """The bare controller with two drives, for a bus of your own."""
+
+    kind = "controller"
+
+    def __init__(self):
+        super().__init__()
+        self._call("new")
+
+    def read(self, at): return self._told(ctypes.c_uint8, "read", port(at))
+    def write(self, at, value): self._call("write", port(at), byte(value))
+    def step(self): self._call("step")
+    def run(self, most): return self._told(ctypes.c_uint32, "run", count(most))
+    def lines(self): return Lines(self._told(ctypes.c_uint8, "lines"))
+    def dack_read(self): return self._told(ctypes.c_uint8, "dack_read")
+    def dack_write(self, value): self._call("dack_write", byte(value))
+    def tc(self): self._call("tc")
+    def word_time(self): return self._told(ctypes.c_uint32, "word_time")
+    def image(self, bay): return self._bytes("image", count(bay))
+    def written(self, bay): return bool(self._told(ctypes.c_uint8, "written", count(bay)))
+    def selected(self): return self._told(ctypes.c_uint8, "selected")
+
+    def bay(self, bay):
+        """The cylinder under its heads, and its signs."""
+        cylinder = ctypes.c_uint8()
+        signs = self._told(ctypes.c_uint8, "bay", count(bay), ctypes.byref(cylinder))
+        return cylinder.value, Signs(signs)
+
+
+class Machine(Drives):
+    """The whole machine: controller, channel 2, memory, and the latch of IRQ 6; with the faults and delays of a plan, if any."""
+
+    kind = "machine"
+
+    def __init__(self, plan=None):
+        super().__init__()
+        if plan is None:
+            self._call("new")
+            return
+        line = ctypes.c_size_t()
+        try:
+            self._call("new_planned", *given(plan.encode()), ctypes.byref(line))
+        except BadPlan as refused:
+            refused.line = line.value
+            raise
+
+    def inb(self, at): return self._told(ctypes.c_uint8, "inb", port(at))
+    def outb(self, at, value): self._call("outb", port(at), byte(value))
+    def wait(self, steps): self._call("wait", count(steps))
+    def wait_irq(self, most): return bool(self._told(ctypes.c_uint8, "wait_irq", count(most)))
+    def take_irq(self): return bool(self._told(ctypes.c_uint8, "take_irq"))
+    def memory_set(self, address, data): self._call("memory_set", size(address), *given(data))
+
+    def memory_get(self, address, length):
+        out = ctypes.create_string_buffer(length + 1)
+        self._call("memory_get", size(address), out, size(length))
+        return out.raw[:length]
