@@ -165,7 +165,6 @@ static uint8_t cmos_in(void) {
 
 static struct {
     uint8_t queue[64], head, tail, mode, command, output;
-    bool aux;
 } kbd = {.mode = 0x45, .output = 0x03};
 
 static void kbd_give(uint8_t v) {
