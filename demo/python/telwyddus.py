@@ -28,9 +28,11 @@ class NoMedium(Refused): """The bay, or the tray, has none."""
 class NotAsked(Refused): """The request line is down, or bytes go the other way."""
 class BadPlan(Refused): """A line of the plan isn't understood: `line`, counted from 1; 0 where the text is too long."""
 class TooShort(Refused): """The buffer is too short."""
+class NotText(Refused): """A name, or a word, isn't UTF-8."""
+class NoFile(Refused): """No file has the name."""
 
 
-CODES = (None, Empty, Full, NoMemory, OutOfRange, BadImage, HasMedium, NoMedium, NotAsked, BadPlan, TooShort)
+CODES = (None, Empty, Full, NoMemory, OutOfRange, BadImage, HasMedium, NoMedium, NotAsked, BadPlan, TooShort, NotText, NoFile)
 
 
 class Lines(enum.IntFlag):
@@ -190,3 +192,26 @@ class Machine(Drives):
         out = ctypes.create_string_buffer(length + 1)
         self._call("memory_get", size(address), out, size(length))
         return out.raw[:length]
+
+
+class Shelf(Holder):
+    """Files in memory, on which the program `floppy` runs."""
+
+    kind = "shelf"
+
+    def __init__(self):
+        super().__init__()
+        self._call("new")
+
+    def put(self, name, data): self._call("put", *given(name.encode()), *given(data))
+    def get(self, name): return self._bytes("get", *given(name.encode()))
+
+    def run(self, *words):
+        """Runs the program, and tells its exit status."""
+        if any("\n" in word for word in words):
+            raise ValueError("a line feed in a word")
+        return self._told(ctypes.c_uint32, "run", *given("\n".join(words).encode()))
+
+    def report(self):
+        """What runs printed since this was asked last."""
+        return self._bytes("report").decode()
