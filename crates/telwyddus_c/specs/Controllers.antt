@@ -1,5 +1,5 @@
 -- Calls on the controller.
-use Rattle.std.specs.Prelude.{◌≡◌, ◌↔◌, ◌+◌, ◌-◌, ◌==◌, ℕ, Bool, true, false, Option, Some, None, is_some, IsTrue, IsBitSet, if◌then◌else◌}
+use Rattle.std.specs.Prelude.{◌≤◌, ◌≡◌, ◌↔◌, ◌+◌, ◌-◌, ◌==◌, ℕ, Bool, true, false, Option, Some, None, is_some, IsTrue, IsBitSet, if◌then◌else◌}
 use Rattle.c_slots.specs.Controllers.{ControllerValue}
 use Rattle.c_slots.specs.Trays.{TrayValue}
 use Rattle.drive_model.specs.Drive.{DriveState}
@@ -46,9 +46,10 @@ pub record EjectsAt (bay code : ℕ) (tray left : Option TrayValue) (old new : C
   pub drive : Ejects code tray left (drive_of old bay) (drive_of new bay)
   pub beside : KeepsBeside bay (state_of old) (state_of new)
 
--- it is told whether a word of the medium in a bay was replaced, and that is forgotten
+-- it is told by 1 or 0 whether a word of the medium in a bay was replaced, and that is forgotten
 pub record TellsWritten (bay : ℕ) (old : ControllerValue) (told : ℕ) (new : ControllerValue) : Type 0 where
   pub was : (told == 1) ≡ written_at is_written old bay
+  pub bit : told ≤ 1
   pub forgotten : written_at is_written new bay ≡ false
   pub state : state_of new ≡ state_of old
   pub other : written_at is_written new (1 - bay) ≡ written_at is_written old (1 - bay)

@@ -1,5 +1,5 @@
 // The machine's ports, its device steps and its interrupt latch.
-ghost use Rattle.std.specs.Prelude.{◌≡◌, ◌==◌, ⊤};
+ghost use Rattle.std.specs.Prelude.{◌≡◌, ◌≤◌, ◌==◌, ⊤};
 ghost use Rattle.pc_bus.specs.Boards.{latch_of};
 ghost use Rattle.pc_bus.specs.Handling.{irq_taken};
 ghost use Rattle.pc_bus.specs.Ports.{Inputs, Outputs};
@@ -77,7 +77,7 @@ pub extern "C" fn telwyddus_machine_wait_irq(
     most: u32,
     is_set: &mut u8,
 ) -> u32
-    ensures { Serves (λ code old new. (code ≡ 0) × Waits most (board_of old) (is_set.new == 1) (board_of new)) (is_set.new ≡ is_set.old)
+    ensures { Serves (λ code old new. (code ≡ 0) × Waits most (board_of old) (is_set.new == 1) (board_of new) × (is_set.new ≤ 1)) (is_set.new ≡ is_set.old)
         result slot.old.held.machine slot.new.held.machine }
 {
     match slot.take(alloc) {
@@ -97,7 +97,7 @@ pub extern "C" fn telwyddus_machine_take_irq(
     slot: &mut MachineSlot,
     was_set: &mut u8,
 ) -> u32
-    ensures { Serves (λ code old new. (code ≡ 0) × ((was_set.new == 1) ≡ (latch_of (board_of old)).is_set)
+    ensures { Serves (λ code old new. (code ≡ 0) × ((was_set.new == 1) ≡ (latch_of (board_of old)).is_set) × (was_set.new ≤ 1)
         × (board_of new ≡ record (board_of old) { bus = irq_taken (board_of old).bus })) (was_set.new ≡ was_set.old)
         result slot.old.held.machine slot.new.held.machine }
 {
@@ -113,7 +113,8 @@ pub extern "C" fn telwyddus_machine_take_irq(
 
 /// 1 for yes, 0 for no.
 fn byte_of(yes: bool) -> u8
-    ensures { (result == 1) ≡ yes }
+    ensures one { (result == 1) ≡ yes }
+    ensures bit { result ≤ 1 }
 {
     if yes { 1 } else { 0 }
 }
