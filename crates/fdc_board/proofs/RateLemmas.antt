@@ -8,11 +8,13 @@ use Rattle.fdc_commands.specs.declared.bytes.Accepted.{Accepted}
 use Rattle.fdc_commands.specs.declared.bytes.Accepted.TheVariants.{More, Ready, Invalid}
 use Rattle.fdc_commands.specs.declared.command.Command.{Command}
 use Rattle.fdc_commands.specs.declared.command.Command.TheVariants as command
-use Rattle.fdc_seek.specs.Seeking.{seek_bits, sensed}
+use Rattle.fdc_seek.specs.Seeking.{seek_bits, sensed, has_ended_seek, without_ended}
+use Rattle.fdc_stages.specs.declared.ending.Ending.{Ending}
 use Rattle.fdc_core.specs.Commands.{answered, sensing_by, BeginsData, Begins, ObeysAtRest, Obeys, TakesAs, Takes}
 use Rattle.fdc_core.specs.Ports.{is_taking, Writes}
 use Rattle.fdc_core.specs.Rates.{rate_chosen}
 use Rattle.fdc_core.specs.State.{reset}
+use Rattle.fdc_core.specs.Whole.{ending_told, given_up_if, given_up, without_seek}
 use Rattle.fdc_core.specs.declared.controller.Fdc.{Fdc}
 use Rattle.fdc_core.specs.declared.controller.Lines.{Lines}
 
@@ -77,7 +79,8 @@ obeyed (command.WriteData h key last x y) lines old new (resting, seeking) = see
 obeyed (command.WriteDeleted h key last x y) lines old new (resting, seeking) = seek_or_rest (command.WriteDeleted h key last x y) lines old new resting seeking
 obeyed (command.FormatTrack h n sectors gap3 fill) lines old new (resting, seeking) = seek_or_rest (command.FormatTrack h n sectors gap3 fill) lines old new resting seeking
 
-taken_as : (came : Accepted) (lines : Lines) (old new : Fdc) → TakesAs came lines old new → data_rate new ≡ data_rate old
+-- what bytes came to keeps the rate
+pub taken_as : (came : Accepted) (lines : Lines) (old new : Fdc) → TakesAs came lines old new → data_rate new ≡ data_rate old
 taken_as More lines old new after = ap data_rate after
 taken_as (Ready command) lines old new after = obeyed command lines old new after
 taken_as Invalid lines old new after = ap data_rate after
@@ -127,3 +130,21 @@ time_after port value was lines old new writes is = by_port (port == 0x3F4 || po
     by_port : (b : Bool) → (port == 0x3F4 || port == 0x3F7) ≡ b → (if b then nanoseconds (rate_chosen value) else was) ≡ nanoseconds (data_rate new)
     by_port true here = sym (ap nanoseconds (chosen_rate port value lines old new writes here))
     by_port false away = is ∙ sym (ap nanoseconds (kept_rate port value lines old new writes away))
+
+-- ---- whole commands
+
+given_up_by : (ending : Option Ending) (old : Fdc) → data_rate (given_up_if ending old) ≡ data_rate old
+given_up_by None old = refl
+given_up_by (Some ending) old = refl
+
+-- results that are given up keep the rate
+pub given_up_rate : (old : Fdc) → data_rate (given_up old) ≡ data_rate old
+given_up_rate old = given_up_by (ending_told old) old
+
+-- a seek that is forgotten keeps the rate
+pub without_seek_rate : (old : Fdc) → data_rate (without_seek old) ≡ data_rate old
+without_seek_rate old = by_end (has_ended_seek old.seeks) (record old { seeks = without_ended old.seeks; interrupt = false }) refl
+  where
+    by_end : (b : Bool) (set : Fdc) → data_rate set ≡ data_rate old → data_rate (if b then set else old) ≡ data_rate old
+    by_end true set same = same
+    by_end false set same = refl

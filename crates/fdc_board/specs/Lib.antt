@@ -1,2 +1,3 @@
 pub mod WordTimes
 pub mod Boards
+pub mod History

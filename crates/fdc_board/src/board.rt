@@ -1,9 +1,14 @@
 // The controller and its drives: ports, device steps, and the controller's lines.
-ghost use Rattle.std.specs.Prelude.{◌≡◌, ◌%◌, IfOk, IsTrue, IsFalse, true};
+ghost use Rattle.std.specs.Prelude.{◌≡◌, ◌%◌, Bool, IfOk, IsTrue, IsFalse, true};
 ghost use Rattle.fdc_board.specs.WordTimes.{nanoseconds, data_rate};
+ghost use Rattle.fdc_board.specs.History.{gave_if, took_if};
 ghost use Rattle.fdc_core.specs.Dma.{told_count, to_memory_of};
+ghost use Rattle.fdc_core.specs.Heard.{Sent, MayRead, told_in};
+ghost use Rattle.fdc_core.specs.Listening.{is_executing};
 ghost use Rattle.fdc_core.specs.Ports.{value_read, after_read, Writes};
 ghost use Rattle.fdc_core.specs.State.{asks, interrupts, dor_of};
+ghost use Rattle.fdc_core.specs.Written.{KeepsKnown, MayWrite};
+ghost use Rattle.fdc_stages.specs.History.{Past};
 ghost use Rattle.fdc_core.specs.declared.controller.Lines.{Lines as LinesValue};
 
 use crate::lines::{ABSENT, follow_write, lines_of_drive, pass, work, work_alone};
@@ -48,6 +53,7 @@ impl<D: Inspect> FdcBoard<D> {
     pub fn read(&mut self, port: u16) -> u8
         ensures value { result ≡ value_read port (lines_at (board_state D.state self.old)) (controller_of self.old) }
         ensures after { controller_of self.new ≡ after_read port (controller_of self.old) }
+        ensures keeps { KeepsKnown (controller_of self.old) (controller_of self.new) }
         ensures drives { SameDrives self.old self.new }
     {
         let lines = self.lines();
@@ -56,7 +62,8 @@ impl<D: Inspect> FdcBoard<D> {
 
     /// Writes a port, 3F0 to 3F7. The motors follow DOR at once, and a reset closes the write gates of both drives.
     pub fn write(&mut self, port: u16, value: u8)
-        ensures { WritesBoard port value (board_state D.state self.old) (board_state D.state self.new) }
+        ensures writes { WritesBoard port value (board_state D.state self.old) (board_state D.state self.new) }
+        ensures keeps { KeepsKnown (controller_of self.old) (controller_of self.new) }
     {
         let lines = self.lines();
         self.write_controller(port, value, lines);
@@ -67,6 +74,7 @@ impl<D: Inspect> FdcBoard<D> {
     /// Writes a port of the controller.
     fn write_controller(&mut self, port: u16, value: u8, lines: Lines)
         ensures writes { Writes port value lines (controller_of self.old) (controller_of self.new) }
+        ensures keeps { KeepsKnown (controller_of self.old) (controller_of self.new) }
         ensures drives { SameDrives self.old self.new }
     {
         self.word_time = word_time_after(port, value, self.word_time);
@@ -141,6 +149,8 @@ impl<D: Inspect> FdcBoard<D> {
     /// The channel takes a byte, where one is asked for.
     pub fn dack_read(&mut self) -> Option<u8>
         ensures takes { Takes (controller_of self.old) result (controller_of self.new) }
+        ensures reads { (past : Past) (sent : Sent) → MayRead past sent (controller_of self.old)
+            → MayRead (gave_if result past) sent (controller_of self.new) }
         ensures drives { SameDrives self.old self.new }
     {
         if self.controller.drq() && self.controller.to_memory() {
@@ -153,6 +163,8 @@ impl<D: Inspect> FdcBoard<D> {
     /// The channel gives a byte, where one is asked for, and it is told whether one was.
     pub fn dack_write(&mut self, byte: u8) -> bool
         ensures gives { Gives byte (controller_of self.old) result (controller_of self.new) }
+        ensures writes { (past : Past) (sent : Sent) (deleted : Bool) → MayWrite past sent deleted (controller_of self.old)
+            → MayWrite (took_if result byte past) sent deleted (controller_of self.new) }
         ensures drives { SameDrives self.old self.new }
     {
         if self.controller.drq() && !self.controller.to_memory() {
@@ -166,6 +178,10 @@ impl<D: Inspect> FdcBoard<D> {
     /// The channel tells the terminal count.
     pub fn tc(&mut self)
         ensures told { controller_of self.new ≡ told_count (controller_of self.old) }
+        ensures reads { (past : Past) (sent : Sent) → MayRead past sent (controller_of self.old)
+            → MayRead (told_in (is_executing (controller_of self.old).phase) past) sent (controller_of self.new) }
+        ensures writes { (past : Past) (sent : Sent) (deleted : Bool) → MayWrite past sent deleted (controller_of self.old)
+            → MayWrite (told_in (is_executing (controller_of self.old).phase) past) sent deleted (controller_of self.new) }
         ensures drives { SameDrives self.old self.new }
     {
         self.controller.tc();
@@ -187,7 +203,7 @@ impl<D: Inspect> FdcBoard<D> {
     }
 
     /// The lines of the selected drive.
-    fn lines(&self) -> Lines
+    pub(crate) fn lines(&self) -> Lines
         ensures { result ≡ lines_at (board_state D.state self.now) }
     {
         match self.controller.selected() {

@@ -8,5 +8,6 @@ mod bays;
 mod board;
 mod lines;
 mod rates;
+mod whole;
 
 pub use board::FdcBoard;

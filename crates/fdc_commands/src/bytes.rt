@@ -2,7 +2,7 @@
 ghost use Rattle.std.specs.Prelude.{◌≡◌, [], ◌∷◌, ◌++◌, slice_index};
 ghost use Rattle.std.specs.Option.{option_map_or};
 ghost use Rattle.fdc_commands.specs.Table.{row_of, is_begun, answer, kept, IfReady, SizeInRange};
-ghost use Rattle.fdc_commands.specs.Table.{is_sized as is_sized_command, whole as whole_command};
+ghost use Rattle.fdc_commands.specs.Table.{whole as whole_command};
 
 use crate::Command;
 use crate::command::{LONGEST, parameter_count, spell};
@@ -74,6 +74,17 @@ impl CommandBytes {
             }
         }
     }
+
+    /// What this byte would come to, which isn't taken.
+    pub fn foresee(&self, byte: u8) -> Accepted
+        ensures { result ≡ answer (self.now ++ byte ∷ []) }
+    {
+        let mut next = CommandBytes {
+            bytes: self.bytes,
+            count: self.count,
+        };
+        next.accept(byte)
+    }
 }
 
 // What the bytes of a whole command come to.
@@ -84,14 +95,7 @@ fn whole(bytes: &[u8; LONGEST]) -> Accepted
     ensures sized { IfReady result SizeInRange }
 {
     match spell(bytes) {
-        Some(command) if is_sized(command) => Accepted::Ready(command),
+        Some(command) if command.is_sized() => Accepted::Ready(command),
         _ => Accepted::Invalid,
     }
-}
-
-// Whether the command's size code is 1 to 6, or it has none.
-fn is_sized(command: Command) -> bool
-    ensures { result ≡ is_sized_command command }
-{
-    command.size_code().is_none_or(|n| 1 <= n && n <= 6)
 }

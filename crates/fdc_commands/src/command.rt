@@ -1,6 +1,6 @@
 // The commands of the table, and what their bytes spell.
-ghost use Rattle.std.specs.Prelude.{◌≡◌, ◌≤◌, IfSome, option_map, slice_index};
-ghost use Rattle.fdc_commands.specs.Table.{row_of, size_code};
+ghost use Rattle.std.specs.Prelude.{◌≡◌, ◌≤◌, IfSome, IsTrue, option_map, slice_index};
+ghost use Rattle.fdc_commands.specs.Table.{row_of, size_code, is_sized as is_sized_command, SizeInRange};
 
 use flop_base::Chrn;
 
@@ -201,5 +201,13 @@ impl Command {
             Command::FormatTrack { n, .. } => Some(n),
             _ => None,
         }
+    }
+
+    /// Whether its size code is 1 to 6, or it has none.
+    pub fn is_sized(self) -> bool
+        ensures is { result ≡ is_sized_command self }
+        ensures sized { IsTrue result → SizeInRange self }
+    {
+        self.size_code().is_none_or(|n| 1 <= n && n <= 6)
     }
 }

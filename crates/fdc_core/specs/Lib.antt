@@ -18,3 +18,4 @@ pub mod Written
 pub mod Writes
 pub mod Waiting
 pub mod Tellings
+pub mod Whole

@@ -67,8 +67,9 @@ fn st2(ending: Ending) -> St2
     }
 }
 
-/// The results of a data command that ended so, with this key.
-pub(crate) fn results(ending: Ending, head_drive: u8, key: Chrn) -> Results
+/// The results of a data command that ended so, with this key. `head_drive` has the head in bit 2 and the drive in bits 1
+/// and 0, as the command sent them.
+pub fn results(ending: Ending, head_drive: u8, key: Chrn) -> Results
     ensures { result ≡ results_of ending head_drive key }
 {
     Results {

@@ -17,7 +17,7 @@ use fdc_writing::{FormatStage, WriteStage};
 use flop_base::Chrn;
 
 /// The only result byte of a command that is invalid.
-const INVALID: u8 = 0x80;
+pub(crate) const INVALID: u8 = 0x80;
 
 /// The result byte of VERSION: an enhanced controller.
 const ENHANCED: u8 = 0x90;
@@ -63,7 +63,7 @@ impl Fdc {
     }
 
     /// The result phase of a command without execution begins.
-    fn answer(&mut self, next: u8, last: Option<u8>)
+    pub(crate) fn answer(&mut self, next: u8, last: Option<u8>)
         ensures { self.new ≡ answered next last self.old }
     {
         self.phase = Phase::Result {
@@ -72,7 +72,7 @@ impl Fdc {
     }
 
     /// Does a command. While a seek bit is set, only SENSE INTERRUPT is valid.
-    fn obey(&mut self, command: Command, lines: Lines)
+    pub(crate) fn obey(&mut self, command: Command, lines: Lines)
         requires { SizeInRange command }
         ensures { Obeys command lines self.old self.new }
     {

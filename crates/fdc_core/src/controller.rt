@@ -108,7 +108,7 @@ impl Fdc {
     }
 
     /// Whether DOR lets INT and DRQ out.
-    fn is_gated(&self) -> bool
+    pub fn is_gated(&self) -> bool
         ensures { result ≡ is_gated self.now }
     {
         self.dor.contains(Dor::GATE)

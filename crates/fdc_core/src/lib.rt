@@ -15,6 +15,8 @@ mod reading;
 mod sized_key;
 mod steps;
 mod transfers;
+mod whole;
 mod writing;
 
+pub use answers::results;
 pub use controller::{Fdc, Lines};

@@ -2,6 +2,7 @@
 ghost use Rattle.std.specs.Prelude.{◌≡◌};
 ghost use Rattle.fdc_core.specs.Answers.{next_key, key_after};
 ghost use Rattle.fdc_core.specs.Dma.{task_told};
+ghost use Rattle.fdc_core.specs.Whole.{ending_of_phase, mark_of_phase, mark_in, mark_at};
 ghost use Rattle.fdc_core.specs.Phases.{is_reading, head_of, key_as_sent, told, is_over, ending_of, over_at, over_of};
 
 use crate::answers::Answer;
@@ -90,6 +91,28 @@ impl Phase {
         }
     }
 
+    /// How a data command ended, while its results are given.
+    pub(crate) fn ending(&self) -> Option<Ending>
+        ensures { result ≡ ending_of_phase self.now }
+    {
+        match self {
+            Phase::Result {
+                answer: Answer::Long { ending, .. },
+            } => Some(*ending),
+            _ => None,
+        }
+    }
+
+    /// The mark of the data field that a READ DATA reads, once it is met.
+    pub(crate) fn mark(&self) -> Option<bool>
+        ensures { result ≡ mark_of_phase self.now }
+    {
+        match self {
+            Phase::Execute { execution } => execution.mark(),
+            _ => None,
+        }
+    }
+
     /// How a READ DATA ends, where its field is over.
     pub(crate) fn over(&self) -> Option<End>
         ensures { result ≡ over_of self.now }
@@ -122,6 +145,18 @@ impl Execution {
                 }),
                 None => None,
             },
+            _ => None,
+        }
+    }
+}
+
+impl Execution {
+    /// The mark of the data field that a READ DATA reads, once it is met.
+    fn mark(&self) -> Option<bool>
+        ensures { result ≡ mark_in self.now.task }
+    {
+        match &self.task {
+            Task::Read { reading } => reading.mark(),
             _ => None,
         }
     }
@@ -166,6 +201,16 @@ impl Reading {
         Reading {
             counted: true,
             ..self
+        }
+    }
+
+    /// The mark of the data field, once it is met.
+    fn mark(&self) -> Option<bool>
+        ensures { result ≡ mark_at self.now.stage }
+    {
+        match &self.stage {
+            ReadStage::Content { deleted, .. } | ReadStage::Over { deleted, .. } => Some(*deleted),
+            _ => None,
         }
     }
 

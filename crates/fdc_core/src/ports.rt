@@ -93,7 +93,7 @@ impl Fdc {
     }
 
     /// Whether the data port takes a byte.
-    fn is_taking(&self) -> bool
+    pub(crate) fn is_taking(&self) -> bool
         ensures { result ≡ is_taking self.now }
     {
         match self.phase {

@@ -138,3 +138,15 @@ without_result old drive = record {
 -- what SENSE INTERRUPT makes of the seeks
 abbrev pub after_sense : Seeking → Seeking
 after_sense old = option_map_or (without_result old) (first_pending old) old
+
+-- the seek whose bit is set has ended
+abbrev pub has_ended_seek : Seeking → Bool
+has_ended_seek seeks = option_map_or (λ seek. has_ended seek.motion) seeks.seek false
+
+-- without a seek that has ended, and without its result
+abbrev pub without_ended : Seeking → Seeking
+without_ended old =
+    option_map_or (λ seek. if has_ended seek.motion then record old {
+      seek = None;
+      pending = slice_set old.pending seek.drive None;
+    } else old) old.seek old

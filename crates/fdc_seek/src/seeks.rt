@@ -1,7 +1,7 @@
 // The seeks of the four drives.
 ghost use Rattle.std.specs.Prelude.{◌≡◌, ◌<◌, ◌↔◌, IsTrue, IsFalse, IsSome, IsNone, is_some, slice_index};
 ghost use Rattle.fdc_seek.specs.Seeking.{InRange, at_rest, with_polls, with_motion, ended, pulse_due, stepped, is_seeking, EndsSeek};
-ghost use Rattle.fdc_seek.specs.Seeking.{seek_bits, first_pending, sensed, after_sense, released};
+ghost use Rattle.fdc_seek.specs.Seeking.{seek_bits, first_pending, sensed, after_sense, released, has_ended_seek, without_ended};
 ghost use Rattle.fdc_seek.specs.Seeking.{polled as polled_status, sought as sought_status, recalibrated as recalibrated_status};
 
 use crate::{Motion, Seek};
@@ -178,11 +178,22 @@ impl Seeks {
         }
     }
 
-    /// Whether a result is pending.
-    pub fn is_pending(&self) -> bool
-        ensures { IsTrue result ↔ IsSome (first_pending self.now) }
+    /// Forgets a seek that has ended, with its result, and tells whether there was one.
+    pub fn forget_ended(&mut self) -> bool
+        ensures told { result ≡ has_ended_seek self.old }
+        ensures state { self.new ≡ without_ended self.old }
     {
-        self.first_pending().is_some()
+        match self.seek {
+            Some(Seek {
+                drive,
+                motion: Motion::Ended,
+            }) => {
+                self.seek = None;
+                self.pending[drive as usize] = None;
+                true
+            }
+            _ => false,
+        }
     }
 
     // The lowest drive with a pending result.

@@ -10,5 +10,5 @@ mod reading;
 mod searching;
 
 pub use ending::Ending;
-pub use reading::{ReadHeard, ReadStage, over_ending};
+pub use reading::{ReadHeard, ReadStage};
 pub use searching::{Search, Searched};

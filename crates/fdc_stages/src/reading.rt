@@ -35,21 +35,6 @@ pub enum ReadHeard {
     Ended(Ending),
 }
 
-/// How a reading ends whose data field is over: `BadCheck` where it isn't whole, else `Done` or `NoCount`. `counted`
-/// says that the terminal count came.
-pub fn over_ending(deleted: bool, good: bool, counted: bool) -> Ending
-    ensures { (past : Past) (key : Chrn) (told : List ℕ) → past.counted ≡ counted → IsOver past key told deleted good
-        → HasRead past key told result }
-{
-    if !good {
-        Ending::BadCheck
-    } else if counted {
-        Ending::Done { deleted }
-    } else {
-        Ending::NoCount
-    }
-}
-
 impl ReadStage {
     /// The first stage.
     pub fn new() -> ReadStage

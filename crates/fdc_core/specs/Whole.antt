@@ -1,0 +1,80 @@
+-- Whole commands and their endings, for a layer in front of the controller that collects the bytes itself.
+use Rattle.std.specs.Prelude.{ℕ, Bool, not, ◌&&◌, ◌==◌, Option, Some, None, false, [], ◌∷◌, ◌++◌, if◌then◌else◌}
+use Rattle.fdc_commands.specs.Table.{answer, is_begun, whole}
+use Rattle.fdc_commands.specs.declared.bytes.Accepted.{Accepted}
+use Rattle.fdc_commands.specs.declared.bytes.Accepted.TheVariants.{Ready}
+use Rattle.fdc_commands.specs.declared.command.Command.TheVariants.{Configure}
+use Rattle.fdc_seek.specs.Seeking.{seek_bits, has_ended_seek, without_ended}
+use Rattle.fdc_stages.specs.declared.ending.Ending.{Ending}
+use Rattle.fdc_stages.specs.declared.reading.ReadStage.{ReadStage}
+use Rattle.fdc_stages.specs.declared.reading.ReadStage.TheVariants.{Content, Over}
+use Rattle.fdc_core.specs.Commands.{TakesAs}
+use Rattle.fdc_core.specs.Ports.{is_taking}
+use Rattle.fdc_core.specs.declared.answers.Answer.TheVariants.{Long}
+use Rattle.fdc_core.specs.declared.controller.Fdc.{Fdc}
+use Rattle.fdc_core.specs.declared.controller.Lines.{Lines}
+use Rattle.fdc_core.specs.declared.phases.Phase.{Phase}
+use Rattle.fdc_core.specs.declared.phases.Phase.TheVariants.{Command as Taking, Execute, Result}
+use Rattle.fdc_core.specs.declared.phases.Task.{Task}
+use Rattle.fdc_core.specs.declared.phases.Task.TheVariants.{Read}
+
+-- the data port takes a byte, and none of a command has come
+abbrev pub is_idle : Fdc → Bool
+is_idle fdc = is_taking fdc && not (is_begun fdc.command)
+
+-- the options of a CONFIGURE
+abbrev pub options_of : Accepted → Option ℕ
+options_of (Ready (Configure _ options _)) = Some options
+options_of _ = None
+
+-- those of the CONFIGURE that a byte of a command completes, where the byte is taken and no seek bit is set
+abbrev pub options_with : ℕ → Fdc → Option ℕ
+options_with byte fdc =
+    if is_taking fdc && (seek_bits fdc.seeks == 0) then options_of (answer (fdc.command ++ byte ∷ [])) else None
+
+-- what bytes came to, once the size code of a whole command is looked at
+abbrev pub looked_at : Accepted → Accepted
+looked_at (Ready command) = whole command
+looked_at accepted = accepted
+
+-- what bytes came to is done, in place of those that came to the data port
+abbrev pub TakesWhole : Accepted → Lines → Fdc → Fdc → Type 0
+TakesWhole accepted lines old new = TakesAs (looked_at accepted) lines (record old { command = [] }) new
+
+-- how the data command ended whose results the host reads
+abbrev pub ending_of_phase : Phase → Option Ending
+ending_of_phase (Result (Long ending _ _)) = Some ending
+ending_of_phase _ = None
+
+abbrev pub ending_told : Fdc → Option Ending
+ending_told fdc = ending_of_phase fdc.phase
+
+-- the results of a data command are given up: INT falls, and the controller takes commands
+abbrev pub given_up_if : Option Ending → Fdc → Fdc
+given_up_if None old = old
+given_up_if (Some _) old = record old { phase = Taking; interrupt = false }
+
+abbrev pub given_up : Fdc → Fdc
+given_up old = given_up_if (ending_told old) old
+
+-- the mark of a data field, known once it is met: F8 is true
+abbrev pub mark_at : ReadStage → Option Bool
+mark_at (Content _ deleted) = Some deleted
+mark_at (Over deleted _) = Some deleted
+mark_at _ = None
+
+abbrev pub mark_in : Task → Option Bool
+mark_in (Read reading) = mark_at reading.stage
+mark_in _ = None
+
+abbrev pub mark_of_phase : Phase → Option Bool
+mark_of_phase (Execute execution) = mark_in execution.task
+mark_of_phase _ = None
+
+abbrev pub mark_of : Fdc → Option Bool
+mark_of fdc = mark_of_phase fdc.phase
+
+-- a seek that has ended is forgotten with its result, and INT falls
+abbrev pub without_seek : Fdc → Fdc
+without_seek old =
+    if has_ended_seek old.seeks then record old { seeks = without_ended old.seeks; interrupt = false } else old

@@ -1,0 +1,265 @@
+-- A controller with its drives and what stands in front of it, as contracts see it: its state, its lines, port accesses, and
+-- its side of the channel.
+use Rattle.std.specs.Prelude.{◌≡◌, ℕ, ◌+◌, ◌-◌, Bool, true, false, not, ◌==◌, ◌&&◌, ◌||◌, List, [], ◌∷◌, ◌++◌, Option, Some, None, if◌then◌else◌, nat_le, nat_lt, get_or, bit_and}
+use Rattle.std.specs.Int.RustNames.{bit_or}
+use Rattle.drive_model.specs.Drive.{DriveState}
+use Rattle.fdc_registers.specs.Msr.{rqm, dio, busy}
+use Rattle.fdc_commands.specs.Results.{result_bytes}
+use Rattle.fdc_commands.specs.Table.{answer, kept}
+use Rattle.fdc_commands.specs.declared.bytes.Accepted.{Accepted}
+use Rattle.fdc_commands.specs.declared.bytes.Accepted.TheVariants.{More, Ready, Invalid}
+use Rattle.fdc_commands.specs.declared.command.Command.TheVariants.{Seek}
+use Rattle.fdc_core.specs.Dma.{byte_out, taken_out, taken_in, told_count, to_memory_of}
+use Rattle.fdc_core.specs.Listening.{is_executing}
+use Rattle.fdc_core.specs.Ports.{value_read, main_status, result_byte, given, resets}
+use Rattle.fdc_core.specs.State.{asks, interrupts, is_gated}
+use Rattle.fdc_core.specs.Whole.{is_idle, options_with, TakesWhole}
+use Rattle.fdc_core.specs.declared.controller.Fdc.{Fdc}
+use Rattle.fdc_board.specs.Boards.{BoardState, board_state, lines_at, IsNewBoard, WritesBoard, Takes, Gives}
+use Rattle.fdc_board.specs.declared.board.FdcBoard.{FdcBoard}
+use Rattle.fdc_sequencer.specs.Opcodes.{opcode_of, plain_code}
+use Rattle.fdc_sequencer.specs.Transfers.{transfer_of, command_of, size_of}
+use Rattle.fdc_sequencer.specs.declared.opcode.Opcode.{Opcode}
+use Rattle.fdc_sequencer.specs.declared.sequencer.Sequencer.{Sequencer}
+use Rattle.fdc_sequencer.specs.declared.stage.Moving.{Moving as MovingSector}
+use Rattle.fdc_sequencer.specs.declared.stage.Stage.{Stage}
+use Rattle.fdc_sequencer.specs.declared.stage.Stage.TheVariants.{Through, Collecting, Seeking, Moving, Telling}
+use Rattle.fdc_sequencer.specs.declared.transfer.Transfer.{Transfer}
+
+-- the board behind, what is done in front of it, the bytes of the command that comes, and whether seeks are implied: by a
+-- strap, or by CONFIGURE
+pub record Front : Type 0 where
+  pub board : BoardState
+  pub stage : Stage
+  pub bytes : List ℕ
+  pub strapped : Bool
+  pub configured : Bool
+
+abbrev pub front_state : {D : Type 0} → (D → DriveState) → Sequencer D → Front
+front_state state front = record {
+  board = board_state state front.board;
+  stage = front.stage;
+  bytes = front.bytes;
+  strapped = front.strapped;
+  configured = front.configured;
+}
+
+-- the board behind
+abbrev pub board_of : {D : Type 0} → Sequencer D → FdcBoard D
+board_of front = front.board
+
+-- a new one with these drives
+pub record IsNewFront (bay0 bay1 : DriveState) (new : Front) : Type 0 where
+  pub board : IsNewBoard bay0 bay1 new.board
+  pub stage : new.stage ≡ Through
+  pub bytes : new.bytes ≡ []
+  pub strapped : new.strapped ≡ false
+  pub configured : new.configured ≡ false
+
+-- all but the drives stays
+pub record KeepsFront (old new : Front) : Type 0 where
+  pub controller : new.board.controller ≡ old.board.controller
+  pub stage : new.stage ≡ old.stage
+  pub bytes : new.bytes ≡ old.bytes
+  pub strapped : new.strapped ≡ old.strapped
+  pub configured : new.configured ≡ old.configured
+
+-- the controller is this one
+abbrev pub with_controller : Fdc → BoardState → BoardState
+with_controller controller old = record old { controller = controller }
+
+-- ---- the lines outside
+
+-- INT falls where a command of several sectors begins, and rises with its results, until the first of them is read
+abbrev pub interrupts_at : Stage → Fdc → Bool
+interrupts_at Through fdc = interrupts fdc
+interrupts_at (Collecting _) fdc = interrupts fdc
+interrupts_at (Seeking _ _) fdc = false
+interrupts_at (Moving _) fdc = false
+interrupts_at (Telling _ read) fdc = (read == 0) && is_gated fdc
+
+abbrev pub interrupts_outside : Front → Bool
+interrupts_outside front = interrupts_at front.stage front.board.controller
+
+-- DRQ is up only while bytes of the sector are still to pass
+abbrev pub asks_at : Stage → Fdc → Bool
+asks_at Through fdc = asks fdc
+asks_at (Moving moving) fdc = nat_lt 0 moving.left && asks fdc
+asks_at _ fdc = false
+
+abbrev pub asks_outside : Front → Bool
+asks_outside front = asks_at front.stage front.board.controller
+
+-- ---- reads of a port
+
+-- MSR: busy with a command of several sectors, and no seek bit shows within it
+abbrev pub status_at : Stage → Fdc → ℕ
+status_at Through fdc = main_status fdc
+status_at (Collecting _) fdc = bit_or (main_status fdc) busy
+status_at (Seeking _ _) fdc = busy
+status_at (Moving _) fdc = busy
+status_at (Telling _ _) fdc = bit_or (bit_or rqm dio) busy
+
+-- the data port: the next result byte, and FF where there is none
+abbrev pub byte_at : Stage → Fdc → ℕ
+byte_at Through fdc = result_byte fdc.phase
+byte_at (Telling results read) fdc = get_or (result_bytes results) read 0xFF
+byte_at _ fdc = 0xFF
+
+abbrev pub value_outside : ℕ → Front → ℕ
+value_outside port front =
+    if port == 0x3F4 then status_at front.stage front.board.controller else (
+    if port == 0x3F5 then byte_at front.stage front.board.controller else
+    value_read port (lines_at front.board) front.board.controller)
+
+-- once the data port was read: behind the seventh result byte each access is the controller's again
+abbrev pub byte_given : Stage → Front → Front
+byte_given Through old = record old { board = with_controller (given old.board.controller) old.board }
+byte_given (Telling results read) old = record old { stage = if nat_le 6 read then Through else Telling results (read + 1) }
+byte_given _ old = old
+
+abbrev pub after_reading : ℕ → Front → Front
+after_reading port old = if port == 0x3F5 then byte_given old.stage old else old
+
+-- ---- a command begins
+
+-- what bytes came to is done by the controller
+pub record TakesBoard (accepted : Accepted) (old new : BoardState) : Type 0 where
+  pub takes : TakesWhole accepted (lines_at old) old.controller new.controller
+  pub first : new.first ≡ old.first
+  pub second : new.second ≡ old.second
+
+-- the terminal count is told, where it came
+abbrev pub told_if : Bool → BoardState → BoardState
+told_if true old = with_controller (told_count old.controller) old
+told_if false old = old
+
+-- a sector of which no byte has passed
+abbrev pub moving_of : Transfer → Bool → Bool → MovingSector
+moving_of transfer counted passed_over =
+    record { transfer = transfer; left = size_of transfer.key.n; counted = counted; passed_over = passed_over }
+
+-- the controller executes its own command for the sector, or the host reads what it answers in place of that
+abbrev pub begun_if : Bool → Transfer → Bool → Bool → BoardState → Front → Front
+begun_if true transfer counted passed_over between old =
+    record old { board = told_if counted between; stage = Moving (moving_of transfer counted passed_over) }
+begun_if false transfer counted passed_over between old = record old { board = between; stage = Through }
+
+-- the controller's own command for a sector begins
+pub record BeginsSector (transfer : Transfer) (counted passed_over : Bool) (old new : Front) : Type 0 where
+  pub between : BoardState
+  pub takes : TakesBoard (Ready (command_of transfer)) old.board between
+  pub begun : new ≡ begun_if (is_executing between.controller.phase) transfer counted passed_over between old
+
+-- the heads go to the command's cylinder, or the host reads what the controller answers in place of that
+pub record SeeksFirst (transfer : Transfer) (old new : Front) : Type 0 where
+  pub between : BoardState
+  pub takes : TakesBoard (Ready (Seek transfer.head_drive transfer.key.c)) old.board between
+  pub begun : new ≡ record old { board = between; stage = if is_idle between.controller then Seeking transfer false else Through }
+
+abbrev pub StartsIf : Bool → Transfer → Front → Front → Type 0
+StartsIf true transfer old new = SeeksFirst transfer old new
+StartsIf false transfer old new = BeginsSector transfer false false old new
+
+-- a command starts, with a seek where these are implied
+abbrev pub Starts : Option Transfer → Front → Front → Type 0
+Starts None old new = new ≡ record old { stage = Through }
+Starts (Some transfer) old new = StartsIf (old.strapped || old.configured) transfer old new
+
+-- the controller answers in place of a command whose size code isn't 1 to 6
+pub record Refuses (old new : Front) : Type 0 where
+  pub between : BoardState
+  pub takes : TakesBoard Invalid old.board between
+  pub after : new ≡ record old { board = between; stage = Through }
+
+-- ---- writes of a port
+
+-- the bytes of a command come to this
+abbrev pub CollectsAs : Opcode → Accepted → Front → Front → Type 0
+CollectsAs opcode More old new = new ≡ old
+CollectsAs opcode (Ready command) old new = Starts (transfer_of opcode command) old new
+CollectsAs opcode Invalid old new = Refuses old new
+
+abbrev pub Collects : Opcode → ℕ → Front → Front → Type 0
+Collects opcode byte old new =
+    let bytes = old.bytes ++ byte ∷ [] in CollectsAs opcode (answer bytes) (record old { bytes = kept (answer bytes) bytes }) new
+
+-- EIS, once a CONFIGURE with these options was done
+abbrev pub configured_with : Option ℕ → Bool → Bool
+configured_with None was = was
+configured_with (Some options) was = not (bit_and options 0x40 == 0)
+
+-- a byte that begins a command of several sectors is kept here, and any other is the controller's
+abbrev pub PassesAs : Option Opcode → ℕ → Front → Front → Type 0
+PassesAs (Some opcode) byte old new =
+    new ≡ record old { stage = Collecting opcode; bytes = plain_code opcode.operation ∷ [] }
+PassesAs None byte old new =
+    WritesBoard 0x3F5 byte old.board new.board
+    × (new ≡ record old { board = new.board; configured = configured_with (options_with byte old.board.controller) old.configured })
+
+abbrev pub begins_with : ℕ → Fdc → Option Opcode
+begins_with byte fdc = if is_idle fdc then opcode_of byte else None
+
+abbrev pub TakesByte : Stage → ℕ → Front → Front → Type 0
+TakesByte Through byte old new = PassesAs (begins_with byte old.board.controller) byte old new
+TakesByte (Collecting opcode) byte old new = Collects opcode byte old new
+TakesByte _ byte old new = new ≡ old
+
+-- a reset ends what is done in front, and lets CONFIGURE's EIS go
+abbrev pub reset_if : Bool → Front → Front
+reset_if true old = record old { stage = Through; configured = false }
+reset_if false old = old
+
+-- a byte is written to a port
+pub record WritesFront (port value : ℕ) (old new : Front) : Type 0 where
+  pub bytes : port ≡ 0x3F5 → TakesByte old.stage value old new
+  pub others : (port == 0x3F5) ≡ false → WritesBoard port value old.board new.board × (new ≡ record (reset_if (resets port value) old) { board = new.board })
+
+-- ---- the channel
+
+-- a byte of the sector passed; behind the last the controller is told the count
+abbrev pub passed_one : MovingSector → Fdc → Front → Front
+passed_one moving controller old = record old {
+  board = with_controller (if moving.left - 1 == 0 then told_count controller else controller) old.board;
+  stage = Moving (record moving { left = moving.left - 1 });
+}
+
+abbrev pub TakesMoving : MovingSector → Front → Option ℕ → Front → Type 0
+TakesMoving moving old (Some byte) new = let fdc = old.board.controller in
+    ((nat_lt 0 moving.left && (asks fdc && to_memory_of fdc)) ≡ true) × (byte ≡ byte_out fdc) × (new ≡ passed_one moving (taken_out fdc) old)
+TakesMoving moving old None new = let fdc = old.board.controller in
+    ((nat_lt 0 moving.left && (asks fdc && to_memory_of fdc)) ≡ false) × (new ≡ old)
+
+-- the channel takes a byte, where one is asked for in this direction
+abbrev pub TakesAt : Stage → Front → Option ℕ → Front → Type 0
+TakesAt Through old byte new = Takes old.board.controller byte new.board.controller × (new ≡ record old { board = with_controller new.board.controller old.board })
+TakesAt (Moving moving) old byte new = TakesMoving moving old byte new
+TakesAt _ old byte new = (byte ≡ None) × (new ≡ old)
+
+abbrev pub TakesFront : Front → Option ℕ → Front → Type 0
+TakesFront old byte new = TakesAt old.stage old byte new
+
+abbrev pub GivesMoving : MovingSector → ℕ → Front → Bool → Front → Type 0
+GivesMoving moving byte old true new = let fdc = old.board.controller in
+    ((nat_lt 0 moving.left && (asks fdc && not (to_memory_of fdc))) ≡ true) × (new ≡ passed_one moving (taken_in byte fdc) old)
+GivesMoving moving byte old false new = let fdc = old.board.controller in
+    ((nat_lt 0 moving.left && (asks fdc && not (to_memory_of fdc))) ≡ false) × (new ≡ old)
+
+-- the channel gives a byte, where one is asked for in this direction
+abbrev pub GivesAt : Stage → ℕ → Front → Bool → Front → Type 0
+GivesAt Through byte old was new = Gives byte old.board.controller was new.board.controller × (new ≡ record old { board = with_controller new.board.controller old.board })
+GivesAt (Moving moving) byte old was new = GivesMoving moving byte old was new
+GivesAt _ byte old was new = (was ≡ false) × (new ≡ old)
+
+abbrev pub GivesFront : ℕ → Front → Bool → Front → Type 0
+GivesFront byte old was new = GivesAt old.stage byte old was new
+
+-- the terminal count comes: the command ends behind its sector
+abbrev pub count_told : Stage → Front → Front
+count_told Through old = record old { board = told_if true old.board }
+count_told (Seeking transfer _) old = record old { stage = Seeking transfer true }
+count_told (Moving moving) old = record old { board = told_if true old.board; stage = Moving (record moving { counted = true }) }
+count_told _ old = old
+
+abbrev pub told_front : Front → Front
+told_front old = count_told old.stage old

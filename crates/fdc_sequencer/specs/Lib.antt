@@ -1,0 +1,4 @@
+pub mod Opcodes
+pub mod Transfers
+pub mod Fronts
+pub mod Moves

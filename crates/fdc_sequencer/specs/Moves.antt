@@ -1,0 +1,103 @@
+-- Device steps of a controller and what stands in front of it: a sector ends, and the next begins or results are told.
+use Rattle.std.specs.Prelude.{◌≡◌, ◌≤◌, ℕ, zero, suc, Bool, true, false, not, ◌==◌, ◌&&◌, ◌||◌, Option, Some, None, if◌then◌else◌}
+use Rattle.fdc_seek.specs.Seeking.{has_ended_seek}
+use Rattle.fdc_stages.specs.declared.ending.Ending.{Ending}
+use Rattle.fdc_stages.specs.declared.ending.Ending.TheVariants.{Done, NoCount}
+use Rattle.fdc_commands.specs.declared.results.Results.{Results}
+use Rattle.fdc_core.specs.Whole.{ending_told, given_up, mark_of, without_seek}
+use Rattle.fdc_board.specs.Boards.{BoardState, StepsBoard}
+use Rattle.fdc_sequencer.specs.Fronts.{Front, with_controller, told_if, BeginsSector, interrupts_outside, asks_outside}
+use Rattle.fdc_sequencer.specs.Transfers.{next_of, is_last, is_other, is_skipping, results_told, size_of}
+use Rattle.fdc_sequencer.specs.declared.stage.Moving.{Moving as MovingSector}
+use Rattle.fdc_sequencer.specs.declared.stage.Stage.{Stage}
+use Rattle.fdc_sequencer.specs.declared.stage.Stage.TheVariants.{Seeking, Moving, Telling}
+use Rattle.fdc_sequencer.specs.declared.transfer.Transfer.{Transfer}
+
+-- ---- the end of a sector
+
+-- a field of the mark that isn't wanted was met, here or before
+abbrev pub has_met_other : MovingSector → Bool → Bool
+has_met_other moving deleted = moving.passed_over || is_other moving.transfer.opcode.operation deleted
+
+-- the terminal count didn't come, and the sector had the mark that is wanted, or such that haven't it are passed over
+abbrev pub would_go_on : MovingSector → Bool → Bool
+would_go_on moving deleted =
+    not moving.counted && (not (is_other moving.transfer.opcode.operation deleted) || is_skipping moving.transfer.opcode.operation)
+
+-- another sector comes behind this one
+abbrev pub goes_on : MovingSector → Bool → Bool
+goes_on moving deleted = would_go_on moving deleted && not (is_last moving.transfer)
+
+-- the results where none comes: EN with the key as it was sent, if the terminal count was missing alone; else the key of the
+-- sector behind
+abbrev pub results_behind : MovingSector → Bool → Results
+results_behind moving deleted = let at = moving.transfer in
+    if would_go_on moving deleted then results_told NoCount at.head_drive at.key (has_met_other moving deleted)
+    else results_told (Done false) at.head_drive (next_of at).key (has_met_other moving deleted)
+
+-- the results of a failure, with the key as it was sent
+abbrev pub results_failed : MovingSector → Ending → Results
+results_failed moving ending = results_told ending moving.transfer.head_drive moving.transfer.key moving.passed_over
+
+abbrev pub EndsIf : Bool → MovingSector → Bool → Front → Front → Type 0
+EndsIf true moving deleted old new = BeginsSector (next_of moving.transfer) false (has_met_other moving deleted) old new
+EndsIf false moving deleted old new = new ≡ record old { stage = Telling (results_behind moving deleted) 0 }
+
+-- the controller's own command for a sector ended so
+abbrev pub EndsSector : MovingSector → Ending → Front → Front → Type 0
+EndsSector moving (Done deleted) old new = EndsIf (goes_on moving deleted) moving deleted old new
+EndsSector moving ending old new = new ≡ record old { stage = Telling (results_failed moving ending) 0 }
+
+-- ---- device steps
+
+-- the mark of the field is met, before a byte of it passed, and it isn't wanted: the field is to be passed over
+abbrev pub is_unwanted : MovingSector → Option Bool → Bool
+is_unwanted moving None = false
+is_unwanted moving (Some deleted) = let operation = moving.transfer.opcode.operation in
+    is_skipping operation && (is_other operation deleted && (moving.left == size_of moving.transfer.key.n))
+
+-- the field is passed over: the controller is told the count, and no byte of it passes
+abbrev pub passed_over_if : Bool → MovingSector → Front → Front
+passed_over_if true moving old =
+    record old { board = told_if true old.board; stage = Moving (record moving { left = 0; passed_over = true }) }
+passed_over_if false moving old = old
+
+-- what the front does behind the controller's step, while a sector is moved
+abbrev pub MovesOn : Option Ending → MovingSector → Front → Front → Type 0
+MovesOn (Some ending) moving old new =
+    EndsSector moving ending (record old { board = with_controller (given_up old.board.controller) old.board }) new
+MovesOn None moving old new = new ≡ passed_over_if (is_unwanted moving (mark_of old.board.controller)) moving old
+
+-- and while the heads seek
+abbrev pub SeeksOn : Bool → Transfer → Bool → Front → Front → Type 0
+SeeksOn true transfer counted old new =
+    BeginsSector transfer counted false (record old { board = with_controller (without_seek old.board.controller) old.board }) new
+SeeksOn false transfer counted old new = new ≡ old
+
+abbrev pub FollowsStep : Stage → Front → Front → Type 0
+FollowsStep (Seeking transfer counted) old new = SeeksOn (has_ended_seek old.board.controller.seeks) transfer counted old new
+FollowsStep (Moving moving) old new = MovesOn (ending_told old.board.controller) moving old new
+FollowsStep _ old new = new ≡ old
+
+-- one device step: the board's, and what the front does behind it
+pub record StepsFront (old new : Front) : Type 0 where
+  pub between : BoardState
+  pub steps : StepsBoard old.board between
+  pub follows : FollowsStep old.stage (record old { board = between }) new
+
+-- ---- many steps
+
+-- the interrupt line and the request line
+abbrev pub HasLinesOutside : Bool → Bool → Front → Type 0
+HasLinesOutside int drq front = (interrupts_outside front ≡ int) × (asks_outside front ≡ drq)
+
+-- so many device steps, each from these lines
+unfoldable pub RunsFrontWith : Bool → Bool → ℕ → Front → Front → Type 0
+RunsFrontWith int drq zero old new = new ≡ old
+RunsFrontWith int drq (suc n) old new = (between : Front) × RunsFrontWith int drq n old between × HasLinesOutside int drq between × StepsFront between new
+
+-- device steps until a line changes, and so many at most
+pub record RunsFront (most : ℕ) (old : Front) (steps : ℕ) (new : Front) : Type 0 where
+  pub within : steps ≤ most
+  pub runs : RunsFrontWith (interrupts_outside old) (asks_outside old) steps old new
+  pub all : HasLinesOutside (interrupts_outside old) (asks_outside old) new → steps ≡ most

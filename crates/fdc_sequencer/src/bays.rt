@@ -1,0 +1,97 @@
+// The bays, and what a front end shows: the board's.
+ghost use Rattle.std.specs.Prelude.{◌≡◌, ◌≤◌, ◌-◌, ◌+◌, ◌%◌, ◌↔◌, IfErr, OnOk, IsErr, IsSome, IsTrue, IsBitSet, false};
+ghost use Rattle.std.specs.Option.{option_copied};
+ghost use Rattle.drive_model.specs.Drive.{Becomes, loaded, unloaded};
+ghost use Rattle.fdc_board.specs.Boards.{controller_of, drive_at, written_at};
+ghost use Rattle.fdc_board.specs.WordTimes.{nanoseconds, data_rate};
+ghost use Rattle.fdc_core.specs.State.{dor_of};
+ghost use Rattle.fdc_sequencer.specs.Fronts.{front_state, board_of, KeepsFront};
+
+use crate::sequencer::Sequencer;
+use inspected_drive::Inspect;
+use raw_image::Medium;
+
+impl<D: Inspect> Sequencer<D> {
+    /// Puts a medium into a bay. Where one is in already, the new one is given back.
+    pub fn insert(&mut self, bay: u8, medium: Medium) -> Result<(), Medium>
+        requires { bay ≤ 1 }
+        ensures keeps { KeepsFront (front_state D.state self.old) (front_state D.state self.new) }
+        ensures other { drive_at (front_state D.state self.new).board (1 - bay) ≡ drive_at (front_state D.state self.old).board (1 - bay) }
+        ensures refused { IsErr result ↔ IsSome (drive_at (front_state D.state self.old).board bay).medium }
+        ensures ok { OnOk result (Becomes (loaded medium (drive_at (front_state D.state self.old).board bay))
+            (drive_at (front_state D.state self.old).board bay) (drive_at (front_state D.state self.new).board bay)) }
+        ensures err { IfErr result (λ back. (back ≡ medium)
+            × Becomes (drive_at (front_state D.state self.old).board bay) (drive_at (front_state D.state self.old).board bay) (drive_at (front_state D.state self.new).board bay)) }
+    {
+        self.board.insert(bay, medium)
+    }
+
+    /// Takes the medium out of a bay.
+    pub fn eject(&mut self, bay: u8) -> Option<Medium>
+        requires { bay ≤ 1 }
+        ensures keeps { KeepsFront (front_state D.state self.old) (front_state D.state self.new) }
+        ensures other { drive_at (front_state D.state self.new).board (1 - bay) ≡ drive_at (front_state D.state self.old).board (1 - bay) }
+        ensures medium { result ≡ (drive_at (front_state D.state self.old).board bay).medium }
+        ensures becomes { Becomes (unloaded (drive_at (front_state D.state self.old).board bay))
+            (drive_at (front_state D.state self.old).board bay) (drive_at (front_state D.state self.new).board bay) }
+    {
+        self.board.eject(bay)
+    }
+
+    /// The medium in a bay, which stays there.
+    pub fn medium(&self, bay: u8) -> Option<&Medium>
+        requires { bay ≤ 1 }
+        ensures { option_copied result ≡ (drive_at (front_state D.state self.now).board bay).medium }
+    {
+        self.board.medium(bay)
+    }
+
+    /// Whether a word of the medium in a bay was replaced since it was put in, or since this was asked last.
+    pub fn take_written(&mut self, bay: u8) -> bool
+        requires { bay ≤ 1 }
+        ensures was { result ≡ written_at D.written (board_of self.old) bay }
+        ensures forgotten { written_at D.written (board_of self.new) bay ≡ false }
+        ensures state { front_state D.state self.new ≡ front_state D.state self.old }
+        ensures other { written_at D.written (board_of self.new) (1 - bay) ≡ written_at D.written (board_of self.old) (1 - bay) }
+    {
+        self.board.take_written(bay)
+    }
+
+    /// The cylinder under the heads of the drive in a bay, 0 to 82.
+    pub fn cylinder(&self, bay: u8) -> u8
+        requires { bay ≤ 1 }
+        ensures { result ≡ (drive_at (front_state D.state self.now).board bay).cylinder }
+    {
+        self.board.cylinder(bay)
+    }
+
+    /// Whether the write gate of the drive in a bay is open.
+    pub fn is_gate_open(&self, bay: u8) -> bool
+        requires { bay ≤ 1 }
+        ensures { result ≡ (drive_at (front_state D.state self.now).board bay).gate }
+    {
+        self.board.is_gate_open(bay)
+    }
+
+    /// Whether DOR turns the motor of the drive in a bay on.
+    pub fn is_motor_on(&self, bay: u8) -> bool
+        requires { bay ≤ 1 }
+        ensures { IsTrue result ↔ IsBitSet (dor_of (controller_of (board_of self.now))) (4 + bay) }
+    {
+        self.board.is_motor_on(bay)
+    }
+
+    /// The drive that DOR selects: those of bays 2 and 3 are absent.
+    pub fn selected(&self) -> u8
+        ensures { result ≡ dor_of (controller_of (board_of self.now)) % 4 }
+    {
+        self.board.selected()
+    }
+
+    /// The nanoseconds of a word time at the rate that was chosen last.
+    pub fn word_time(&self) -> u32
+        ensures { result ≡ nanoseconds (data_rate (controller_of (board_of self.now))) }
+    {
+        self.board.word_time()
+    }
+}

@@ -1,0 +1,19 @@
+//! Commands of several sectors (Intel 82077AA data sheet: MT, SK, EOT, implied seeks) in front of a controller that takes
+//! one sector a command: of each it makes single ones, sector by sector.
+//!
+//! READ DATA, READ DELETED DATA, WRITE DATA and WRITE DELETED DATA are collected here. Everything else is the controller's.
+#![tactic(auto)]
+
+mod bays;
+mod channel;
+mod moving;
+mod opcode;
+mod ports;
+mod sequencer;
+mod stage;
+mod transfer;
+
+pub use opcode::{Opcode, Operation};
+pub use sequencer::Sequencer;
+pub use stage::{Moving, Stage};
+pub use transfer::Transfer;

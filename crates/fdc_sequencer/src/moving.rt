@@ -1,0 +1,183 @@
+// Device steps: how a sector ends and the next begins.
+ghost use Rattle.std.specs.Prelude.{◌≡◌, true};
+ghost use Rattle.fdc_board.specs.Boards.{controller_of};
+ghost use Rattle.fdc_core.specs.Whole.{ending_told};
+ghost use Rattle.fdc_seek.specs.Seeking.{has_ended_seek};
+ghost use Rattle.fdc_sequencer.specs.Fronts.{front_state, board_of, BeginsSector, moving_of};
+ghost use Rattle.fdc_sequencer.specs.Moves.{StepsFront, FollowsStep, MovesOn, EndsSector, SeeksOn, passed_over_if, would_go_on, goes_on, is_unwanted, results_behind, results_failed, has_met_other};
+
+use crate::sequencer::Sequencer;
+use crate::stage::{Moving, Stage};
+use crate::transfer::Transfer;
+use fdc_commands::{Accepted, Results};
+use fdc_stages::Ending;
+use inspected_drive::Inspect;
+
+impl<D: Inspect> Sequencer<D> {
+    /// One device step: the board's, and where a sector ended in it, the next begins or there are results.
+    pub fn step(&mut self)
+        ensures { StepsFront (front_state D.state self.old) (front_state D.state self.new) }
+    {
+        self.board.step();
+        self.follow_step();
+    }
+
+    /// What is done behind the board's step.
+    fn follow_step(&mut self)
+        ensures { FollowsStep self.old.stage (front_state D.state self.old) (front_state D.state self.new) }
+    {
+        match self.stage {
+            Stage::Seeking { transfer, counted } => self.follow_seek(transfer, counted),
+            Stage::Moving { moving } => self.follow_sector(moving),
+            _ => {}
+        }
+    }
+
+    /// The sector begins behind an implied seek.
+    fn follow_seek(&mut self, transfer: Transfer, counted: bool)
+        ensures { SeeksOn (has_ended_seek (controller_of (board_of self.old)).seeks) transfer counted (front_state D.state self.old) (front_state D.state self.new) }
+    {
+        if self.board.forget_seek() {
+            self.begin_sector(transfer, counted, false);
+        }
+    }
+
+    /// The next sector or the results, where this one ended; else a field whose mark isn't wanted may have been met.
+    fn follow_sector(&mut self, moving: Moving)
+        ensures { MovesOn (ending_told (controller_of (board_of self.old))) moving (front_state D.state self.old) (front_state D.state self.new) }
+    {
+        match self.board.take_ending() {
+            Some(ending) => self.end_sector(moving, ending),
+            None => {
+                if moving.is_unwanted(self.board.mark()) {
+                    self.pass_over(moving);
+                }
+            }
+        }
+    }
+
+    /// No byte of the field passes.
+    fn pass_over(&mut self, moving: Moving)
+        ensures { front_state D.state self.new ≡ passed_over_if true moving (front_state D.state self.old) }
+    {
+        self.board.tc();
+        self.stage = Stage::Moving {
+            moving: Moving {
+                left: 0,
+                passed_over: true,
+                ..moving
+            },
+        };
+    }
+
+    /// The controller's own command for the sector ended so.
+    fn end_sector(&mut self, moving: Moving, ending: Ending)
+        ensures { EndsSector moving ending (front_state D.state self.old) (front_state D.state self.new) }
+    {
+        match ending {
+            Ending::Done { deleted } if moving.goes_on(deleted) => {
+                self.begin_sector(moving.transfer.next(), false, moving.has_met_other(deleted));
+            }
+            Ending::Done { deleted } => self.tell(moving.results_behind(deleted)),
+            _ => self.tell(moving.results_failed(ending)),
+        }
+    }
+
+    /// The host reads results.
+    fn tell(&mut self, results: Results)
+        ensures { self.new ≡ record self.old { stage = Stage.Telling results 0 } }
+    {
+        self.stage = Stage::Telling { results, read: 0 };
+    }
+
+    /// The controller's own command for a sector begins.
+    pub(crate) fn begin_sector(&mut self, transfer: Transfer, counted: bool, passed_over: bool)
+        ensures { BeginsSector transfer counted passed_over (front_state D.state self.old) (front_state D.state self.new) }
+    {
+        self.board
+            .take_accepted(Accepted::Ready(transfer.command()));
+        if !self.board.is_executing() {
+            self.stage = Stage::Through;
+            return;
+        }
+        if counted {
+            self.board.tc();
+        }
+        self.stage = Stage::Moving {
+            moving: Moving::of(transfer, counted, passed_over),
+        };
+    }
+}
+
+impl Moving {
+    /// A sector of which no byte has passed.
+    fn of(transfer: Transfer, counted: bool, passed_over: bool) -> Moving
+        ensures { result ≡ moving_of transfer counted passed_over }
+    {
+        Moving {
+            transfer,
+            left: transfer.size(),
+            counted,
+            passed_over,
+        }
+    }
+
+    /// Whether a mark is met that isn't wanted, before a byte passed, so that the field is to be passed over.
+    fn is_unwanted(self, mark: Option<bool>) -> bool
+        ensures { result ≡ is_unwanted self mark }
+    {
+        match mark {
+            None => false,
+            Some(deleted) => {
+                self.transfer.is_skipping()
+                    && self.transfer.is_other(deleted)
+                    && self.left == self.transfer.size()
+            }
+        }
+    }
+
+    /// Whether a field of the mark that isn't wanted was met, here or before.
+    fn has_met_other(self, deleted: bool) -> bool
+        ensures { result ≡ has_met_other self deleted }
+    {
+        self.passed_over || self.transfer.is_other(deleted)
+    }
+
+    /// Whether the command would go on behind this sector, were it not the last.
+    fn would_go_on(self, deleted: bool) -> bool
+        ensures { result ≡ would_go_on self deleted }
+    {
+        !self.counted && (!self.transfer.is_other(deleted) || self.transfer.is_skipping())
+    }
+
+    /// Whether another sector comes behind this one.
+    fn goes_on(self, deleted: bool) -> bool
+        ensures { result ≡ goes_on self deleted }
+    {
+        self.would_go_on(deleted) && !self.transfer.is_last()
+    }
+
+    /// The results behind a sector that was moved, where none comes behind it.
+    fn results_behind(self, deleted: bool) -> Results
+        ensures { result ≡ results_behind self deleted }
+    {
+        let transfer = self.transfer;
+        let met_other = self.has_met_other(deleted);
+        if self.would_go_on(deleted) {
+            return transfer.results(Ending::NoCount, transfer.key, met_other);
+        }
+        transfer.results(
+            Ending::Done { deleted: false },
+            transfer.next().key,
+            met_other,
+        )
+    }
+
+    /// The results of a failure at this sector.
+    fn results_failed(self, ending: Ending) -> Results
+        ensures { result ≡ results_failed self ending }
+    {
+        self.transfer
+            .results(ending, self.transfer.key, self.passed_over)
+    }
+}

@@ -1,0 +1,75 @@
+// The codes of the commands that are served here.
+ghost use Rattle.std.specs.Prelude.{◌≡◌};
+ghost use Rattle.fdc_sequencer.specs.Opcodes.{operation_of, opcode_of, plain_code};
+
+/// What a command does with its sectors.
+#[derive(Clone, Copy, PartialEq, Eq, Debug)]
+pub enum Operation {
+    /// READ DATA, and READ DELETED DATA where `deleted` marks are wanted. With `skip` (SK) a field of the other mark is
+    /// passed over.
+    Read { deleted: bool, skip: bool },
+    /// WRITE DATA, and WRITE DELETED DATA.
+    Write { deleted: bool },
+}
+
+/// The code of a command of several sectors.
+#[derive(Clone, Copy, PartialEq, Eq, Debug)]
+pub struct Opcode {
+    pub operation: Operation,
+    /// MT: it goes on from head 0 to head 1.
+    pub multitrack: bool,
+}
+
+/// MT in a code.
+const MULTITRACK: u8 = 0x80;
+
+/// What a code asks for, without MT. MFM is set in each, and SK in those of reads alone.
+fn operation_of(code: u8) -> Option<Operation>
+    ensures { result ≡ operation_of code }
+{
+    match code {
+        0x46 => Some(Operation::Read {
+            deleted: false,
+            skip: false,
+        }),
+        0x66 => Some(Operation::Read {
+            deleted: false,
+            skip: true,
+        }),
+        0x4C => Some(Operation::Read {
+            deleted: true,
+            skip: false,
+        }),
+        0x6C => Some(Operation::Read {
+            deleted: true,
+            skip: true,
+        }),
+        0x45 => Some(Operation::Write { deleted: false }),
+        0x49 => Some(Operation::Write { deleted: true }),
+        _ => None,
+    }
+}
+
+impl Opcode {
+    /// What a code asks for, where it is one of these commands.
+    pub(crate) fn of(code: u8) -> Option<Opcode>
+        ensures { result ≡ opcode_of code }
+    {
+        let operation = operation_of(code & !MULTITRACK)?;
+        Some(Opcode {
+            operation,
+            multitrack: code & MULTITRACK != 0,
+        })
+    }
+
+    /// The code of the controller's own command for one sector.
+    pub(crate) fn plain(self) -> u8
+        ensures { result ≡ plain_code self.operation }
+    {
+        match self.operation {
+            Operation::Read { .. } => 0x46,
+            Operation::Write { deleted: false } => 0x45,
+            Operation::Write { deleted: true } => 0x49,
+        }
+    }
+}

@@ -1,0 +1,212 @@
+// Ports: what is read, and how a command of several sectors is collected and begins.
+ghost use Rattle.std.specs.Prelude.{◌≡◌, ◌+◌, ◌∷◌, [], if◌then◌else◌, nat_le};
+ghost use Rattle.fdc_board.specs.Boards.{controller_of, SameDrives};
+ghost use Rattle.fdc_sequencer.specs.Fronts.{front_state, board_of, status_at, value_outside, byte_at, byte_given, after_reading, begins_with, configured_with, CollectsAs, PassesAs, TakesByte, WritesFront, Starts, SeeksFirst, Refuses};
+ghost use Rattle.fdc_sequencer.specs.Opcodes.{plain_code};
+
+use crate::opcode::Opcode;
+use crate::sequencer::Sequencer;
+use crate::stage::Stage;
+use crate::transfer::Transfer;
+use fdc_commands::{Accepted, Command, CommandBytes, Results};
+use fdc_core::Fdc;
+use fdc_registers::{Flags, Msr};
+use inspected_drive::Inspect;
+
+/// MSR where it is read, DSR where it is written.
+const STATUS: u16 = 0x3F4;
+
+const DATA: u16 = 0x3F5;
+
+/// What a port gives that has nothing to give.
+const NOTHING: u8 = 0xFF;
+
+/// The last of seven result bytes.
+const LAST_RESULT: u8 = 6;
+
+/// EIS in the options of CONFIGURE.
+const IMPLIED_SEEK: u8 = 0x40;
+
+impl<D: Inspect> Sequencer<D> {
+    /// Reads a port, 3F0 to 3F7. Within a command of several sectors MSR is 10, and D0 while its results are read.
+    pub fn read(&mut self, port: u16) -> u8
+        ensures value { result ≡ value_outside port (front_state D.state self.old) }
+        ensures after { front_state D.state self.new ≡ after_reading port (front_state D.state self.old) }
+        ensures drives { SameDrives (board_of self.old) (board_of self.new) }
+    {
+        match port {
+            STATUS => self.status(),
+            DATA => self.give_byte(),
+            _ => self.board.read(port),
+        }
+    }
+
+    /// The main status register.
+    fn status(&mut self) -> u8
+        ensures value { result ≡ status_at self.old.stage (controller_of (board_of self.old)) }
+        ensures after { front_state D.state self.new ≡ front_state D.state self.old }
+        ensures drives { SameDrives (board_of self.old) (board_of self.new) }
+    {
+        match self.stage {
+            Stage::Through => self.board.read(STATUS),
+            Stage::Collecting { .. } => Msr(self.board.read(STATUS)).union(Msr::BUSY).bits(),
+            Stage::Seeking { .. } | Stage::Moving { .. } => Msr::BUSY.bits(),
+            Stage::Telling { .. } => Msr::RQM.union(Msr::DIO).union(Msr::BUSY).bits(),
+        }
+    }
+
+    /// The next result byte.
+    fn give_byte(&mut self) -> u8
+        ensures value { result ≡ byte_at self.old.stage (controller_of (board_of self.old)) }
+        ensures after { front_state D.state self.new ≡ byte_given self.old.stage (front_state D.state self.old) }
+        ensures drives { SameDrives (board_of self.old) (board_of self.new) }
+    {
+        match self.stage {
+            Stage::Through => self.board.read(DATA),
+            Stage::Telling { results, read } => {
+                self.stage = after_byte(results, read);
+                match results.bytes().get(usize::from(read)) {
+                    Some(byte) => *byte,
+                    None => NOTHING,
+                }
+            }
+            _ => NOTHING,
+        }
+    }
+
+    /// Writes a port, 3F0 to 3F7. A reset ends a command of several sectors as any other.
+    pub fn write(&mut self, port: u16, value: u8)
+        ensures { WritesFront port value (front_state D.state self.old) (front_state D.state self.new) }
+    {
+        if port == DATA {
+            self.take_byte(value);
+            return;
+        }
+        if Fdc::is_reset_by(port, value) {
+            self.stage = Stage::Through;
+            self.configured = false;
+        }
+        self.board.write(port, value);
+    }
+
+    /// A byte is written to the data port.
+    fn take_byte(&mut self, byte: u8)
+        ensures { TakesByte self.old.stage byte (front_state D.state self.old) (front_state D.state self.new) }
+    {
+        match self.stage {
+            Stage::Through => self.pass_byte(byte),
+            Stage::Collecting { opcode } => {
+                let accepted = self.bytes.accept(byte);
+                self.collect(opcode, accepted);
+            }
+            _ => {}
+        }
+    }
+
+    /// A byte that begins a command of several sectors is kept, and any other is the controller's.
+    fn pass_byte(&mut self, byte: u8)
+        ensures { PassesAs (begins_with byte (controller_of (board_of self.old))) byte (front_state D.state self.old) (front_state D.state self.new) }
+    {
+        match self.opcode_with(byte) {
+            Some(opcode) => self.begin_bytes(opcode),
+            None => {
+                self.configured = configured_after(self.board.options_with(byte), self.configured);
+                self.board.write(DATA, byte);
+            }
+        }
+    }
+
+    /// The command of several sectors that a byte begins.
+    fn opcode_with(&self, byte: u8) -> Option<Opcode>
+        ensures { result ≡ begins_with byte (controller_of (board_of self.now)) }
+    {
+        if self.board.is_idle() {
+            Opcode::of(byte)
+        } else {
+            None
+        }
+    }
+
+    /// The code of a command came.
+    fn begin_bytes(&mut self, opcode: Opcode)
+        ensures { front_state D.state self.new ≡ record (front_state D.state self.old) {
+          stage = Stage.Collecting opcode;
+          bytes = plain_code opcode.operation ∷ [];
+        } }
+    {
+        self.bytes = CommandBytes::new();
+        self.bytes.accept(opcode.plain());
+        self.stage = Stage::Collecting { opcode };
+    }
+
+    /// The bytes of a command came to this.
+    fn collect(&mut self, opcode: Opcode, accepted: Accepted)
+        ensures { CollectsAs opcode accepted (front_state D.state self.old) (front_state D.state self.new) }
+    {
+        match accepted {
+            Accepted::More => {}
+            Accepted::Ready(command) => self.start(Transfer::of(opcode, command)),
+            Accepted::Invalid => self.refuse(),
+        }
+    }
+
+    /// The controller answers in place of a command whose size code isn't 1 to 6.
+    fn refuse(&mut self)
+        ensures { Refuses (front_state D.state self.old) (front_state D.state self.new) }
+    {
+        self.stage = Stage::Through;
+        self.board.take_accepted(Accepted::Invalid);
+    }
+
+    /// A command starts, with a seek where these are implied.
+    fn start(&mut self, transfer: Option<Transfer>)
+        ensures { Starts transfer (front_state D.state self.old) (front_state D.state self.new) }
+    {
+        match transfer {
+            Some(transfer) if self.strapped || self.configured => self.seek_first(transfer),
+            Some(transfer) => self.begin_sector(transfer, false, false),
+            None => self.stage = Stage::Through,
+        }
+    }
+
+    /// The heads go to the command's cylinder.
+    fn seek_first(&mut self, transfer: Transfer)
+        ensures { SeeksFirst transfer (front_state D.state self.old) (front_state D.state self.new) }
+    {
+        self.board.take_accepted(Accepted::Ready(Command::Seek {
+            head_drive: transfer.head_drive,
+            ncn: transfer.key.c,
+        }));
+        self.stage = if self.board.is_idle() {
+            Stage::Seeking {
+                transfer,
+                counted: false,
+            }
+        } else {
+            Stage::Through
+        };
+    }
+}
+
+/// What is done behind a result byte.
+fn after_byte(results: Results, read: u8) -> Stage
+    ensures { result ≡ (if nat_le 6 read then Stage.Through else Stage.Telling results (read + 1)) }
+{
+    if read >= LAST_RESULT {
+        return Stage::Through;
+    }
+    Stage::Telling {
+        results,
+        read: read + 1,
+    }
+}
+
+/// EIS, once a byte came that completes a CONFIGURE with these options, or doesn't.
+fn configured_after(options: Option<u8>, was: bool) -> bool
+    ensures { result ≡ configured_with options was }
+{
+    match options {
+        Some(options) => options & IMPLIED_SEEK != 0,
+        None => was,
+    }
+}

@@ -1,0 +1,200 @@
+// A command of several sectors, as it stands at one of them.
+ghost use Rattle.std.specs.Prelude.{◌≡◌};
+ghost use Rattle.fdc_sequencer.specs.Transfers.{transfer_of, command_of, next_of, is_last, is_other, is_skipping, results_told, size_of};
+
+use crate::opcode::{Opcode, Operation};
+use fdc_commands::{Command, Results};
+use fdc_core::results;
+use fdc_registers::{Flags, St2};
+use fdc_stages::Ending;
+use flop_base::Chrn;
+
+/// The head in the second byte of a command.
+const HEAD: u8 = 0x04;
+
+/// A command of several sectors, as it stands at one of them.
+#[derive(Clone, Copy, PartialEq, Eq, Debug)]
+pub struct Transfer {
+    pub opcode: Opcode,
+    /// The head in bit 2, the drive in bits 1 and 0.
+    pub head_drive: u8,
+    /// The key of the sector.
+    pub key: Chrn,
+    /// EOT: the number of the track's last sector.
+    pub last_sector: u8,
+    pub gap: u8,
+    pub length: u8,
+}
+
+impl Transfer {
+    /// That which the controller's own command for its first sector spells.
+    pub(crate) fn of(opcode: Opcode, command: Command) -> Option<Transfer>
+        ensures { result ≡ transfer_of opcode command }
+    {
+        match command {
+            Command::ReadData {
+                head_drive,
+                key,
+                eot,
+                gpl,
+                dtl,
+            }
+            | Command::WriteData {
+                head_drive,
+                key,
+                eot,
+                gpl,
+                dtl,
+            }
+            | Command::WriteDeleted {
+                head_drive,
+                key,
+                eot,
+                gpl,
+                dtl,
+            } => Some(Transfer {
+                opcode,
+                head_drive,
+                key,
+                last_sector: eot,
+                gap: gpl,
+                length: dtl,
+            }),
+            _ => None,
+        }
+    }
+
+    /// The controller's own command for this sector.
+    pub(crate) fn command(self) -> Command
+        ensures { result ≡ command_of self }
+    {
+        let Transfer {
+            opcode,
+            head_drive,
+            key,
+            last_sector,
+            gap,
+            length,
+        } = self;
+        match opcode.operation {
+            Operation::Read { .. } => Command::ReadData {
+                head_drive,
+                key,
+                eot: last_sector,
+                gpl: gap,
+                dtl: length,
+            },
+            Operation::Write { deleted: false } => Command::WriteData {
+                head_drive,
+                key,
+                eot: last_sector,
+                gpl: gap,
+                dtl: length,
+            },
+            Operation::Write { deleted: true } => Command::WriteDeleted {
+                head_drive,
+                key,
+                eot: last_sector,
+                gpl: gap,
+                dtl: length,
+            },
+        }
+    }
+
+    /// The same command at the sector behind this one: the next record; behind the last, record 1 of the other head with MT,
+    /// of the next cylinder without it and behind head 1.
+    pub(crate) fn next(self) -> Transfer
+        ensures { result ≡ next_of self }
+    {
+        let Chrn { c, h, r, n } = self.key;
+        if r != self.last_sector {
+            let key = Chrn {
+                c,
+                h,
+                r: r.wrapping_add(1),
+                n,
+            };
+            return Transfer { key, ..self };
+        }
+        if !self.opcode.multitrack {
+            let key = Chrn {
+                c: c.wrapping_add(1),
+                h,
+                r: 1,
+                n,
+            };
+            return Transfer { key, ..self };
+        }
+        let c = if self.head_drive & HEAD == 0 {
+            c
+        } else {
+            c.wrapping_add(1)
+        };
+        Transfer {
+            head_drive: self.head_drive ^ HEAD,
+            key: Chrn {
+                c,
+                h: h ^ 1,
+                r: 1,
+                n,
+            },
+            ..self
+        }
+    }
+
+    /// Whether no sector comes behind this one.
+    pub(crate) fn is_last(self) -> bool
+        ensures { result ≡ is_last self }
+    {
+        self.key.r == self.last_sector
+            && (!self.opcode.multitrack || self.head_drive & HEAD != 0)
+    }
+
+    /// Whether a field of this mark isn't of those that the command wants.
+    pub(crate) fn is_other(self, deleted: bool) -> bool
+        ensures { result ≡ is_other self.opcode.operation deleted }
+    {
+        match self.opcode.operation {
+            Operation::Read {
+                deleted: wanted, ..
+            } => wanted != deleted,
+            Operation::Write { .. } => false,
+        }
+    }
+
+    /// Whether it passes such fields over.
+    pub(crate) fn is_skipping(self) -> bool
+        ensures { result ≡ is_skipping self.opcode.operation }
+    {
+        matches!(self.opcode.operation, Operation::Read { skip: true, .. })
+    }
+
+    /// The bytes of a sector.
+    pub(crate) fn size(self) -> u16
+        ensures { result ≡ size_of self.key.n }
+    {
+        match self.key.n {
+            1 => 256,
+            2 => 512,
+            3 => 1024,
+            4 => 2048,
+            5 => 4096,
+            6 => 8192,
+            _ => 128,
+        }
+    }
+
+    /// The results where it ends at this sector so. `passed_over` says that a field of the other mark was passed over.
+    pub(crate) fn results(self, ending: Ending, key: Chrn, passed_over: bool) -> Results
+        ensures { result ≡ results_told ending self.head_drive key passed_over }
+    {
+        let told = results(ending, self.head_drive, key);
+        if !passed_over {
+            return told;
+        }
+        Results {
+            st2: told.st2.union(St2::CONTROL_MARK),
+            ..told
+        }
+    }
+}
