@@ -184,10 +184,12 @@ impl Seeks {
         ensures state { self.new ≡ without_ended self.old }
     {
         match self.seek {
-            Some(Seek {
-                drive,
-                motion: Motion::Ended,
-            }) => {
+            Some(
+                Seek {
+                    drive,
+                    motion: Motion::Ended,
+                },
+            ) => {
                 self.seek = None;
                 self.pending[drive as usize] = None;
                 true

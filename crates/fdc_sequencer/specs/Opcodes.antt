@@ -19,7 +19,7 @@ operation_of code =
 abbrev pub opcode_of : ℕ → Option Opcode
 opcode_of code =
     option_map (λ operation. record { operation = operation; multitrack = not (bit_and code 0x80 == 0) })
-        (operation_of (bit_and code 0x7F))
+    (operation_of (bit_and code 0x7F))
 
 -- the code of the controller's own command for one sector
 abbrev pub plain_code : Operation → ℕ

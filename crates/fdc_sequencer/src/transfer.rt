@@ -146,8 +146,7 @@ impl Transfer {
     pub(crate) fn is_last(self) -> bool
         ensures { result ≡ is_last self }
     {
-        self.key.r == self.last_sector
-            && (!self.opcode.multitrack || self.head_drive & HEAD != 0)
+        self.key.r == self.last_sector && (!self.opcode.multitrack || self.head_drive & HEAD != 0)
     }
 
     /// Whether a field of this mark isn't of those that the command wants.
@@ -156,7 +155,8 @@ impl Transfer {
     {
         match self.opcode.operation {
             Operation::Read {
-                deleted: wanted, ..
+                deleted: wanted,
+                ..
             } => wanted != deleted,
             Operation::Write { .. } => false,
         }
