@@ -1,2 +1,7 @@
 mod Runs
 pub mod Codes
+pub mod Marks
+pub mod Known
+pub mod Begun
+pub mod Courses
+pub mod Served

@@ -6,6 +6,7 @@
 
 mod bays;
 mod channel;
+pub mod laws;
 mod moving;
 mod opcode;
 mod ports;

@@ -1,0 +1,354 @@
+-- What is known of the controller's own command for a sector, through device steps, transfers, the terminal count and port
+-- accesses.
+use Rattle.std.proofs.Common.{◌≡◌, ◌⊎◌, inl, inr, ℕ, zero, suc, ◌+◌, ◌≤◌, ◌<◌, Bool, true, false, not, ◌&&◌, ◌==◌, if◌then◌else◌, Option, List, [], ◌∷◌, ◌++◌, refl, sym, ◌∙◌, ap, subst, arith}
+use Rattle.std.proofs.lemmas.Bool.{false≢true, and_parts, eqb-true}
+use Rattle.drive_model.specs.Drive.{DriveState, at_index}
+use Rattle.fdc_fifo.specs.Fifo.{Fifo}
+use Rattle.fdc_seek.specs.Seeking.{with_polls}
+use Rattle.fdc_stages.specs.History.{Past}
+use Rattle.fdc_stages.specs.declared.ending.Ending.TheVariants.{Late}
+use Rattle.fdc_writing.specs.Writings.{is_due, is_open, opens}
+use Rattle.fdc_writing.specs.declared.writing.WriteNext.TheVariants.{On}
+use Rattle.fdc_writing.specs.declared.writing.WriteStage.{WriteStage}
+use Rattle.fdc_writing.specs.declared.writing.WriteStage.TheVariants as stage
+use Rattle.fdc_core.specs.Dma.{byte_out, phase_told, taken_out, taken_in, told_count, to_memory_of}
+use Rattle.fdc_core.specs.Heard.{Sent, MayReadIn, MayReadTask, gave, stepped, told_in}
+use Rattle.fdc_core.specs.Listening.{Follows, after_step, is_executing}
+use Rattle.fdc_core.specs.Phases.{is_reading}
+use Rattle.fdc_core.specs.Ports.{Writes, dor_resets, dsr_resets, resets}
+use Rattle.fdc_core.specs.Rates.{rate_chosen}
+use Rattle.fdc_core.specs.State.{asks, is_gated, is_held, reset}
+use Rattle.fdc_core.specs.Steps.{polled}
+use Rattle.fdc_core.specs.Tasks.{StepsNowhere, TaskStepsNowhere, WritesNowhere}
+use Rattle.fdc_core.specs.Times.{WordTime, Saw, KeptOut, Wrote, Stopped, after_time}
+use Rattle.fdc_core.specs.Whole.{mark_of, mark_of_phase}
+use Rattle.fdc_core.specs.Writes.{WritesIn, WritesTask}
+use Rattle.fdc_core.specs.Writing.{WriteDoes, after_next}
+use Rattle.fdc_core.specs.Written.{MayWrite, MayWriteIn, MayWriteTask, took}
+use Rattle.fdc_core.specs.declared.answers.Answer.TheVariants.{Short, Long}
+use Rattle.fdc_core.specs.declared.controller.Fdc.{Fdc}
+use Rattle.fdc_core.specs.declared.controller.Lines.{Lines}
+use Rattle.fdc_core.specs.declared.phases.Phase.{Phase}
+use Rattle.fdc_core.specs.declared.phases.Phase.TheVariants.{Command, Execute, Result as Telling}
+use Rattle.fdc_core.specs.declared.phases.Task.{Task}
+use Rattle.fdc_core.specs.declared.phases.Task.TheVariants.{ReadId, Read as ReadTask, Write as WriteTask, Format}
+use Rattle.fdc_core.specs.declared.transfers.Writing.{Writing}
+use Rattle.fdc_core.proofs.MayRead.{out_reads, told_reads}
+use Rattle.fdc_core.proofs.MayWrite.{in_writes, rule_room, told_writes, writes_on}
+use Rattle.pc_bus.specs.Steps.{Works, WorksAlone}
+use Rattle.fdc_board.specs.Boards.{BoardState, StepsBoard, selected_at}
+use Rattle.fdc_sequencer.specs.Serving.{MayMove, bytes_moved}
+use Rattle.fdc_sequencer.specs.declared.opcode.Operation.{Operation}
+use Rattle.fdc_sequencer.specs.declared.opcode.Operation.TheVariants.{Read, Write}
+use Rattle.fdc_sequencer.proofs.Marks.{MarkStays, mark_then, step_stays}
+
+pub clash : {A : Type 0} (b : Bool) → b ≡ false → b ≡ true → A
+clash b is other = absurd (false≢true (sym is ∙ other))
+
+pub either_way : {P : Type 0} (b : Bool) → (b ≡ true → P) → (b ≡ false → P) → P
+either_way true set clear = set refl
+either_way false set clear = clear refl
+
+-- ---- a device step
+
+-- the mark of a field that is read stays, and before it no byte passed
+abbrev pub MarkGoes : Operation → List ℕ → Option Bool → Option Bool → Type 0
+MarkGoes (Read _ _) bytes was now = MarkStays bytes was now
+MarkGoes (Write _) bytes was now = Unit {0}
+
+-- behind it the same is known, of a past that moved the same bytes
+pub record KnownOn (operation : Operation) (past : Past) (sent : Sent) (mark : Option Bool) (new : Fdc) : Type 0 where
+  pub now : Past
+  pub bytes : bytes_moved operation now ≡ bytes_moved operation past
+  pub counted : now.counted ≡ past.counted
+  pub moves : MayMove operation now sent new
+  pub marks : MarkGoes operation (bytes_moved operation past) mark (mark_then mark new.phase)
+
+which_drive : (n : ℕ) → (n ≡ 0) ⊎ ((n ≡ 1) ⊎ (2 ≤ n))
+which_drive zero = inl refl
+which_drive (suc zero) = inr (inl refl)
+which_drive (suc (suc n)) = inr (inr (omega arith))
+
+-- ---- a read
+
+step_given : (b index : Bool) (word : ℕ) (past : Past) → (after_step b index word past).given ≡ past.given
+step_given true index word past = refl
+step_given false index word past = refl
+
+step_counted : (b index : Bool) (word : ℕ) (past : Past) → (after_step b index word past).counted ≡ past.counted
+step_counted true index word past = refl
+step_counted false index word past = refl
+
+read_on : (wanted skip : Bool) (past : Past) (sent : Sent) (phase : Phase) (polls old new : Fdc) (index : Bool) (word : ℕ) → is_executing phase ≡ true → Follows phase polls index word old new
+    → MayReadIn past sent phase old.asking old.fifo.bytes → KnownOn (Read wanted skip) past sent (mark_of_phase phase) new
+read_on wanted skip past sent phase polls old new index word busy follows was = record {
+  now = after_step (is_executing phase) index word past;
+  bytes = step_given (is_executing phase) index word past;
+  counted = step_counted (is_executing phase) index word past;
+  moves = follows.reads past sent was;
+  marks = step_stays past sent index word polls new phase old busy follows was;
+}
+
+reads_on : (wanted skip : Bool) (past : Past) (sent : Sent) (old new : BoardState) → StepsBoard old new → is_executing old.controller.phase ≡ true
+    → MayMove (Read wanted skip) past sent old.controller → KnownOn (Read wanted skip) past sent (mark_of old.controller) new.controller
+reads_on wanted skip past sent old new steps busy was =
+    let fdc = old.controller in
+    elim (which_drive (selected_at old)) [
+      | inl at ↦ let hears = (steps.at_first at).0.reads in
+          read_on wanted skip past sent fdc.phase (polled fdc) fdc new.controller (at_index old.first) hears.word busy hears.follows was
+      | inr (inl at) ↦ let hears = (steps.at_second at).0.reads in
+          read_on wanted skip past sent fdc.phase (polled fdc) fdc new.controller (at_index old.second) hears.word busy hears.follows was
+      | inr (inr at) ↦ read_on wanted skip past sent fdc.phase (polled fdc) fdc new.controller false 0 busy (steps.at_none at).0.reads was
+    ]
+
+-- ---- a write
+
+time_taken : (time : WordTime) (past : Past) → (after_time time past).taken ≡ past.taken
+time_taken (Saw index word) past = refl
+time_taken (KeptOut index word) past = refl
+time_taken (Wrote opened closed index word) past = refl
+time_taken Stopped past = refl
+
+time_counted : (time : WordTime) (past : Past) → (after_time time past).counted ≡ past.counted
+time_counted (Saw index word) past = refl
+time_counted (KeptOut index word) past = refl
+time_counted (Wrote opened closed index word) past = refl
+time_counted Stopped past = refl
+
+module _ (deleted : Bool) (past : Past) (sent : Sent) (mark : Option Bool) where
+  write_task : (task : Task) (head_drive steps : ℕ) (asking : Bool) (fifo : Fifo) (polls : Fdc) (before after : DriveState) (new : Fdc) → WritesTask task head_drive steps asking fifo polls before after new
+      → MayWriteTask past sent deleted head_drive steps task asking fifo → KnownOn (Write deleted) past sent mark new
+  write_task (ReadId search) head_drive steps asking fifo polls before after new writes was = absurd was
+  write_task (ReadTask reading) head_drive steps asking fifo polls before after new writes was = absurd was
+  write_task (Format formatting) head_drive steps asking fifo polls before after new writes was = absurd was
+  write_task (WriteTask writing) head_drive steps asking fifo polls before after new writes was = record {
+    now = after_time writes.step.does.time past;
+    bytes = time_taken writes.step.does.time past;
+    counted = time_counted writes.step.does.time past;
+    moves = writes.writes past sent deleted was;
+    marks = tt;
+  }
+
+  write_in : (phase : Phase) (asking : Bool) (fifo : Fifo) (polls : Fdc) (before after : DriveState) (new : Fdc) → WritesIn phase asking fifo polls before after new
+      → MayWriteIn past sent deleted phase asking fifo → KnownOn (Write deleted) past sent mark new
+  write_in Command asking fifo polls before after new writes was = absurd was
+  write_in (Telling answer) asking fifo polls before after new writes was = record { now = past; bytes = refl; counted = refl; moves = writes.writes past sent deleted was; marks = tt }
+  write_in (Execute execution) asking fifo polls before after new writes was = write_task execution.task execution.head_drive execution.steps asking fifo polls before after new writes was
+
+  -- ---- where no drive is selected
+
+  by_time : (head_drive steps : ℕ) (writing : Writing) (old : Fdc) (before : DriveState) (new : Fdc) (time : WordTime) → WriteDoes time head_drive steps writing old before new
+      → MayWriteTask past sent deleted head_drive steps (WriteTask writing) old.asking old.fifo → KnownOn (Write deleted) past sent mark new
+  by_time head_drive steps writing old before new time does was = record {
+    now = after_time time past;
+    bytes = time_taken time past;
+    counted = time_counted time past;
+    moves = writes_on time head_drive steps writing old before new does past sent deleted was;
+    marks = tt;
+  }
+
+  -- with its gate open a write goes on in place
+  waits_open : (head_drive steps : ℕ) (writing : Writing) (old : Fdc) → MayWriteTask past sent deleted head_drive steps (WriteTask writing) old.asking old.fifo
+      → MayWrite (stepped past) sent deleted (after_next head_drive (steps + 1) writing (On writing.stage) old)
+  waits_open head_drive steps writing old (asks, (handed, was)) = (
+    rule_room writing.counted old.asking old.fifo,
+    (
+      handed,
+      record {
+        sent_is = was.sent_is;
+        deleted_is = was.deleted_is;
+        counted_is = was.counted_is;
+        steps_are = ap (λ n. n + 1) was.steps_are;
+        fresh = λ none. absurd (omega arith);
+        writes = was.writes;
+        handed_is = was.handed_is;
+      },
+    ),
+  )
+
+which_word : (now : WriteStage) → (is_due now ≡ false) ⊎ ((opens now ≡ true) ⊎ (is_open now ≡ true))
+which_word (stage.Search search) = inl refl
+which_word (stage.Gap zero) = inr (inl refl)
+which_word (stage.Gap (suc left)) = inl refl
+which_word (stage.Window window) = inr (inr refl)
+
+module _ (deleted : Bool) (past : Past) (sent : Sent) (mark : Option Bool) (before : DriveState) where
+  nowhere_write : (head_drive steps : ℕ) (writing : Writing) (old new : Fdc) → WritesNowhere head_drive steps writing old new
+      → MayWriteTask past sent deleted head_drive steps (WriteTask writing) old.asking old.fifo → KnownOn (Write deleted) past sent mark new
+  nowhere_write head_drive steps writing old new (inl (last, is)) was =
+      by_time deleted past sent mark head_drive steps writing old before new Stopped (record { ending = Late; stops = last; after_is = is }) was
+  nowhere_write head_drive steps writing old new (inr (few, (next, hears, is))) was = elim (which_word writing.stage) [
+    | inl due ↦ by_time deleted past sent mark head_drive steps writing old before new (Saw false 0) (due, record { few = few; next = next; hears = hears; after_is = is }) was
+    | inr (inl first) ↦ by_time deleted past sent mark head_drive steps writing old before new (KeptOut false 0) (first, record { few = few; next = next; hears = hears; after_is = is }) was
+    | inr (inr opened) ↦ record {
+      now = stepped past;
+      bytes = refl;
+      counted = refl;
+      moves = subst (MayWrite (stepped past) sent deleted) (sym (is ∙ ap (λ n. after_next head_drive (steps + 1) writing n old) (hears.3 opened)))
+          (waits_open deleted past sent mark head_drive steps writing old was);
+      marks = tt;
+    }
+  ]
+
+  nowhere_task : (task : Task) (head_drive steps : ℕ) (old new : Fdc) → TaskStepsNowhere task head_drive steps old new
+      → MayWriteTask past sent deleted head_drive steps task old.asking old.fifo → KnownOn (Write deleted) past sent mark new
+  nowhere_task (ReadId search) head_drive steps old new does was = absurd was
+  nowhere_task (ReadTask reading) head_drive steps old new does was = absurd was
+  nowhere_task (Format formatting) head_drive steps old new does was = absurd was
+  nowhere_task (WriteTask writing) head_drive steps old new does was = nowhere_write head_drive steps writing old new does was
+
+  nowhere_in : (phase : Phase) (old new : Fdc) → is_executing phase ≡ true → StepsNowhere phase old new → MayWriteIn past sent deleted phase old.asking old.fifo
+      → KnownOn (Write deleted) past sent mark new
+  nowhere_in Command old new busy does was = absurd was
+  nowhere_in (Telling answer) old new busy does was = absurd (false≢true busy)
+  nowhere_in (Execute execution) old new busy does was = nowhere_task execution.task execution.head_drive execution.steps old new does was
+
+  -- the poll moves nothing of this
+  nowhere_polled : (b : Bool) (old new : Fdc) → is_executing old.phase ≡ true
+      → StepsNowhere old.phase (if b then record old { poll_due = false; interrupt = true; seeks = with_polls old.seeks } else old) new
+      → MayWriteIn past sent deleted old.phase old.asking old.fifo → KnownOn (Write deleted) past sent mark new
+  nowhere_polled true old new busy does was = nowhere_in old.phase (record old { poll_due = false; interrupt = true; seeks = with_polls old.seeks }) new busy does was
+  nowhere_polled false old new busy does was = nowhere_in old.phase old new busy does was
+
+writes_on_board : (deleted : Bool) (past : Past) (sent : Sent) (old new : BoardState) → StepsBoard old new → is_executing old.controller.phase ≡ true
+    → MayMove (Write deleted) past sent old.controller → KnownOn (Write deleted) past sent (mark_of old.controller) new.controller
+writes_on_board deleted past sent old new steps busy was =
+    let fdc = old.controller in
+    elim (which_drive (selected_at old)) [
+      | inl at ↦ write_in deleted past sent (mark_of fdc) fdc.phase fdc.asking fdc.fifo (polled fdc) old.first new.first new.controller (steps.at_first at).0.writes was
+      | inr (inl at) ↦ write_in deleted past sent (mark_of fdc) fdc.phase fdc.asking fdc.fifo (polled fdc) old.second new.second new.controller (steps.at_second at).0.writes was
+      | inr (inr at) ↦ nowhere_polled deleted past sent (mark_of fdc) old.first (fdc.poll_due && not (is_held fdc)) fdc new.controller busy (steps.at_none at).0.nowhere was
+    ]
+
+pub steps_on : (operation : Operation) (past : Past) (sent : Sent) (old new : BoardState) → StepsBoard old new → is_executing old.controller.phase ≡ true
+    → MayMove operation past sent old.controller → KnownOn operation past sent (mark_of old.controller) new.controller
+steps_on (Read wanted skip) past sent old new steps busy was = reads_on wanted skip past sent old new steps busy was
+steps_on (Write deleted) past sent old new steps busy was = writes_on_board deleted past sent old new steps busy was
+
+-- ---- the terminal count
+
+pub bytes_told : (operation : Operation) (b : Bool) (past : Past) → bytes_moved operation (told_in b past) ≡ bytes_moved operation past
+bytes_told (Read wanted skip) true past = refl
+bytes_told (Read wanted skip) false past = refl
+bytes_told (Write deleted) true past = refl
+bytes_told (Write deleted) false past = refl
+
+pub told_busy : (phase : Phase) → is_executing phase ≡ true → is_executing (phase_told phase) ≡ true
+told_busy Command busy = busy
+told_busy (Execute execution) busy = refl
+told_busy (Telling answer) busy = busy
+
+pub told_on : (operation : Operation) (past : Past) (sent : Sent) (old : Fdc) → is_executing old.phase ≡ true → MayMove operation past sent old
+    → MayMove operation (told_in true past) sent (told_count old)
+told_on (Read wanted skip) past sent old busy was =
+    subst (λ b. MayMove (Read wanted skip) (told_in b past) sent (told_count old)) busy (told_reads past sent old.phase old.asking old.fifo was)
+told_on (Write deleted) past sent old busy was =
+    subst (λ b. MayMove (Write deleted) (told_in b past) sent (told_count old)) busy (told_writes past sent deleted old.phase old.asking old.fifo was)
+
+-- ---- bytes
+
+-- behind a byte the same is known, of a past that moved it
+pub record MovedOn (operation : Operation) (past : Past) (sent : Sent) (byte : ℕ) (new : Fdc) : Type 0 where
+  pub now : Past
+  pub bytes : bytes_moved operation now ≡ bytes_moved operation past ++ byte ∷ []
+  pub counted : now.counted ≡ past.counted
+  pub moves : MayMove operation now sent new
+
+read_phase : (past : Past) (sent : Sent) (phase : Phase) (asking : Bool) (fifo : List ℕ) → is_executing phase ≡ true → MayReadIn past sent phase asking fifo → is_reading phase ≡ true
+read_phase past sent Command asking fifo busy was = absurd was
+read_phase past sent (Telling answer) asking fifo busy was = absurd (false≢true busy)
+read_phase past sent (Execute execution) asking fifo busy was = in_task execution.task execution.head_drive execution.steps was
+  where
+    in_task : (task : Task) (head_drive steps : ℕ) → MayReadTask past sent head_drive steps task asking fifo → is_reading (Execute (record { head_drive = head_drive; steps = steps; task = task })) ≡ true
+    in_task (ReadTask reading) head_drive steps was = refl
+    in_task _ head_drive steps was = absurd was
+
+write_phase : (past : Past) (sent : Sent) (deleted : Bool) (phase : Phase) (asking : Bool) (fifo : Fifo) → MayWriteIn past sent deleted phase asking fifo → is_reading phase ≡ false
+write_phase past sent deleted Command asking fifo was = absurd was
+write_phase past sent deleted (Telling answer) asking fifo was = refl
+write_phase past sent deleted (Execute execution) asking fifo was = in_task execution.task execution.head_drive execution.steps was
+  where
+    in_task : (task : Task) (head_drive steps : ℕ) → MayWriteTask past sent deleted head_drive steps task asking fifo → is_reading (Execute (record { head_drive = head_drive; steps = steps; task = task })) ≡ false
+    in_task (WriteTask writing) head_drive steps was = refl
+    in_task _ head_drive steps was = absurd was
+
+-- the channel takes one
+pub out_on : (operation : Operation) (past : Past) (sent : Sent) (old : Fdc) → (asks old && to_memory_of old) ≡ true → MayMove operation past sent old
+    → MovedOn operation past sent (byte_out old) (taken_out old)
+out_on (Read wanted skip) past sent old up was = record {
+  now = gave (byte_out old) past;
+  bytes = refl;
+  counted = refl;
+  moves = out_reads past sent old.phase old.asking old.fifo (and_parts (is_gated old) old.asking (and_parts (asks old) (to_memory_of old) up).0).1 (and_parts (asks old) (to_memory_of old) up).1 was;
+}
+out_on (Write deleted) past sent old up was =
+    clash (is_reading old.phase) (write_phase past sent deleted old.phase old.asking old.fifo was) (and_parts (asks old) (to_memory_of old) up).1
+
+-- the channel gives one
+pub in_on : (operation : Operation) (past : Past) (sent : Sent) (byte : ℕ) (old : Fdc) → is_executing old.phase ≡ true → (asks old && not (to_memory_of old)) ≡ true → MayMove operation past sent old
+    → MovedOn operation past sent byte (taken_in byte old)
+in_on (Read wanted skip) past sent byte old busy up was =
+    let reading = read_phase past sent old.phase old.asking old.fifo.bytes busy was in
+    absurd (false≢true (sym (ap not reading) ∙ (and_parts (asks old) (not (to_memory_of old)) up).1))
+in_on (Write deleted) past sent byte old busy up was = record {
+  now = took byte past;
+  bytes = refl;
+  counted = refl;
+  moves = in_writes past sent deleted old.phase old.asking old.fifo byte (and_parts (is_gated old) old.asking (and_parts (asks old) (not (to_memory_of old)) up).0).1 was;
+}
+
+-- ---- port accesses
+
+-- what the command is known by stays
+record SameCommand (old new : Fdc) : Type 0 where
+  phase : new.phase ≡ old.phase
+  asking : new.asking ≡ old.asking
+  fifo : new.fifo ≡ old.fifo
+
+same_known : (operation : Operation) (past : Past) (sent : Sent) (old new : Fdc) → SameCommand old new → MayMove operation past sent old → MayMove operation past sent new
+same_known (Read wanted skip) past sent old new same was =
+    subst (λ phase. MayReadIn past sent phase new.asking new.fifo.bytes) (sym same.phase)
+    (subst (λ asking. MayReadIn past sent old.phase asking new.fifo.bytes) (sym same.asking)
+    (subst (λ fifo. MayReadIn past sent old.phase old.asking fifo.bytes) (sym same.fifo) was))
+same_known (Write deleted) past sent old new same was =
+    subst (λ phase. MayWriteIn past sent deleted phase new.asking new.fifo) (sym same.phase)
+    (subst (λ asking. MayWriteIn past sent deleted old.phase asking new.fifo) (sym same.asking)
+    (subst (λ fifo. MayWriteIn past sent deleted old.phase old.asking fifo) (sym same.fifo) was))
+
+same_as : (old set new : Fdc) → SameCommand old set → new ≡ set → SameCommand old new
+same_as old set new same is = subst (SameCommand old) (sym is) same
+
+not_reset : (b : Bool) (old set : Fdc) → b ≡ false → SameCommand old set → SameCommand old (if b then reset set else set)
+not_reset true old set is same = absurd (false≢true (sym is))
+not_reset false old set is same = same
+
+port_same : (port value : ℕ) (lines : Lines) (old new : Fdc) → Writes port value lines old new → (port == 0x3F5) ≡ false → resets port value ≡ false → SameCommand old new
+port_same port value lines old new writes no_byte no_reset = either_way (port == 0x3F2)
+    (λ output.
+    let quiet : dor_resets value ≡ false =
+    sym (ap (λ b. if b then dor_resets value else (if port == 0x3F4 then dsr_resets value else false)) output) ∙ no_reset in
+    same_as old _ new (not_reset (dor_resets value) old (record old { dor = record { 0 = value } }) quiet (record { phase = refl; asking = refl; fifo = refl }))
+    (writes.output (eqb-true port 0x3F2 output)))
+    (λ no_output. either_way (port == 0x3F4)
+    (λ select.
+    let quiet : dsr_resets value ≡ false =
+    sym (ap (λ b. if b then dsr_resets value else false) select)
+    ∙ (sym (ap (λ b. if b then dor_resets value else (if port == 0x3F4 then dsr_resets value else false)) no_output) ∙ no_reset) in
+    same_as old _ new (not_reset (dsr_resets value) old (record old { rate = rate_chosen value }) quiet (record { phase = refl; asking = refl; fifo = refl }))
+    (writes.select (eqb-true port 0x3F4 select)))
+    (λ no_select. either_way (port == 0x3F7)
+    (λ control. same_as old _ new (record { phase = refl; asking = refl; fifo = refl }) (writes.control (eqb-true port 0x3F7 control)))
+    (λ no_control. same_as old _ new (record { phase = refl; asking = refl; fifo = refl }) (writes.others no_output no_select no_byte no_control))))
+
+-- a write of another port than the data port's that doesn't reset the controller
+pub port_on : (operation : Operation) (past : Past) (sent : Sent) (port value : ℕ) (lines : Lines) (old new : Fdc) → Writes port value lines old new → (port == 0x3F5) ≡ false
+    → resets port value ≡ false → MayMove operation past sent old → MayMove operation past sent new
+port_on operation past sent port value lines old new writes no_byte no_reset was =
+    same_known operation past sent old new (port_same port value lines old new writes no_byte no_reset) was
+
+pub port_busy : (port value : ℕ) (lines : Lines) (old new : Fdc) → Writes port value lines old new → (port == 0x3F5) ≡ false → resets port value ≡ false
+    → is_executing old.phase ≡ true → is_executing new.phase ≡ true
+port_busy port value lines old new writes no_byte no_reset busy = ap is_executing (port_same port value lines old new writes no_byte no_reset).phase ∙ busy
+
+pub port_mark : (port value : ℕ) (lines : Lines) (old new : Fdc) → Writes port value lines old new → (port == 0x3F5) ≡ false → resets port value ≡ false → mark_of new ≡ mark_of old
+port_mark port value lines old new writes no_byte no_reset = ap mark_of_phase (port_same port value lines old new writes no_byte no_reset).phase

@@ -1,0 +1,182 @@
+-- The mark of a field that is read: none is known as the command begins, and once it is met it stays; before it no byte passed.
+use Rattle.std.proofs.Common.{◌≡◌, ◌⊎◌, inl, inr, ℕ, ◌+◌, Bool, true, false, ◌==◌, if◌then◌else◌, Option, Some, None, List, [], ◌++◌, length, refl, sym, ◌∙◌, ap, subst, arith, length-append}
+use Rattle.std.proofs.lemmas.Bool.{false≢true}
+use Rattle.std.proofs.lemmas.List.{nil_from_length}
+use Rattle.flop_base.specs.declared.key.Chrn.{Chrn}
+use Rattle.track_model.specs.Fields.{content_size}
+use Rattle.track_separator.proofs.Lawful.{reads_within}
+use Rattle.fdc_stages.specs.History.{Past, begun as new_past}
+use Rattle.fdc_stages.specs.Readings.{FailsWell, HasMark, IsFailure, IsReading, KeepsMark, ReadOutcome, mark_at}
+use Rattle.fdc_stages.specs.Readings as given
+use Rattle.fdc_stages.specs.declared.ending.Ending.{Ending}
+use Rattle.fdc_stages.specs.declared.ending.Ending.TheVariants.{Done, NoMark, NoSector, NoField, BadCheck, Overrun, NoCount, Protected, Late}
+use Rattle.fdc_stages.specs.declared.reading.ReadStage.{ReadStage}
+use Rattle.fdc_stages.specs.declared.reading.ReadStage.TheVariants.{Search, Wait, Content, Over}
+use Rattle.fdc_core.specs.Dma.{phase_told}
+use Rattle.fdc_core.specs.Heard.{MayReadIn, MayReadTask, Sent}
+use Rattle.fdc_core.specs.Listening.{ExecutesTask, Follows, is_executing}
+use Rattle.fdc_core.specs.Phases.{ending_over, is_listening}
+use Rattle.fdc_core.specs.Reading.{after_heard, at_stage, gone_on_reading, is_full, over_or_on, pushed}
+use Rattle.fdc_core.specs.State.{finished}
+use Rattle.fdc_core.specs.Whole.{ending_of_phase, mark_in, mark_of_phase}
+use Rattle.fdc_core.specs.declared.answers.Answer.TheVariants.{Short, Long}
+use Rattle.fdc_core.specs.declared.controller.Fdc.{Fdc}
+use Rattle.fdc_core.specs.declared.phases.Phase.{Phase}
+use Rattle.fdc_core.specs.declared.phases.Phase.TheVariants.{Command, Execute, Result as Telling}
+use Rattle.fdc_core.specs.declared.phases.Reading.{Reading}
+use Rattle.fdc_core.specs.declared.phases.Task.{Task}
+use Rattle.fdc_core.specs.declared.phases.Task.TheVariants.{ReadId, Read, Write, Format}
+use Rattle.fdc_core.proofs.MayRead.{starts, starts_given}
+
+-- ---- as the command goes on, and as it ends
+
+-- the mark that is then known: a failure tells none
+abbrev pub mark_then : Option Bool → Phase → Option Bool
+mark_then was (Execute execution) = mark_in execution.task
+mark_then was (Telling (Long (Done marked) results read)) = Some marked
+mark_then was _ = was
+
+pub then_busy : (was : Option Bool) (phase : Phase) → is_executing phase ≡ true → mark_then was phase ≡ mark_of_phase phase
+then_busy was Command busy = absurd (false≢true busy)
+then_busy was (Execute execution) busy = refl
+then_busy was (Telling answer) busy = absurd (false≢true busy)
+
+pub then_done : (was : Option Bool) (phase : Phase) (marked : Bool) → ending_of_phase phase ≡ Some (Done marked) → mark_then was phase ≡ Some marked
+then_done was Command marked is = absurd (cc is)
+then_done was (Execute execution) marked is = absurd (cc is)
+then_done was (Telling (Short next last)) marked is = absurd (cc is)
+then_done was (Telling (Long ending results read)) marked is = let same : ending ≡ Done marked = cc is in ap (λ e. mark_then was (Telling (Long e results read))) same
+
+-- ---- it stays
+
+over_stays : (good counted empty marked m : Bool) (head_drive steps : ℕ) (reading : Reading) (fdc : Fdc) → mark_at reading.stage ≡ Some m → marked ≡ m
+    → mark_then (Some m) (over_or_on (Some (ending_over good counted marked)) empty head_drive steps reading fdc).phase ≡ Some m
+over_stays true true true marked m head_drive steps reading fdc is same = ap (λ b. Some b) same
+over_stays true false true marked m head_drive steps reading fdc is same = refl
+over_stays false counted true marked m head_drive steps reading fdc is same = refl
+over_stays good counted false marked m head_drive steps reading fdc is same = is
+
+goes_on_stays : (head_drive steps : ℕ) (reading : Reading) (stage : ReadStage) (m : Bool) (fdc : Fdc) → mark_at stage ≡ Some m
+    → mark_then (Some m) (gone_on_reading head_drive steps (at_stage reading stage) fdc).phase ≡ Some m
+goes_on_stays head_drive steps reading (Search search) m fdc is = absurd (cc is)
+goes_on_stays head_drive steps reading (Wait separator) m fdc is = absurd (cc is)
+goes_on_stays head_drive steps reading (Content separator marked) m fdc is = is
+goes_on_stays head_drive steps reading (Over marked good) m fdc is =
+    let same : marked ≡ m = cc is in
+    over_stays good reading.counted (length fdc.fifo.bytes == 0) marked m head_drive steps (at_stage reading (Over marked good)) fdc is same
+
+failure_stays : (ending : Ending) (m : Bool) (head_drive : ℕ) (key : Chrn) (fdc : Fdc) → IsFailure ending → mark_then (Some m) (finished ending head_drive key fdc).phase ≡ Some m
+failure_stays NoMark m head_drive key fdc is = refl
+failure_stays NoSector m head_drive key fdc is = refl
+failure_stays NoField m head_drive key fdc is = refl
+failure_stays (Done marked) m head_drive key fdc is = absurd is
+failure_stays BadCheck m head_drive key fdc is = absurd is
+failure_stays Overrun m head_drive key fdc is = absurd is
+failure_stays NoCount m head_drive key fdc is = absurd is
+failure_stays Protected m head_drive key fdc is = absurd is
+failure_stays Late m head_drive key fdc is = absurd is
+
+heard_stays : (head_drive steps : ℕ) (reading : Reading) (m : Bool) (fdc : Fdc) (after : ReadOutcome) → HasMark m after → FailsWell after
+    → mark_then (Some m) (after_heard head_drive steps reading after fdc).phase ≡ Some m
+heard_stays head_drive steps reading m fdc (given.On stage) has well = goes_on_stays head_drive steps reading stage m fdc has
+heard_stays head_drive steps reading m fdc (given.Byte stage value) has well = by_count reading.counted (is_full fdc)
+  where
+    by_count : (counted full : Bool) → mark_then (Some m) (if counted then gone_on_reading head_drive steps (at_stage reading stage) fdc
+        else (if full then finished Overrun head_drive reading.wanted.key fdc else gone_on_reading head_drive steps (at_stage reading stage) (pushed value fdc))).phase ≡ Some m
+    by_count true full = goes_on_stays head_drive steps reading stage m fdc has
+    by_count false true = refl
+    by_count false false = goes_on_stays head_drive steps reading stage m (pushed value fdc) has
+heard_stays head_drive steps reading m fdc (given.Ended ending) has well = failure_stays ending m head_drive reading.wanted.key fdc well
+
+has_mark : (stage : ReadStage) (m : Bool) (after : ReadOutcome) → mark_at stage ≡ Some m → KeepsMark stage after → HasMark m after
+has_mark (Search search) m after is keeps = absurd (cc is)
+has_mark (Wait separator) m after is keeps = absurd (cc is)
+has_mark (Content separator marked) m after is keeps = let same : marked ≡ m = cc is in subst (λ b. HasMark b after) same keeps
+has_mark (Over marked good) m after is keeps = let same : marked ≡ m = cc is in subst (λ b. HasMark b after) same keeps
+
+-- ---- before it no byte passed
+
+none_told : (past : Past) (key : Chrn) (told : List ℕ) (stage : ReadStage) → mark_at stage ≡ None → IsReading past key told stage → told ≡ []
+none_told past key told (Search search) none was = was.1
+none_told past key told (Wait separator) none was = was.1
+none_told past key told (Content separator marked) none was = absurd (cc none)
+none_told past key told (Over marked good) none was = absurd (cc none)
+
+none_given : (given told : List ℕ) → told ≡ [] → ((rest : List ℕ) × (told ≡ given ++ rest)) → given ≡ []
+none_given given told none (rest, is) =
+    let lengths = ap length is in
+    let joined = length-append given rest in
+    let no_more = ap length none in
+    nil_from_length given (omega arith)
+
+-- ---- both, in a device step
+
+-- no mark was known, and no byte had passed; or the mark is as it was
+abbrev pub MarkStays : List ℕ → Option Bool → Option Bool → Type 0
+MarkStays bytes was now = ((was ≡ None) × (bytes ≡ [])) ⊎ (now ≡ was)
+
+module _ (past : Past) (sent : Sent) (index : Bool) (word : ℕ) (polls new : Fdc) where
+  known_stays : (head_drive steps : ℕ) (reading : Reading) (m : Bool) → mark_at reading.stage ≡ Some m → ExecutesTask true head_drive steps (Read reading) index word polls new
+      → mark_then (Some m) new.phase ≡ Some m
+  known_stays head_drive steps reading m is (inl (last, after)) = ap (λ fdc. mark_then (Some m) fdc.phase) after
+  known_stays head_drive steps reading m is (inr (few, (after, hears, then_is))) =
+      ap (λ fdc. mark_then (Some m) fdc.phase) then_is ∙ heard_stays head_drive (steps + 1) reading m polls after (has_mark reading.stage m after is hears.2) hears.1
+
+  in_task : (head_drive steps : ℕ) (task : Task) (asking : Bool) (fifo : List ℕ) → ExecutesTask (is_listening task) head_drive steps task index word polls new
+      → MayReadTask past sent head_drive steps task asking fifo → MarkStays past.given (mark_in task) (mark_then (mark_in task) new.phase)
+  in_task head_drive steps (ReadId search) asking fifo executes was = absurd was
+  in_task head_drive steps (Write writing) asking fifo executes was = absurd was
+  in_task head_drive steps (Format formatting) asking fifo executes was = absurd was
+  in_task head_drive steps (Read reading) asking fifo executes (asks, (told, was)) = by_mark (mark_at reading.stage) refl
+    where
+      by_mark : (mark : Option Bool) → mark_at reading.stage ≡ mark → MarkStays past.given (mark_at reading.stage) (mark_then (mark_at reading.stage) new.phase)
+      by_mark None none = inl (
+        none,
+        none_given past.given told (none_told past reading.wanted.key told reading.stage none was.reads)
+            (starts_given past.given fifo told (starts reading.counted (past.given ++ fifo) told was.bytes_are)),
+      )
+      by_mark (Some m) is = inr (subst (λ mark. mark_then mark new.phase ≡ mark) (sym is) (known_stays head_drive steps reading m is executes))
+
+  pub step_stays : (phase : Phase) (old : Fdc) → is_executing phase ≡ true → Follows phase polls index word old new → MayReadIn past sent phase old.asking old.fifo.bytes
+      → MarkStays past.given (mark_of_phase phase) (mark_then (mark_of_phase phase) new.phase)
+  step_stays Command old busy follows was = absurd was
+  step_stays (Telling answer) old busy follows was = absurd (false≢true busy)
+  step_stays (Execute execution) old busy follows was =
+      in_task execution.head_drive execution.steps execution.task old.asking old.fifo.bytes follows.executes was
+
+-- ---- the terminal count
+
+task_mark : (head_drive steps : ℕ) (task : Task) → mark_of_phase (phase_told (Execute (record { head_drive = head_drive; steps = steps; task = task }))) ≡ mark_in task
+task_mark head_drive steps (ReadId search) = refl
+task_mark head_drive steps (Read reading) = refl
+task_mark head_drive steps (Write writing) = refl
+task_mark head_drive steps (Format formatting) = refl
+
+pub told_mark : (phase : Phase) → mark_of_phase (phase_told phase) ≡ mark_of_phase phase
+told_mark Command = refl
+told_mark (Telling answer) = refl
+told_mark (Execute execution) = task_mark execution.head_drive execution.steps execution.task
+
+-- ---- as the command begins
+
+fresh_stage : (key : Chrn) (told : List ℕ) (stage : ReadStage) → IsReading new_past key told stage → mark_at stage ≡ None
+fresh_stage key told (Search search) was = refl
+fresh_stage key told (Wait separator) was = refl
+fresh_stage key told (Content separator marked) (p, q, taken, was) =
+    let within = reads_within separator [] p q marked (content_size key.n) taken was.reads in absurd (omega arith)
+fresh_stage key told (Over marked good) (turn, inl none, (p, q, over)) =
+    let inside = over.ended.inside in
+    let no_words = ap length none in
+    absurd (omega arith)
+fresh_stage key told (Over marked good) (turn, inr among, over) = absurd among
+
+pub fresh_mark : (sent : Sent) (phase : Phase) (asking : Bool) (fifo : List ℕ) → MayReadIn new_past sent phase asking fifo → mark_of_phase phase ≡ None
+fresh_mark sent Command asking fifo was = refl
+fresh_mark sent (Telling answer) asking fifo was = refl
+fresh_mark sent (Execute execution) asking fifo was = fresh_task execution.head_drive execution.steps execution.task was
+  where
+    fresh_task : (head_drive steps : ℕ) (task : Task) → MayReadTask new_past sent head_drive steps task asking fifo → mark_in task ≡ None
+    fresh_task head_drive steps (ReadId search) was = refl
+    fresh_task head_drive steps (Write writing) was = refl
+    fresh_task head_drive steps (Format formatting) was = refl
+    fresh_task head_drive steps (Read reading) (asks, (told, was)) = fresh_stage reading.wanted.key told reading.stage was.reads

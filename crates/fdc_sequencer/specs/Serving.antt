@@ -1,0 +1,229 @@
+-- What a command of several sectors means: the bytes that pass are, in order, those of its sectors, each found in the words of
+-- its own search.
+use Rattle.std.specs.Prelude.{◌≡◌, ◌⊎◌, ℕ, zero, suc, ◌+◌, Bool, true, false, ◌||◌, ◌==◌, Option, None, Some, List, [], ◌∷◌, ◌++◌, length, flat_map}
+use Rattle.std.specs.List.{list_any}
+use Rattle.flop_base.specs.declared.key.Chrn.{Chrn}
+use Rattle.track_model.specs.Fields.{IsSizeCode, content_size}
+use Rattle.fdc_stages.specs.History.{Past, begun as new_past}
+use Rattle.fdc_stages.specs.Findings.{FindsSector}
+use Rattle.fdc_stages.specs.declared.ending.Ending.{Ending}
+use Rattle.fdc_stages.specs.declared.ending.Ending.TheVariants.{Done}
+use Rattle.fdc_writing.specs.Writings.{WritesWhole}
+use Rattle.fdc_commands.specs.Table.{answer}
+use Rattle.fdc_commands.specs.declared.bytes.Accepted.TheVariants.{Ready}
+use Rattle.fdc_commands.specs.declared.command.Command.{Command}
+use Rattle.fdc_commands.specs.declared.results.Results.{Results}
+use Rattle.fdc_core.specs.Heard.{Sent, MayRead, results_sent}
+use Rattle.fdc_core.specs.Listening.{is_executing}
+use Rattle.fdc_core.specs.Meaning.{ReadMeans}
+use Rattle.fdc_core.specs.Tellings.{WriteMeans}
+use Rattle.fdc_core.specs.Whole.{mark_of}
+use Rattle.fdc_core.specs.Written.{MayWrite}
+use Rattle.fdc_core.specs.declared.answers.Answer.TheVariants.{Short}
+use Rattle.fdc_core.specs.declared.controller.Fdc.{Fdc}
+use Rattle.fdc_core.specs.declared.phases.Phase.TheVariants.{Result}
+use Rattle.fdc_sequencer.specs.Fronts.{Front}
+use Rattle.fdc_sequencer.specs.Moves.{goes_on, results_behind, results_failed}
+use Rattle.fdc_sequencer.specs.Transfers.{next_of, is_other, is_skipping, transfer_of}
+use Rattle.fdc_sequencer.specs.declared.opcode.Opcode.{Opcode}
+use Rattle.fdc_sequencer.specs.declared.opcode.Operation.{Operation}
+use Rattle.fdc_sequencer.specs.declared.opcode.Operation.TheVariants.{Read, Write}
+use Rattle.fdc_sequencer.specs.declared.stage.Moving.{Moving as MovingSector}
+use Rattle.fdc_sequencer.specs.declared.stage.Stage.{Stage}
+use Rattle.fdc_sequencer.specs.declared.stage.Stage.TheVariants.{Through, Collecting, Seeking, Moving, Telling}
+use Rattle.fdc_sequencer.specs.declared.transfer.Transfer.{Transfer}
+
+-- ---- the controller's own command for a sector
+
+-- what it sends
+abbrev pub sent_of : Transfer → Sent
+sent_of at = record { head_drive = at.head_drive; key = at.key; last_sector = at.last_sector }
+
+-- it is in execution, or its results are told, and this is what it heard and moved
+abbrev pub MayMove : Operation → Past → Sent → Fdc → Type 0
+MayMove (Read _ _) past sent fdc = MayRead past sent fdc
+MayMove (Write deleted) past sent fdc = MayWrite past sent deleted fdc
+
+-- the bytes that passed: those that a read gave, and those that a write took
+abbrev pub bytes_moved : Operation → Past → List ℕ
+bytes_moved (Read _ _) past = past.given
+bytes_moved (Write _) past = past.taken
+
+-- what its ending says of the words heard and written
+abbrev pub Means : Operation → Past → Sent → Ending → Type 0
+Means (Read _ _) past sent ending = ReadMeans past sent ending
+Means (Write deleted) past sent ending = WriteMeans past sent deleted ending (results_sent ending sent)
+
+-- ---- sectors that are over
+
+-- a sector that is over: the command as it stood there, what its own search heard and moved, and the mark of its field
+pub record Part : Type 0 where
+  pub at : Transfer
+  pub past : Past
+  pub marked : Bool
+
+-- a read found the sector with this mark, so that what was given, where it is as much as the sector's size, is its content; a
+-- write wrote the sector's whole field with the bytes that were taken
+abbrev pub IsWholeField : Operation → Past → Chrn → Bool → Type 0
+IsWholeField (Read _ _) past key marked = FindsSector past key past.given marked
+IsWholeField (Write deleted) past key marked = WritesWhole past key deleted past.taken
+
+-- all bytes of a field with a mark that is wanted; or none of one with the other mark, where such are passed over
+abbrev pub AreAll : Operation → ℕ → Bool → List ℕ → Type 0
+AreAll operation n marked bytes =
+    ((is_other operation marked ≡ false) × (length bytes ≡ content_size n))
+    ⊎ ((is_skipping operation ≡ true) × (is_other operation marked ≡ true) × (bytes ≡ []))
+
+pub record IsMoved (operation : Operation) (part : Part) : Type 0 where
+  pub field : IsWholeField operation part.past part.at.key part.marked
+  pub all : AreAll operation part.at.key.n part.marked (bytes_moved operation part.past)
+
+-- the sectors from the first on, one behind the other, and each was moved
+abbrev pub AreMoved : Operation → Transfer → List Part → Type 0
+AreMoved operation first [] = Unit {0}
+AreMoved operation first (part ∷ parts) = (part.at ≡ first) × IsMoved operation part × AreMoved operation (next_of first) parts
+
+-- the sector behind so many
+abbrev pub sector_after : ℕ → Transfer → Transfer
+sector_after zero first = first
+sector_after (suc n) first = sector_after n (next_of first)
+
+-- one of the fields had the mark that isn't wanted
+abbrev pub has_other : Operation → List Part → Bool
+has_other operation parts = list_any (λ part. is_other operation part.marked) parts
+
+-- ---- the sector under way
+
+-- its field has the mark that isn't wanted
+abbrev pub IsOfOther : Operation → Option Bool → Type 0
+IsOfOther operation mark = (marked : Bool) × (mark ≡ Some marked) × (is_other operation marked ≡ true)
+
+-- so many of its bytes passed, and so many are left; or none passed and none is left, since its field is passed over. What is
+-- remembered of fields of the other mark is whether one was met, here or before
+abbrev pub AreLeft : Operation → Bool → MovingSector → Option Bool → List ℕ → Type 0
+AreLeft operation met moving mark bytes =
+    ((moving.passed_over ≡ met) × (length bytes + moving.left ≡ content_size moving.transfer.key.n))
+    ⊎ ((moving.passed_over ≡ true) × (is_skipping operation ≡ true) × IsOfOther operation mark × (moving.left ≡ 0) × (bytes ≡ []))
+
+-- what is left of the sector, behind such that met the other mark or didn't, once the mark of its own field is known or not
+pub record Accounts (operation : Operation) (met : Bool) (moving : MovingSector) (past : Past) (mark : Option Bool) : Type 0 where
+  pub sized : IsSizeCode moving.transfer.key.n
+  pub bytes : AreLeft operation met moving mark (bytes_moved operation past)
+  -- where such are passed over, no byte of a field of the other mark passes
+  pub clean : is_skipping operation ≡ true → IsOfOther operation mark → bytes_moved operation past ≡ []
+  -- the controller was told the count where the command was, or where nothing is left
+  pub told : past.counted ≡ (moving.counted || (moving.left == 0))
+
+-- the controller executes its own command for the sector
+pub record Carries (operation : Operation) (met : Bool) (moving : MovingSector) (past : Past) (fdc : Fdc) : Type 0 where
+  pub moves : MayMove operation past (sent_of moving.transfer) fdc
+  pub busy : is_executing fdc.phase ≡ true
+  pub accounts : Accounts operation met moving past (mark_of fdc)
+  pub passes : is_skipping operation ≡ true → IsOfOther operation (mark_of fdc) → moving.left ≡ 0
+
+-- ---- how the command ends
+
+-- no sector comes behind this one
+abbrev pub IsLastOne : MovingSector → Ending → Type 0
+IsLastOne moving (Done marked) = goes_on moving marked ≡ false
+IsLastOne moving _ = Unit {0}
+
+-- the mark that the ending tells
+abbrev pub IsMarkOf : Ending → Option Bool → Type 0
+IsMarkOf (Done marked) mark = mark ≡ Some marked
+IsMarkOf _ mark = Unit {0}
+
+-- its results
+abbrev pub results_ended : MovingSector → Ending → Results
+results_ended moving (Done marked) = results_behind moving marked
+results_ended moving ending = results_failed moving ending
+
+-- the command ended at this sector, since the controller's own command for it ended so
+pub record Ends (operation : Operation) (met : Bool) (at : Transfer) (past : Past) (results : Results) : Type 0 where
+  pub moving : MovingSector
+  pub here : moving.transfer ≡ at
+  pub ending : Ending
+  pub means : Means operation past (sent_of at) ending
+  pub last : IsLastOne moving ending
+  pub mark : Option Bool
+  pub marked : IsMarkOf ending mark
+  pub accounts : Accounts operation met moving past mark
+  pub results_are : results ≡ results_ended moving ending
+
+-- ---- the whole command
+
+-- the sectors that are over, in order, and what was heard and moved of the one behind them
+pub record History : Type 0 where
+  pub parts : List Part
+  pub past : Past
+
+-- a command that begins
+abbrev pub nothing_moved : History
+nothing_moved = record { parts = []; past = new_past }
+
+-- all bytes that passed, in order
+abbrev pub bytes_of_parts : Operation → List Part → List ℕ
+bytes_of_parts operation parts = flat_map (λ part. bytes_moved operation part.past) parts
+
+abbrev pub all_bytes : Operation → History → List ℕ
+all_bytes operation history = bytes_of_parts operation history.parts ++ bytes_moved operation history.past
+
+-- while the heads seek nothing has passed; then the sectors that are over were moved, and the one behind them is under way; or
+-- the command ended there
+abbrev pub ServesAt : Stage → Transfer → History → Fdc → Type 0
+ServesAt (Seeking at counted) first history fdc = (at ≡ first) × (history ≡ nothing_moved)
+ServesAt (Moving moving) first history fdc =
+    (moving.transfer ≡ sector_after (length history.parts) first)
+    × Carries first.opcode.operation (has_other first.opcode.operation history.parts) moving history.past fdc
+ServesAt (Telling results _) first history fdc =
+    Ends first.opcode.operation (has_other first.opcode.operation history.parts) (sector_after (length history.parts) first) history.past results
+ServesAt _ first history fdc = ⊥
+
+-- a command that began at this sector is served, or its results are told, and this is what it heard and moved
+pub record Serves (first : Transfer) (history : History) (front : Front) : Type 0 where
+  pub parts : AreMoved first.opcode.operation first history.parts
+  pub now : ServesAt front.stage first history front.board.controller
+
+-- ---- what a call leaves of it
+
+-- it is still served, and behind the bytes that had passed these did
+abbrev pub GoesOn : List ℕ → Transfer → History → Front → Type 0
+GoesOn passed first old front =
+    (history : History) × (all_bytes first.opcode.operation history ≡ all_bytes first.opcode.operation old ++ passed) × Serves first history front
+
+-- whatever command was served still is, and these bytes passed
+abbrev pub KeepsServing : List ℕ → Front → Front → Type 0
+KeepsServing passed old new = (first : Transfer) (history : History) → Serves first history old → GoesOn passed first history new
+
+-- the controller answers 80 in place of a command for the sector
+pub record IsRefused (front : Front) : Type 0 where
+  pub through : front.stage ≡ Through
+  pub answer_is : front.board.controller.phase ≡ Result (Short 0x80 None)
+
+-- whatever command was served still is, and no byte passed; or the next sector is refused
+abbrev pub ServesOn : Front → Front → Type 0
+ServesOn old new = (first : Transfer) (history : History) → Serves first history old → GoesOn [] first history new ⊎ IsRefused new
+
+-- whatever command was served still is, and no byte passed; or each access is the controller's again
+abbrev pub ServesOrLeaves : Front → Front → Type 0
+ServesOrLeaves old new = (first : Transfer) (history : History) → Serves first history old → GoesOn [] first history new ⊎ (new.stage ≡ Through)
+
+-- the byte that passed, if one did
+abbrev pub passed_out : Option ℕ → List ℕ
+passed_out None = []
+passed_out (Some byte) = byte ∷ []
+
+abbrev pub passed_in : Bool → ℕ → List ℕ
+passed_in true byte = byte ∷ []
+passed_in false byte = []
+
+-- where this byte makes a command whole, it is served from then on, and nothing has passed; or each access is the controller's
+-- again
+abbrev pub BeginsWith : Opcode → ℕ → Front → Front → Type 0
+BeginsWith opcode byte old new =
+    (command : Command) (first : Transfer) → answer (old.bytes ++ byte ∷ []) ≡ Ready command → transfer_of opcode command ≡ Some first
+    → Serves first nothing_moved new ⊎ (new.stage ≡ Through)
+
+abbrev pub BeginsAt : Stage → ℕ → Front → Front → Type 0
+BeginsAt (Collecting opcode) byte old new = BeginsWith opcode byte old new
+BeginsAt _ byte old new = Unit {0}
