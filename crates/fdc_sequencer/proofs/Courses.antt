@@ -50,9 +50,9 @@ pub none_more : (operation : Operation) (history : History) → all_bytes operat
 none_more operation history = sym (append-nil (all_bytes operation history))
 
 -- of the sector under way
-pub bytes_more : (operation : Operation) (parts : List Part) (past now : Past) (passed : List ℕ) → bytes_moved operation now ≡ bytes_moved operation past ++ passed
-    → all_bytes operation (record { parts = parts; past = now }) ≡ all_bytes operation (record { parts = parts; past = past }) ++ passed
-bytes_more operation parts past now passed is =
+pub bytes_more : (operation : Operation) (parts : List Part) (past now : Past) (counted told : Bool) (passed : List ℕ) → bytes_moved operation now ≡ bytes_moved operation past ++ passed
+    → all_bytes operation (record { parts = parts; past = now; counted = told }) ≡ all_bytes operation (record { parts = parts; past = past; counted = counted }) ++ passed
+bytes_more operation parts past now counted told passed is =
     ap (λ bytes. bytes_of_parts operation parts ++ bytes) is ∙ sym (append_assoc (bytes_of_parts operation parts) (bytes_moved operation past) passed)
 
 nothing : (operation : Operation) → bytes_moved operation new_past ≡ []
@@ -60,9 +60,9 @@ nothing (Read wanted skip) = refl
 nothing (Write deleted) = refl
 
 -- where the next begins
-pub bytes_next : (operation : Operation) (parts : List Part) (part : Part) (past : Past) → bytes_moved operation part.past ≡ bytes_moved operation past
-    → all_bytes operation (record { parts = parts ++ part ∷ []; past = new_past }) ≡ all_bytes operation (record { parts = parts; past = past }) ++ []
-bytes_next operation parts part past same =
+pub bytes_next : (operation : Operation) (parts : List Part) (part : Part) (past : Past) (counted told : Bool) → bytes_moved operation part.past ≡ bytes_moved operation past
+    → all_bytes operation (record { parts = parts ++ part ∷ []; past = new_past; counted = told }) ≡ all_bytes operation (record { parts = parts; past = past; counted = counted }) ++ []
+bytes_next operation parts part past counted told same =
     ap (λ bytes. bytes_of_parts operation (parts ++ part ∷ []) ++ bytes) (nothing operation)
     ∙ (ap (λ bytes. bytes ++ []) (sym (flat_map_more (λ part. bytes_moved operation part.past) [] parts part))
     ∙ ap (λ bytes. (bytes_of_parts operation parts ++ bytes) ++ []) same)
@@ -186,14 +186,19 @@ whole_field (Write deleted) past sent marked means (inl (wanted, all)) =
     subst (WritesWhole past sent.key deleted) (append-nil past.taken) (done_written deleted past sent marked 0 means (let size = all in omega arith))
 whole_field (Write deleted) past sent marked means (inr (skips, other, none)) = absurd (false≢true skips)
 
--- a command goes on where the terminal count didn't come, and behind a field of the other mark only where it passes such over
-goes_on_as : (moving : MovingSector) (marked : Bool) → goes_on moving marked ≡ true
+-- a command would go on where the terminal count didn't come, and behind a field of the other mark only where it passes such over
+would_as : (moving : MovingSector) (marked : Bool) → would_go_on moving marked ≡ true
     → (moving.counted ≡ false) × ((not (is_other moving.transfer.opcode.operation marked) || is_skipping moving.transfer.opcode.operation) ≡ true)
-goes_on_as moving marked goes =
+would_as moving marked would =
     let operation = moving.transfer.opcode.operation in
-    let would = (and_parts (would_go_on moving marked) (not (is_last moving.transfer)) goes).0 in
     let (uncounted, mark) = and_parts (not moving.counted) (not (is_other operation marked) || is_skipping operation) would in
     (not-true moving.counted uncounted, mark)
+
+pub goes_would : (moving : MovingSector) (marked : Bool) → goes_on moving marked ≡ true → would_go_on moving marked ≡ true
+goes_would moving marked goes = (and_parts (would_go_on moving marked) (not (is_last moving.transfer)) goes).0
+
+pub would_uncounted : (moving : MovingSector) (marked : Bool) → would_go_on moving marked ≡ true → moving.counted ≡ false
+would_uncounted moving marked would = (would_as moving marked would).0
 
 skips_other : (a b : Bool) → (not a || b) ≡ true → a ≡ true → b ≡ true
 skips_other true b is other = is
@@ -212,13 +217,13 @@ all_passed operation met moving past mark marked skips over is accounts = by_lef
         let empty = ap length (accounts.clean (skips mark_is) (marked, is, mark_is)) in
         absurd (no_bytes moving.transfer.key.n accounts.sized (omega arith))
 
--- where the command goes on the whole sector was moved
-pub part_moved : (operation : Operation) (met : Bool) (moving : MovingSector) (past : Past) (mark : Option Bool) (marked : Bool) → moving.transfer.opcode.operation ≡ operation → goes_on moving marked ≡ true
+-- where the command would go on the whole sector was moved
+pub part_moved : (operation : Operation) (met : Bool) (moving : MovingSector) (past : Past) (mark : Option Bool) (marked : Bool) → moving.transfer.opcode.operation ≡ operation → would_go_on moving marked ≡ true
     → mark ≡ Some marked → Accounts operation met moving past mark → Means operation past (sent_of moving.transfer) (Done marked)
     → IsMoved operation (record { at = moving.transfer; past = past; marked = marked })
-part_moved operation met moving past mark marked same goes is accounts means =
+part_moved operation met moving past mark marked same would is accounts means =
     let at = sent_of moving.transfer in
-    let (uncounted, wanted) = goes_on_as moving marked goes in
+    let (uncounted, wanted) = would_as moving marked would in
     let over : moving.left ≡ 0 = eqb-true moving.left 0 (sym (ap (λ b. b || (moving.left == 0)) uncounted) ∙ (sym accounts.told ∙ done_counted operation past at marked means)) in
     let skips = skips_other (is_other operation marked) (is_skipping operation) (subst (λ o. (not (is_other o marked) || is_skipping o) ≡ true) same wanted) in
     let all = all_passed operation met moving past mark marked skips over is accounts in

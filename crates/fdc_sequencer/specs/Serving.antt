@@ -15,8 +15,8 @@ use Rattle.fdc_commands.specs.declared.command.Command.{Command}
 use Rattle.fdc_commands.specs.declared.results.Results.{Results}
 use Rattle.fdc_core.specs.Heard.{Sent, MayRead, results_sent}
 use Rattle.fdc_core.specs.Listening.{is_executing}
-use Rattle.fdc_core.specs.Meaning.{ReadMeans}
-use Rattle.fdc_core.specs.Tellings.{WriteMeans}
+use Rattle.fdc_core.specs.Meaning.{AreOfField, ReadMeans}
+use Rattle.fdc_core.specs.Tellings.{WriteMeans, WritesWindow}
 use Rattle.fdc_core.specs.Whole.{mark_of}
 use Rattle.fdc_core.specs.Written.{MayWrite}
 use Rattle.fdc_core.specs.declared.answers.Answer.TheVariants.{Short}
@@ -48,6 +48,12 @@ MayMove (Write deleted) past sent fdc = MayWrite past sent deleted fdc
 abbrev pub bytes_moved : Operation → Past → List ℕ
 bytes_moved (Read _ _) past = past.given
 bytes_moved (Write _) past = past.taken
+
+-- whatever passed is of its sector: what was given are the first bytes behind a data mark of an address field of the key; the words
+-- written are the first of the window of one, with what was taken as its content
+abbrev pub IsOfSector : Operation → Past → Sent → Type 0
+IsOfSector (Read _ _) past sent = AreOfField past sent.key past.given
+IsOfSector (Write deleted) past sent = WritesWindow past sent deleted
 
 -- what its ending says of the words heard and written
 abbrev pub Means : Operation → Past → Sent → Ending → Type 0
@@ -139,27 +145,30 @@ results_ended moving (Done marked) = results_behind moving marked
 results_ended moving ending = results_failed moving ending
 
 -- the command ended at this sector, since the controller's own command for it ended so
-pub record Ends (operation : Operation) (met : Bool) (at : Transfer) (past : Past) (results : Results) : Type 0 where
+pub record Ends (operation : Operation) (met told : Bool) (at : Transfer) (past : Past) (results : Results) : Type 0 where
   pub moving : MovingSector
   pub here : moving.transfer ≡ at
+  pub counted : moving.counted ≡ told
   pub ending : Ending
   pub means : Means operation past (sent_of at) ending
   pub last : IsLastOne moving ending
   pub mark : Option Bool
   pub marked : IsMarkOf ending mark
   pub accounts : Accounts operation met moving past mark
+  pub of_sector : IsOfSector operation past (sent_of at)
   pub results_are : results ≡ results_ended moving ending
 
 -- ---- the whole command
 
--- the sectors that are over, in order, and what was heard and moved of the one behind them
+-- the sectors that are over, in order; what was heard and moved of the one behind them; and whether the terminal count came
 pub record History : Type 0 where
   pub parts : List Part
   pub past : Past
+  pub counted : Bool
 
--- a command that begins
-abbrev pub nothing_moved : History
-nothing_moved = record { parts = []; past = new_past }
+-- a command of which nothing has passed
+abbrev pub nothing_moved : Bool → History
+nothing_moved counted = record { parts = []; past = new_past; counted = counted }
 
 -- all bytes that passed, in order
 abbrev pub bytes_of_parts : Operation → List Part → List ℕ
@@ -171,12 +180,12 @@ all_bytes operation history = bytes_of_parts operation history.parts ++ bytes_mo
 -- while the heads seek nothing has passed; then the sectors that are over were moved, and the one behind them is under way; or
 -- the command ended there
 abbrev pub ServesAt : Stage → Transfer → History → Fdc → Type 0
-ServesAt (Seeking at counted) first history fdc = (at ≡ first) × (history ≡ nothing_moved)
+ServesAt (Seeking at counted) first history fdc = (at ≡ first) × (history ≡ nothing_moved counted)
 ServesAt (Moving moving) first history fdc =
-    (moving.transfer ≡ sector_after (length history.parts) first)
+    (moving.transfer ≡ sector_after (length history.parts) first) × (moving.counted ≡ history.counted)
     × Carries first.opcode.operation (has_other first.opcode.operation history.parts) moving history.past fdc
 ServesAt (Telling results _) first history fdc =
-    Ends first.opcode.operation (has_other first.opcode.operation history.parts) (sector_after (length history.parts) first) history.past results
+    Ends first.opcode.operation (has_other first.opcode.operation history.parts) history.counted (sector_after (length history.parts) first) history.past results
 ServesAt _ first history fdc = ⊥
 
 -- a command that began at this sector is served, or its results are told, and this is what it heard and moved
@@ -186,14 +195,25 @@ pub record Serves (first : Transfer) (history : History) (front : Front) : Type 
 
 -- ---- what a call leaves of it
 
--- it is still served, and behind the bytes that had passed these did
-abbrev pub GoesOn : List ℕ → Transfer → History → Front → Type 0
-GoesOn passed first old front =
-    (history : History) × (all_bytes first.opcode.operation history ≡ all_bytes first.opcode.operation old ++ passed) × Serves first history front
+-- it is still served; behind the bytes that had passed these did, and the terminal count came, where it came before or with this
+abbrev pub GoesOn : List ℕ → Bool → Transfer → History → Front → Type 0
+GoesOn passed told first old front =
+    (history : History) × (all_bytes first.opcode.operation history ≡ all_bytes first.opcode.operation old ++ passed)
+    × (history.counted ≡ (old.counted || told)) × Serves first history front
 
 -- whatever command was served still is, and these bytes passed
 abbrev pub KeepsServing : List ℕ → Front → Front → Type 0
-KeepsServing passed old new = (first : Transfer) (history : History) → Serves first history old → GoesOn passed first history new
+KeepsServing passed old new = (first : Transfer) (history : History) → Serves first history old → GoesOn passed false first history new
+
+-- the terminal count is heard until the results are told
+abbrev pub hears_count : Stage → Bool
+hears_count (Seeking _ _) = true
+hears_count (Moving _) = true
+hears_count _ = false
+
+-- whatever command was served still is, and the terminal count came
+abbrev pub ServesCounted : Front → Front → Type 0
+ServesCounted old new = (first : Transfer) (history : History) → Serves first history old → GoesOn [] (hears_count old.stage) first history new
 
 -- the controller answers 80 in place of a command for the sector
 pub record IsRefused (front : Front) : Type 0 where
@@ -202,11 +222,11 @@ pub record IsRefused (front : Front) : Type 0 where
 
 -- whatever command was served still is, and no byte passed; or the next sector is refused
 abbrev pub ServesOn : Front → Front → Type 0
-ServesOn old new = (first : Transfer) (history : History) → Serves first history old → GoesOn [] first history new ⊎ IsRefused new
+ServesOn old new = (first : Transfer) (history : History) → Serves first history old → GoesOn [] false first history new ⊎ IsRefused new
 
 -- whatever command was served still is, and no byte passed; or each access is the controller's again
 abbrev pub ServesOrLeaves : Front → Front → Type 0
-ServesOrLeaves old new = (first : Transfer) (history : History) → Serves first history old → GoesOn [] first history new ⊎ (new.stage ≡ Through)
+ServesOrLeaves old new = (first : Transfer) (history : History) → Serves first history old → GoesOn [] false first history new ⊎ (new.stage ≡ Through)
 
 -- the byte that passed, if one did
 abbrev pub passed_out : Option ℕ → List ℕ
@@ -222,7 +242,7 @@ passed_in false byte = []
 abbrev pub BeginsWith : Opcode → ℕ → Front → Front → Type 0
 BeginsWith opcode byte old new =
     (command : Command) (first : Transfer) → answer (old.bytes ++ byte ∷ []) ≡ Ready command → transfer_of opcode command ≡ Some first
-    → Serves first nothing_moved new ⊎ (new.stage ≡ Through)
+    → Serves first (nothing_moved false) new ⊎ (new.stage ≡ Through)
 
 abbrev pub BeginsAt : Stage → ℕ → Front → Front → Type 0
 BeginsAt (Collecting opcode) byte old new = BeginsWith opcode byte old new
