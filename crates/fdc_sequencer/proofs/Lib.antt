@@ -5,3 +5,4 @@ pub mod Known
 pub mod Begun
 pub mod Courses
 pub mod Served
+pub mod Outcome

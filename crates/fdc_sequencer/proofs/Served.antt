@@ -124,7 +124,7 @@ ended_means (Read wanted skip) past sent fdc ending sized was is = read_means pa
 ended_means (Write deleted) past sent fdc ending sized was is = write_means deleted past sent fdc ending was is
 
 -- whatever passed is of the sector
-of_sector : (operation : Operation) (past : Past) (sent : Sent) (fdc : Fdc) → MayMove operation past sent fdc → IsOfSector operation past sent
+pub of_sector : (operation : Operation) (past : Past) (sent : Sent) (fdc : Fdc) → MayMove operation past sent fdc → IsOfSector operation past sent
 of_sector (Read wanted skip) past sent fdc was = by_phase fdc.phase (read_gives past sent fdc was)
   where
     by_phase : (phase : Phase) → AreOfField past sent.key (bytes_held phase past fdc.fifo.bytes) → AreOfField past sent.key past.given

@@ -3,3 +3,4 @@ pub mod Transfers
 pub mod Fronts
 pub mod Moves
 pub mod Serving
+pub mod Outcomes

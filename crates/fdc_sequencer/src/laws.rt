@@ -2,7 +2,11 @@
 ghost use Rattle.std.specs.Prelude.{◌≡◌, ℕ, Bool, Option};
 ghost use Rattle.fdc_sequencer.specs.Fronts.{Front, TakesFront, GivesFront, WritesFront, after_reading, told_front};
 ghost use Rattle.fdc_sequencer.specs.Moves.{StepsFront};
-ghost use Rattle.fdc_sequencer.specs.Serving.{KeepsServing, ServesCounted, ServesOn, ServesOrLeaves, BeginsAt, passed_in, passed_out};
+ghost use Rattle.fdc_sequencer.specs.Outcomes.{PassesOfSector, ResultsSay};
+ghost use Rattle.fdc_sequencer.specs.Serving.{History, KeepsServing, Serves, ServesCounted, ServesOn, ServesOrLeaves, BeginsAt, passed_in, passed_out};
+ghost use Rattle.fdc_commands.specs.declared.results.Results.{Results};
+ghost use Rattle.fdc_sequencer.specs.declared.stage.Stage.TheVariants.{Telling};
+ghost use Rattle.fdc_sequencer.specs.declared.transfer.Transfer.{Transfer};
 
 /// A command that is served goes on through each call, or it is over.
 pub fn a_served_command_goes_on()
@@ -13,4 +17,15 @@ pub fn a_served_command_goes_on()
     ensures reads { (port : ℕ) (old new : Front) → new ≡ after_reading port old → ServesOrLeaves old new }
     ensures writes { (port value : ℕ) (old new : Front) → WritesFront port value old new → ServesOrLeaves old new }
     ensures begins { (port byte : ℕ) (old new : Front) → WritesFront port byte old new → port ≡ 0x3F5 → BeginsAt old.stage byte old new }
+{}
+
+/// What the results of a command that is served say of its sectors.
+pub fn results_say()
+    ensures { (first : Transfer) (history : History) (front : Front) (results : Results) (read : ℕ) → Serves first history front
+        → front.stage ≡ Telling results read → ResultsSay first history results }
+{}
+
+/// At each time whatever passed of the sector under way is of that sector.
+pub fn bytes_are_of_the_sector()
+    ensures { (first : Transfer) (history : History) (front : Front) → Serves first history front → PassesOfSector first history }
 {}

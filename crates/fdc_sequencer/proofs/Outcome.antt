@@ -1,0 +1,150 @@
+-- What the results of a command that is served say.
+use Rattle.std.proofs.Common.{◌≡◌, ◌⊎◌, inl, inr, ℕ, ◌+◌, ◌≤◌, Bool, true, false, not, ◌&&◌, ◌||◌, ◌==◌, if◌then◌else◌, Option, Some, List, [], ◌++◌, length, refl, sym, ◌∙◌, ap, subst, arith, length-append}
+use Rattle.std.proofs.lemmas.Bool.{eq-eqb, eqb-true, false≢true, not-false}
+use Rattle.track_model.specs.Fields.{content_size}
+use Rattle.fdc_stages.specs.History.{Past, begun as new_past}
+use Rattle.fdc_stages.specs.declared.ending.Ending.{Ending}
+use Rattle.fdc_stages.specs.declared.ending.Ending.TheVariants.{Done, NoMark, NoSector, NoField, BadCheck, Overrun, NoCount, Protected, Late}
+use Rattle.fdc_commands.specs.declared.results.Results.{Results}
+use Rattle.fdc_core.specs.Heard.{Sent}
+use Rattle.fdc_core.specs.Written.{IsContent}
+use Rattle.fdc_core.specs.declared.controller.Fdc.{Fdc}
+use Rattle.fdc_sequencer.specs.Fronts.{Front}
+use Rattle.fdc_sequencer.specs.Moves.{goes_on, has_met_other, results_behind, results_failed, would_go_on}
+use Rattle.fdc_sequencer.specs.Outcomes.{AreBut, EndsSo, EndsUncounted, EndsWell, Fails, IsFailure, IsFieldWith, PassesOfSector, ResultsSay, StopsBehind}
+use Rattle.fdc_sequencer.specs.Serving.{Accounts, AreLeft, Ends, History, IsLastOne, IsMarkOf, IsOfSector, Means, Serves, ServesAt, bytes_moved, has_other, results_ended, sector_after, sent_of}
+use Rattle.fdc_sequencer.specs.Transfers.{is_last, is_other, is_skipping, next_of, results_told}
+use Rattle.fdc_sequencer.specs.declared.opcode.Operation.{Operation}
+use Rattle.fdc_sequencer.specs.declared.opcode.Operation.TheVariants.{Read, Write}
+use Rattle.fdc_sequencer.specs.declared.stage.Moving.{Moving as MovingSector}
+use Rattle.fdc_sequencer.specs.declared.stage.Stage.{Stage}
+use Rattle.fdc_sequencer.specs.declared.stage.Stage.TheVariants.{Through, Collecting, Seeking, Moving, Telling}
+use Rattle.fdc_sequencer.specs.declared.transfer.Transfer.{Transfer}
+use Rattle.fdc_sequencer.proofs.Courses.{done_counted, done_written, met_then, part_moved, sector_opcode, would_uncounted}
+use Rattle.fdc_sequencer.proofs.Served.{of_sector}
+
+-- ---- EN comes from in front alone
+
+or_true : (c : Bool) → (c || true) ≡ true
+or_true true = refl
+or_true false = refl
+
+-- where no byte is left the controller was told the count
+over_counted : (operation : Operation) (met : Bool) (moving : MovingSector) (past : Past) (mark : Option Bool) → Accounts operation met moving past mark → moving.left ≡ 0 → past.counted ≡ true
+over_counted operation met moving past mark accounts none =
+    accounts.told ∙ (ap (λ b. moving.counted || b) (eq-eqb moving.left 0 none) ∙ or_true moving.counted)
+
+full_over : (operation : Operation) (met : Bool) (moving : MovingSector) (mark : Option Bool) (bytes : List ℕ) → content_size moving.transfer.key.n ≤ length bytes → AreLeft operation met moving mark bytes
+    → moving.left ≡ 0
+full_over operation met moving mark bytes full (inl (passed, all)) = omega arith
+full_over operation met moving mark bytes full (inr (passed, skips, other, none, empty)) = none
+
+-- a write that wasn't told the count took as many bytes as it wrote
+taken_full : (counted : Bool) (taken handed : List ℕ) → counted ≡ false → IsContent counted taken handed → length handed ≤ length taken
+taken_full counted taken handed uncounted (inl (rest, is)) =
+    let lengths = ap length is in let joined = length-append handed rest in omega arith
+taken_full counted taken handed uncounted (inr (over, padded)) = absurd (false≢true (sym uncounted ∙ over))
+
+no_count : (operation : Operation) (met : Bool) (moving : MovingSector) (past : Past) (mark : Option Bool) → Accounts operation met moving past mark → Means operation past (sent_of moving.transfer) NoCount → ⊥
+no_count (Read wanted skip) met moving past mark accounts means =
+    let size = means.1 in
+    let none = full_over (Read wanted skip) met moving mark past.given (omega arith) accounts.bytes in
+    false≢true (sym means.0 ∙ over_counted (Read wanted skip) met moving past mark accounts none)
+no_count (Write deleted) met moving past mark accounts means =
+    let size = means.cause.1.1.size in
+    let taken = taken_full past.counted past.taken means.handed means.cause.0 means.content in
+    let none = full_over (Write deleted) met moving mark past.taken (omega arith) accounts.bytes in
+    false≢true (sym means.cause.0 ∙ over_counted (Write deleted) met moving past mark accounts none)
+
+-- ---- the controller's own command was done
+
+but_left : (operation : Operation) (met : Bool) (moving : MovingSector) (mark : Option Bool) (marked : Bool) (bytes : List ℕ) → mark ≡ Some marked → AreLeft operation met moving mark bytes
+    → AreBut operation moving.transfer.key.n marked moving.left bytes
+but_left operation met moving mark marked bytes is (inl (passed, all)) = inl all
+but_left operation met moving mark marked bytes is (inr (passed, skips, (other, here, unwanted), none, empty)) =
+    let same : other ≡ marked = cc (here, is) in inr (skips, ap (is_other operation) (sym same) ∙ unwanted, none, empty)
+
+field_with : (operation : Operation) (met : Bool) (moving : MovingSector) (past : Past) (mark : Option Bool) (marked : Bool) → AreLeft operation met moving mark (bytes_moved operation past)
+    → Means operation past (sent_of moving.transfer) (Done marked) → IsFieldWith operation past moving.transfer.key marked moving.left
+field_with (Read wanted skip) met moving past mark marked left means = means
+field_with (Write deleted) met moving past mark marked (inl (passed, all)) means = done_written deleted past (sent_of moving.transfer) marked moving.left means all
+field_with (Write deleted) met moving past mark marked (inr (passed, skips, other, none, empty)) means = absurd (false≢true skips)
+
+unwanted_or : (other skips : Bool) → (not other || skips) ≡ false → (other ≡ true) × (skips ≡ false)
+unwanted_or true skips is = (refl, is)
+unwanted_or false skips is = absurd (false≢true (sym is))
+
+module _ (operation : Operation) (met told : Bool) (moving : MovingSector) (past : Past) (mark : Option Bool) (results : Results) (same : moving.transfer.opcode.operation ≡ operation) (counts : moving.counted ≡ told) (accounts : Accounts operation met moving past mark) where
+  abbrev at : Transfer
+  at = moving.transfer
+
+  stops : (counted : Bool) (marked : Bool) → moving.counted ≡ counted → would_go_on moving marked ≡ false → Means operation past (sent_of at) (Done marked) → StopsBehind operation told marked moving.left
+  stops true marked is would means = inl (sym counts ∙ is)
+  stops false marked is would means =
+      let (other, skips) = unwanted_or (is_other operation marked) (is_skipping operation) (subst (λ o. (not (is_other o marked) || is_skipping o) ≡ false) same
+      (sym (ap (λ c. not c && (not (is_other moving.transfer.opcode.operation marked) || is_skipping moving.transfer.opcode.operation)) is) ∙ would)) in
+      let over : moving.left ≡ 0 = eqb-true moving.left 0 (sym (ap (λ b. b || (moving.left == 0)) is) ∙ (sym accounts.told ∙ done_counted operation past (sent_of at) marked means)) in
+      inr (other, skips, over)
+
+  done_so : (would : Bool) (marked : Bool) → would_go_on moving marked ≡ would → goes_on moving marked ≡ false → mark ≡ Some marked → Means operation past (sent_of at) (Done marked)
+      → results ≡ results_behind moving marked → EndsSo operation met told at past results
+  done_so true marked would goes mark_is means are = inr (inl (record {
+    marked = marked;
+    moved = part_moved operation met moving past mark marked same would mark_is accounts means;
+    last = not-false (is_last at) (sym (ap (λ b. b && not (is_last at)) would) ∙ goes);
+    uncounted = sym counts ∙ would_uncounted moving marked would;
+    results_are = are ∙ (ap (λ b. if b then results_told NoCount at.head_drive at.key (has_met_other moving marked) else results_told (Done false) at.head_drive (next_of at).key (has_met_other moving marked)) would
+        ∙ ap (results_told NoCount at.head_drive at.key) (met_then operation met moving past mark marked same mark_is accounts));
+  }))
+  done_so false marked would goes mark_is means are = inl (record {
+    marked = marked;
+    missing = moving.left;
+    field = field_with operation met moving past mark marked accounts.bytes means;
+    bytes = but_left operation met moving mark marked (bytes_moved operation past) mark_is accounts.bytes;
+    stops = stops moving.counted marked refl would means;
+    results_are = are ∙ (ap (λ b. if b then results_told NoCount at.head_drive at.key (has_met_other moving marked) else results_told (Done false) at.head_drive (next_of at).key (has_met_other moving marked)) would
+        ∙ ap (results_told (Done false) at.head_drive (next_of at).key) (met_then operation met moving past mark marked same mark_is accounts));
+  })
+
+  fails_so : (ending : Ending) → IsFailure ending → Means operation past (sent_of at) ending → results ≡ results_failed moving ending → EndsSo operation met told at past results
+  fails_so ending fails means are = inr (inr (record { ending = ending; fails = fails; means = means; passed_over = moving.passed_over; results_are = are }))
+
+  ends_so : (ending : Ending) → Means operation past (sent_of at) ending → IsLastOne moving ending → IsMarkOf ending mark → results ≡ results_ended moving ending → EndsSo operation met told at past results
+  ends_so (Done marked) means last mark_is are = done_so (would_go_on moving marked) marked refl last mark_is means are
+  ends_so NoMark means last mark_is are = fails_so NoMark tt means are
+  ends_so NoSector means last mark_is are = fails_so NoSector tt means are
+  ends_so NoField means last mark_is are = fails_so NoField tt means are
+  ends_so BadCheck means last mark_is are = fails_so BadCheck tt means are
+  ends_so Overrun means last mark_is are = fails_so Overrun tt means are
+  ends_so NoCount means last mark_is are = absurd (no_count operation met moving past mark accounts means)
+  ends_so Protected means last mark_is are = fails_so Protected tt means are
+  ends_so Late means last mark_is are = fails_so Late tt means are
+
+ended_so : (operation : Operation) (met told : Bool) (at : Transfer) (past : Past) (results : Results) → at.opcode.operation ≡ operation → Ends operation met told at past results → EndsSo operation met told at past results
+ended_so operation met told at past results same ends =
+    subst (λ a. EndsSo operation met told a past results) ends.here
+    (ends_so operation met told ends.moving past ends.mark results (ap (λ a. a.opcode.operation) ends.here ∙ same) ends.counted ends.accounts ends.ending
+    (subst (λ a. Means operation past (sent_of a) ends.ending) (sym ends.here) ends.means) ends.last ends.marked ends.results_are)
+
+pub results_say : (first : Transfer) (history : History) (front : Front) (results : Results) (read : ℕ) → Serves first history front → front.stage ≡ Telling results read → ResultsSay first history results
+results_say first history front results read serves is =
+    ended_so first.opcode.operation (has_other first.opcode.operation history.parts) history.counted (sector_after (length history.parts) first) history.past results
+    (ap (λ opcode. opcode.operation) (sector_opcode (length history.parts) first))
+    (subst (λ stage. ServesAt stage first history front.board.controller) is serves.now)
+
+-- ---- whatever passed
+
+none_passed : (operation : Operation) (sent : Sent) → IsOfSector operation new_past sent
+none_passed (Read wanted skip) sent = ([], inl refl, ([], refl))
+none_passed (Write deleted) sent = ([], inl ([], refl), inl refl)
+
+passes_at : (stage : Stage) (first : Transfer) (history : History) (fdc : Fdc) → ServesAt stage first history fdc → PassesOfSector first history
+passes_at Through first history fdc now = absurd now
+passes_at (Collecting opcode) first history fdc now = absurd now
+passes_at (Seeking at counted) first history fdc (here, none) = subst (PassesOfSector first) (sym none) (none_passed first.opcode.operation (sent_of first))
+passes_at (Moving moving) first history fdc (here, counts, carries) =
+    subst (λ at. IsOfSector first.opcode.operation history.past (sent_of at)) here (of_sector first.opcode.operation history.past (sent_of moving.transfer) fdc carries.moves)
+passes_at (Telling results read) first history fdc ends = ends.of_sector
+
+pub passes_of : (first : Transfer) (history : History) (front : Front) → Serves first history front → PassesOfSector first history
+passes_of first history front serves = passes_at front.stage first history front.board.controller serves.now

@@ -1,0 +1,77 @@
+-- What the results of a command of several sectors say.
+use Rattle.std.specs.Prelude.{◌≡◌, ◌⊎◌, ℕ, ◌+◌, Bool, true, false, ◌||◌, List, [], ◌++◌, length, replicate}
+use Rattle.flop_base.specs.declared.key.Chrn.{Chrn}
+use Rattle.track_model.specs.Fields.{content_size}
+use Rattle.fdc_stages.specs.History.{Past}
+use Rattle.fdc_stages.specs.Findings.{FindsSector}
+use Rattle.fdc_stages.specs.declared.ending.Ending.{Ending}
+use Rattle.fdc_stages.specs.declared.ending.Ending.TheVariants.{Done, NoCount}
+use Rattle.fdc_writing.specs.Writings.{WritesWhole}
+use Rattle.fdc_commands.specs.declared.results.Results.{Results}
+use Rattle.fdc_sequencer.specs.Serving.{History, IsMoved, IsOfSector, Means, bytes_moved, has_other, sector_after, sent_of}
+use Rattle.fdc_sequencer.specs.Transfers.{is_last, is_other, is_skipping, next_of, results_told}
+use Rattle.fdc_sequencer.specs.declared.opcode.Operation.{Operation}
+use Rattle.fdc_sequencer.specs.declared.opcode.Operation.TheVariants.{Read, Write}
+use Rattle.fdc_sequencer.specs.declared.transfer.Transfer.{Transfer}
+
+-- a read found the sector with this mark; a write wrote its whole field with the bytes that were taken, and so many 00
+abbrev pub IsFieldWith : Operation → Past → Chrn → Bool → ℕ → Type 0
+IsFieldWith (Read _ _) past key marked missing = FindsSector past key past.given marked
+IsFieldWith (Write deleted) past key marked missing = WritesWhole past key deleted (past.taken ++ replicate missing 0)
+
+-- so many bytes of it are missing; or none passed of a field that was passed over
+abbrev pub AreBut : Operation → ℕ → Bool → ℕ → List ℕ → Type 0
+AreBut operation n marked missing bytes =
+    (length bytes + missing ≡ content_size n)
+    ⊎ ((is_skipping operation ≡ true) × (is_other operation marked ≡ true) × (missing ≡ 0) × (bytes ≡ []))
+
+-- the terminal count came; or a field of the mark that isn't wanted was moved whole, where such aren't passed over
+abbrev pub StopsBehind : Operation → Bool → Bool → ℕ → Type 0
+StopsBehind operation counted marked missing =
+    (counted ≡ true) ⊎ ((is_other operation marked ≡ true) × (is_skipping operation ≡ false) × (missing ≡ 0))
+
+-- IC 00: the last sector was found, or written, the key is that of the sector behind it, and CM tells whether a field of the
+-- mark that isn't wanted was met
+pub record EndsWell (operation : Operation) (met counted : Bool) (at : Transfer) (past : Past) (results : Results) : Type 0 where
+  pub marked : Bool
+  pub missing : ℕ
+  pub field : IsFieldWith operation past at.key marked missing
+  pub bytes : AreBut operation at.key.n marked missing (bytes_moved operation past)
+  pub stops : StopsBehind operation counted marked missing
+  pub results_are : results ≡ results_told (Done false) at.head_drive (next_of at).key (met || is_other operation marked)
+
+-- EN: the last sector of the command was moved as well, and the terminal count didn't come; the key is as it was sent
+pub record EndsUncounted (operation : Operation) (met counted : Bool) (at : Transfer) (past : Past) (results : Results) : Type 0 where
+  pub marked : Bool
+  pub moved : IsMoved operation (record { at = at; past = past; marked = marked })
+  pub last : is_last at ≡ true
+  pub uncounted : counted ≡ false
+  pub results_are : results ≡ results_told NoCount at.head_drive at.key (met || is_other operation marked)
+
+-- the controller's own command failed
+abbrev pub IsFailure : Ending → Type 0
+IsFailure (Done _) = ⊥
+IsFailure NoCount = ⊥
+IsFailure _ = Unit {0}
+
+-- a failure: this is its cause, whatever passed is of the sector, and the key is as it was sent
+pub record Fails (operation : Operation) (at : Transfer) (past : Past) (results : Results) : Type 0 where
+  pub ending : Ending
+  pub fails : IsFailure ending
+  pub means : Means operation past (sent_of at) ending
+  pub passed_over : Bool
+  pub results_are : results ≡ results_told ending at.head_drive at.key passed_over
+
+abbrev pub EndsSo : Operation → Bool → Bool → Transfer → Past → Results → Type 0
+EndsSo operation met counted at past results =
+    EndsWell operation met counted at past results ⊎ (EndsUncounted operation met counted at past results ⊎ Fails operation at past results)
+
+-- the results of a command that began at this sector, of which this was heard and moved, are these
+abbrev pub ResultsSay : Transfer → History → Results → Type 0
+ResultsSay first history results =
+    let operation = first.opcode.operation in
+    EndsSo operation (has_other operation history.parts) history.counted (sector_after (length history.parts) first) history.past results
+
+-- whatever passed of the sector behind those that are over is of that sector
+abbrev pub PassesOfSector : Transfer → History → Type 0
+PassesOfSector first history = IsOfSector first.opcode.operation history.past (sent_of (sector_after (length history.parts) first))
