@@ -17,7 +17,7 @@ use Rattle.fdc_sequencer.specs.declared.opcode.Operation.TheVariants.{Read, Writ
 use Rattle.fdc_sequencer.specs.declared.stage.Moving.{Moving as MovingSector}
 use Rattle.fdc_sequencer.specs.declared.transfer.Transfer.{Transfer}
 use Rattle.fdc_sequencer.proofs.Known.{MarkGoes}
-use Rattle.fdc_sequencer.proofs.Begun.{size_is, size_some}
+use Rattle.fdc_sequencer.proofs.Started.{size_is, size_some}
 
 -- ---- the sectors
 

@@ -2,7 +2,7 @@ mod Runs
 pub mod Codes
 pub mod Marks
 pub mod Known
-pub mod Begun
+pub mod Started
 pub mod Courses
 pub mod Served
 pub mod Outcome

@@ -41,7 +41,7 @@ use Rattle.fdc_sequencer.specs.declared.stage.Stage.TheVariants.{Through, Collec
 use Rattle.fdc_sequencer.specs.declared.transfer.Transfer.{Transfer}
 use Rattle.fdc_sequencer.proofs.Known.{KnownOn, MovedOn, bytes_told, clash, in_on, out_on, port_busy, port_mark, port_on, steps_on}
 use Rattle.fdc_sequencer.proofs.Marks.{mark_then, then_busy, then_done}
-use Rattle.fdc_sequencer.proofs.Begun.{Begun, answered_idle, begun_busy, begun_carries, size_is, told_carries}
+use Rattle.fdc_sequencer.proofs.Started.{Begun, answered_idle, begun_busy, begun_carries, size_is, told_carries}
 use Rattle.fdc_sequencer.proofs.Courses.{accounts_on, bytes_more, bytes_next, goes_would, met_then, moved_more, none_more, not_over, one_passed, one_told, other_more, over_told, part_moved, sector_more, sector_opcode, would_uncounted}
 
 -- ---- what stays

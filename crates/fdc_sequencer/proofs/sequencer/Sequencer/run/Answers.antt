@@ -11,13 +11,13 @@ returns-then-not-has_lines g c = record {
   within = omega arith;
   runs =
       rw c.int-int.ensures at (rw c.drq-drq.ensures at (runs_more _ _ c.loop-i.i _ (front_state g.D.Drive.state c.loop-i.self) _ c.loop-i.invariant.0
-      c.loop-i.invariant.1 c.step.ensures));
+      c.loop-i.invariant.1 c.step.ensures.steps));
   all = λ same. absurd (c.if-not-has_lines.ensures.no refl (rw c.int-int.ensures (rw c.drq-drq.ensures same)));
 }
 
 pub loop-i-preserved : goal.loop-i-preserved
 loop-i-preserved g c = (
-  runs_more _ _ c.loop-i.i _ (front_state g.D.Drive.state c.loop-i.self) _ c.loop-i.invariant.0 c.loop-i.invariant.1 c.step.ensures,
+  runs_more _ _ c.loop-i.i _ (front_state g.D.Drive.state c.loop-i.self) _ c.loop-i.invariant.0 c.loop-i.invariant.1 c.step.ensures.steps,
   c.if-not-has_lines.ensures.yes refl,
 )
 
