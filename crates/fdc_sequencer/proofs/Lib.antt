@@ -1,5 +1,6 @@
 mod Runs
 pub mod Codes
+mod Begun
 pub mod Marks
 pub mod Known
 pub mod Started
