@@ -64,7 +64,7 @@ pub record KnownOn (operation : Operation) (past : Past) (sent : Sent) (mark : O
   pub moves : MayMove operation now sent new
   pub marks : MarkGoes operation (bytes_moved operation past) mark (mark_then mark new.phase)
 
-which_drive : (n : ℕ) → (n ≡ 0) ⊎ ((n ≡ 1) ⊎ (2 ≤ n))
+pub which_drive : (n : ℕ) → (n ≡ 0) ⊎ ((n ≡ 1) ⊎ (2 ≤ n))
 which_drive zero = inl refl
 which_drive (suc zero) = inr (inl refl)
 which_drive (suc (suc n)) = inr (inr (omega arith))

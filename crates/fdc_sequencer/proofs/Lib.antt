@@ -7,3 +7,4 @@ pub mod Started
 pub mod Courses
 pub mod Served
 pub mod Outcome
+pub mod Called

@@ -46,7 +46,7 @@ use Rattle.fdc_sequencer.proofs.Courses.{accounts_on, bytes_more, bytes_next, go
 
 -- ---- what stays
 
-none_told : (counted : Bool) → counted ≡ (counted || false)
+pub none_told : (counted : Bool) → counted ≡ (counted || false)
 none_told true = refl
 none_told false = refl
 

@@ -4,3 +4,4 @@ pub mod Fronts
 pub mod Moves
 pub mod Serving
 pub mod Outcomes
+pub mod Calls

@@ -1,7 +1,8 @@
 // What is known of a command of several sectors. The bodies are empty: the contracts say what follows from what each call does.
-ghost use Rattle.std.specs.Prelude.{◌≡◌, ℕ, Bool, Option};
-ghost use Rattle.fdc_sequencer.specs.Fronts.{Front, TakesFront, GivesFront, WritesFront, after_reading, told_front};
-ghost use Rattle.fdc_sequencer.specs.Moves.{StepsFront};
+ghost use Rattle.std.specs.Prelude.{◌≡◌, ℕ, Bool, Option, List, []};
+ghost use Rattle.fdc_sequencer.specs.Fronts.{Front, KeepsFront, TakesFront, GivesFront, WritesFront, after_reading, told_front};
+ghost use Rattle.fdc_sequencer.specs.Moves.{RunsFrontWith, StepsFront};
+ghost use Rattle.fdc_sequencer.specs.Calls.{AreWithin, Behind, Call};
 ghost use Rattle.fdc_sequencer.specs.Outcomes.{PassesOfSector, ResultsSay};
 ghost use Rattle.fdc_sequencer.specs.Serving.{History, KeepsServing, Serves, ServesCounted, ServesOn, ServesOrLeaves, BeginsAt, passed_in, passed_out};
 ghost use Rattle.fdc_commands.specs.declared.results.Results.{Results};
@@ -16,6 +17,8 @@ pub fn a_served_command_goes_on()
     ensures counts { (old new : Front) → new ≡ told_front old → ServesCounted old new }
     ensures reads { (port : ℕ) (old new : Front) → new ≡ after_reading port old → ServesOrLeaves old new }
     ensures writes { (port value : ℕ) (old new : Front) → WritesFront port value old new → ServesOrLeaves old new }
+    ensures changes { (old new : Front) → KeepsFront old new → KeepsServing [] old new }
+    ensures runs { (int drq : Bool) (steps : ℕ) (old new : Front) → RunsFrontWith int drq steps old new → ServesOn old new }
     ensures begins { (port byte : ℕ) (old new : Front) → WritesFront port byte old new → port ≡ 0x3F5 → BeginsAt old.stage byte old new }
 {}
 
@@ -28,4 +31,10 @@ pub fn results_say()
 /// At each time whatever passed of the sector under way is of that sector.
 pub fn bytes_are_of_the_sector()
     ensures { (first : Transfer) (history : History) (front : Front) → Serves first history front → PassesOfSector first history }
+{}
+
+/// The bytes that pass in calls one after the other are those that the served command moves, in this order.
+pub fn bytes_pass_in_order()
+    ensures { (calls : List Call) (first : Transfer) (history : History) (old new : Front) → AreWithin calls old new → Serves first history old
+        → Behind first history calls new }
 {}

@@ -1,7 +1,8 @@
 // Ports: what is read, and how a command of several sectors is collected and begins.
 ghost use Rattle.std.specs.Prelude.{◌≡◌, ◌+◌, ◌∷◌, [], if◌then◌else◌, nat_le};
-ghost use Rattle.fdc_board.specs.Boards.{controller_of, SameDrives};
-ghost use Rattle.fdc_sequencer.specs.Fronts.{front_state, board_of, status_at, value_outside, byte_at, byte_given, after_reading, begins_with, configured_with, CollectsAs, PassesAs, TakesByte, WritesFront, Starts, SeeksFirst, Refuses};
+ghost use Rattle.fdc_board.specs.Boards.{controller_of, SameDrives, WritesBoard};
+ghost use Rattle.fdc_sequencer.specs.Fronts.{front_state, board_of, status_at, value_outside, byte_at, byte_given, after_reading, begins_with, configured_with, CollectsAs, PassesAs, TakesByte, WritesFront, Starts, SeeksFirst, Refuses, reset_if};
+ghost use Rattle.fdc_core.specs.Ports.{resets};
 ghost use Rattle.fdc_sequencer.specs.Opcodes.{plain_code};
 ghost use Rattle.fdc_sequencer.specs.Serving.{BeginsAt, ServesOrLeaves};
 
@@ -84,8 +85,18 @@ impl<D: Inspect> Sequencer<D> {
     {
         if port == DATA {
             self.take_byte(value);
-            return;
+        } else {
+            self.write_other(port, value);
         }
+    }
+
+    /// A byte is written to another port than the data port.
+    fn write_other(&mut self, port: u16, value: u8)
+        ensures writes { WritesBoard port value (front_state D.state self.old).board (front_state D.state self.new).board }
+        ensures front { front_state D.state self.new ≡ record (reset_if (resets port value) (front_state D.state self.old)) {
+          board = (front_state D.state self.new).board;
+        } }
+    {
         if Fdc::is_reset_by(port, value) {
             self.stage = Stage::Through;
             self.configured = false;

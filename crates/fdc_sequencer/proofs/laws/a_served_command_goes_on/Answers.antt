@@ -1,4 +1,5 @@
 use Rattle.std.proofs.Common.{refl}
+use Rattle.fdc_sequencer.proofs.Called.{media_serve, runs_serve}
 use Rattle.fdc_sequencer.proofs.Served.{begins_at, counts_serve, gives_serve, reads_serve, steps_serve, takes_serve, writes_serve}
 use Rattle.fdc_sequencer.proofs.laws.a_served_command_goes_on.Goals as goal
 
@@ -19,6 +20,12 @@ returns-clause-reads c = reads_serve
 
 pub returns-clause-writes : goal.returns-clause-writes
 returns-clause-writes c = writes_serve
+
+pub returns-clause-changes : goal.returns-clause-changes
+returns-clause-changes c = media_serve
+
+pub returns-clause-runs : goal.returns-clause-runs
+returns-clause-runs c = runs_serve
 
 pub returns-clause-begins : goal.returns-clause-begins
 returns-clause-begins c = λ port byte old new writes here. begins_at old.stage port byte old new refl writes here

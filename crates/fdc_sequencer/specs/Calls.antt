@@ -1,0 +1,57 @@
+-- Calls one after the other, within a command of several sectors.
+use Rattle.std.specs.Prelude.{◌≡◌, ℕ, Bool, true, false, ◌||◌, Option, List, [], ◌∷◌, ◌++◌, flat_map}
+use Rattle.std.specs.List.{list_any}
+use Rattle.fdc_sequencer.specs.Fronts.{Front, GivesFront, KeepsFront, TakesFront, WritesFront, after_reading, told_front}
+use Rattle.fdc_sequencer.specs.Moves.{StepsFront}
+use Rattle.fdc_sequencer.specs.Serving.{History, Serves, all_bytes, passed_in, passed_out}
+use Rattle.fdc_sequencer.specs.declared.stage.Stage.TheVariants.{Through}
+use Rattle.fdc_sequencer.specs.declared.transfer.Transfer.{Transfer}
+
+-- a call: a device step; the channel takes a byte or finds none; it gives one, which is taken or not; it tells the terminal
+-- count; a port is read, or written; a medium is put in or taken out
+pub data Call : Type 0 where
+  Steps : Call
+  Takes : Option ℕ → Call
+  Gives : ℕ → Bool → Call
+  Counts : Call
+  Reads : ℕ → Call
+  Writes : ℕ → ℕ → Call
+  Changes : Call
+
+-- what it does
+abbrev pub Does : Call → Front → Front → Type 0
+Does Steps old new = StepsFront old new
+Does (Takes byte) old new = TakesFront old byte new
+Does (Gives byte was) old new = GivesFront byte old was new
+Does Counts old new = new ≡ told_front old
+Does (Reads port) old new = new ≡ after_reading port old
+Does (Writes port value) old new = WritesFront port value old new
+Does Changes old new = KeepsFront old new
+
+-- the byte that passed in it
+abbrev pub passed_by : Call → List ℕ
+passed_by (Takes byte) = passed_out byte
+passed_by (Gives byte was) = passed_in was byte
+passed_by _ = []
+
+abbrev pub passed_in_all : List Call → List ℕ
+passed_in_all calls = flat_map passed_by calls
+
+-- it tells the terminal count
+abbrev pub is_count : Call → Bool
+is_count Counts = true
+is_count _ = false
+
+-- these calls, behind none of which each access is the controller's again
+abbrev pub AreWithin : List Call → Front → Front → Type 0
+AreWithin [] old new = new ≡ old
+AreWithin (call ∷ calls) old new =
+    (between : Front) × Does call old between × (between.stage ≡ Through → ⊥) × AreWithin calls between new
+
+-- the command is served; behind the bytes that had passed these did; and the terminal count came only where it had come, or with
+-- one of these calls
+pub record Behind (first : Transfer) (old : History) (calls : List Call) (front : Front) : Type 0 where
+  pub history : History
+  pub serves : Serves first history front
+  pub bytes : all_bytes first.opcode.operation history ≡ all_bytes first.opcode.operation old ++ passed_in_all calls
+  pub told : history.counted ≡ true → (old.counted || list_any is_count calls) ≡ true
