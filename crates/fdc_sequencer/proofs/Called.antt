@@ -1,5 +1,5 @@
 -- What is served, through calls one after the other.
-use Rattle.std.proofs.Common.{◌≡◌, ◌⊎◌, inl, inr, ℕ, zero, suc, ◌≤◌, ◌==◌, ◌&&◌, not, Bool, true, false, ◌||◌, Option, Some, None, List, [], ◌∷◌, ◌++◌, if◌then◌else◌, refl, sym, ◌∙◌, ap, subst, append_assoc}
+use Rattle.std.proofs.Common.{◌≡◌, ◌⊎◌, inl, inr, ℕ, zero, suc, ◌==◌, ◌&&◌, not, Bool, true, false, ◌||◌, None, List, [], ◌∷◌, ◌++◌, if◌then◌else◌, refl, sym, ◌∙◌, ap, subst, append_assoc}
 use Rattle.std.proofs.lemmas.Bool.{false≢true}
 use Rattle.std.specs.List.{list_any}
 use Rattle.fdc_seek.specs.Seeking.{with_polls}
@@ -11,7 +11,7 @@ use Rattle.fdc_core.specs.declared.phases.Phase.TheVariants.{Result}
 use Rattle.fdc_board.specs.Boards.{BoardState, StepsBoard, selected_at}
 use Rattle.fdc_sequencer.specs.Calls.{AreWithin, Behind, Call, Changes, Counts, Does, Gives, Reads, Steps, Takes, Writes, is_count, passed_by, passed_in_all}
 use Rattle.fdc_sequencer.specs.Fronts.{Front, KeepsFront}
-use Rattle.fdc_sequencer.specs.Moves.{FollowsStep, RunsFront, RunsFrontWith, StepsFront}
+use Rattle.fdc_sequencer.specs.Moves.{FollowsStep, RunsFrontWith, StepsFront}
 use Rattle.fdc_sequencer.specs.Serving.{GoesOn, History, IsRefused, KeepsServing, Serves, ServesAt, ServesOn, all_bytes, hears_count}
 use Rattle.fdc_sequencer.specs.declared.opcode.Operation.{Operation}
 use Rattle.fdc_sequencer.specs.declared.stage.Stage.TheVariants.{Through}

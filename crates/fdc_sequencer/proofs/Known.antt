@@ -1,6 +1,6 @@
 -- What is known of the controller's own command for a sector, through device steps, transfers, the terminal count and port
 -- accesses.
-use Rattle.std.proofs.Common.{◌≡◌, ◌⊎◌, inl, inr, ℕ, zero, suc, ◌+◌, ◌≤◌, ◌<◌, Bool, true, false, not, ◌&&◌, ◌==◌, if◌then◌else◌, Option, List, [], ◌∷◌, ◌++◌, refl, sym, ◌∙◌, ap, subst, arith}
+use Rattle.std.proofs.Common.{◌≡◌, ◌⊎◌, inl, inr, ℕ, zero, suc, ◌+◌, ◌≤◌, Bool, true, false, not, ◌&&◌, ◌==◌, if◌then◌else◌, Option, List, [], ◌∷◌, ◌++◌, refl, sym, ◌∙◌, ap, subst, arith}
 use Rattle.std.proofs.lemmas.Bool.{false≢true, and_parts, eqb-true}
 use Rattle.drive_model.specs.Drive.{DriveState, at_index}
 use Rattle.fdc_fifo.specs.Fifo.{Fifo}
@@ -25,7 +25,6 @@ use Rattle.fdc_core.specs.Whole.{mark_of, mark_of_phase}
 use Rattle.fdc_core.specs.Writes.{WritesIn, WritesTask}
 use Rattle.fdc_core.specs.Writing.{WriteDoes, after_next}
 use Rattle.fdc_core.specs.Written.{MayWrite, MayWriteIn, MayWriteTask, took}
-use Rattle.fdc_core.specs.declared.answers.Answer.TheVariants.{Short, Long}
 use Rattle.fdc_core.specs.declared.controller.Fdc.{Fdc}
 use Rattle.fdc_core.specs.declared.controller.Lines.{Lines}
 use Rattle.fdc_core.specs.declared.phases.Phase.{Phase}
@@ -35,7 +34,6 @@ use Rattle.fdc_core.specs.declared.phases.Task.TheVariants.{ReadId, Read as Read
 use Rattle.fdc_core.specs.declared.transfers.Writing.{Writing}
 use Rattle.fdc_core.proofs.MayRead.{out_reads, told_reads}
 use Rattle.fdc_core.proofs.MayWrite.{in_writes, rule_room, told_writes, writes_on}
-use Rattle.pc_bus.specs.Steps.{Works, WorksAlone}
 use Rattle.fdc_board.specs.Boards.{BoardState, StepsBoard, selected_at}
 use Rattle.fdc_sequencer.specs.Serving.{MayMove, bytes_moved}
 use Rattle.fdc_sequencer.specs.declared.opcode.Operation.{Operation}

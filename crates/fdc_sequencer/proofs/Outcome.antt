@@ -1,5 +1,5 @@
 -- What the results of a command that is served say.
-use Rattle.std.proofs.Common.{◌≡◌, ◌⊎◌, inl, inr, ℕ, ◌+◌, ◌≤◌, Bool, true, false, not, ◌&&◌, ◌||◌, ◌==◌, if◌then◌else◌, Option, Some, List, [], ◌++◌, length, refl, sym, ◌∙◌, ap, subst, arith, length-append}
+use Rattle.std.proofs.Common.{◌≡◌, inl, inr, ℕ, ◌≤◌, Bool, true, false, not, ◌&&◌, ◌||◌, ◌==◌, if◌then◌else◌, Option, Some, List, [], length, refl, sym, ◌∙◌, ap, subst, arith, length-append}
 use Rattle.std.proofs.lemmas.Bool.{eq-eqb, eqb-true, false≢true, not-false}
 use Rattle.track_model.specs.Fields.{content_size}
 use Rattle.fdc_stages.specs.History.{Past, begun as new_past}
@@ -11,7 +11,7 @@ use Rattle.fdc_core.specs.Written.{IsContent}
 use Rattle.fdc_core.specs.declared.controller.Fdc.{Fdc}
 use Rattle.fdc_sequencer.specs.Fronts.{Front}
 use Rattle.fdc_sequencer.specs.Moves.{goes_on, has_met_other, results_behind, results_failed, would_go_on}
-use Rattle.fdc_sequencer.specs.Outcomes.{AreBut, EndsSo, EndsUncounted, EndsWell, Fails, IsFailure, IsFieldWith, PassesOfSector, ResultsSay, StopsBehind}
+use Rattle.fdc_sequencer.specs.Outcomes.{AreBut, EndsSo, IsFailure, IsFieldWith, PassesOfSector, ResultsSay, StopsBehind}
 use Rattle.fdc_sequencer.specs.Serving.{Accounts, AreLeft, Ends, History, IsLastOne, IsMarkOf, IsOfSector, Means, Serves, ServesAt, bytes_moved, has_other, results_ended, sector_after, sent_of}
 use Rattle.fdc_sequencer.specs.Transfers.{is_last, is_other, is_skipping, next_of, results_told}
 use Rattle.fdc_sequencer.specs.declared.opcode.Operation.{Operation}
@@ -75,26 +75,26 @@ unwanted_or true skips is = (refl, is)
 unwanted_or false skips is = absurd (false≢true (sym is))
 
 module _ (operation : Operation) (met told : Bool) (moving : MovingSector) (past : Past) (mark : Option Bool) (results : Results) (same : moving.transfer.opcode.operation ≡ operation) (counts : moving.counted ≡ told) (accounts : Accounts operation met moving past mark) where
-  abbrev at : Transfer
-  at = moving.transfer
+  abbrev sector : Transfer
+  sector = moving.transfer
 
-  stops : (counted : Bool) (marked : Bool) → moving.counted ≡ counted → would_go_on moving marked ≡ false → Means operation past (sent_of at) (Done marked) → StopsBehind operation told marked moving.left
+  stops : (counted : Bool) (marked : Bool) → moving.counted ≡ counted → would_go_on moving marked ≡ false → Means operation past (sent_of sector) (Done marked) → StopsBehind operation told marked moving.left
   stops true marked is would means = inl (sym counts ∙ is)
   stops false marked is would means =
       let (other, skips) = unwanted_or (is_other operation marked) (is_skipping operation) (subst (λ o. (not (is_other o marked) || is_skipping o) ≡ false) same
       (sym (ap (λ c. not c && (not (is_other moving.transfer.opcode.operation marked) || is_skipping moving.transfer.opcode.operation)) is) ∙ would)) in
-      let over : moving.left ≡ 0 = eqb-true moving.left 0 (sym (ap (λ b. b || (moving.left == 0)) is) ∙ (sym accounts.told ∙ done_counted operation past (sent_of at) marked means)) in
+      let over : moving.left ≡ 0 = eqb-true moving.left 0 (sym (ap (λ b. b || (moving.left == 0)) is) ∙ (sym accounts.told ∙ done_counted operation past (sent_of sector) marked means)) in
       inr (other, skips, over)
 
-  done_so : (would : Bool) (marked : Bool) → would_go_on moving marked ≡ would → goes_on moving marked ≡ false → mark ≡ Some marked → Means operation past (sent_of at) (Done marked)
-      → results ≡ results_behind moving marked → EndsSo operation met told at past results
+  done_so : (would : Bool) (marked : Bool) → would_go_on moving marked ≡ would → goes_on moving marked ≡ false → mark ≡ Some marked → Means operation past (sent_of sector) (Done marked)
+      → results ≡ results_behind moving marked → EndsSo operation met told sector past results
   done_so true marked would goes mark_is means are = inr (inl (record {
     marked = marked;
     moved = part_moved operation met moving past mark marked same would mark_is accounts means;
-    last = not-false (is_last at) (sym (ap (λ b. b && not (is_last at)) would) ∙ goes);
+    last = not-false (is_last sector) (sym (ap (λ b. b && not (is_last sector)) would) ∙ goes);
     uncounted = sym counts ∙ would_uncounted moving marked would;
-    results_are = are ∙ (ap (λ b. if b then results_told NoCount at.head_drive at.key (has_met_other moving marked) else results_told (Done false) at.head_drive (next_of at).key (has_met_other moving marked)) would
-        ∙ ap (results_told NoCount at.head_drive at.key) (met_then operation met moving past mark marked same mark_is accounts));
+    results_are = are ∙ (ap (λ b. if b then results_told NoCount sector.head_drive sector.key (has_met_other moving marked) else results_told (Done false) sector.head_drive (next_of sector).key (has_met_other moving marked)) would
+        ∙ ap (results_told NoCount sector.head_drive sector.key) (met_then operation met moving past mark marked same mark_is accounts));
   }))
   done_so false marked would goes mark_is means are = inl (record {
     marked = marked;
@@ -102,14 +102,14 @@ module _ (operation : Operation) (met told : Bool) (moving : MovingSector) (past
     field = field_with operation met moving past mark marked accounts.bytes means;
     bytes = but_left operation met moving mark marked (bytes_moved operation past) mark_is accounts.bytes;
     stops = stops moving.counted marked refl would means;
-    results_are = are ∙ (ap (λ b. if b then results_told NoCount at.head_drive at.key (has_met_other moving marked) else results_told (Done false) at.head_drive (next_of at).key (has_met_other moving marked)) would
-        ∙ ap (results_told (Done false) at.head_drive (next_of at).key) (met_then operation met moving past mark marked same mark_is accounts));
+    results_are = are ∙ (ap (λ b. if b then results_told NoCount sector.head_drive sector.key (has_met_other moving marked) else results_told (Done false) sector.head_drive (next_of sector).key (has_met_other moving marked)) would
+        ∙ ap (results_told (Done false) sector.head_drive (next_of sector).key) (met_then operation met moving past mark marked same mark_is accounts));
   })
 
-  fails_so : (ending : Ending) → IsFailure ending → Means operation past (sent_of at) ending → results ≡ results_failed moving ending → EndsSo operation met told at past results
+  fails_so : (ending : Ending) → IsFailure ending → Means operation past (sent_of sector) ending → results ≡ results_failed moving ending → EndsSo operation met told sector past results
   fails_so ending fails means are = inr (inr (record { ending = ending; fails = fails; means = means; passed_over = moving.passed_over; results_are = are }))
 
-  ends_so : (ending : Ending) → Means operation past (sent_of at) ending → IsLastOne moving ending → IsMarkOf ending mark → results ≡ results_ended moving ending → EndsSo operation met told at past results
+  ends_so : (ending : Ending) → Means operation past (sent_of sector) ending → IsLastOne moving ending → IsMarkOf ending mark → results ≡ results_ended moving ending → EndsSo operation met told sector past results
   ends_so (Done marked) means last mark_is are = done_so (would_go_on moving marked) marked refl last mark_is means are
   ends_so NoMark means last mark_is are = fails_so NoMark tt means are
   ends_so NoSector means last mark_is are = fails_so NoSector tt means are

@@ -6,9 +6,8 @@ use Rattle.fdc_seek.specs.Seeking.{has_ended_seek}
 use Rattle.fdc_stages.specs.History.{Past, begun as new_past}
 use Rattle.fdc_stages.specs.declared.ending.Ending.{Ending}
 use Rattle.fdc_stages.specs.declared.ending.Ending.TheVariants.{Done, NoMark, NoSector, NoField, BadCheck, Overrun, NoCount, Protected, Late}
-use Rattle.fdc_commands.specs.Table.{answer, kept}
+use Rattle.fdc_commands.specs.Table.{kept}
 use Rattle.fdc_commands.specs.declared.bytes.Accepted.TheVariants.{Ready}
-use Rattle.fdc_commands.specs.declared.command.Command.{Command}
 use Rattle.fdc_commands.specs.declared.results.Results.{Results}
 use Rattle.fdc_core.specs.Dma.{byte_out, taken_in, taken_out, to_memory_of, told_count}
 use Rattle.fdc_core.specs.Heard.{MayReadIn, Sent, results_sent, told_in}
@@ -19,7 +18,6 @@ use Rattle.fdc_core.specs.State.{asks}
 use Rattle.fdc_core.specs.Tellings.{WriteMeans, WriteMeansIn}
 use Rattle.fdc_core.specs.Whole.{ending_of_phase, ending_told, given_up, is_idle, mark_of, without_seek}
 use Rattle.fdc_core.specs.Written.{MayWriteIn}
-use Rattle.fdc_core.specs.declared.answers.Answer.{Answer}
 use Rattle.fdc_core.specs.declared.answers.Answer.TheVariants.{Short, Long}
 use Rattle.fdc_core.specs.declared.controller.Fdc.{Fdc}
 use Rattle.fdc_core.specs.declared.phases.Phase.{Phase}
@@ -28,10 +26,10 @@ use Rattle.fdc_core.proofs.MayRead.{starts_given}
 use Rattle.fdc_core.proofs.Meanings.{read_gives, read_tells}
 use Rattle.fdc_core.proofs.Tellings.{write_tells, writes_window}
 use Rattle.fdc_board.specs.Boards.{BoardState, StepsBoard, WritesBoard, lines_at}
-use Rattle.fdc_sequencer.specs.Fronts.{BeginsSector, CollectsAs, Front, GivesAt, GivesFront, GivesMoving, SeeksFirst, Starts, StartsIf, TakesAt, TakesByte, TakesFront, TakesMoving, WritesFront, after_reading, begun_if, byte_given, count_told, moving_of, passed_one, reset_if, told_front, told_if, with_controller}
-use Rattle.fdc_sequencer.specs.Moves.{EndsIf, EndsSector, FollowsStep, MovesOn, SeeksOn, StepsFront, goes_on, has_met_other, is_unwanted, passed_over_if, results_behind, results_failed, would_go_on}
-use Rattle.fdc_sequencer.specs.Serving.{Accounts, AreLeft, AreMoved, BeginsAt, BeginsWith, Carries, Ends, GoesOn, History, IsLastOne, IsMarkOf, IsOfOther, IsOfSector, IsRefused, KeepsServing, MayMove, Means, Part, Serves, ServesAt, ServesCounted, ServesOn, ServesOrLeaves, all_bytes, bytes_moved, has_other, hears_count, nothing_moved, passed_in, passed_out, results_ended, sector_after, sent_of}
-use Rattle.fdc_sequencer.specs.Transfers.{is_last, is_other, is_skipping, next_of, size_of, transfer_of}
+use Rattle.fdc_sequencer.specs.Fronts.{BeginsSector, CollectsAs, Front, GivesAt, GivesFront, GivesMoving, Starts, StartsIf, TakesAt, TakesByte, TakesFront, TakesMoving, WritesFront, after_reading, begun_if, byte_given, count_told, moving_of, passed_one, reset_if, told_front, told_if, with_controller}
+use Rattle.fdc_sequencer.specs.Moves.{EndsIf, EndsSector, FollowsStep, MovesOn, SeeksOn, StepsFront, goes_on, has_met_other, is_unwanted, passed_over_if}
+use Rattle.fdc_sequencer.specs.Serving.{Accounts, AreLeft, AreMoved, BeginsAt, BeginsWith, Carries, GoesOn, History, IsLastOne, IsMarkOf, IsOfOther, IsOfSector, IsRefused, KeepsServing, MayMove, Means, Part, Serves, ServesAt, ServesCounted, ServesOn, ServesOrLeaves, bytes_moved, has_other, hears_count, nothing_moved, passed_in, passed_out, results_ended, sector_after, sent_of}
+use Rattle.fdc_sequencer.specs.Transfers.{is_other, is_skipping, next_of, size_of}
 use Rattle.fdc_sequencer.specs.declared.opcode.Opcode.{Opcode}
 use Rattle.fdc_sequencer.specs.declared.opcode.Operation.{Operation}
 use Rattle.fdc_sequencer.specs.declared.opcode.Operation.TheVariants.{Read, Write}
@@ -39,7 +37,7 @@ use Rattle.fdc_sequencer.specs.declared.stage.Moving.{Moving as MovingSector}
 use Rattle.fdc_sequencer.specs.declared.stage.Stage.{Stage}
 use Rattle.fdc_sequencer.specs.declared.stage.Stage.TheVariants.{Through, Collecting, Seeking, Moving, Telling}
 use Rattle.fdc_sequencer.specs.declared.transfer.Transfer.{Transfer}
-use Rattle.fdc_sequencer.proofs.Known.{KnownOn, MovedOn, bytes_told, clash, in_on, out_on, port_busy, port_mark, port_on, steps_on}
+use Rattle.fdc_sequencer.proofs.Known.{MovedOn, bytes_told, clash, in_on, out_on, port_busy, port_mark, port_on, steps_on}
 use Rattle.fdc_sequencer.proofs.Marks.{mark_then, then_busy, then_done}
 use Rattle.fdc_sequencer.proofs.Started.{Begun, answered_idle, begun_busy, begun_carries, size_is, told_carries}
 use Rattle.fdc_sequencer.proofs.Courses.{accounts_on, bytes_more, bytes_next, goes_would, met_then, moved_more, none_more, not_over, one_passed, one_told, other_more, over_told, part_moved, sector_more, sector_opcode, would_uncounted}
@@ -156,8 +154,8 @@ module _ (first : Transfer) (parts : List Part) (past : Past) (counted : Bool) (
   abbrev operation : Operation
   operation = first.opcode.operation
 
-  abbrev history : History
-  history = record { parts = parts; past = past; counted = counted }
+  abbrev so_far : History
+  so_far = record { parts = parts; past = past; counted = counted }
 
   -- whether a field of the other mark was met before
   abbrev met : Bool
@@ -169,7 +167,7 @@ module _ (first : Transfer) (parts : List Part) (past : Past) (counted : Bool) (
   -- the results are told
   tells_on : (now : Past) (mark : Option Bool) (ending : Ending) (new : Front) → bytes_moved operation now ≡ bytes_moved operation past → Accounts operation met moving now mark
       → IsOfSector operation now (sent_of moving.transfer) → Means operation now (sent_of moving.transfer) ending → IsLastOne moving ending → IsMarkOf ending mark
-      → new.stage ≡ Telling (results_ended moving ending) 0 → GoesOn [] false first history new
+      → new.stage ≡ Telling (results_ended moving ending) 0 → GoesOn [] false first so_far new
   tells_on now mark ending new bytes accounts of_sector means last marked is = (
     record { parts = parts; past = now; counted = counted },
     bytes_more operation parts past now counted counted [] (bytes ∙ sym (append-nil (bytes_moved operation past))),
@@ -195,7 +193,7 @@ module _ (first : Transfer) (parts : List Part) (past : Past) (counted : Bool) (
   -- the next sector begins
   next_on : (now : Past) (mark : Option Bool) (marked : Bool) (old new : Front) → bytes_moved operation now ≡ bytes_moved operation past → Accounts operation met moving now mark
       → Means operation now (sent_of moving.transfer) (Done marked) → mark ≡ Some marked → goes_on moving marked ≡ true
-      → BeginsSector (next_of moving.transfer) false (has_met_other moving marked) old new → GoesOn [] false first history new ⊎ IsRefused new
+      → BeginsSector (next_of moving.transfer) false (has_met_other moving marked) old new → GoesOn [] false first so_far new ⊎ IsRefused new
   next_on now mark marked old new bytes accounts means mark_is goes begins =
       let part : Part = record { at = moving.transfer; past = now; marked = marked } in
       let would = goes_would moving marked goes in
@@ -209,13 +207,13 @@ module _ (first : Transfer) (parts : List Part) (past : Past) (counted : Bool) (
       ]
 
   ends_if : (b : Bool) (now : Past) (mark : Option Bool) (marked : Bool) (old new : Front) → goes_on moving marked ≡ b → bytes_moved operation now ≡ bytes_moved operation past
-      → Accounts operation met moving now mark → IsOfSector operation now (sent_of moving.transfer) → Means operation now (sent_of moving.transfer) (Done marked) → mark ≡ Some marked → EndsIf b moving marked old new → GoesOn [] false first history new ⊎ IsRefused new
+      → Accounts operation met moving now mark → IsOfSector operation now (sent_of moving.transfer) → Means operation now (sent_of moving.transfer) (Done marked) → mark ≡ Some marked → EndsIf b moving marked old new → GoesOn [] false first so_far new ⊎ IsRefused new
   ends_if true now mark marked old new goes bytes accounts of_sector means mark_is ends = next_on now mark marked old new bytes accounts means mark_is goes ends
   ends_if false now mark marked old new goes bytes accounts of_sector means mark_is ends =
       inl (tells_on now mark (Done marked) new bytes accounts of_sector means goes mark_is (ap (λ front. front.stage) ends))
 
   ends_on : (ending : Ending) (now : Past) (mark : Option Bool) (old new : Front) → bytes_moved operation now ≡ bytes_moved operation past → Accounts operation met moving now mark
-      → IsOfSector operation now (sent_of moving.transfer) → Means operation now (sent_of moving.transfer) ending → IsMarkOf ending mark → EndsSector moving ending old new → GoesOn [] false first history new ⊎ IsRefused new
+      → IsOfSector operation now (sent_of moving.transfer) → Means operation now (sent_of moving.transfer) ending → IsMarkOf ending mark → EndsSector moving ending old new → GoesOn [] false first so_far new ⊎ IsRefused new
   ends_on (Done marked) now mark old new bytes accounts of_sector means mark_is ends = ends_if (goes_on moving marked) now mark marked old new refl bytes accounts of_sector means mark_is ends
   ends_on NoMark now mark old new bytes accounts of_sector means mark_is ends = inl (tells_on now mark NoMark new bytes accounts of_sector means tt tt (ap (λ front. front.stage) ends))
   ends_on NoSector now mark old new bytes accounts of_sector means mark_is ends = inl (tells_on now mark NoSector new bytes accounts of_sector means tt tt (ap (λ front. front.stage) ends))
@@ -259,7 +257,7 @@ module _ (first : Transfer) (parts : List Part) (past : Past) (counted : Bool) (
 
   passes_over : (b : Bool) (now : Past) (old new : Front) → old.stage ≡ Moving moving → is_unwanted moving (mark_of old.board.controller) ≡ b → bytes_moved operation now ≡ bytes_moved operation past
       → MayMove operation now (sent_of moving.transfer) old.board.controller → is_executing old.board.controller.phase ≡ true → Accounts operation met moving now (mark_of old.board.controller)
-      → new ≡ passed_over_if b moving old → GoesOn [] false first history new
+      → new ≡ passed_over_if b moving old → GoesOn [] false first so_far new
   passes_over false now old new stage_is wanted bytes moves busy accounts is =
       same_sector first parts past now counted false [] moving new (ap (λ front. front.stage) is ∙ stage_is) were here (counts ∙ none_told counted) (bytes ∙ sym (append-nil (bytes_moved operation past)))
       (subst (λ front. Carries operation met moving now front.board.controller) (sym is)
@@ -293,7 +291,7 @@ module _ (first : Transfer) (parts : List Part) (past : Past) (counted : Bool) (
 
   moves_on : (ending : Option Ending) (now : Past) (was : Option Bool) (old new : Front) → old.stage ≡ Moving moving → ending_told old.board.controller ≡ ending
       → bytes_moved operation now ≡ bytes_moved operation past → Accounts operation met moving now (mark_then was old.board.controller.phase)
-      → MayMove operation now (sent_of moving.transfer) old.board.controller → MovesOn ending moving old new → GoesOn [] false first history new ⊎ IsRefused new
+      → MayMove operation now (sent_of moving.transfer) old.board.controller → MovesOn ending moving old new → GoesOn [] false first so_far new ⊎ IsRefused new
   moves_on None now was old new stage_is none bytes accounts moves does =
       let busy = still_busy operation now (sent_of moving.transfer) old.board.controller moves none in
       inl (passes_over (is_unwanted moving (mark_of old.board.controller)) now old new stage_is refl bytes moves busy
@@ -304,7 +302,7 @@ module _ (first : Transfer) (parts : List Part) (past : Past) (counted : Bool) (
       (ended_means operation now (sent_of moving.transfer) old.board.controller ending accounts.sized moves some) (done_mark ending was old.board.controller.phase some) does
 
   step_moves : (old : Front) (between : BoardState) (new : Front) → old.stage ≡ Moving moving → Carries operation met moving past old.board.controller → StepsBoard old.board between
-      → MovesOn (ending_told between.controller) moving (record old { board = between }) new → GoesOn [] false first history new ⊎ IsRefused new
+      → MovesOn (ending_told between.controller) moving (record old { board = between }) new → GoesOn [] false first so_far new ⊎ IsRefused new
   step_moves old between new stage_is carries steps does =
       let was = mark_of old.board.controller in
       let known = steps_on operation past (sent_of moving.transfer) old.board between steps carries.busy carries.moves in
@@ -315,7 +313,7 @@ module _ (first : Transfer) (parts : List Part) (past : Past) (counted : Bool) (
 
   -- one passed, and behind the last the controller is told the count
   passes_one : (byte : ℕ) (fdc : Fdc) (old new : Front) → nat_lt 0 moving.left ≡ true → MovedOn operation past (sent_of moving.transfer) byte fdc → is_executing fdc.phase ≡ true
-      → Accounts operation met moving past (mark_of fdc) → (is_skipping operation ≡ true → IsOfOther operation (mark_of fdc) → moving.left ≡ 0) → new ≡ passed_one moving fdc old → GoesOn (byte ∷ []) false first history new
+      → Accounts operation met moving past (mark_of fdc) → (is_skipping operation ≡ true → IsOfOther operation (mark_of fdc) → moving.left ≡ 0) → new ≡ passed_one moving fdc old → GoesOn (byte ∷ []) false first so_far new
   passes_one byte fdc old new some moved busy accounts passes is = by_last (moving.left - 1 == 0) refl
     where
       after : (b : Bool) → (moving.left - 1 == 0) ≡ b → Accounts operation met (record moving { left = moving.left - 1 }) (told_in b moved.now) (mark_of fdc)
@@ -333,23 +331,23 @@ module _ (first : Transfer) (parts : List Part) (past : Past) (counted : Bool) (
       by_count false last =
           record { moves = moved.moves; busy = busy; accounts = after false last; passes = λ skips other. not_over moving.left some (passes skips other) }
 
-      by_last : (b : Bool) → (moving.left - 1 == 0) ≡ b → GoesOn (byte ∷ []) false first history new
+      by_last : (b : Bool) → (moving.left - 1 == 0) ≡ b → GoesOn (byte ∷ []) false first so_far new
       by_last b last = same_sector first parts past (told_in b moved.now) counted false (byte ∷ []) (record moving { left = moving.left - 1 }) new (ap (λ front. front.stage) is) were here
           (counts ∙ none_told counted)
           (bytes_told operation b moved.now ∙ moved.bytes)
           (subst (λ front. Carries operation met (record moving { left = moving.left - 1 }) (told_in b moved.now) front.board.controller) (sym is)
           (subst (λ c. Carries operation met (record moving { left = moving.left - 1 }) (told_in b moved.now) (if c then told_count fdc else fdc)) (sym last) (by_count b last)))
 
-  takes_one : (byte : Option ℕ) (old new : Front) → Serves first history old → Carries operation met moving past old.board.controller → TakesMoving moving old byte new → GoesOn (passed_out byte) false first history new
-  takes_one None old new serves carries (quiet, is) = same_front first history old new is serves
+  takes_one : (byte : Option ℕ) (old new : Front) → Serves first so_far old → Carries operation met moving past old.board.controller → TakesMoving moving old byte new → GoesOn (passed_out byte) false first so_far new
+  takes_one None old new serves carries (quiet, is) = same_front first so_far old new is serves
   takes_one (Some byte) old new serves carries (up, byte_is, is) =
       let fdc = old.board.controller in
       let (some, asked) = and_parts (nat_lt 0 moving.left) (asks fdc && to_memory_of fdc) up in
-      subst (λ b. GoesOn (b ∷ []) false first history new) (sym byte_is)
+      subst (λ b. GoesOn (b ∷ []) false first so_far new) (sym byte_is)
       (passes_one (byte_out fdc) (taken_out fdc) old new some (out_on operation past (sent_of moving.transfer) fdc asked carries.moves) carries.busy carries.accounts carries.passes is)
 
-  gives_one : (byte : ℕ) (was : Bool) (old new : Front) → Serves first history old → Carries operation met moving past old.board.controller → GivesMoving moving byte old was new → GoesOn (passed_in was byte) false first history new
-  gives_one byte false old new serves carries (quiet, is) = same_front first history old new is serves
+  gives_one : (byte : ℕ) (was : Bool) (old new : Front) → Serves first so_far old → Carries operation met moving past old.board.controller → GivesMoving moving byte old was new → GoesOn (passed_in was byte) false first so_far new
+  gives_one byte false old new serves carries (quiet, is) = same_front first so_far old new is serves
   gives_one byte true old new serves carries (up, is) =
       let fdc = old.board.controller in
       let (some, asked) = and_parts (nat_lt 0 moving.left) (asks fdc && not (to_memory_of fdc)) up in
@@ -357,7 +355,7 @@ module _ (first : Transfer) (parts : List Part) (past : Past) (counted : Bool) (
 
   -- ---- the terminal count
 
-  counts_one : (old new : Front) → Carries operation met moving past old.board.controller → new ≡ record old { board = told_if true old.board; stage = Moving (record moving { counted = true }) } → GoesOn [] true first history new
+  counts_one : (old new : Front) → Carries operation met moving past old.board.controller → new ≡ record old { board = told_if true old.board; stage = Moving (record moving { counted = true }) } → GoesOn [] true first so_far new
   counts_one old new carries is =
       let told : MovingSector = record moving { counted = true } in
       let accounts = carries.accounts in
@@ -373,7 +371,7 @@ module _ (first : Transfer) (parts : List Part) (past : Past) (counted : Bool) (
   -- ---- a write of another port
 
   writes_one : (old new : Front) (port value : ℕ) → old.stage ≡ Moving moving → Carries operation met moving past old.board.controller → (port == 0x3F5) ≡ false → resets port value ≡ false
-      → WritesBoard port value old.board new.board → new.stage ≡ old.stage → GoesOn [] false first history new
+      → WritesBoard port value old.board new.board → new.stage ≡ old.stage → GoesOn [] false first so_far new
   writes_one old new port value stage_is carries no_byte no_reset writes same =
       let mark = port_mark port value (lines_at old.board) old.board.controller new.board.controller writes.writes no_byte no_reset in
       same_sector first parts past past counted false [] moving new (same ∙ stage_is) were here (counts ∙ none_told counted) (sym (append-nil (bytes_moved operation past))) (record {

@@ -1,5 +1,5 @@
 use Rattle.std.proofs.Common.{◌≡◌, true, rules}
-use Rattle.fdc_sequencer.specs.Fronts.{Front, front_state, told_front}
+use Rattle.fdc_sequencer.specs.Fronts.{front_state, told_front}
 use Rattle.fdc_sequencer.specs.declared.stage.Stage.TheVariants.{Moving}
 use Rattle.fdc_sequencer.proofs.Served.{counts_serve}
 use Rattle.fdc_sequencer.proofs.sequencer.Sequencer.tc.Goals as goal

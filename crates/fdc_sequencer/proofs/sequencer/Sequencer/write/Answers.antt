@@ -1,5 +1,5 @@
 use Rattle.std.proofs.Common.{eq-eqb, refl}
-use Rattle.fdc_sequencer.specs.Fronts.{WritesFront, front_state}
+use Rattle.fdc_sequencer.specs.Fronts.{front_state}
 use Rattle.fdc_sequencer.proofs.Known.{clash}
 use Rattle.fdc_sequencer.proofs.Served.{begins_at, writes_serve}
 use Rattle.fdc_sequencer.proofs.sequencer.Sequencer.write.Goals as goal
