@@ -8,3 +8,4 @@ pub mod Courses
 pub mod Served
 pub mod Outcome
 pub mod Called
+pub mod Whole

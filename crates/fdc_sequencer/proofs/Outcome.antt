@@ -11,7 +11,7 @@ use Rattle.fdc_core.specs.Written.{IsContent}
 use Rattle.fdc_core.specs.declared.controller.Fdc.{Fdc}
 use Rattle.fdc_sequencer.specs.Fronts.{Front}
 use Rattle.fdc_sequencer.specs.Moves.{goes_on, has_met_other, results_behind, results_failed, would_go_on}
-use Rattle.fdc_sequencer.specs.Outcomes.{AreBut, EndsSo, IsFailure, IsFieldWith, PassesOfSector, ResultsSay, StopsBehind}
+use Rattle.fdc_sequencer.specs.Outcomes.{AreBut, EndsSo, IsFailure, IsFieldWith, PassesOfSector, ResultsSay, StopsBehind, TellsOther}
 use Rattle.fdc_sequencer.specs.Serving.{Accounts, AreLeft, Ends, History, IsLastOne, IsMarkOf, IsOfSector, Means, Serves, ServesAt, bytes_moved, has_other, results_ended, sector_after, sent_of}
 use Rattle.fdc_sequencer.specs.Transfers.{is_last, is_other, is_skipping, next_of, results_told}
 use Rattle.fdc_sequencer.specs.declared.opcode.Operation.{Operation}
@@ -70,11 +70,15 @@ field_with (Read wanted skip) met moving past mark marked left means = means
 field_with (Write deleted) met moving past mark marked (inl (passed, all)) means = done_written deleted past (sent_of moving.transfer) marked moving.left means all
 field_with (Write deleted) met moving past mark marked (inr (passed, skips, other, none, empty)) means = absurd (false≢true skips)
 
+other_told : (operation : Operation) (met : Bool) (moving : MovingSector) (mark : Option Bool) (bytes : List ℕ) → AreLeft operation met moving mark bytes → TellsOther operation met moving.passed_over
+other_told operation met moving mark bytes (inl (passed, all)) = inl passed
+other_told operation met moving mark bytes (inr (passed, skips, other, none, empty)) = inr (passed, skips)
+
 unwanted_or : (other skips : Bool) → (not other || skips) ≡ false → (other ≡ true) × (skips ≡ false)
 unwanted_or true skips is = (refl, is)
 unwanted_or false skips is = absurd (false≢true (sym is))
 
-module _ (operation : Operation) (met told : Bool) (moving : MovingSector) (past : Past) (mark : Option Bool) (results : Results) (same : moving.transfer.opcode.operation ≡ operation) (counts : moving.counted ≡ told) (accounts : Accounts operation met moving past mark) where
+module _ (operation : Operation) (met told : Bool) (moving : MovingSector) (past : Past) (mark : Option Bool) (results : Results) (same : moving.transfer.opcode.operation ≡ operation) (counts : moving.counted ≡ told) (accounts : Accounts operation met moving past mark) (of_it : IsOfSector operation past (sent_of moving.transfer)) where
   abbrev sector : Transfer
   sector = moving.transfer
 
@@ -107,7 +111,15 @@ module _ (operation : Operation) (met told : Bool) (moving : MovingSector) (past
   })
 
   fails_so : (ending : Ending) → IsFailure ending → Means operation past (sent_of sector) ending → results ≡ results_failed moving ending → EndsSo operation met told sector past results
-  fails_so ending fails means are = inr (inr (record { ending = ending; fails = fails; means = means; passed_over = moving.passed_over; results_are = are }))
+  fails_so ending fails means are = inr (inr (record {
+    ending = ending;
+    fails = fails;
+    means = means;
+    of_sector = of_it;
+    told = moving.passed_over;
+    other = other_told operation met moving mark (bytes_moved operation past) accounts.bytes;
+    results_are = are;
+  }))
 
   ends_so : (ending : Ending) → Means operation past (sent_of sector) ending → IsLastOne moving ending → IsMarkOf ending mark → results ≡ results_ended moving ending → EndsSo operation met told sector past results
   ends_so (Done marked) means last mark_is are = done_so (would_go_on moving marked) marked refl last mark_is means are
@@ -123,7 +135,8 @@ module _ (operation : Operation) (met told : Bool) (moving : MovingSector) (past
 ended_so : (operation : Operation) (met told : Bool) (at : Transfer) (past : Past) (results : Results) → at.opcode.operation ≡ operation → Ends operation met told at past results → EndsSo operation met told at past results
 ended_so operation met told at past results same ends =
     subst (λ a. EndsSo operation met told a past results) ends.here
-    (ends_so operation met told ends.moving past ends.mark results (ap (λ a. a.opcode.operation) ends.here ∙ same) ends.counted ends.accounts ends.ending
+    (ends_so operation met told ends.moving past ends.mark results (ap (λ a. a.opcode.operation) ends.here ∙ same) ends.counted ends.accounts
+    (subst (λ a. IsOfSector operation past (sent_of a)) (sym ends.here) ends.of_sector) ends.ending
     (subst (λ a. Means operation past (sent_of a) ends.ending) (sym ends.here) ends.means) ends.last ends.marked ends.results_are)
 
 pub results_say : (first : Transfer) (history : History) (front : Front) (results : Results) (read : ℕ) → Serves first history front → front.stage ≡ Telling results read → ResultsSay first history results

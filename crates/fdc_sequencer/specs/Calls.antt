@@ -1,10 +1,17 @@
 -- Calls one after the other, within a command of several sectors.
-use Rattle.std.specs.Prelude.{◌≡◌, ℕ, Bool, true, false, ◌||◌, Option, List, [], ◌∷◌, ◌++◌, flat_map}
+use Rattle.std.specs.Prelude.{◌≡◌, ℕ, Bool, true, false, ◌||◌, Option, Some, List, [], ◌∷◌, ◌++◌, flat_map}
 use Rattle.std.specs.List.{list_any}
+use Rattle.fdc_commands.specs.Table.{answer}
+use Rattle.fdc_commands.specs.declared.bytes.Accepted.TheVariants.{Ready}
+use Rattle.fdc_commands.specs.declared.command.Command.{Command}
+use Rattle.fdc_commands.specs.declared.results.Results.{Results}
 use Rattle.fdc_sequencer.specs.Fronts.{Front, GivesFront, KeepsFront, TakesFront, WritesFront, after_reading, told_front}
 use Rattle.fdc_sequencer.specs.Moves.{StepsFront}
-use Rattle.fdc_sequencer.specs.Serving.{History, Serves, all_bytes, passed_in, passed_out}
-use Rattle.fdc_sequencer.specs.declared.stage.Stage.TheVariants.{Through}
+use Rattle.fdc_sequencer.specs.Outcomes.{ResultsSay}
+use Rattle.fdc_sequencer.specs.Serving.{AreMoved, History, Serves, all_bytes, passed_in, passed_out}
+use Rattle.fdc_sequencer.specs.Transfers.{transfer_of}
+use Rattle.fdc_sequencer.specs.declared.opcode.Opcode.{Opcode}
+use Rattle.fdc_sequencer.specs.declared.stage.Stage.TheVariants.{Through, Collecting}
 use Rattle.fdc_sequencer.specs.declared.transfer.Transfer.{Transfer}
 
 -- a call: a device step; the channel takes a byte or finds none; it gives one, which is taken or not; it tells the terminal
@@ -55,3 +62,20 @@ pub record Behind (first : Transfer) (old : History) (calls : List Call) (front 
   pub serves : Serves first history front
   pub bytes : all_bytes first.opcode.operation history ≡ all_bytes first.opcode.operation old ++ passed_in_all calls
   pub told : history.counted ≡ true → (old.counted || list_any is_count calls) ≡ true
+
+-- what passed between the last byte of a command and these results: the bytes of its sectors, in order, of which this is known;
+-- what the results say of them; and the terminal count came only with one of the calls
+pub record Served (first : Transfer) (calls : List Call) (results : Results) : Type 0 where
+  pub history : History
+  pub bytes : passed_in_all calls ≡ all_bytes first.opcode.operation history
+  pub moved : AreMoved first.opcode.operation first history.parts
+  pub say : ResultsSay first history results
+  pub told : history.counted ≡ true → list_any is_count calls ≡ true
+
+-- with this byte a command of this code is whole, and begins at this sector
+pub record IsLastByte (byte : ℕ) (first : Transfer) (front : Front) : Type 0 where
+  pub opcode : Opcode
+  pub collects : front.stage ≡ Collecting opcode
+  pub command : Command
+  pub whole : answer (front.bytes ++ byte ∷ []) ≡ Ready command
+  pub transfer : transfer_of opcode command ≡ Some first

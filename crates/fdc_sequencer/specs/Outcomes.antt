@@ -54,17 +54,23 @@ IsFailure (Done _) = ⊥
 IsFailure NoCount = ⊥
 IsFailure _ = Unit {0}
 
+-- CM tells whether a field of the mark that isn't wanted was met before; or one was just passed over
+abbrev pub TellsOther : Operation → Bool → Bool → Type 0
+TellsOther operation met told = (told ≡ met) ⊎ ((told ≡ true) × (is_skipping operation ≡ true))
+
 -- a failure: this is its cause, whatever passed is of the sector, and the key is as it was sent
-pub record Fails (operation : Operation) (at : Transfer) (past : Past) (results : Results) : Type 0 where
+pub record Fails (operation : Operation) (met : Bool) (at : Transfer) (past : Past) (results : Results) : Type 0 where
   pub ending : Ending
   pub fails : IsFailure ending
   pub means : Means operation past (sent_of at) ending
-  pub passed_over : Bool
-  pub results_are : results ≡ results_told ending at.head_drive at.key passed_over
+  pub of_sector : IsOfSector operation past (sent_of at)
+  pub told : Bool
+  pub other : TellsOther operation met told
+  pub results_are : results ≡ results_told ending at.head_drive at.key told
 
 abbrev pub EndsSo : Operation → Bool → Bool → Transfer → Past → Results → Type 0
 EndsSo operation met counted at past results =
-    EndsWell operation met counted at past results ⊎ (EndsUncounted operation met counted at past results ⊎ Fails operation at past results)
+    EndsWell operation met counted at past results ⊎ (EndsUncounted operation met counted at past results ⊎ Fails operation met at past results)
 
 -- the results of a command that began at this sector, of which this was heard and moved, are these
 abbrev pub ResultsSay : Transfer → History → Results → Type 0

@@ -2,11 +2,11 @@
 ghost use Rattle.std.specs.Prelude.{◌≡◌, ℕ, Bool, Option, List, []};
 ghost use Rattle.fdc_sequencer.specs.Fronts.{Front, KeepsFront, TakesFront, GivesFront, WritesFront, after_reading, told_front};
 ghost use Rattle.fdc_sequencer.specs.Moves.{RunsFrontWith, StepsFront};
-ghost use Rattle.fdc_sequencer.specs.Calls.{AreWithin, Behind, Call};
+ghost use Rattle.fdc_sequencer.specs.Calls.{AreWithin, Behind, Call, IsLastByte, Served};
 ghost use Rattle.fdc_sequencer.specs.Outcomes.{PassesOfSector, ResultsSay};
 ghost use Rattle.fdc_sequencer.specs.Serving.{History, KeepsServing, Serves, ServesCounted, ServesOn, ServesOrLeaves, BeginsAt, passed_in, passed_out};
 ghost use Rattle.fdc_commands.specs.declared.results.Results.{Results};
-ghost use Rattle.fdc_sequencer.specs.declared.stage.Stage.TheVariants.{Telling};
+ghost use Rattle.fdc_sequencer.specs.declared.stage.Stage.TheVariants.{Through, Telling};
 ghost use Rattle.fdc_sequencer.specs.declared.transfer.Transfer.{Transfer};
 
 /// A command that is served goes on through each call, or it is over.
@@ -37,4 +37,12 @@ pub fn bytes_are_of_the_sector()
 pub fn bytes_pass_in_order()
     ensures { (calls : List Call) (first : Transfer) (history : History) (old new : Front) → AreWithin calls old new → Serves first history old
         → Behind first history calls new }
+{}
+
+/// What passes between the last byte of a command and its results are the bytes of its sectors, in order, and the results say
+/// how it ended.
+pub fn a_command_moves_its_sectors()
+    ensures { (byte : ℕ) (first : Transfer) (start begun end : Front) (calls : List Call) (results : Results) (read : ℕ)
+        → IsLastByte byte first start → WritesFront 0x3F5 byte start begun → (begun.stage ≡ Through → ⊥)
+        → AreWithin calls begun end → end.stage ≡ Telling results read → Served first calls results }
 {}
