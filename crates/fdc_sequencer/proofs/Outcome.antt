@@ -1,8 +1,10 @@
 -- What the results of a command that is served say.
 use Rattle.std.proofs.Common.{◌≡◌, inl, inr, ℕ, ◌≤◌, Bool, true, false, not, ◌&&◌, ◌||◌, ◌==◌, if◌then◌else◌, Option, Some, List, [], length, refl, sym, ◌∙◌, ap, subst, arith, length-append}
 use Rattle.std.proofs.lemmas.Bool.{eq-eqb, eqb-true, false≢true, not-false}
+use Rattle.flop_base.specs.declared.key.Chrn.{Chrn}
 use Rattle.track_model.specs.Fields.{content_size}
 use Rattle.fdc_stages.specs.History.{Past, begun as new_past}
+use Rattle.fdc_stages.specs.Findings.{FindsSector}
 use Rattle.fdc_stages.specs.declared.ending.Ending.{Ending}
 use Rattle.fdc_stages.specs.declared.ending.Ending.TheVariants.{Done, NoMark, NoSector, NoField, BadCheck, Overrun, NoCount, Protected, Late}
 use Rattle.fdc_commands.specs.declared.results.Results.{Results}
@@ -11,8 +13,8 @@ use Rattle.fdc_core.specs.Written.{IsContent}
 use Rattle.fdc_core.specs.declared.controller.Fdc.{Fdc}
 use Rattle.fdc_sequencer.specs.Fronts.{Front}
 use Rattle.fdc_sequencer.specs.Moves.{goes_on, has_met_other, results_behind, results_failed, would_go_on}
-use Rattle.fdc_sequencer.specs.Outcomes.{AreBut, EndsSo, IsFailure, IsFieldWith, PassesOfSector, ResultsSay, StopsBehind, TellsOther}
-use Rattle.fdc_sequencer.specs.Serving.{Accounts, AreLeft, Ends, History, IsLastOne, IsMarkOf, IsOfSector, Means, Serves, ServesAt, bytes_moved, has_other, results_ended, sector_after, sent_of}
+use Rattle.fdc_sequencer.specs.Outcomes.{AreBut, EndsSo, HasField, IsFailure, IsFieldWith, PassedWhole, PassesOfSector, ResultsSay, StopsBehind, TellsOther}
+use Rattle.fdc_sequencer.specs.Serving.{Accounts, AreLeft, Ends, History, IsLastOne, IsMarkOf, IsMoved, IsOfSector, Means, Part, Serves, ServesAt, bytes_moved, has_other, results_ended, sector_after, sent_of}
 use Rattle.fdc_sequencer.specs.Transfers.{is_last, is_other, is_skipping, next_of, results_told}
 use Rattle.fdc_sequencer.specs.declared.opcode.Operation.{Operation}
 use Rattle.fdc_sequencer.specs.declared.opcode.Operation.TheVariants.{Read, Write}
@@ -161,3 +163,20 @@ passes_at (Telling results read) first history fdc ends = ends.of_sector
 
 pub passes_of : (first : Transfer) (history : History) (front : Front) → Serves first history front → PassesOfSector first history
 passes_of first history front serves = passes_at front.stage first history front.board.controller serves.now
+
+-- ---- a sector that is over
+
+-- as many bytes as its size are its content
+pub has_field : (past : Past) (key : Chrn) (marked : Bool) (given : List ℕ) → FindsSector past key given marked → length given ≡ content_size key.n → HasField past key marked given
+has_field past key marked given (counted, (turn, p, q, found)) all =
+    record { turn = turn; p = p; q = q; among = found.among; address = found.address; finds = found.finds; content_is = found.content all }
+
+pub passed_whole : (operation : Operation) (part : Part) → IsMoved operation part → PassedWhole operation part
+passed_whole (Read wanted skip) part moved = elim moved.all [
+  | inl (wanted_is, all) ↦ inl (has_field part.past part.at.key part.marked part.past.given moved.field all)
+  | inr none ↦ inr none
+]
+passed_whole (Write deleted) part moved = elim moved.all [
+  | inl (wanted, all) ↦ (all, moved.field)
+  | inr (skips, other, none) ↦ absurd (false≢true skips)
+]

@@ -1,6 +1,5 @@
 -- A command from its last byte to its results.
-use Rattle.std.proofs.Common.{◌≡◌, inl, inr, ℕ, Bool, true, false, List, [], ◌++◌, refl, sym, ◌∙◌, ap, subst}
-use Rattle.fdc_stages.specs.History.{begun as new_past}
+use Rattle.std.proofs.Common.{◌≡◌, inl, inr, ℕ, false, List, ◌++◌, refl, sym, ◌∙◌, subst}
 use Rattle.fdc_sequencer.specs.Calls.{AreWithin, Call, IsLastByte, Served}
 use Rattle.fdc_sequencer.specs.Fronts.{Front, WritesFront}
 use Rattle.fdc_sequencer.specs.Serving.{BeginsAt, Serves, all_bytes, nothing_moved}
@@ -10,7 +9,7 @@ use Rattle.fdc_sequencer.specs.declared.stage.Stage.TheVariants.{Through, Tellin
 use Rattle.fdc_sequencer.specs.declared.transfer.Transfer.{Transfer}
 use Rattle.fdc_commands.specs.declared.results.Results.{Results}
 use Rattle.fdc_sequencer.proofs.Called.{calls_serve}
-use Rattle.fdc_sequencer.proofs.Outcome.{results_say}
+use Rattle.fdc_sequencer.proofs.Outcome.{passes_of, results_say}
 use Rattle.fdc_sequencer.proofs.Served.{begins_at}
 
 no_bytes : (operation : Operation) (bytes : List ℕ) → all_bytes operation (nothing_moved false) ++ bytes ≡ bytes
@@ -35,5 +34,6 @@ command_served byte first start begun end calls results read last writes within 
       bytes = sym (behind.bytes ∙ no_bytes first.opcode.operation _);
       moved = behind.serves.parts;
       say = results_say first behind.history end results read behind.serves tells;
+      of_sector = passes_of first behind.history end behind.serves;
       told = behind.told;
     }

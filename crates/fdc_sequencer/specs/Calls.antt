@@ -7,7 +7,7 @@ use Rattle.fdc_commands.specs.declared.command.Command.{Command}
 use Rattle.fdc_commands.specs.declared.results.Results.{Results}
 use Rattle.fdc_sequencer.specs.Fronts.{Front, GivesFront, KeepsFront, TakesFront, WritesFront, after_reading, told_front}
 use Rattle.fdc_sequencer.specs.Moves.{StepsFront}
-use Rattle.fdc_sequencer.specs.Outcomes.{ResultsSay}
+use Rattle.fdc_sequencer.specs.Outcomes.{PassesOfSector, ResultsSay}
 use Rattle.fdc_sequencer.specs.Serving.{AreMoved, History, Serves, all_bytes, passed_in, passed_out}
 use Rattle.fdc_sequencer.specs.Transfers.{transfer_of}
 use Rattle.fdc_sequencer.specs.declared.opcode.Opcode.{Opcode}
@@ -64,12 +64,13 @@ pub record Behind (first : Transfer) (old : History) (calls : List Call) (front 
   pub told : history.counted ≡ true → (old.counted || list_any is_count calls) ≡ true
 
 -- what passed between the last byte of a command and these results: the bytes of its sectors, in order, of which this is known;
--- what the results say of them; and the terminal count came only with one of the calls
+-- what the results say of them; those of the last sector are of that sector; and the terminal count came only with one of the calls
 pub record Served (first : Transfer) (calls : List Call) (results : Results) : Type 0 where
   pub history : History
   pub bytes : passed_in_all calls ≡ all_bytes first.opcode.operation history
   pub moved : AreMoved first.opcode.operation first history.parts
   pub say : ResultsSay first history results
+  pub of_sector : PassesOfSector first history
   pub told : history.counted ≡ true → list_any is_count calls ≡ true
 
 -- with this byte a command of this code is whole, and begins at this sector

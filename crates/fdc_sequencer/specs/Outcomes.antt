@@ -1,18 +1,39 @@
 -- What the results of a command of several sectors say.
 use Rattle.std.specs.Prelude.{◌≡◌, ◌⊎◌, ℕ, ◌+◌, Bool, true, false, ◌||◌, List, [], ◌++◌, length, replicate}
 use Rattle.flop_base.specs.declared.key.Chrn.{Chrn}
-use Rattle.track_model.specs.Fields.{content_size}
-use Rattle.fdc_stages.specs.History.{Past}
+use Rattle.track_model.specs.Fields.{IsAddressAt, content_at, content_size}
+use Rattle.track_model.specs.Looks.{LookAt}
+use Rattle.track_model.specs.declared.Look.TheVariants.{Found}
+use Rattle.fdc_stages.specs.History.{IsTurn, Past}
 use Rattle.fdc_stages.specs.Findings.{FindsSector}
 use Rattle.fdc_stages.specs.declared.ending.Ending.{Ending}
 use Rattle.fdc_stages.specs.declared.ending.Ending.TheVariants.{Done, NoCount}
 use Rattle.fdc_writing.specs.Writings.{WritesWhole}
 use Rattle.fdc_commands.specs.declared.results.Results.{Results}
-use Rattle.fdc_sequencer.specs.Serving.{History, IsMoved, IsOfSector, Means, bytes_moved, has_other, sector_after, sent_of}
+use Rattle.fdc_sequencer.specs.Serving.{History, IsMoved, IsOfSector, Means, Part, bytes_moved, has_other, sector_after, sent_of}
 use Rattle.fdc_sequencer.specs.Transfers.{is_last, is_other, is_skipping, next_of, results_told}
 use Rattle.fdc_sequencer.specs.declared.opcode.Operation.{Operation}
 use Rattle.fdc_sequencer.specs.declared.opcode.Operation.TheVariants.{Read, Write}
 use Rattle.fdc_sequencer.specs.declared.transfer.Transfer.{Transfer}
+
+-- an intact field of the key, with this mark and this content, in the words of one turn
+pub record HasField (past : Past) (key : Chrn) (marked : Bool) (content : List ℕ) : Type 0 where
+  pub turn : List ℕ
+  pub p : ℕ
+  pub q : ℕ
+  pub among : IsTurn past turn
+  pub address : IsAddressAt turn p key
+  pub finds : LookAt turn p key.n (Found marked (q + 64))
+  pub content_is : content ≡ content_at turn (q + 64) key.n
+
+-- what passed of a sector that is over: of a read the content of an intact field of the key, or nothing of one that was passed over;
+-- of a write what its field was written with
+abbrev pub PassedWhole : Operation → Part → Type 0
+PassedWhole (Read wanted skip) part =
+    HasField part.past part.at.key part.marked part.past.given
+    ⊎ ((skip ≡ true) × (is_other (Read wanted skip) part.marked ≡ true) × (part.past.given ≡ []))
+PassedWhole (Write deleted) part =
+    (length part.past.taken ≡ content_size part.at.key.n) × WritesWhole part.past part.at.key deleted part.past.taken
 
 -- a read found the sector with this mark; a write wrote its whole field with the bytes that were taken, and so many 00
 abbrev pub IsFieldWith : Operation → Past → Chrn → Bool → ℕ → Type 0

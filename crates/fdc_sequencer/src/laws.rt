@@ -1,10 +1,15 @@
 // What is known of a command of several sectors. The bodies are empty: the contracts say what follows from what each call does.
-ghost use Rattle.std.specs.Prelude.{◌≡◌, ℕ, Bool, Option, List, []};
+ghost use Rattle.std.specs.Prelude.{◌≡◌, ℕ, Bool, Option, List, [], length};
 ghost use Rattle.fdc_sequencer.specs.Fronts.{Front, KeepsFront, TakesFront, GivesFront, WritesFront, after_reading, told_front};
 ghost use Rattle.fdc_sequencer.specs.Moves.{RunsFrontWith, StepsFront};
 ghost use Rattle.fdc_sequencer.specs.Calls.{AreWithin, Behind, Call, IsLastByte, Served};
-ghost use Rattle.fdc_sequencer.specs.Outcomes.{PassesOfSector, ResultsSay};
-ghost use Rattle.fdc_sequencer.specs.Serving.{History, KeepsServing, Serves, ServesCounted, ServesOn, ServesOrLeaves, BeginsAt, passed_in, passed_out};
+ghost use Rattle.fdc_sequencer.specs.Outcomes.{HasField, PassedWhole, PassesOfSector, ResultsSay};
+ghost use Rattle.fdc_sequencer.specs.Serving.{History, IsMoved, KeepsServing, Part, Serves, ServesCounted, ServesOn, ServesOrLeaves, BeginsAt, passed_in, passed_out};
+ghost use Rattle.flop_base.specs.declared.key.Chrn.{Chrn};
+ghost use Rattle.track_model.specs.Fields.{content_size};
+ghost use Rattle.fdc_stages.specs.Findings.{FindsSector};
+ghost use Rattle.fdc_stages.specs.History.{Past};
+ghost use Rattle.fdc_sequencer.specs.declared.opcode.Operation.{Operation};
 ghost use Rattle.fdc_commands.specs.declared.results.Results.{Results};
 ghost use Rattle.fdc_sequencer.specs.declared.stage.Stage.TheVariants.{Through, Telling};
 ghost use Rattle.fdc_sequencer.specs.declared.transfer.Transfer.{Transfer};
@@ -26,6 +31,13 @@ pub fn a_served_command_goes_on()
 pub fn results_say()
     ensures { (first : Transfer) (history : History) (front : Front) (results : Results) (read : ℕ) → Serves first history front
         → front.stage ≡ Telling results read → ResultsSay first history results }
+{}
+
+/// What passed of a sector that is over is the whole content of a field; so are as many bytes of the last one as it has.
+pub fn sectors_are_whole()
+    ensures parts { (operation : Operation) (part : Part) → IsMoved operation part → PassedWhole operation part }
+    ensures last { (past : Past) (key : Chrn) (marked : Bool) (given : List ℕ) → FindsSector past key given marked
+        → length given ≡ content_size key.n → HasField past key marked given }
 {}
 
 /// At each time whatever passed of the sector under way is of that sector.
