@@ -1,5 +1,5 @@
 // The bays, and what a front end shows: the board's.
-ghost use Rattle.std.specs.Prelude.{◌≡◌, ◌≤◌, ◌-◌, ◌+◌, ◌%◌, ◌↔◌, IfErr, OnOk, IsErr, IsSome, IsTrue, IsBitSet, false};
+ghost use Rattle.std.specs.Prelude.{◌≡◌, ◌≤◌, ◌-◌, ◌+◌, ◌%◌, ◌↔◌, IfErr, OnOk, OnErr, IsErr, IsSome, IsTrue, IsBitSet, false};
 ghost use Rattle.std.specs.Option.{option_copied};
 ghost use Rattle.drive_model.specs.Drive.{Becomes, loaded, unloaded};
 ghost use Rattle.fdc_board.specs.Boards.{controller_of, drive_at, written_at};
@@ -12,7 +12,7 @@ use inspected_drive::Inspect;
 use raw_image::Medium;
 
 impl<D: Inspect> Sequencer<D> {
-    /// Puts a medium into a bay. Where one is in already, the new one is given back.
+    /// Puts a medium into a bay, of which no word was replaced yet. Where one is in already, the new one is given back.
     pub fn insert(&mut self, bay: u8, medium: Medium) -> Result<(), Medium>
         requires { bay ≤ 1 }
         ensures keeps { KeepsFront (front_state D.state self.old) (front_state D.state self.new) }
@@ -22,11 +22,14 @@ impl<D: Inspect> Sequencer<D> {
             (drive_at (front_state D.state self.old).board bay) (drive_at (front_state D.state self.new).board bay)) }
         ensures err { IfErr result (λ back. (back ≡ medium)
             × Becomes (drive_at (front_state D.state self.old).board bay) (drive_at (front_state D.state self.old).board bay) (drive_at (front_state D.state self.new).board bay)) }
+        ensures fresh { OnOk result (written_at D.written (board_of self.new) bay ≡ false) }
+        ensures kept { OnErr result (written_at D.written (board_of self.new) bay ≡ written_at D.written (board_of self.old) bay) }
+        ensures other_kept { written_at D.written (board_of self.new) (1 - bay) ≡ written_at D.written (board_of self.old) (1 - bay) }
     {
         self.board.insert(bay, medium)
     }
 
-    /// Takes the medium out of a bay.
+    /// Takes the medium out of a bay. It is still told whether a word of it was replaced.
     pub fn eject(&mut self, bay: u8) -> Option<Medium>
         requires { bay ≤ 1 }
         ensures keeps { KeepsFront (front_state D.state self.old) (front_state D.state self.new) }
@@ -34,6 +37,8 @@ impl<D: Inspect> Sequencer<D> {
         ensures medium { result ≡ (drive_at (front_state D.state self.old).board bay).medium }
         ensures becomes { Becomes (unloaded (drive_at (front_state D.state self.old).board bay))
             (drive_at (front_state D.state self.old).board bay) (drive_at (front_state D.state self.new).board bay) }
+        ensures kept { written_at D.written (board_of self.new) bay ≡ written_at D.written (board_of self.old) bay }
+        ensures other_kept { written_at D.written (board_of self.new) (1 - bay) ≡ written_at D.written (board_of self.old) (1 - bay) }
     {
         self.board.eject(bay)
     }
