@@ -26,9 +26,9 @@ use Rattle.fdc_core.proofs.MayRead.{starts_given}
 use Rattle.fdc_core.proofs.Meanings.{read_gives, read_tells}
 use Rattle.fdc_core.proofs.Tellings.{write_tells, writes_window}
 use Rattle.fdc_board.specs.Boards.{BoardState, StepsBoard, WritesBoard, lines_at}
-use Rattle.fdc_sequencer.specs.Fronts.{BeginsSector, CollectsAs, Front, GivesAt, GivesFront, GivesMoving, Starts, StartsIf, TakesAt, TakesByte, TakesFront, TakesMoving, WritesFront, after_reading, begun_if, byte_given, count_told, moving_of, passed_one, reset_if, told_front, told_if, with_controller}
+use Rattle.fdc_sequencer.specs.Fronts.{BeginsSector, CollectsAs, Front, GivesAt, GivesFront, GivesMoving, SeeksFirst, Starts, StartsIf, TakesAt, TakesByte, TakesFront, TakesMoving, WritesFront, after_reading, begun_if, byte_given, count_told, moving_of, passed_one, reset_if, told_front, told_if, with_controller}
 use Rattle.fdc_sequencer.specs.Moves.{EndsIf, EndsSector, FollowsStep, MovesOn, SeeksOn, StepsFront, goes_on, has_met_other, is_unwanted, passed_over_if}
-use Rattle.fdc_sequencer.specs.Serving.{Accounts, AreLeft, AreMoved, BeginsAt, BeginsWith, Carries, GoesOn, History, IsLastOne, IsMarkOf, IsOfOther, IsOfSector, IsRefused, KeepsServing, MayMove, Means, Part, Serves, ServesAt, ServesCounted, ServesOn, ServesOrLeaves, bytes_moved, has_other, hears_count, nothing_moved, passed_in, passed_out, results_ended, sector_after, sent_of}
+use Rattle.fdc_sequencer.specs.Serving.{Accounts, AreLeft, AreMoved, BeginsAt, BeginsWith, Carries, GoesOn, History, IsLastOne, IsLeft, IsMarkOf, IsOfOther, IsOfSector, IsRefused, KeepsServing, MayMove, Means, Part, Serves, ServesAt, ServesCounted, ServesOn, ServesOrLeaves, bytes_moved, has_other, hears_count, nothing_moved, passed_in, passed_out, results_ended, sector_after, sent_of}
 use Rattle.fdc_sequencer.specs.Transfers.{is_other, is_skipping, next_of, size_of}
 use Rattle.fdc_sequencer.specs.declared.opcode.Opcode.{Opcode}
 use Rattle.fdc_sequencer.specs.declared.opcode.Operation.{Operation}
@@ -39,7 +39,7 @@ use Rattle.fdc_sequencer.specs.declared.stage.Stage.TheVariants.{Through, Collec
 use Rattle.fdc_sequencer.specs.declared.transfer.Transfer.{Transfer}
 use Rattle.fdc_sequencer.proofs.Known.{MovedOn, bytes_told, clash, in_on, out_on, port_busy, port_mark, port_on, steps_on}
 use Rattle.fdc_sequencer.proofs.Marks.{mark_then, then_busy, then_done}
-use Rattle.fdc_sequencer.proofs.Started.{Begun, answered_idle, begun_busy, begun_carries, size_is, told_carries}
+use Rattle.fdc_sequencer.proofs.Started.{Begun, answered_idle, begun_busy, begun_carries, seek_answered, size_is, told_carries}
 use Rattle.fdc_sequencer.proofs.Courses.{accounts_on, bytes_more, bytes_next, goes_would, met_then, moved_more, none_more, not_over, one_passed, one_told, other_more, over_told, part_moved, sector_more, sector_opcode, would_uncounted}
 
 -- ---- what stays
@@ -506,18 +506,22 @@ writes_serve port value old new writes first history serves = by_port (port == 0
 
 -- ---- how a command begins
 
-starts_serve : (first : Transfer) (old new : Front) → Starts (Some first) old new → Serves first (nothing_moved false) new ⊎ (new.stage ≡ Through)
+starts_serve : (first : Transfer) (old new : Front) → Starts (Some first) old new → Serves first (nothing_moved false) new ⊎ IsLeft old new
 starts_serve first old new starts = by_seek (old.strapped || old.configured) starts
   where
-    by_idle : (b : Bool) → new.stage ≡ (if b then Seeking first false else Through) → Serves first (nothing_moved false) new ⊎ (new.stage ≡ Through)
-    by_idle true is = inl (record { parts = tt; now = subst (λ s. ServesAt s first (nothing_moved false) new.board.controller) (sym is) (refl, refl) })
-    by_idle false is = inr is
+    by_idle : (seeks : SeeksFirst first old new) (b : Bool) → is_idle seeks.between.controller ≡ b → new.stage ≡ (if b then Seeking first false else Through) → Serves first (nothing_moved false) new ⊎ IsLeft old new
+    by_idle seeks true idle is = inl (record { parts = tt; now = subst (λ s. ServesAt s first (nothing_moved false) new.board.controller) (sym is) (refl, refl) })
+    by_idle seeks false busy is = inr (
+      is,
+      λ idle. ap (λ front. front.board.controller.phase) seeks.begun
+          ∙ seek_answered first.head_drive first.key.c (lines_at old.board) old.board.controller seeks.between.controller seeks.takes.takes idle busy,
+    )
 
-    by_seek : (b : Bool) → StartsIf b first old new → Serves first (nothing_moved false) new ⊎ (new.stage ≡ Through)
-    by_seek true seeks = by_idle (is_idle seeks.between.controller) (ap (λ front. front.stage) seeks.begun)
+    by_seek : (b : Bool) → StartsIf b first old new → Serves first (nothing_moved false) new ⊎ IsLeft old new
+    by_seek true seeks = by_idle seeks (is_idle seeks.between.controller) refl (ap (λ front. front.stage) seeks.begun)
     by_seek false begins = elim (begins_serve first [] first false false old new tt refl refl begins) [
       | inl serves ↦ inl serves
-      | inr refused ↦ inr refused.through
+      | inr refused ↦ inr (refused.through, λ idle. refused.answer_is)
     ]
 
 begins_with : (opcode : Opcode) (byte : ℕ) (old new : Front) → TakesByte (Collecting opcode) byte old new → BeginsWith opcode byte old new

@@ -1,19 +1,21 @@
 -- How the controller's own command for a sector begins.
-use Rattle.std.proofs.Common.{◌≡◌, ◌⊎◌, inl, inr, ℕ, zero, suc, ◌+◌, nat_le, Bool, true, false, ◌&&◌, ◌||◌, ◌==◌, if◌then◌else◌, Option, None, [], length, refl, sym, ◌∙◌, ap, subst, arith, zero-add}
-use Rattle.std.proofs.lemmas.Bool.{false≢true, and_parts, eqb-true, leb-true}
+use Rattle.std.proofs.Common.{◌≡◌, ◌⊎◌, inl, inr, ℕ, zero, suc, ◌+◌, nat_le, Bool, true, false, not, ◌&&◌, ◌||◌, ◌==◌, if◌then◌else◌, Option, None, [], length, refl, sym, ◌∙◌, ap, subst, arith, zero-add}
+use Rattle.std.proofs.lemmas.Bool.{false≢true, and_from, and_parts, eqb-true, leb-true}
 use Rattle.flop_base.specs.declared.key.Chrn.{Chrn}
 use Rattle.track_model.specs.Fields.{IsSizeCode, content_size}
 use Rattle.fdc_fifo.specs.Fifo.{emptied}
 use Rattle.fdc_seek.specs.Seeking.{seek_bits}
+use Rattle.fdc_commands.specs.Table.{is_begun}
 use Rattle.fdc_commands.specs.declared.bytes.Accepted.TheVariants.{Ready, Invalid}
 use Rattle.fdc_commands.specs.declared.command.Command.{Command}
-use Rattle.fdc_commands.specs.declared.command.Command.TheVariants.{ReadData, WriteData, WriteDeleted}
+use Rattle.fdc_commands.specs.declared.command.Command.TheVariants.{ReadData, Seek, WriteData, WriteDeleted}
 use Rattle.fdc_stages.specs.History.{Past, begun as new_past}
 use Rattle.fdc_core.specs.Commands.{BeginsData, Obeys, TakesAs, answered}
 use Rattle.fdc_core.specs.Dma.{told_count}
 use Rattle.fdc_core.specs.Heard.{Sent, MayRead, told_in}
 use Rattle.fdc_core.specs.Listening.{is_executing}
-use Rattle.fdc_core.specs.Whole.{TakesWhole, mark_of}
+use Rattle.fdc_core.specs.Ports.{is_taking}
+use Rattle.fdc_core.specs.Whole.{TakesWhole, is_idle, mark_of}
 use Rattle.fdc_core.specs.Written.{MayWrite}
 use Rattle.fdc_core.specs.declared.answers.Answer.TheVariants.{Short}
 use Rattle.fdc_core.specs.declared.controller.Fdc.{Fdc}
@@ -162,6 +164,18 @@ begun_busy at lines old new takes busy = elim (command_taken at lines old new ta
   | inl begun ↦ begun
   | inr answers ↦ clash (is_executing new.phase) (idle_answer new answers) busy
 ]
+
+-- ---- the seek that comes before
+
+-- where the controller took commands and takes none behind it, 80 is answered
+pub seek_answered : (head_drive cylinder : ℕ) (lines : Lines) (old new : Fdc) → TakesWhole (Ready (Seek head_drive cylinder)) lines old new → is_idle old ≡ true → is_idle new ≡ false
+    → new.phase ≡ Result (Short 0x80 None)
+seek_answered head_drive cylinder lines old new takes idle busy = either_way (seek_bits old.seeks == 0)
+    (λ none.
+    let is = takes.0 (eqb-true (seek_bits old.seeks) 0 none) in
+    let taking = (and_parts (is_taking old) (not (is_begun old.command)) idle).0 in
+    clash (is_idle new) busy (ap is_idle is ∙ and_from (is_taking old) true taking refl))
+    (λ some. ap (λ fdc. fdc.phase) (takes.1 some))
 
 -- ---- the sector is then under way
 

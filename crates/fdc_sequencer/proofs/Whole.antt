@@ -22,7 +22,7 @@ begins_served byte first start begun last writes within =
     let begins = subst (λ stage. BeginsAt stage byte start begun) last.collects (begins_at start.stage 0x3F5 byte start begun refl writes refl) in
     elim (begins last.command first last.whole last.transfer) [
       | inl serves ↦ serves
-      | inr through ↦ absurd (within through)
+      | inr left ↦ absurd (within left.0)
     ]
 
 pub command_served : (byte : ℕ) (first : Transfer) (start begun end : Front) (calls : List Call) (results : Results) (read : ℕ) → IsLastByte byte first start → WritesFront 0x3F5 byte start begun

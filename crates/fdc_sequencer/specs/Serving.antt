@@ -17,7 +17,7 @@ use Rattle.fdc_core.specs.Heard.{Sent, MayRead, results_sent}
 use Rattle.fdc_core.specs.Listening.{is_executing}
 use Rattle.fdc_core.specs.Meaning.{AreOfField, ReadMeans}
 use Rattle.fdc_core.specs.Tellings.{WriteMeans, WritesWindow}
-use Rattle.fdc_core.specs.Whole.{mark_of}
+use Rattle.fdc_core.specs.Whole.{is_idle, mark_of}
 use Rattle.fdc_core.specs.Written.{MayWrite}
 use Rattle.fdc_core.specs.declared.answers.Answer.TheVariants.{Short}
 use Rattle.fdc_core.specs.declared.controller.Fdc.{Fdc}
@@ -237,12 +237,15 @@ abbrev pub passed_in : Bool → ℕ → List ℕ
 passed_in true byte = byte ∷ []
 passed_in false byte = []
 
--- where this byte makes a command whole, it is served from then on, and nothing has passed; or each access is the controller's
--- again
+-- each access is the controller's again, and it answers 80, where it took commands
+abbrev pub IsLeft : Front → Front → Type 0
+IsLeft old new = (new.stage ≡ Through) × (is_idle old.board.controller ≡ true → new.board.controller.phase ≡ Result (Short 0x80 None))
+
+-- where this byte makes a command whole, it is served from then on, and nothing has passed; or it is left to the controller
 abbrev pub BeginsWith : Opcode → ℕ → Front → Front → Type 0
 BeginsWith opcode byte old new =
     (command : Command) (first : Transfer) → answer (old.bytes ++ byte ∷ []) ≡ Ready command → transfer_of opcode command ≡ Some first
-    → Serves first (nothing_moved false) new ⊎ (new.stage ≡ Through)
+    → Serves first (nothing_moved false) new ⊎ IsLeft old new
 
 abbrev pub BeginsAt : Stage → ℕ → Front → Front → Type 0
 BeginsAt (Collecting opcode) byte old new = BeginsWith opcode byte old new
