@@ -144,7 +144,7 @@ TELWYDDUS_CALL uint32_t telwyddus_controller_selected(telwyddus_controller *cont
 /* ---------------------------------------------------------------------------------------------------------------------------
  * THE MACHINE: the controller, channel 2 of an 8237A (ports 04, 05, 08 to 0F, 81), 1 MiB of memory, and a latch for IRQ 6. The
  * latch looks at the line once a device step. For benches of drivers: its drives may have planned faults, its DMA delays, its
- * interrupt line strays. */
+ * interrupt line strays. A command moves one sector here: MT and SK are refused. */
 
 /* Makes a machine with two drives that have no faults. DONE, FULL, NO_MEMORY. */
 TELWYDDUS_CALL uint32_t telwyddus_machine_new(telwyddus_machine *machine);

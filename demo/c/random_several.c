@@ -176,6 +176,9 @@ static void reckon(const Command *command_sent, uint8_t *place, Wanted *wanted) 
 
 /* ---- random commands */
 
+/* Seeks are implied. */
+static int implies(const Command *now) { return now->is_strapped || now->options & EIS; }
+
 static void draw(Command *now) {
     static const uint8_t codes[] = {READ, READ, READ, READ_DELETED, WRITE, WRITE, WRITE_DELETED};
     now->code = codes[below(7)];
@@ -183,7 +186,6 @@ static void draw(Command *now) {
     if (below(3) == 0 && (!is_write(now) || below(10) == 0)) now->code |= SK;
     now->cylinder = (uint8_t)below(CYLINDERS);
     now->head = (uint8_t)below(2);
-    now->key[0] = now->cylinder;
     now->key[1] = now->head;
     now->key[2] = (uint8_t)(1 + below(18));
     now->key[3] = 2;
@@ -194,7 +196,10 @@ static void draw(Command *now) {
     now->count = below(3) ? 512 * (1 + below(below(2) ? 6 : 38)) : 1 + below(below(2) ? 1200 : MOST);
     if (below(8) == 0) now->count = MOST;
     now->is_strapped = below(3) == 0;
-    now->options = (below(2) ? FIFO_OFF : (int)below(16)) | (below(2) ? EIS : 0);
+    now->options = (below(2) ? (int)FIFO_OFF : (int)below(16)) | (below(2) ? (int)EIS : 0);
+    if (below(40) == 0) now->cylinder = (uint8_t)(CYLINDERS + below(4));
+    now->key[0] = now->cylinder;
+    if (!implies(now) && below(30) == 0) now->key[0]++;
 }
 
 /* The command as it is, at the first controller. */
@@ -202,7 +207,7 @@ static void send_whole(const Command *now, uint8_t *place) {
     const uint8_t bytes[] = {now->code, (uint8_t)(now->head << 2), now->key[0], now->key[1], now->key[2], now->key[3], now->eot, 0x1B, 0xFF};
     configure(&several, (uint8_t)now->options);
     MUST(telwyddus_controller_strap_seeks(&several.controller, (uint8_t)now->is_strapped));
-    if (!now->is_strapped && !(now->options & EIS)) seek(&several, now->cylinder);
+    if (!implies(now)) seek(&several, now->cylinder);
     transfer(&several, bytes, place, now->count);
 }
 

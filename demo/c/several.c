@@ -175,6 +175,7 @@ static void seeks(void) {
     static const Case there = {"the strap: the heads seek first", {READ, 0, 40, 0, 1, 2, 18, GAP}, 1024, 1024, {0x00, 0, 0, 40, 0, 3, 2}};
     static const Case not_there = {"without EIS and the strap they don't: ND", {READ, 0, 41, 0, 1, 2, 18, GAP}, 512, 0, {0x40, 0x04, 0, 41, 0, 1, 2}};
     static const Case by_options = {"EIS of CONFIGURE: they do", {READ, 0, 41, 0, 1, 2, 18, GAP}, 512, 512, {0x00, 0, 0, 41, 0, 2, 2}};
+    static const Case cleared = {"a reset clears EIS", {READ, 0, 40, 0, 1, 2, 18, GAP}, 512, 0, {0x40, 0x04, 0, 40, 0, 1, 2}};
     configure(&guest, FIFO_OFF);
     MUST(telwyddus_controller_strap_seeks(&guest.controller, 1));
     try_one(&there);
@@ -184,7 +185,7 @@ static void seeks(void) {
     configure(&guest, FIFO_OFF | EIS);
     try_one(&by_options);
     start(&guest);
-    try_one(&not_there);
+    try_one(&cleared);
     configure(&guest, FIFO_OFF | EIS);
 }
 
