@@ -163,6 +163,12 @@ static void refusals(void) {
     sense_interrupt(&guest);
     check(guest.results == 2 && guest.result[0] == 0x20 && guest.result[1] == 20, "which tells it");
     configure(&guest, FIFO_OFF | EIS);
+    command(&guest, polled, 3);
+    channel(&guest, buffer, 512);
+    put(&guest, whole, 9);
+    while (!(in(&guest, MSR) & RQM)) need(!run(&guest, 1), "no interrupt comes");
+    refused("no DMA, and a seek is implied: 80 once the heads are there", whole, 0);
+    command(&guest, served, 3);
 }
 
 static uint8_t cylinder(void) {
