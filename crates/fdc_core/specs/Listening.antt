@@ -4,7 +4,7 @@ use Rattle.drive_model.specs.Drive.{DriveState, Reads, rate_of}
 use Rattle.flop_base.specs.declared.key.Chrn.{Chrn}
 use Rattle.fdc_stages.specs.History.{Past, heard}
 use Rattle.fdc_stages.specs.Searches.{IsSearching, HasSearched, MissesWell}
-use Rattle.fdc_stages.specs.Readings.{IsReading, HasHeard, FailsWell}
+use Rattle.fdc_stages.specs.Readings.{IsReading, HasHeard, FailsWell, KeepsMark}
 use Rattle.fdc_stages.specs.declared.ending.Ending.TheVariants.{Late}
 use Rattle.fdc_stages.specs.Readings.{ReadOutcome}
 use Rattle.fdc_stages.specs.Readings as given
@@ -60,7 +60,7 @@ SearchHears index word search searched =
 abbrev pub StageHears : Chrn → Bool → ℕ → ReadStage → ReadOutcome → Type 0
 StageHears key index word stage after =
     ((past : Past) (told : List ℕ) → IsReading past key told stage → HasHeard (heard index word past) key told after)
-    × FailsWell after
+    × FailsWell after × KeepsMark stage after
 
 -- a device step of a data command that listens, by its task
 abbrev pub Hears : ℕ → ℕ → Task → Bool → ℕ → Fdc → Fdc → Type 0

@@ -6,8 +6,7 @@ use Rattle.fdc_commands.specs.declared.bytes.Accepted.TheVariants.{Ready}
 use Rattle.fdc_commands.specs.declared.command.Command.TheVariants.{Configure}
 use Rattle.fdc_seek.specs.Seeking.{seek_bits, has_ended_seek, without_ended}
 use Rattle.fdc_stages.specs.declared.ending.Ending.{Ending}
-use Rattle.fdc_stages.specs.declared.reading.ReadStage.{ReadStage}
-use Rattle.fdc_stages.specs.declared.reading.ReadStage.TheVariants.{Content, Over}
+use Rattle.fdc_stages.specs.Readings.{mark_at}
 use Rattle.fdc_core.specs.Commands.{TakesAs}
 use Rattle.fdc_core.specs.Ports.{is_taking}
 use Rattle.fdc_core.specs.declared.answers.Answer.TheVariants.{Long}
@@ -57,12 +56,7 @@ given_up_if (Some _) old = record old { phase = Taking; interrupt = false }
 abbrev pub given_up : Fdc → Fdc
 given_up old = given_up_if (ending_told old) old
 
--- the mark of a data field, known once it is met: F8 is true
-abbrev pub mark_at : ReadStage → Option Bool
-mark_at (Content _ deleted) = Some deleted
-mark_at (Over deleted _) = Some deleted
-mark_at _ = None
-
+-- the mark of the data field that a READ DATA reads, once it is met: F8 is true
 abbrev pub mark_in : Task → Option Bool
 mark_in (Read reading) = mark_at reading.stage
 mark_in _ = None

@@ -2,7 +2,8 @@
 ghost use Rattle.std.specs.Prelude.{◌≡◌};
 ghost use Rattle.fdc_core.specs.Answers.{next_key, key_after};
 ghost use Rattle.fdc_core.specs.Dma.{task_told};
-ghost use Rattle.fdc_core.specs.Whole.{ending_of_phase, mark_of_phase, mark_in, mark_at};
+ghost use Rattle.fdc_core.specs.Whole.{ending_of_phase, mark_of_phase, mark_in};
+ghost use Rattle.fdc_stages.specs.Readings.{mark_at};
 ghost use Rattle.fdc_core.specs.Phases.{is_reading, head_of, key_as_sent, told, is_over, ending_of, over_at, over_of};
 
 use crate::answers::Answer;

@@ -23,6 +23,9 @@ pub struct Opcode {
 /// MT in a code.
 const MULTITRACK: u8 = 0x80;
 
+/// All but MT.
+const WITHOUT_MULTITRACK: u8 = 0x7F;
+
 /// What a code asks for, without MT. MFM is set in each, and SK in those of reads alone.
 fn operation_of(code: u8) -> Option<Operation>
     ensures { result ≡ operation_of code }
@@ -55,7 +58,7 @@ impl Opcode {
     pub(crate) fn of(code: u8) -> Option<Opcode>
         ensures { result ≡ opcode_of code }
     {
-        let operation = operation_of(code & !MULTITRACK)?;
+        let operation = operation_of(code & WITHOUT_MULTITRACK)?;
         Some(Opcode {
             operation,
             multitrack: code & MULTITRACK != 0,

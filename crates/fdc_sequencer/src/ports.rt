@@ -128,6 +128,7 @@ impl<D: Inspect> Sequencer<D> {
     }
 
     /// The code of a command came.
+    #[tactic(auto, using(crate::proofs::Codes::plain_begins))]
     fn begin_bytes(&mut self, opcode: Opcode)
         ensures { front_state D.state self.new ≡ record (front_state D.state self.old) {
           stage = Stage.Collecting opcode;

@@ -1,5 +1,5 @@
 -- What a reading has heard and told.
-use Rattle.std.specs.Prelude.{◌≡◌, ◌⊎◌, ℕ, ◌+◌, ◌*◌, ◌≤◌, Bool, true, false, Some, List, [], ◌∷◌, ◌++◌, min, length}
+use Rattle.std.specs.Prelude.{◌≡◌, ◌⊎◌, ℕ, ◌+◌, ◌*◌, ◌≤◌, Bool, true, false, Option, None, Some, List, [], ◌∷◌, ◌++◌, min, length}
 use Rattle.flop_base.specs.declared.key.Chrn.{Chrn}
 use Rattle.track_model.specs.declared.Look.TheVariants as look
 use Rattle.track_model.specs.Bytes.{bytes_at}
@@ -128,3 +128,21 @@ IsFailure _ = ⊥
 abbrev pub FailsWell : ReadOutcome → Type 0
 FailsWell (Ended ending) = IsFailure ending
 FailsWell _ = Unit {0}
+
+-- the mark of the data field, once it is met: F8 is true
+abbrev pub mark_at : ReadStage → Option Bool
+mark_at (Content separator deleted) = Some deleted
+mark_at (Over deleted good) = Some deleted
+mark_at _ = None
+
+-- a reading that goes on has met this mark
+abbrev pub HasMark : Bool → ReadOutcome → Type 0
+HasMark deleted (On stage) = mark_at stage ≡ Some deleted
+HasMark deleted (Byte stage value) = mark_at stage ≡ Some deleted
+HasMark deleted (Ended ending) = Unit {0}
+
+-- the mark that was met stays
+abbrev pub KeepsMark : ReadStage → ReadOutcome → Type 0
+KeepsMark (Content separator deleted) after = HasMark deleted after
+KeepsMark (Over deleted good) after = HasMark deleted after
+KeepsMark _ after = Unit {0}

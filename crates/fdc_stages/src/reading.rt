@@ -4,7 +4,7 @@ ghost use Rattle.track_model.specs.Fields.{IsSizeCode, content_size, IsAddressAt
 ghost use Rattle.flop_base.specs.declared.key.Chrn.{Chrn};
 ghost use Rattle.fdc_stages.specs.History.{Past, begun, heard};
 ghost use Rattle.fdc_stages.specs.Searches.{IsMet, IsSearching};
-ghost use Rattle.fdc_stages.specs.Readings.{IsOver, IsWaitingAt, IsContentAt, IsReading, HasRead, read_outcome, HasHeard, FailsWell, IsFailure};
+ghost use Rattle.fdc_stages.specs.Readings.{IsOver, IsWaitingAt, IsContentAt, IsReading, HasRead, read_outcome, HasHeard, FailsWell, IsFailure, KeepsMark};
 
 use crate::ending::Ending;
 use crate::searching::{Search, Searched};
@@ -50,6 +50,7 @@ impl ReadStage {
         ensures hears { (past : Past) (told : List ℕ) → IsReading past key told self.old
             → HasHeard (heard index word past) key told (read_outcome self.new result) }
         ensures well { FailsWell (read_outcome self.new result) }
+        ensures mark { KeepsMark self.old (read_outcome self.new result) }
     {
         match self {
             ReadStage::Search(search) => match search.hear(Some(key), word, index) {

@@ -12,4 +12,4 @@ returns-in-Read c =
     let after = c.hear-heard.new.self in
     subst (λ phase. HearsIn phase c.args.passing.index c.args.passing.word old c.follow.new.self) (sym c.in-Execute.is)
     (subst (λ task. Hears now.head_drive (now.steps + 1) task c.args.passing.index c.args.passing.word old c.follow.new.self) (sym c.in-Read.is)
-    (read_outcome after heard, (c.hear-heard.ensures.hears, c.hear-heard.ensures.well), c.follow.ensures ∙ followed_is now.head_drive (now.steps + 1) c.in-Read.reading after heard old))
+    (read_outcome after heard, (c.hear-heard.ensures.hears, c.hear-heard.ensures.well, c.hear-heard.ensures.mark), c.follow.ensures ∙ followed_is now.head_drive (now.steps + 1) c.in-Read.reading after heard old))
