@@ -17,12 +17,9 @@ pub returns-in-NoData-clause-hears : goal.returns-in-NoData-clause-hears
 returns-in-NoData-clause-hears c = λ past told was.
     cut_heard c.args.index past c.args.word c.args.key told c.in-Content.separator c.feed.new.self c.feed.result c.in-Content.deleted (subst (IsReading past c.args.key told) c.in-Content.is was) (λ p q taken. c.feed.ensures.reads past.seen p q _ _ taken) c.in-NoData.is
 
-pub returns-in_default : goal.returns-in_default
-returns-in_default c = record {
-  hears = λ past told was.
-      content_heard c.args.index past c.args.word c.args.key told c.in-Content.separator c.feed.new.self c.feed.result c.in-Content.deleted (subst (IsReading past c.args.key told) c.in-Content.is was) (λ p q taken. c.feed.ensures.reads past.seen p q _ _ taken) c.in_default.not-Byte c.in_default.not-End c.in_default.not-NoData;
-  well = tt;
-}
+pub returns-in_default-clause-hears : goal.returns-in_default-clause-hears
+returns-in_default-clause-hears c = λ past told was.
+    content_heard c.args.index past c.args.word c.args.key told c.in-Content.separator c.feed.new.self c.feed.result c.in-Content.deleted (subst (IsReading past c.args.key told) c.in-Content.is was) (λ p q taken. c.feed.ensures.reads past.seen p q _ _ taken) c.in_default.not-Byte c.in_default.not-End c.in_default.not-NoData
 
 pub returns-in-Over-clause-hears : goal.returns-in-Over-clause-hears
 returns-in-Over-clause-hears c = λ past told was.
