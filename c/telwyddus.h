@@ -162,9 +162,10 @@ TELWYDDUS_CALL uint32_t telwyddus_machine_free(telwyddus_machine *machine);
 TELWYDDUS_CALL uint32_t telwyddus_machine_inb(telwyddus_machine *machine, uint16_t port, uint8_t *value);
 TELWYDDUS_CALL uint32_t telwyddus_machine_outb(telwyddus_machine *machine, uint16_t port, uint8_t value);
 
-/* Device steps; device steps until the latch is set, at most so many, and whether it is (1). DONE, EMPTY. */
+/* Device steps; device steps until the latch is set, at most so many: how many were made, and whether it is set (1).
+ * DONE, EMPTY. */
 TELWYDDUS_CALL uint32_t telwyddus_machine_wait(telwyddus_machine *machine, uint32_t steps);
-TELWYDDUS_CALL uint32_t telwyddus_machine_wait_irq(telwyddus_machine *machine, uint32_t most, uint8_t *is_set);
+TELWYDDUS_CALL uint32_t telwyddus_machine_wait_irq(telwyddus_machine *machine, uint32_t most, uint32_t *made, uint8_t *is_set);
 
 /* Takes the interrupt: the latch is cleared, and it is told whether it was set (1). DONE, EMPTY. */
 TELWYDDUS_CALL uint32_t telwyddus_machine_take_irq(telwyddus_machine *machine, uint8_t *was_set);

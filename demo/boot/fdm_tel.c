@@ -45,12 +45,10 @@ static uint8_t machine_in(uint16_t port) {
 
 static void machine_out(uint16_t port, uint8_t value) { must(telwyddus_machine_outb(&machine, port, value), "machine_outb"); }
 
-/* wait_irq doesn't tell how many steps it made, so they are made one by one. */
 static uint32_t machine_run(uint32_t most) {
     uint8_t is_set = 0;
     uint32_t made = 0;
-    must(telwyddus_machine_wait_irq(&machine, 0, &is_set), "machine_wait_irq");
-    for (; made < most && !is_set; made++) must(telwyddus_machine_wait_irq(&machine, 1, &is_set), "machine_wait_irq");
+    must(telwyddus_machine_wait_irq(&machine, most, &made, &is_set), "machine_wait_irq");
     return made;
 }
 

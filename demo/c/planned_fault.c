@@ -15,9 +15,10 @@ static uint8_t in(uint16_t port) {
 static void out(uint16_t port, uint8_t value) { MUST(telwyddus_machine_outb(&machine, port, value)); }
 
 static void await(void) {
+    uint32_t made;
     uint8_t is_set;
-    MUST(telwyddus_machine_wait_irq(&machine, 1000000, &is_set));
-    check(is_set, "IRQ 6 comes");
+    MUST(telwyddus_machine_wait_irq(&machine, 1000000, &made, &is_set));
+    check(is_set && made < 1000000, "IRQ 6 comes");
     MUST(telwyddus_machine_take_irq(&machine, &is_set));
 }
 

@@ -24,7 +24,7 @@ class Driver:
 
     def command(self, *values, irq=True, results=0):
         self.out(*((0x3F5, value) for value in values))
-        assert not irq or self.machine.wait_irq(1000000) and self.machine.take_irq()
+        assert not irq or self.machine.wait_irq(1000000)[1] and self.machine.take_irq()
         return [self.machine.inb(0x3F5) for _ in range(results)]
 
     def read(self, c, h, r, tries):

@@ -185,9 +185,14 @@ class Machine(Drives):
     def inb(self, at): return self._told(ctypes.c_uint8, "inb", port(at))
     def outb(self, at, value): self._call("outb", port(at), byte(value))
     def wait(self, steps): self._call("wait", count(steps))
-    def wait_irq(self, most): return bool(self._told(ctypes.c_uint8, "wait_irq", count(most)))
     def take_irq(self): return bool(self._told(ctypes.c_uint8, "take_irq"))
     def memory_set(self, address, data): self._call("memory_set", size(address), *given(data))
+
+    def wait_irq(self, most):
+        """How many device steps were made, and whether the latch is set."""
+        made = ctypes.c_uint32()
+        is_set = self._told(ctypes.c_uint8, "wait_irq", count(most), ctypes.byref(made))
+        return made.value, bool(is_set)
 
     def memory_get(self, address, length):
         out = ctypes.create_string_buffer(length + 1)

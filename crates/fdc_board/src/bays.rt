@@ -1,5 +1,5 @@
 // The bays: media in and out, and what a front end shows of the drives.
-ghost use Rattle.std.specs.Prelude.{◌≡◌, ◌≤◌, ◌+◌, ◌-◌, ◌↔◌, IfErr, OnOk, IsErr, IsSome, IsTrue, IsBitSet, false};
+ghost use Rattle.std.specs.Prelude.{◌≡◌, ◌≤◌, ◌+◌, ◌-◌, ◌↔◌, IfErr, OnOk, OnErr, IsErr, IsSome, IsTrue, IsBitSet, false};
 ghost use Rattle.std.specs.Option.{option_copied};
 ghost use Rattle.drive_model.specs.Drive.{Becomes, loaded, unloaded};
 ghost use Rattle.fdc_core.specs.State.{dor_of};
@@ -11,7 +11,7 @@ use raw_image::Medium;
 impl<D: Inspect> FdcBoard<D> {
     ghost use Rattle.fdc_board.specs.Boards.{board_state, controller_of, drive_at, written_at};
 
-    /// Puts a medium into a bay. Where one is in already, the new one is given back.
+    /// Puts a medium into a bay, of which no word was replaced yet. Where one is in already, the new one is given back.
     pub fn insert(&mut self, bay: u8, medium: Medium) -> Result<(), Medium>
         requires { bay ≤ 1 }
         ensures controller { controller_of self.new ≡ controller_of self.old }
@@ -21,15 +21,18 @@ impl<D: Inspect> FdcBoard<D> {
             (drive_at (board_state D.state self.old) bay) (drive_at (board_state D.state self.new) bay)) }
         ensures err { IfErr result (λ back. (back ≡ medium)
             × Becomes (drive_at (board_state D.state self.old) bay) (drive_at (board_state D.state self.old) bay) (drive_at (board_state D.state self.new) bay)) }
+        ensures fresh { OnOk result (written_at D.written self.new bay ≡ false) }
+        ensures kept { OnErr result (written_at D.written self.new bay ≡ written_at D.written self.old bay) }
+        ensures other_kept { written_at D.written self.new (1 - bay) ≡ written_at D.written self.old (1 - bay) }
     {
         if bay == 0 {
-            self.first.insert(medium)
+            self.first.put_in(medium)
         } else {
-            self.second.insert(medium)
+            self.second.put_in(medium)
         }
     }
 
-    /// Takes the medium out of a bay.
+    /// Takes the medium out of a bay. It is still told whether a word of it was replaced.
     pub fn eject(&mut self, bay: u8) -> Option<Medium>
         requires { bay ≤ 1 }
         ensures controller { controller_of self.new ≡ controller_of self.old }
@@ -37,11 +40,13 @@ impl<D: Inspect> FdcBoard<D> {
         ensures medium { result ≡ (drive_at (board_state D.state self.old) bay).medium }
         ensures becomes { Becomes (unloaded (drive_at (board_state D.state self.old) bay))
             (drive_at (board_state D.state self.old) bay) (drive_at (board_state D.state self.new) bay) }
+        ensures kept { written_at D.written self.new bay ≡ written_at D.written self.old bay }
+        ensures other_kept { written_at D.written self.new (1 - bay) ≡ written_at D.written self.old (1 - bay) }
     {
         if bay == 0 {
-            self.first.eject()
+            self.first.take_out()
         } else {
-            self.second.eject()
+            self.second.take_out()
         }
     }
 

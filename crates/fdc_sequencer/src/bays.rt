@@ -1,5 +1,5 @@
 // The bays, and what a front end shows: the board's.
-ghost use Rattle.std.specs.Prelude.{◌≡◌, ◌≤◌, ◌-◌, ◌+◌, ◌%◌, ◌↔◌, IfErr, OnOk, IsErr, IsSome, IsTrue, IsBitSet, false};
+ghost use Rattle.std.specs.Prelude.{◌≡◌, ◌≤◌, ◌-◌, ◌+◌, ◌%◌, ◌↔◌, IfErr, OnOk, OnErr, IsErr, IsSome, IsTrue, IsBitSet, false};
 ghost use Rattle.std.specs.Option.{option_copied};
 ghost use Rattle.drive_model.specs.Drive.{Becomes, loaded, unloaded};
 ghost use Rattle.fdc_board.specs.Boards.{controller_of, drive_at, written_at};
@@ -22,6 +22,9 @@ impl<D: Inspect> Sequencer<D> {
             (drive_at (front_state D.state self.old).board bay) (drive_at (front_state D.state self.new).board bay)) }
         ensures err { IfErr result (λ back. (back ≡ medium)
             × Becomes (drive_at (front_state D.state self.old).board bay) (drive_at (front_state D.state self.old).board bay) (drive_at (front_state D.state self.new).board bay)) }
+        ensures fresh { OnOk result (written_at D.written (board_of self.new) bay ≡ false) }
+        ensures kept { OnErr result (written_at D.written (board_of self.new) bay ≡ written_at D.written (board_of self.old) bay) }
+        ensures other_kept { written_at D.written (board_of self.new) (1 - bay) ≡ written_at D.written (board_of self.old) (1 - bay) }
     {
         self.board.insert(bay, medium)
     }
@@ -34,6 +37,8 @@ impl<D: Inspect> Sequencer<D> {
         ensures medium { result ≡ (drive_at (front_state D.state self.old).board bay).medium }
         ensures becomes { Becomes (unloaded (drive_at (front_state D.state self.old).board bay))
             (drive_at (front_state D.state self.old).board bay) (drive_at (front_state D.state self.new).board bay) }
+        ensures kept { written_at D.written (board_of self.new) bay ≡ written_at D.written (board_of self.old) bay }
+        ensures other_kept { written_at D.written (board_of self.new) (1 - bay) ≡ written_at D.written (board_of self.old) (1 - bay) }
     {
         self.board.eject(bay)
     }

@@ -53,7 +53,7 @@ pub fn run_plain<S: Shelf, K: Sink>(
 }
 
 /// Runs the program on drives with the faults of the plan of this name, at the plan's pace. Where the plan can't be had, a line
-/// tells why, and no machine is made.
+/// tells why, no machine is made, and the files stay as they are.
 pub fn run_planned<S: Shelf, K: Sink>(
     alloc: Global,
     plan: &str,
@@ -67,6 +67,7 @@ pub fn run_planned<S: Shelf, K: Sink>(
     ensures no_machine { result.machine ≡ None
         → EndsWithoutPlan (S.told shelf.old) plan.now (K.told out.old) (K.told out.new) result.status
         ⊎ Silent Status.NoMemory (K.told out.old) (K.told out.new) result.status }
+    ensures untouched { result.machine ≡ None → S.told shelf.new ≡ S.told shelf.old }
     ensures shelf_faults { Blames (result.status ≡ Status.FileFault) (S.fault_count shelf.old) (S.fault_count shelf.new) }
     ensures sink_faults { Blames (result.status ≡ Status.SinkFault) (K.fault_count out.old) (K.fault_count out.new) }
 {
@@ -90,6 +91,7 @@ fn run_faulty<S: Shelf, K: Sink>(
     ensures runs { IfSome result.machine (λ machine. RunsNew script_state (parts_of (lists_of plan)) (map string_bytes words.now)
         (desk_of S.told K.told shelf.old out.old) machine (desk_of S.told K.told shelf.new out.new) result.status) }
     ensures no_machine { result.machine ≡ None → Silent Status.NoMemory (K.told out.old) (K.told out.new) result.status }
+    ensures untouched { result.machine ≡ None → S.told shelf.new ≡ S.told shelf.old }
     ensures shelf_faults { Blames (result.status ≡ Status.FileFault) (S.fault_count shelf.old) (S.fault_count shelf.new) }
     ensures sink_faults { Blames (result.status ≡ Status.SinkFault) (K.fault_count out.old) (K.fault_count out.new) }
 {

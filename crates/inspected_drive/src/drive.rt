@@ -1,5 +1,5 @@
 // A drive without faults that can be looked into.
-ghost use Rattle.std.specs.Prelude.{◌≡◌, ◌≤◌, ◌<◌, ◌-◌, ◌↔◌, Some, false, not, ◌&&◌, ◌||◌, is_some, IsErr, IsSome, OnOk, IfErr, IfSome, MatchOption, slice_index};
+ghost use Rattle.std.specs.Prelude.{◌≡◌, ◌≤◌, ◌<◌, ◌-◌, ◌↔◌, Some, false, not, ◌&&◌, ◌||◌, is_some, IsErr, IsSome, OnOk, OnErr, IfErr, IfSome, MatchOption, slice_index};
 ghost use Rattle.std.specs.Option.{ForSome};
 ghost use Rattle.raw_image.specs.Disk.{IsDisk};
 ghost use Rattle.drive_model.specs.Drive.{track_words, words_on, rewritten, has_track};
@@ -148,7 +148,7 @@ impl Drive for InspectedDrive {
         ensures err { IfErr result (λ back. (back ≡ medium)
             × Becomes (inspected_state self.old) (inspected_state self.old) (inspected_state self.new)) }
         ensures fresh { OnOk result (is_written self.new ≡ false) }
-        ensures kept { IfErr result (λ _. is_written self.new ≡ is_written self.old) }
+        ensures kept { OnErr result (is_written self.new ≡ is_written self.old) }
     {
         if self.medium.is_some() {
             return Err(medium);
@@ -286,6 +286,14 @@ impl Inspect for InspectedDrive {
     ghost use Rattle.inspected_drive.specs.InspectedDrive.{is_written};
 
     ghost written = { is_written };
+
+    fn put_in(&mut self, medium: Medium) -> Result<(), Medium> {
+        self.insert(medium)
+    }
+
+    fn take_out(&mut self) -> Option<Medium> {
+        self.eject()
+    }
 
     fn medium(&self) -> Option<&Medium> {
         self.medium.as_ref()

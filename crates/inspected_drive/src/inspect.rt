@@ -1,6 +1,7 @@
 // What can be looked at in a drive.
-ghost use Rattle.std.specs.Prelude.{◌≡◌, false, Bool};
+ghost use Rattle.std.specs.Prelude.{◌≡◌, ◌↔◌, false, Bool, IsErr, IsSome, OnOk, OnErr, IfErr};
 ghost use Rattle.std.specs.Option.{option_copied};
+ghost use Rattle.drive_model.specs.Drive.{Becomes, loaded, unloaded};
 
 use drive_model::Drive;
 use raw_image::Medium;
@@ -9,6 +10,22 @@ use raw_image::Medium;
 pub trait Inspect: Drive {
     /// A word of the medium was replaced since it was put in, or since that was last forgotten.
     ghost written: { Self → Bool };
+
+    /// Puts a medium in, of which no word was replaced yet. Where one is in already, the new one is given back.
+    fn put_in(&mut self, medium: Medium) -> Result<(), Medium>
+        ensures refused { IsErr result ↔ IsSome (Self.state self.old).medium }
+        ensures ok { OnOk result
+            (Becomes (loaded medium (Self.state self.old)) (Self.state self.old) (Self.state self.new)) }
+        ensures err { IfErr result (λ back. (back ≡ medium)
+            × Becomes (Self.state self.old) (Self.state self.old) (Self.state self.new)) }
+        ensures fresh { OnOk result (written self.new ≡ false) }
+        ensures kept { OnErr result (written self.new ≡ written self.old) };
+
+    /// Takes the medium out; nothing where none is in. It is still told whether a word of it was replaced.
+    fn take_out(&mut self) -> Option<Medium>
+        ensures medium { result ≡ (Self.state self.old).medium }
+        ensures becomes { Becomes (unloaded (Self.state self.old)) (Self.state self.old) (Self.state self.new) }
+        ensures kept { written self.new ≡ written self.old };
 
     /// The medium that is in.
     fn medium(&self) -> Option<&Medium>

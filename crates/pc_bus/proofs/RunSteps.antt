@@ -1,8 +1,9 @@
 -- Device steps one by one, and their count.
-use Rattle.std.proofs.Common.{◌≡◌, ℕ, ◌+◌, ◌≤◌, min, Bool, true, false, refl, ap, ◌∙◌, add-one, arith}
+use Rattle.std.proofs.Common.{◌≡◌, ℕ, ◌+◌, ◌≤◌, min, Bool, true, false, refl, ap, sym, ◌∙◌, subst, add-one, arith}
+use Rattle.std.proofs.lemmas.Bool.{true≢false}
 use Rattle.flop_base.specs.Counts.{last_count}
 use Rattle.pc_bus.specs.Boards.{Board, latch_of}
-use Rattle.pc_bus.specs.Steps.{Step, Runs, RunsUnset, Waits, stirred}
+use Rattle.pc_bus.specs.Steps.{Step, Runs, RunsUnset, RunsToIrq, Waits, stirred}
 
 pub runs_none : (board : Board) → Runs 0 board board
 unfolding Runs
@@ -32,12 +33,17 @@ steps_more n old between new so_far step =
 pub steps_none : (board : Board) → board.bus.steps ≤ last_count → board.bus.steps ≡ min (board.bus.steps + 0) last_count
 steps_none board range = omega arith
 
-pub waits_all : (most i : ℕ) (old new : Board) (set : Bool) → most ≤ i → i ≤ most → RunsUnset i (stirred old) new → set ≡ (latch_of new).is_set
-    → Waits most old set new
-waits_all most i old new set over within runs answer =
-    record { steps = i; within = within; runs = runs; answer = answer; all = λ _. omega arith }
+-- the latch is set
+pub irq_set : (most i : ℕ) (old new : Board) → i ≤ most → RunsUnset i (stirred old) new → true ≡ (latch_of new).is_set → RunsToIrq most old i new
+irq_set most i old new within runs set =
+    record { within = within; runs = runs; all = λ unset. absurd (true≢false (set ∙ unset)) }
 
-pub waits_set : (most i : ℕ) (old new : Board) → i ≤ most → RunsUnset i (stirred old) new → true ≡ (latch_of new).is_set
-    → Waits most old true new
-waits_set most i old new within runs answer =
-    record { steps = i; within = within; runs = runs; answer = answer; all = λ no. absurd cc }
+-- all steps were made
+pub irq_all : (most i : ℕ) (old new : Board) → i ≡ most → RunsUnset i (stirred old) new → RunsToIrq most old most new
+irq_all most i old new all runs =
+    record { within = omega arith; runs = subst (λ (n : ℕ). RunsUnset n (stirred old) new) all runs; all = λ _. refl }
+
+-- whoever is told the number of steps can look at the latch behind them
+pub waits_of : (most steps : ℕ) (old new : Board) (set : Bool) → RunsToIrq most old steps new → set ≡ (latch_of new).is_set → Waits most old set new
+waits_of most steps old new set runs answer =
+    record { steps = steps; within = runs.within; runs = runs.runs; answer = answer; all = λ no. runs.all (sym answer ∙ no) }

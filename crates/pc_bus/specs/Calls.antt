@@ -12,6 +12,7 @@ pub data IsCalled (old new : Board) : Type 0 where
   ByInb : (port value : ℕ) → Inputs port old value new → IsCalled old new
   ByOutb : (port value : ℕ) → Outputs port value old new → IsCalled old new
   ByWait : (steps : ℕ) → Runs steps (stirred old) new → IsCalled old new
+  -- `run_to_irq` besides tells how many steps it made
   ByWaitIrq : (most : ℕ) (set : Bool) → Waits most old set new → IsCalled old new
   ByTakeIrq : new ≡ record old { bus = irq_taken old.bus } → IsCalled old new
   ByRamSet : (address value : ℕ) → new ≡ record old { bus = byte_set address value old.bus } → IsCalled old new

@@ -98,6 +98,12 @@ RunsUnset (suc n) old new =
 abbrev pub stirred : Board → Board
 stirred old = record old { bus = record old.bus { fresh = false } }
 
+-- so many device steps, until the latch is set, and at most `most`
+pub record RunsToIrq (most : ℕ) (old : Board) (steps : ℕ) (new : Board) : Type 0 where
+  pub within : steps ≤ most
+  pub runs : RunsUnset steps (stirred old) new
+  pub all : (latch_of new).is_set ≡ false → steps ≡ most
+
 -- device steps until the latch is set, and so many at most
 pub record Waits (most : ℕ) (old : Board) (set : Bool) (new : Board) : Type 0 where
   pub steps : ℕ

@@ -1,8 +1,8 @@
 //! The machine of a PC/AT around its diskette controller: the ports, memory, DMA channel 2, interrupt line 6 as a latch, and
 //! two drives, device step by device step.
 //!
-//! A device step is one word time. Nothing moves but in device steps: `wait` and `wait_irq` run them, and the pace runs
-//! some behind each port access.
+//! A device step is one word time. Nothing moves but in device steps: `wait`, `run_to_irq` and `wait_irq` run them, and the pace
+//! runs some behind each port access.
 #![tactic(auto)]
 
 mod bus;

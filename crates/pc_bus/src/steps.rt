@@ -1,8 +1,8 @@
 // Device steps.
 ghost use Rattle.std.specs.Prelude.{◌≡◌, ◌≤◌, ◌+◌, min};
 ghost use Rattle.flop_base.specs.Counts.{last_count};
-ghost use Rattle.pc_bus.specs.Boards.{board, controller_of, selected_of};
-ghost use Rattle.pc_bus.specs.Steps.{Works, WorksAlone, Passes, PassesWordTime, Step, Runs, Waits, stirred};
+ghost use Rattle.pc_bus.specs.Boards.{board, controller_of, selected_of, latch_of};
+ghost use Rattle.pc_bus.specs.Steps.{Works, WorksAlone, Passes, PassesWordTime, Step, Runs, RunsToIrq, Waits, stirred};
 
 use crate::machine::MachineOf;
 use drive_model::Drive;
@@ -64,17 +64,32 @@ impl<D: Drive> MachineOf<D> {
         self.run(steps);
     }
 
+    /// Runs device steps until the latch is set, at most `most`, and tells how many were made.
+    pub fn run_to_irq(&mut self, most: u32) -> u32
+        ensures { RunsToIrq most (board D.state self.old) result (board D.state self.new) }
+    {
+        self.bus.fresh = false;
+        for i in 0..most {
+            if self.bus.latch.is_set() {
+                return i;
+            }
+            self.step();
+        }
+        most
+    }
+
     /// Runs device steps until the latch is set, at most `most`, and tells whether it is.
     pub fn wait_irq(&mut self, most: u32) -> bool
         ensures { Waits most (board D.state self.old) result (board D.state self.new) }
     {
-        self.bus.fresh = false;
-        for _i in 0..most {
-            if self.bus.latch.is_set() {
-                return true;
-            }
-            self.step();
-        }
+        self.run_to_irq(most);
+        self.is_irq_set()
+    }
+
+    /// Whether the latch of interrupt line 6 is set, which stays as it is.
+    pub fn is_irq_set(&self) -> bool
+        ensures { result ≡ (latch_of (board D.state self.now)).is_set }
+    {
         self.bus.latch.is_set()
     }
 }

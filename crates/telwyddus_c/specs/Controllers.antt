@@ -1,5 +1,5 @@
 -- Calls on the controller.
-use Rattle.std.specs.Prelude.{◌≤◌, ◌≡◌, ◌↔◌, ◌+◌, ◌-◌, ◌==◌, ℕ, Bool, true, false, Option, Some, None, is_some, IsTrue, IsBitSet, if◌then◌else◌}
+use Rattle.std.specs.Prelude.{◌≤◌, ◌≡◌, ◌↔◌, ◌+◌, ◌-◌, ◌==◌, ℕ, Bool, true, false, Option, Some, None, is_some, IsTrue, IsBitSet, MatchBool, if◌then◌else◌}
 use Rattle.c_slots.specs.Controllers.{ControllerValue}
 use Rattle.c_slots.specs.Trays.{TrayValue}
 use Rattle.drive_model.specs.Drive.{DriveState}
@@ -42,15 +42,27 @@ pub record KeepsBeside (bay : ℕ) (old new : Front) : Type 0 where
   pub front : KeepsFront old new
   pub other : drive_at new.board (1 - bay) ≡ drive_at old.board (1 - bay)
 
+-- it is told as before whether a word of the medium in a bay was replaced
+abbrev pub KeepsWritten : ℕ → ControllerValue → ControllerValue → Type 0
+KeepsWritten bay old new = written_at is_written (board_of new) bay ≡ written_at is_written (board_of old) bay
+
+-- no word of a medium that was put in was replaced yet; where none was, that is told as before
+abbrev pub BeginsUnwritten : (bay code : ℕ) → ControllerValue → ControllerValue → Type 0
+BeginsUnwritten bay code old new = MatchBool (code == 0) (written_at is_written (board_of new) bay ≡ false) (KeepsWritten bay old new)
+
 -- the medium of a tray goes into a bay
 pub record InsertsAt (bay code : ℕ) (tray left : Option TrayValue) (old new : ControllerValue) : Type 0 where
   pub drive : Inserts code tray left (drive_of old bay) (drive_of new bay)
   pub beside : KeepsBeside bay (state_of old) (state_of new)
+  pub fresh : BeginsUnwritten bay code old new
+  pub other_kept : KeepsWritten (1 - bay) old new
 
 -- the medium of a bay goes into a tray
 pub record EjectsAt (bay code : ℕ) (tray left : Option TrayValue) (old new : ControllerValue) : Type 0 where
   pub drive : Ejects code tray left (drive_of old bay) (drive_of new bay)
   pub beside : KeepsBeside bay (state_of old) (state_of new)
+  pub kept : KeepsWritten bay old new
+  pub other_kept : KeepsWritten (1 - bay) old new
 
 -- it is told by 1 or 0 whether a word of the medium in a bay was replaced, and that is forgotten
 pub record TellsWritten (bay : ℕ) (old : ControllerValue) (told : ℕ) (new : ControllerValue) : Type 0 where
@@ -58,7 +70,7 @@ pub record TellsWritten (bay : ℕ) (old : ControllerValue) (told : ℕ) (new : 
   pub bit : told ≤ 1
   pub forgotten : written_at is_written (board_of new) bay ≡ false
   pub state : state_of new ≡ state_of old
-  pub other : written_at is_written (board_of new) (1 - bay) ≡ written_at is_written (board_of old) (1 - bay)
+  pub other : KeepsWritten (1 - bay) old new
 
 -- what a front end shows of a bay: the cylinder under the heads, and in a byte 1 the motor, 2 the selection, 4 the write gate and
 -- 8 a medium

@@ -8,8 +8,9 @@ use Rattle.drive_model.specs.Mechanics.{at_rest}
 use Rattle.drive_model.specs.ScriptDrive.{told}
 use Rattle.fault_plan.specs.Plan.{Plan, plan_spelled}
 use Rattle.irq_events.specs.declared.pace.Pace.{Pace}
-use Rattle.pc_bus.specs.Boards.{Board, board, drive_in, memory_of, IsNew}
+use Rattle.pc_bus.specs.Boards.{Board, board, drive_in, latch_of, memory_of, IsNew}
 use Rattle.pc_bus.specs.Handling.{Touches}
+use Rattle.pc_bus.specs.Steps.{RunsToIrq}
 use Rattle.telwyddus_c.specs.Media.{Inserts, Ejects}
 use Rattle.telwyddus_c.specs.Slots.{Fills}
 
@@ -44,6 +45,14 @@ IsPlannedBy text machine = (plan : Plan) × (plan_spelled text ≡ Ok plan) × I
 abbrev pub FillsPlanned : List ℕ → ℕ → (was line : ℕ) → Option MachineValue → Option MachineValue → Type 0
 FillsPlanned text code was line old new =
     MatchBool (code == 9) ((plan_spelled text ≡ Err line) × (new ≡ old)) (Fills (IsPlannedBy text) code old new × (line ≡ was))
+
+-- ---- device steps
+
+-- device steps until the latch is set, at most `most`: how many were made is told, and by 1 or 0 whether it is set
+pub record WaitsTelling (most made is_set : ℕ) (old new : Board) : Type 0 where
+  pub steps : RunsToIrq most old made new
+  pub set : (is_set == 1) ≡ (latch_of new).is_set
+  pub bit : is_set ≤ 1
 
 -- ---- memory
 

@@ -1,9 +1,9 @@
 // The bays of the controller: media in and out, and what a front end shows.
-ghost use Rattle.std.specs.Prelude.{◌≡◌, ◌≤◌, ⊤};
+ghost use Rattle.std.specs.Prelude.{◌≡◌, ◌≤◌, ◌-◌, ⊤};
 ghost use Rattle.telwyddus_c.specs.Controllers.{drive_of, InsertsAt, EjectsAt, TellsWritten, Shows};
 ghost use Rattle.telwyddus_c.specs.Images.{WritesImage};
 ghost use Rattle.telwyddus_c.specs.Media.{PutsIn};
-ghost use Rattle.telwyddus_c.specs.Controllers.{state_of, KeepsBeside};
+ghost use Rattle.telwyddus_c.specs.Controllers.{state_of, BeginsUnwritten, KeepsBeside, KeepsWritten};
 ghost use Rattle.telwyddus_c.specs.Slots.{Serves, InBay};
 
 use crate::code::{DONE, EMPTY, FULL, HAS_MEDIUM, NO_MEDIUM, NO_MEMORY, OUT_OF_RANGE};
@@ -68,6 +68,8 @@ fn insert(board: &mut SequencedBoard, bay: u8, tray: &mut MediumTray) -> u32
     requires { bay ≤ 1 }
     ensures drive { PutsIn result tray.old tray.new (drive_of board.old bay) (drive_of board.new bay) }
     ensures beside { KeepsBeside bay (state_of board.old) (state_of board.new) }
+    ensures fresh { BeginsUnwritten bay result board.old board.new }
+    ensures other_kept { KeepsWritten (1 - bay) board.old board.new }
 {
     match tray.medium.take() {
         None => NO_MEDIUM,

@@ -3,12 +3,12 @@ ghost use Rattle.std.specs.Prelude.{◌≡◌, ◌≤◌, ◌==◌, ⊤};
 ghost use Rattle.pc_bus.specs.Boards.{latch_of};
 ghost use Rattle.pc_bus.specs.Handling.{irq_taken};
 ghost use Rattle.pc_bus.specs.Ports.{Inputs, Outputs};
-ghost use Rattle.pc_bus.specs.Steps.{Runs, Waits, stirred};
-ghost use Rattle.telwyddus_c.specs.Machines.{board_of};
+ghost use Rattle.pc_bus.specs.Steps.{Runs, stirred};
+ghost use Rattle.telwyddus_c.specs.Machines.{board_of, WaitsTelling};
 ghost use Rattle.telwyddus_c.specs.Slots.{Serves};
 
 use crate::code::{DONE, EMPTY};
-use c_slots::MachineSlot;
+use c_slots::{BenchMachine, MachineSlot};
 use std::alloc::Global;
 
 /// Reads a port.
@@ -69,25 +69,34 @@ pub extern "C" fn telwyddus_machine_wait(alloc: Global, slot: &mut MachineSlot, 
     }
 }
 
-/// Runs device steps until the latch is set, at most so many, and tells whether it is.
+/// Runs device steps until the latch is set, at most so many, and tells how many were made, and whether it is set.
 #[unsafe(no_mangle)]
 pub extern "C" fn telwyddus_machine_wait_irq(
     alloc: Global,
     slot: &mut MachineSlot,
     most: u32,
+    made: &mut u32,
     is_set: &mut u8,
 ) -> u32
-    ensures { Serves (λ code old new. (code ≡ 0) × Waits most (board_of old) (is_set.new == 1) (board_of new) × (is_set.new ≤ 1)) (is_set.new ≡ is_set.old)
-        result slot.old.held.machine slot.new.held.machine }
+    ensures { Serves (λ code old new. (code ≡ 0) × WaitsTelling most made.new is_set.new (board_of old) (board_of new))
+        ((made.new ≡ made.old) × (is_set.new ≡ is_set.old)) result slot.old.held.machine slot.new.held.machine }
 {
     match slot.take(alloc) {
         None => EMPTY,
         Some(mut machine) => {
-            *is_set = byte_of(machine.wait_irq(most));
+            wait_irq(&mut machine, most, made, is_set);
             slot.put(machine);
             DONE
         }
     }
+}
+
+/// The same of a machine.
+fn wait_irq(machine: &mut BenchMachine, most: u32, made: &mut u32, is_set: &mut u8)
+    ensures { WaitsTelling most made.new is_set.new (board_of machine.old) (board_of machine.new) }
+{
+    *made = machine.run_to_irq(most);
+    *is_set = byte_of(machine.is_irq_set());
 }
 
 /// Takes the interrupt latch, and tells whether it was set.

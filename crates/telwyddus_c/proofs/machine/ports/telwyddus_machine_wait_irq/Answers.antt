@@ -2,4 +2,4 @@ use Rattle.std.proofs.Common.{refl, sym}
 use Rattle.telwyddus_c.proofs.machine.ports.telwyddus_machine_wait_irq.Goals as goal
 
 pub returns-in-Some : goal.returns-in-Some
-returns-in-Some c = rw (sym c.in-Some.ensures.taken) (_, c.put.ensures, rw (sym c.deref_mut.ensures.value) (refl, rw c.byte_of.ensures.one c.wait_irq.ensures, c.byte_of.ensures.bit))
+returns-in-Some c = rw (sym c.in-Some.ensures.taken) (_, c.put.ensures, rw (sym c.deref_mut.ensures.value) (refl, c.wait_irq.ensures))
