@@ -110,21 +110,32 @@ static inline void sense_interrupt(Guest *guest) {
     command(guest, bytes, 1);
 }
 
-static inline void seek(Guest *guest, uint8_t cylinder) {
-    const uint8_t bytes[] = {0x0F, 0, cylinder};
-    put(guest, bytes, 3);
+static inline void move_heads(Guest *guest, const uint8_t *bytes, int count, uint8_t cylinder) {
+    put(guest, bytes, count);
     need(run(guest, 1000000), "the seek ends");
     sense_interrupt(guest);
     need(guest->results == 2 && guest->result[0] == 0x20 && guest->result[1] == cylinder, "the heads are there");
 }
 
-/* Out of reset, with drive 0 and its motor on, at 500 kbit/s; the four interrupts behind a reset are taken. */
+static inline void seek(Guest *guest, uint8_t cylinder) {
+    const uint8_t bytes[] = {0x0F, 0, cylinder};
+    move_heads(guest, bytes, 3, cylinder);
+}
+
+static inline void recalibrate(Guest *guest) {
+    const uint8_t bytes[] = {0x07, 0};
+    move_heads(guest, bytes, 2, 0);
+}
+
+/* Out of reset, with drive 0 and its motor on, at 500 kbit/s; the four interrupts behind a reset are taken, and the heads are on
+ * cylinder 0, where the controller takes them to be behind a reset. */
 static inline void start(Guest *guest) {
     out(guest, DOR, 0x18);
     out(guest, DOR, 0x1C);
     out(guest, CCR, 0);
     need(run(guest, 1000), "INT follows the reset");
     for (int i = 0; i < 4; i++) sense_interrupt(guest);
+    recalibrate(guest);
 }
 
 /* ---- media */
