@@ -1,2 +1,3 @@
 mod Runs
 pub mod Codes
+mod Begun

@@ -87,7 +87,8 @@ size_of n = if n == 1 then 256 else (if n == 2 then 512 else (if n == 3 then 102
 
 -- a field of this mark isn't of those that are wanted
 abbrev pub is_other : Operation → Bool → Bool
-is_other (Read wanted _) deleted = not (wanted == deleted)
+is_other (Read true _) deleted = not deleted
+is_other (Read false _) deleted = deleted
 is_other (Write _) deleted = false
 
 -- fields of the other mark are passed over

@@ -12,7 +12,7 @@ use inspected_drive::Inspect;
 use raw_image::Medium;
 
 impl<D: Inspect> Sequencer<D> {
-    /// Puts a medium into a bay. Where one is in already, the new one is given back.
+    /// Puts a medium into a bay, of which no word was replaced yet. Where one is in already, the new one is given back.
     pub fn insert(&mut self, bay: u8, medium: Medium) -> Result<(), Medium>
         requires { bay ≤ 1 }
         ensures keeps { KeepsFront (front_state D.state self.old) (front_state D.state self.new) }
@@ -29,7 +29,7 @@ impl<D: Inspect> Sequencer<D> {
         self.board.insert(bay, medium)
     }
 
-    /// Takes the medium out of a bay.
+    /// Takes the medium out of a bay. It is still told whether a word of it was replaced.
     pub fn eject(&mut self, bay: u8) -> Option<Medium>
         requires { bay ≤ 1 }
         ensures keeps { KeepsFront (front_state D.state self.old) (front_state D.state self.new) }

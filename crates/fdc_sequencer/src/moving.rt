@@ -3,7 +3,8 @@ ghost use Rattle.std.specs.Prelude.{◌≡◌, true};
 ghost use Rattle.fdc_board.specs.Boards.{controller_of};
 ghost use Rattle.fdc_core.specs.Whole.{ending_told};
 ghost use Rattle.fdc_seek.specs.Seeking.{has_ended_seek};
-ghost use Rattle.fdc_sequencer.specs.Fronts.{front_state, board_of, BeginsSector, moving_of};
+ghost use Rattle.fdc_core.specs.Listening.{is_executing};
+ghost use Rattle.fdc_sequencer.specs.Fronts.{front_state, board_of, told_if, begun_if, BeginsSector, moving_of};
 ghost use Rattle.fdc_sequencer.specs.Moves.{StepsFront, FollowsStep, MovesOn, EndsSector, SeeksOn, passed_over_if, would_go_on, goes_on, is_unwanted, results_behind, results_failed, has_met_other};
 
 use crate::sequencer::Sequencer;
@@ -96,16 +97,33 @@ impl<D: Inspect> Sequencer<D> {
     {
         self.board
             .take_accepted(Accepted::Ready(transfer.command()));
+        self.follow_begun(transfer, counted, passed_over);
+    }
+
+    /// The controller executes its own command for a sector, or answers in place of that.
+    fn follow_begun(&mut self, transfer: Transfer, counted: bool, passed_over: bool)
+        ensures { front_state D.state self.new ≡ begun_if (is_executing (controller_of (board_of self.old)).phase)
+            transfer counted passed_over (front_state D.state self.old).board (front_state D.state self.old) }
+    {
         if !self.board.is_executing() {
             self.stage = Stage::Through;
             return;
         }
-        if counted {
-            self.board.tc();
-        }
+        self.tell_if(counted);
         self.stage = Stage::Moving {
             moving: Moving::of(transfer, counted, passed_over),
         };
+    }
+
+    /// Tells the controller the terminal count, where it came.
+    fn tell_if(&mut self, counted: bool)
+        ensures { front_state D.state self.new ≡ record (front_state D.state self.old) {
+          board = told_if counted (front_state D.state self.old).board;
+        } }
+    {
+        if counted {
+            self.board.tc();
+        }
     }
 }
 

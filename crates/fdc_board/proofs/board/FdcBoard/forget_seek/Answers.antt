@@ -1,7 +1,7 @@
 use Rattle.std.proofs.Common.{◌∙◌, sym, ap}
 use Rattle.fdc_board.specs.WordTimes.{data_rate, nanoseconds}
 use Rattle.fdc_board.proofs.RateLemmas.{without_seek_rate}
-use Rattle.fdc_board.proofs.whole.FdcBoard.forget_seek.Goals as goal
+use Rattle.fdc_board.proofs.board.FdcBoard.forget_seek.Goals as goal
 
 pub invariant_of-self : goal.invariant_of-self
 invariant_of-self g c = record {

@@ -2,7 +2,7 @@ use Rattle.std.proofs.Common.{◌∙◌, sym, ap, []}
 use Rattle.fdc_board.specs.WordTimes.{nanoseconds}
 use Rattle.fdc_board.proofs.RateLemmas.{taken_as}
 use Rattle.fdc_core.specs.Whole.{looked_at}
-use Rattle.fdc_board.proofs.whole.FdcBoard.take_accepted.Goals as goal
+use Rattle.fdc_board.proofs.board.FdcBoard.take_accepted.Goals as goal
 
 pub invariant_of-self : goal.invariant_of-self
 invariant_of-self g c = record {

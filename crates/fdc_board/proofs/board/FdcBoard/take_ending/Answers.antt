@@ -1,7 +1,7 @@
 use Rattle.std.proofs.Common.{◌∙◌, sym, ap}
 use Rattle.fdc_board.specs.WordTimes.{data_rate, nanoseconds}
 use Rattle.fdc_board.proofs.RateLemmas.{given_up_rate}
-use Rattle.fdc_board.proofs.whole.FdcBoard.take_ending.Goals as goal
+use Rattle.fdc_board.proofs.board.FdcBoard.take_ending.Goals as goal
 
 pub invariant_of-self : goal.invariant_of-self
 invariant_of-self g c = record {
