@@ -1,4 +1,5 @@
 pub mod Controllers
+pub mod Disks
 pub mod Machines
 pub mod Shelves
 pub mod Trays

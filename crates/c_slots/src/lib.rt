@@ -1,13 +1,15 @@
-//! What C keeps of a controller, of a machine, of a medium and of a shelf: slots that hold one or none.
+//! What C keeps of a controller, of a machine, of a desk for sectors, of a medium and of a shelf: slots that hold one or none.
 #![tactic(auto)]
 
 mod controller;
+mod disk;
 mod machine;
 mod shelf;
 mod tray;
 
 use any_drive::AnyDrive;
 pub use controller::ControllerSlot;
+pub use disk::DiskSlot;
 use fdc_sequencer::Sequencer;
 use inspected_drive::InspectedDrive;
 pub use machine::MachineSlot;
@@ -38,6 +40,11 @@ pub fn machine_crosses(slot: MachineSlot) {
 
 /// That of a controller does.
 pub fn controller_crosses(slot: ControllerSlot) {
+    crosses(slot);
+}
+
+/// That of a desk does.
+pub fn disk_crosses(slot: DiskSlot) {
     crosses(slot);
 }
 

@@ -1,0 +1,9 @@
+use Rattle.std.proofs.Common.{◌≡◌, ◌∙◌, refl, sym, true}
+use Rattle.std.specs.Prelude.{◌==◌}
+use Rattle.c_slots.proofs.Options.{some_in}
+use Rattle.c_slots.proofs.disk.slot.DiskSlot.into_box.Goals as goal
+
+pub into_box-requires : goal.into_box-requires
+into_box-requires c =
+    let full : (c.args.self.tag == 1145849172) ≡ true = rw c.if-tag-eq-FULL.true refl in
+    some_in c.args.self.held.desk (sym c.args.self.same ∙ full)

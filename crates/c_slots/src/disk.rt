@@ -1,0 +1,5 @@
+// A desk for C.
+mod held;
+mod slot;
+
+pub use slot::DiskSlot;
