@@ -217,29 +217,37 @@ static void early_count(void) {
     check(guest.results == 7 && memcmp(guest.result, none, 7) == 0 && guest.passed == 0, "the terminal count within an implied seek: no byte passes, one sector is searched");
 }
 
-/* A command that moves, up to its second sector. */
-static void begin_two(void) {
+/* A command of four sectors, of which so many bytes pass. */
+static void begin_four(size_t bytes_passed) {
     const uint8_t bytes[] = {READ | MT, 0, 60, 0, 1, 2, 18, GAP};
     channel(&guest, buffer, 4 * 512);
     put(&guest, bytes, 9);
-    while (guest.passed < 700) need(!run(&guest, 1), "it goes on");
+    while (guest.passed < bytes_passed) need(!run(&guest, 1), "it goes on");
+}
+
+/* The medium is out while such a command goes on. */
+static void take_medium(size_t bytes_passed, size_t passed, const uint8_t *wanted, const char *what) {
+    telwyddus_tray tray = {0};
+    begin_four(bytes_passed);
+    MUST(telwyddus_controller_eject(&guest.controller, 0, &tray));
+    finish(&guest);
+    if (guest.passed != passed || memcmp(guest.result, wanted, 7) != 0)
+        printf("%u bytes, results %02X %02X %02X, record %u\n", (unsigned)guest.passed, (unsigned)guest.result[0], (unsigned)guest.result[1], (unsigned)guest.result[2], (unsigned)guest.result[5]);
+    check(guest.results == 7 && guest.passed == passed && memcmp(guest.result, wanted, 7) == 0, what);
+    MUST(telwyddus_controller_insert(&guest.controller, 0, &tray));
+    MUST(telwyddus_tray_free(&tray));
 }
 
 static void breaks(void) {
     static const Case again = {"the next command is as ever", {READ | MT, 0, 60, 0, 18, 2, 18, GAP}, 1024, 1024, {0x04, 0, 0, 60, 1, 2, 2}};
-    telwyddus_tray tray = {0};
-    begin_two();
+    static const uint8_t within_data[] = {0x40, 0x20, 0x20, 60, 0, 2, 2}, between[] = {0x40, 0x01, 0, 60, 0, 2, 2};
+    begin_four(700);
     start(&guest);
     check(in(&guest, MSR) == RQM, "a reset ends a command");
     configure(&guest, FIFO_OFF | EIS);
     try_one(&again);
-    begin_two();
-    MUST(telwyddus_controller_eject(&guest.controller, 0, &tray));
-    finish(&guest);
-    printf("without its medium it ends after %u bytes with %02X %02X %02X, record %u\n", (unsigned)guest.passed, guest.result[0], guest.result[1], guest.result[2], guest.result[5]);
-    check(guest.results == 7 && (guest.result[0] & 0xC0) == 0x40, "a command fails whose medium is taken out");
-    MUST(telwyddus_controller_insert(&guest.controller, 0, &tray));
-    MUST(telwyddus_tray_free(&tray));
+    take_medium(700, 1024, within_data, "the medium is taken out within a sector's data: its check fails");
+    take_medium(512, 512, between, "the medium is taken out between two sectors: no address mark comes");
     try_one(&again);
 }
 
