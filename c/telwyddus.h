@@ -71,9 +71,13 @@ TELWYDDUS_CALL uint32_t telwyddus_tray_write(telwyddus_tray *tray, uint8_t *out,
 TELWYDDUS_CALL uint32_t telwyddus_tray_free(telwyddus_tray *tray);
 
 /* ---------------------------------------------------------------------------------------------------------------------------
- * THE CONTROLLER (82077AA, PC/AT mode, one sector a command), with two drives. Your emulator has the DMA controller, the
- * interrupt controller and the clock.
+ * THE CONTROLLER (82077AA, PC/AT mode), with two drives. Your emulator has the DMA controller, the interrupt controller and the
+ * clock.
  *
+ *   - READ DATA, READ DELETED DATA, WRITE DATA and WRITE DELETED DATA move sectors from R up to EOT, with MT over both heads, until
+ *     the terminal count comes; with SK a read passes over those of the other mark. docs/C.md has their result bytes, and what
+ *     it says of a guest's mistakes.
+ *   - A command seeks its cylinder first where CONFIGURE has set EIS, or a strap does.
  *   - Port accesses go to read and write as they come. Each word time is a step; run makes many.
  *   - LOOK AT THE LINES AFTER EVERY CALL, port accesses too: INT falls and rises in them, and DRQ may rise with the last byte of
  *     a command. Then DACK bytes while DRQ is up, as your channel lets you, and TC with the last one: before the next step.
@@ -86,6 +90,10 @@ TELWYDDUS_CALL uint32_t telwyddus_controller_new(telwyddus_controller *controlle
 
 /* Frees it with its drives and media. DONE, EMPTY. */
 TELWYDDUS_CALL uint32_t telwyddus_controller_free(telwyddus_controller *controller);
+
+/* A strap of your board: where `on` isn't 0, commands of sectors seek their cylinder first whatever CONFIGURE sets, also behind a
+ * reset. Off at first. DONE, EMPTY. */
+TELWYDDUS_CALL uint32_t telwyddus_controller_strap_seeks(telwyddus_controller *controller, uint8_t on);
 
 /* A port, 3F0 to 3F7, is read or written. A port that nothing answers gives FF. DONE, EMPTY. */
 TELWYDDUS_CALL uint32_t telwyddus_controller_read(telwyddus_controller *controller, uint16_t port, uint8_t *value);
@@ -136,7 +144,7 @@ TELWYDDUS_CALL uint32_t telwyddus_controller_selected(telwyddus_controller *cont
 /* ---------------------------------------------------------------------------------------------------------------------------
  * THE MACHINE: the controller, channel 2 of an 8237A (ports 04, 05, 08 to 0F, 81), 1 MiB of memory, and a latch for IRQ 6. The
  * latch looks at the line once a device step. For benches of drivers: its drives may have planned faults, its DMA delays, its
- * interrupt line strays. */
+ * interrupt line strays. A command moves one sector here: MT and SK are refused. */
 
 /* Makes a machine with two drives that have no faults. DONE, FULL, NO_MEMORY. */
 TELWYDDUS_CALL uint32_t telwyddus_machine_new(telwyddus_machine *machine);

@@ -175,8 +175,8 @@ static uint8_t *load(const char *name, size_t *n) {
 }
 
 static _Noreturn void usage(void) {
-    fputs("bios --rom FILE [--machine whole|bare] [--adapt none|code|multi|seek] [--ccr N] [--per-word N] [--words N] [--until TEXT]\n"
-          "     [--log FILE] [--save FILE] [--int13] [--screen] [--verbose] [IMAGE]\n", stderr);
+    fputs("bios --rom FILE [--machine whole|bare] [--adapt none|code|multi|seek] [--strap] [--fifo BYTE] [--ccr N] [--per-word N]\n"
+          "     [--words N] [--until TEXT] [--log FILE] [--save FILE] [--int13] [--screen] [--verbose] [IMAGE]\n", stderr);
     exit(2);
 }
 
@@ -198,7 +198,7 @@ static void report(void) {
             (unsigned long long)pc_counts.unknown_out);
 }
 
-static struct { const char *rom, *until, *save, *disk; const Machine *machine; FILE *log; uint64_t most; int adapt, ccr; bool screen; }
+static struct { const char *rom, *until, *save, *disk; const Machine *machine; FILE *log; uint64_t most; int adapt, ccr; bool screen, strap; }
     given = {.machine = &whole_machine, .most = 62500 * 120ull, .adapt = ADAPT_MULTI, .ccr = -1};
 
 static int level_of(const char *name) {
@@ -214,12 +214,14 @@ static void options(int argc, char **argv) {
         if (a[0] != '-') { given.disk = a; continue; }
         if (!strcmp(a, "--int13")) { trace_int13 = true; continue; }
         if (!strcmp(a, "--screen")) { given.screen = true; continue; }
+        if (!strcmp(a, "--strap")) { given.strap = true; continue; }
         if (!strcmp(a, "--verbose")) { pc_verbose = true; continue; }
         if (!v) usage();
         i++;
         if (!strcmp(a, "--rom")) given.rom = v;
         else if (!strcmp(a, "--machine")) given.machine = !strcmp(v, "bare") ? &bare_controller : &whole_machine;
         else if (!strcmp(a, "--adapt")) given.adapt = level_of(v);
+        else if (!strcmp(a, "--fifo")) floppy_fifo = (int)strtol(v, NULL, 16);
         else if (!strcmp(a, "--ccr")) given.ccr = atoi(v);
         else if (!strcmp(a, "--per-word")) per_word = (uint32_t)strtoul(v, NULL, 10);
         else if (!strcmp(a, "--words")) given.most = strtoull(v, NULL, 10);
@@ -270,6 +272,7 @@ int main(int argc, char **argv) {
     options(argc, argv);
     pc_new(stdout);
     floppy_new(given.machine, given.adapt, pc_ram, given.log);
+    if (given.strap) chip_strap();                                  /* the BIOS of Bochs never seeks */
     if (given.ccr >= 0) floppy_out(0x3F7, (uint8_t)given.ccr);      /* the BIOS of Bochs never sets the rate */
     if (given.disk) insert(given.disk);
     rom(given.rom);

@@ -117,3 +117,5 @@ uint8_t chip_dack_read(void) {
 void chip_dack_write(uint8_t byte) { must(telwyddus_controller_dack_write(&controller, byte), "controller_dack_write"); }
 
 void chip_tc(void) { must(telwyddus_controller_tc(&controller), "controller_tc"); }
+
+void chip_strap(void) { must(telwyddus_controller_strap_seeks(&controller, 1), "controller_strap_seeks"); }

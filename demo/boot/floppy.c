@@ -5,6 +5,8 @@
 struct floppy_counts floppy_counts;
 #define N floppy_counts
 
+int floppy_fifo = -1;
+
 static const Machine *machine;
 static uint8_t *ram;
 static FILE *log_to;
@@ -201,6 +203,13 @@ static bool goes_on(void) {
 
 /* ---- what the PC sees */
 
+static uint8_t dor;
+
+static void configure(void) {
+    const uint8_t bytes[] = {0x13, 0x00, (uint8_t)floppy_fifo, 0x00};
+    for (int i = 0; i < 4; i++) hidden_out(0x3F5, bytes[i]);
+}
+
 void floppy_new(const Machine *used, int adapt, uint8_t *pc_ram, FILE *log) {
     machine = used;
     machine->make();
@@ -229,7 +238,10 @@ void floppy_out(uint16_t port, uint8_t v) {
         A.running = A.moving = A.seeking = A.held = false;
         A.left = 0;
     }
+    bool leaves_reset = port == 0x3F2 && v & 4 && !(dor & 4);
+    if (port == 0x3F2) dor = v;
     raw_out(port, v);
+    if (leaves_reset && floppy_fifo >= 0) configure();
 }
 
 /* The latch was set: what the adapter does with it; whether the PC is told. */

@@ -15,6 +15,9 @@ struct floppy_counts {
 };
 extern struct floppy_counts floppy_counts;
 
+/* The options of a CONFIGURE that is sent behind each reset; -1: none is. */
+extern int floppy_fifo;
+
 /* Makes the machine; accesses and interrupts go to `log`, where it isn't null. */
 void floppy_new(const Machine *used, int adapt, uint8_t *pc_ram, FILE *log);
 

@@ -34,5 +34,6 @@ uint8_t chip_lines(void);
 uint8_t chip_dack_read(void);           /* only where DRQ is up */
 void chip_dack_write(uint8_t byte);
 void chip_tc(void);
+void chip_strap(void);                  /* seeks are implied from now on */
 
 #endif

@@ -1,6 +1,9 @@
 ; A boot sector that tries a diskette drive through INT 13h and prints a verdict.
 ; The list at `tracks` has cylinder, head and the sum of the track's 16-bit words; `run` fills it in.
+; NOFORMAT leaves out the format of a track.
+%ifndef SECTORS
 %define SECTORS 18
+%endif
         bits 16
         org 0x7C00
 start:  cli
@@ -49,6 +52,7 @@ start:  cli
         mov al, 'w'
         call put
 
+%ifndef NOFORMAT
         mov byte [stage], 'F'           ; format cylinder 3, head 1
         xor di, di
         mov cl, 1
@@ -72,6 +76,7 @@ start:  cli
         call same
         mov al, 'f'
         call put
+%endif
 
         mov byte [stage], 'M'           ; write it with 18 sectors at once, verify and read
         mov al, 0x99

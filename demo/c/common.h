@@ -1,4 +1,6 @@
 /* What the programs here share. */
+#ifndef COMMON_H
+#define COMMON_H
 #include "telwyddus.h"
 #include <stdio.h>
 #include <stdlib.h>
@@ -29,3 +31,5 @@ static inline uint8_t *file_of(const char *name, size_t *length) {
     fclose(file);
     return bytes;
 }
+
+#endif

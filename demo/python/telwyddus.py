@@ -144,6 +144,7 @@ class Controller(Drives):
         super().__init__()
         self._call("new")
 
+    def strap_seeks(self, on): self._call("strap_seeks", byte(bool(on)))
     def read(self, at): return self._told(ctypes.c_uint8, "read", port(at))
     def write(self, at, value): self._call("write", port(at), byte(value))
     def step(self): self._call("step")

@@ -10,7 +10,7 @@ mod tray;
 use any_drive::AnyDrive;
 pub use controller::ControllerSlot;
 pub use disk::DiskSlot;
-use fdc_board::FdcBoard;
+use fdc_sequencer::Sequencer;
 use inspected_drive::InspectedDrive;
 pub use machine::MachineSlot;
 use pc_bus::MachineOf;
@@ -21,8 +21,8 @@ pub use tray::TraySlot;
 /// The machine with drives that have no faults, or planned ones.
 pub type BenchMachine = MachineOf<AnyDrive>;
 
-/// The controller with drives that have no faults and can be looked into.
-pub type InspectedBoard = FdcBoard<InspectedDrive>;
+/// The controller that takes several sectors a command, with drives that have no faults and can be looked into.
+pub type SequencedBoard = Sequencer<InspectedDrive>;
 
 /// What a medium lies in outside a drive.
 #[derive(Drop)]

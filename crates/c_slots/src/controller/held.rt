@@ -2,7 +2,7 @@
 ghost use Rattle.std.specs.Prelude.{◌≡◌, None, Some, Option};
 ghost use Rattle.c_slots.specs.Controllers.{ControllerValue, held_owns, held_coded};
 
-use crate::InspectedBoard;
+use crate::SequencedBoard;
 use loose_box::Loose;
 use std::alloc::Global;
 use std::marker::Model;
@@ -31,20 +31,20 @@ impl Held {
         }
     }
 
-    pub fn of(controller: Box<InspectedBoard>) -> Held
+    pub fn of(controller: Box<SequencedBoard>) -> Held
         ensures { result.controller ≡ Some controller.value }
     {
         Held::of_loose(Loose::of(controller))
     }
 
-    pub fn into_box(self) -> Box<InspectedBoard>
+    pub fn into_box(self) -> Box<SequencedBoard>
         requires { (controller : ControllerValue) × (self.controller ≡ Some controller) }
         ensures { self.controller ≡ Some result.value }
     {
         self.into_loose().into_box()
     }
 
-    fn of_loose(loose: Loose<InspectedBoard, Global>) -> Held
+    fn of_loose(loose: Loose<SequencedBoard, Global>) -> Held
         ensures { result.controller ≡ Some loose.value }
     {
         let Loose { at, alloc } = loose;
@@ -54,13 +54,13 @@ impl Held {
         }
     }
 
-    fn into_loose(self) -> Loose<InspectedBoard, Global>
+    fn into_loose(self) -> Loose<SequencedBoard, Global>
         requires { (controller : ControllerValue) × (self.controller ≡ Some controller) }
         ensures { self.controller ≡ Some result.value }
     {
         let Held { at, alloc } = self;
         Loose {
-            at: at as *mut InspectedBoard,
+            at: at as *mut SequencedBoard,
             alloc,
         }
     }

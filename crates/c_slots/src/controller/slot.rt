@@ -3,7 +3,7 @@ ghost use Rattle.std.specs.Prelude.{◌≡◌, ◌==◌, None, Some, Option};
 ghost use Rattle.std.specs.Option.{is_some};
 ghost use Rattle.c_slots.specs.Controllers.{boxed};
 
-use crate::InspectedBoard;
+use crate::SequencedBoard;
 use crate::controller::held::Held;
 use std::alloc::Global;
 use std::mem;
@@ -36,7 +36,7 @@ impl ControllerSlot {
         }
     }
 
-    fn of(controller: Box<InspectedBoard>) -> ControllerSlot
+    fn of(controller: Box<SequencedBoard>) -> ControllerSlot
         ensures { result.held.controller ≡ Some controller.value }
     {
         ControllerSlot {
@@ -45,7 +45,7 @@ impl ControllerSlot {
         }
     }
 
-    fn into_box(self) -> Option<Box<InspectedBoard>>
+    fn into_box(self) -> Option<Box<SequencedBoard>>
         ensures { boxed result ≡ self.held.controller }
     {
         let ControllerSlot { held, tag } = self;
@@ -57,7 +57,7 @@ impl ControllerSlot {
     }
 
     /// Takes the controller out.
-    pub fn take(&mut self, alloc: Global) -> Option<Box<InspectedBoard>>
+    pub fn take(&mut self, alloc: Global) -> Option<Box<SequencedBoard>>
         ensures taken { boxed result ≡ self.old.held.controller }
         ensures left { self.new.held.controller ≡ None }
     {
@@ -65,7 +65,7 @@ impl ControllerSlot {
     }
 
     /// Puts a controller in. What was there is freed.
-    pub fn put(&mut self, controller: Box<InspectedBoard>)
+    pub fn put(&mut self, controller: Box<SequencedBoard>)
         ensures { self.new.held.controller ≡ Some controller.value }
     {
         *self = ControllerSlot::of(controller);

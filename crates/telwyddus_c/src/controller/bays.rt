@@ -8,7 +8,7 @@ ghost use Rattle.telwyddus_c.specs.Slots.{Serves, InBay};
 
 use crate::code::{DONE, EMPTY, FULL, HAS_MEDIUM, NO_MEDIUM, NO_MEMORY, OUT_OF_RANGE};
 use crate::image::write_medium;
-use c_slots::{ControllerSlot, InspectedBoard, MediumTray, TraySlot};
+use c_slots::{ControllerSlot, MediumTray, SequencedBoard, TraySlot};
 use std::alloc::Global;
 
 /// The motor is on.
@@ -46,7 +46,7 @@ pub extern "C" fn telwyddus_controller_insert(
 }
 
 /// The same of a controller.
-fn insert_from(alloc: Global, board: &mut InspectedBoard, bay: u32, tray: &mut TraySlot) -> u32
+fn insert_from(alloc: Global, board: &mut SequencedBoard, bay: u32, tray: &mut TraySlot) -> u32
     ensures { InBay bay result ((board.new ≡ board.old) × (tray.new.held.tray ≡ tray.old.held.tray))
         (InsertsAt bay result tray.old.held.tray tray.new.held.tray board.old board.new) }
 {
@@ -64,7 +64,7 @@ fn insert_from(alloc: Global, board: &mut InspectedBoard, bay: u32, tray: &mut T
 }
 
 /// The same of a controller and a tray.
-fn insert(board: &mut InspectedBoard, bay: u8, tray: &mut MediumTray) -> u32
+fn insert(board: &mut SequencedBoard, bay: u8, tray: &mut MediumTray) -> u32
     requires { bay ≤ 1 }
     ensures drive { PutsIn result tray.old tray.new (drive_of board.old bay) (drive_of board.new bay) }
     ensures beside { KeepsBeside bay (state_of board.old) (state_of board.new) }
@@ -106,7 +106,7 @@ pub extern "C" fn telwyddus_controller_eject(
 }
 
 /// The same of a controller.
-fn eject_into(alloc: Global, board: &mut InspectedBoard, bay: u32, tray: &mut TraySlot) -> u32
+fn eject_into(alloc: Global, board: &mut SequencedBoard, bay: u32, tray: &mut TraySlot) -> u32
     ensures { InBay bay result ((board.new ≡ board.old) × (tray.new.held.tray ≡ tray.old.held.tray))
         (EjectsAt bay result tray.old.held.tray tray.new.held.tray board.old board.new) }
 {
@@ -155,7 +155,7 @@ pub extern "C" fn telwyddus_controller_image(
 /// The same of a controller.
 fn image_of(
     alloc: Global,
-    board: &InspectedBoard,
+    board: &SequencedBoard,
     bay: u32,
     out: &mut [u8],
     length: &mut usize,
@@ -192,7 +192,7 @@ pub extern "C" fn telwyddus_controller_written(
 }
 
 /// The same of a controller.
-fn tell_written(board: &mut InspectedBoard, bay: u32, written: &mut u8) -> u32
+fn tell_written(board: &mut SequencedBoard, bay: u32, written: &mut u8) -> u32
     ensures { InBay bay result ((board.new ≡ board.old) × (written.new ≡ written.old))
         ((result ≡ 0) × TellsWritten bay board.old written.new board.new) }
 {
@@ -228,7 +228,7 @@ pub extern "C" fn telwyddus_controller_bay(
 }
 
 /// The same of a controller.
-fn show(board: &InspectedBoard, bay: u32, cylinder: &mut u8, signs: &mut u8) -> u32
+fn show(board: &SequencedBoard, bay: u32, cylinder: &mut u8, signs: &mut u8) -> u32
     ensures { InBay bay result ((cylinder.new ≡ cylinder.old) × (signs.new ≡ signs.old))
         ((result ≡ 0) × Shows bay board.now cylinder.new signs.new) }
 {

@@ -1,15 +1,16 @@
-// The controller's making, its ports, its device steps and its lines.
-ghost use Rattle.std.specs.Prelude.{◌≡◌, ⊤, Some};
+// The controller's making, its strap, its ports, its device steps and its lines.
+ghost use Rattle.std.specs.Prelude.{◌≡◌, ◌==◌, not, ⊤, Some};
 ghost use Rattle.drive_model.specs.Mechanics.{at_rest};
-ghost use Rattle.fdc_board.specs.Boards.{controller_of, lines_at, selected_at, SameDrives, IsNewBoard, WritesBoard, StepsBoard, RunsTo};
+ghost use Rattle.fdc_board.specs.Boards.{controller_of, selected_at, SameDrives};
 ghost use Rattle.fdc_board.specs.WordTimes.{nanoseconds, data_rate};
-ghost use Rattle.fdc_core.specs.Ports.{value_read, after_read};
-ghost use Rattle.telwyddus_c.specs.Controllers.{state_of, lines_byte};
+ghost use Rattle.fdc_sequencer.specs.Fronts.{board_of, value_outside, after_reading, IsNewFront, WritesFront};
+ghost use Rattle.fdc_sequencer.specs.Moves.{StepsFront, RunsFront};
+ghost use Rattle.telwyddus_c.specs.Controllers.{state_of, lines_byte, StrapsSeeks};
 ghost use Rattle.telwyddus_c.specs.Slots.{Fills, Frees, Serves};
 
 use crate::code::{DONE, EMPTY, FULL, NO_MEMORY};
-use c_slots::{ControllerSlot, InspectedBoard};
-use fdc_board::FdcBoard;
+use c_slots::{ControllerSlot, SequencedBoard};
+use fdc_sequencer::Sequencer;
 use inspected_drive::InspectedDrive;
 use std::alloc::Global;
 
@@ -25,13 +26,13 @@ const TO_MEMORY: u8 = 4;
 /// Makes a controller with two empty drives.
 #[unsafe(no_mangle)]
 pub extern "C" fn telwyddus_controller_new(alloc: Global, slot: &mut ControllerSlot) -> u32
-    ensures { Fills (λ controller. IsNewBoard (at_rest (Some 0)) (at_rest (Some 0)) (state_of controller))
+    ensures { Fills (λ controller. IsNewFront (at_rest (Some 0)) (at_rest (Some 0)) (state_of controller))
         result slot.old.held.controller slot.new.held.controller }
 {
     if slot.is_full() {
         return FULL;
     }
-    match FdcBoard::new(alloc, InspectedDrive::new(), InspectedDrive::new()) {
+    match Sequencer::new(alloc, InspectedDrive::new(), InspectedDrive::new()) {
         Ok(board) => match Box::new(alloc, board) {
             Ok(board) => {
                 slot.put(board);
@@ -54,6 +55,27 @@ pub extern "C" fn telwyddus_controller_free(alloc: Global, slot: &mut Controller
     }
 }
 
+/// Lets each command of several sectors seek its cylinder first, whatever CONFIGURE sets, as a strap of a board would; or,
+/// where `on` is 0, leaves that to CONFIGURE.
+#[unsafe(no_mangle)]
+pub extern "C" fn telwyddus_controller_strap_seeks(
+    alloc: Global,
+    slot: &mut ControllerSlot,
+    on: u8,
+) -> u32
+    ensures { Serves (λ code old new. (code ≡ 0) × StrapsSeeks (not (on == 0)) old new) ⊤
+        result slot.old.held.controller slot.new.held.controller }
+{
+    match slot.take(alloc) {
+        None => EMPTY,
+        Some(mut board) => {
+            board.strap_seeks(on != 0);
+            slot.put(board);
+            DONE
+        }
+    }
+}
+
 /// Reads a port, 3F0 to 3F7.
 #[unsafe(no_mangle)]
 pub extern "C" fn telwyddus_controller_read(
@@ -62,8 +84,8 @@ pub extern "C" fn telwyddus_controller_read(
     port: u16,
     value: &mut u8,
 ) -> u32
-    ensures { Serves (λ code old new. (code ≡ 0) × (value.new ≡ value_read port (lines_at (state_of old)) (controller_of old))
-        × (controller_of new ≡ after_read port (controller_of old)) × SameDrives old new) (value.new ≡ value.old)
+    ensures { Serves (λ code old new. (code ≡ 0) × (value.new ≡ value_outside port (state_of old))
+        × (state_of new ≡ after_reading port (state_of old)) × SameDrives (board_of old) (board_of new)) (value.new ≡ value.old)
         result slot.old.held.controller slot.new.held.controller }
 {
     match slot.take(alloc) {
@@ -84,7 +106,7 @@ pub extern "C" fn telwyddus_controller_write(
     port: u16,
     value: u8,
 ) -> u32
-    ensures { Serves (λ code old new. (code ≡ 0) × WritesBoard port value (state_of old) (state_of new)) ⊤
+    ensures { Serves (λ code old new. (code ≡ 0) × WritesFront port value (state_of old) (state_of new)) ⊤
         result slot.old.held.controller slot.new.held.controller }
 {
     match slot.take(alloc) {
@@ -100,7 +122,7 @@ pub extern "C" fn telwyddus_controller_write(
 /// One device step.
 #[unsafe(no_mangle)]
 pub extern "C" fn telwyddus_controller_step(alloc: Global, slot: &mut ControllerSlot) -> u32
-    ensures { Serves (λ code old new. (code ≡ 0) × StepsBoard (state_of old) (state_of new)) ⊤
+    ensures { Serves (λ code old new. (code ≡ 0) × StepsFront (state_of old) (state_of new)) ⊤
         result slot.old.held.controller slot.new.held.controller }
 {
     match slot.take(alloc) {
@@ -121,7 +143,7 @@ pub extern "C" fn telwyddus_controller_run(
     most: u32,
     made: &mut u32,
 ) -> u32
-    ensures { Serves (λ code old new. (code ≡ 0) × RunsTo most (state_of old) made.new (state_of new)) (made.new ≡ made.old)
+    ensures { Serves (λ code old new. (code ≡ 0) × RunsFront most (state_of old) made.new (state_of new)) (made.new ≡ made.old)
         result slot.old.held.controller slot.new.held.controller }
 {
     match slot.take(alloc) {
@@ -141,7 +163,7 @@ pub extern "C" fn telwyddus_controller_lines(
     slot: &mut ControllerSlot,
     lines: &mut u8,
 ) -> u32
-    ensures { Serves (λ code old new. (code ≡ 0) × (new ≡ old) × (lines.new ≡ lines_byte (controller_of old))) (lines.new ≡ lines.old)
+    ensures { Serves (λ code old new. (code ≡ 0) × (new ≡ old) × (lines.new ≡ lines_byte (state_of old))) (lines.new ≡ lines.old)
         result slot.old.held.controller slot.new.held.controller }
 {
     match slot.take(alloc) {
@@ -155,8 +177,8 @@ pub extern "C" fn telwyddus_controller_lines(
 }
 
 /// The same of a controller.
-fn lines_of(board: &InspectedBoard) -> u8
-    ensures { result ≡ lines_byte (controller_of board.now) }
+fn lines_of(board: &SequencedBoard) -> u8
+    ensures { result ≡ lines_byte (state_of board.now) }
 {
     let int = if board.int() { INT } else { 0 };
     let drq = if board.drq() { DRQ } else { 0 };
@@ -171,7 +193,7 @@ pub extern "C" fn telwyddus_controller_selected(
     slot: &mut ControllerSlot,
     bay: &mut u8,
 ) -> u32
-    ensures { Serves (λ code old new. (code ≡ 0) × (new ≡ old) × (bay.new ≡ selected_at (state_of old))) (bay.new ≡ bay.old)
+    ensures { Serves (λ code old new. (code ≡ 0) × (new ≡ old) × (bay.new ≡ selected_at (state_of old).board)) (bay.new ≡ bay.old)
         result slot.old.held.controller slot.new.held.controller }
 {
     match slot.take(alloc) {
@@ -191,7 +213,7 @@ pub extern "C" fn telwyddus_controller_word_time(
     slot: &mut ControllerSlot,
     word_time: &mut u32,
 ) -> u32
-    ensures { Serves (λ code old new. (code ≡ 0) × (new ≡ old) × (word_time.new ≡ nanoseconds (data_rate (controller_of old)))) (word_time.new ≡ word_time.old)
+    ensures { Serves (λ code old new. (code ≡ 0) × (new ≡ old) × (word_time.new ≡ nanoseconds (data_rate (controller_of (board_of old))))) (word_time.new ≡ word_time.old)
         result slot.old.held.controller slot.new.held.controller }
 {
     match slot.take(alloc) {

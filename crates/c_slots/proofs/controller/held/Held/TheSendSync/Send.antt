@@ -9,7 +9,7 @@ use denote.Param.Send.{IsSend, AllSend, owning_send, struct_send, sendable}
 use Rattle.std.proofs.Crossing as heap
 use Rattle.std.proofs.alloc.Global.TheSendSync as handle
 use Rattle.std.specs.Global.{Global}
-use Rattle.fdc_board.proofs.board.FdcBoard.TheSendSync.{the_send as whole_send}
+use Rattle.fdc_sequencer.proofs.sequencer.Sequencer.TheSendSync.{the_send as whole_send}
 use Rattle.inspected_drive.proofs.drive.InspectedDrive.TheSendSync.{the_send as drive_send}
 use Rattle.inspected_drive.specs.contracts.drive.InspectedDrive.{the_row as drive_row}
 use Rattle.c_slots.proofs.Crossing.{quiet, lies}

@@ -1,0 +1,40 @@
+/* Flat sector files and disks of 80 cylinders, by the program's own words over files in memory. */
+#ifndef FLAT_H
+#define FLAT_H
+#include "common.h"
+
+#define FLAT 1474560
+#define IMAGE (14 + 160 * 25000)
+
+static inline void shelve(telwyddus_shelf *shelf, const char *name, const uint8_t *bytes, size_t length) {
+    MUST(telwyddus_shelf_put(shelf, (const uint8_t *)name, strlen(name), bytes, length));
+}
+
+static inline int convert(telwyddus_shelf *shelf, const char *words, const char *name, uint8_t *out, size_t wanted) {
+    uint32_t status;
+    size_t length = 0;
+    MUST(telwyddus_shelf_run(shelf, (const uint8_t *)words, strlen(words), &status));
+    if (status != 0) return 0;
+    MUST(telwyddus_shelf_get(shelf, (const uint8_t *)name, strlen(name), out, wanted, &length));
+    return length == wanted;
+}
+
+/* The image file of the disk that has the sectors of a flat file. */
+static inline void import_flat(const uint8_t *flat, uint8_t *image) {
+    telwyddus_shelf shelf = {0};
+    MUST(telwyddus_shelf_new(&shelf));
+    shelve(&shelf, "in.flat", flat, FLAT);
+    check(convert(&shelf, "import\nin.flat\ndisk.rt", "disk.rt", image, IMAGE), "a flat file makes a disk");
+    MUST(telwyddus_shelf_free(&shelf));
+}
+
+/* And back. */
+static inline void export_flat(const uint8_t *image, uint8_t *flat) {
+    telwyddus_shelf shelf = {0};
+    MUST(telwyddus_shelf_new(&shelf));
+    shelve(&shelf, "disk.rt", image, IMAGE);
+    check(convert(&shelf, "export\ndisk.rt\nout.flat", "out.flat", flat, FLAT), "a disk makes a flat file");
+    MUST(telwyddus_shelf_free(&shelf));
+}
+
+#endif

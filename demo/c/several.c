@@ -1,0 +1,269 @@
+/* several - commands of several sectors at the bare controller, as a BIOS and DOS send them.
+ *
+ * A guest writes whole cylinders of 36 sectors, in one command each, and reads them back; `export` on a shelf then gives the flat
+ * file that was wanted. Then one command for each rule of MT, SK, EOT and the terminal count: how many bytes pass, and what its
+ * result bytes are by the table in docs/C.md. */
+#include "guest.h"
+#include "flat.h"
+
+#define CYLINDERS 80
+#define TRACK (18 * 512)
+#define ENDLESS (sizeof buffer)
+
+static Guest guest;
+static uint8_t flat[FLAT], back[FLAT], image[IMAGE], buffer[3 * TRACK];
+
+/* A sector's place in a flat file. */
+static uint8_t *sector(uint8_t *bytes, int c, int h, int r) { return bytes + ((c * 2 + h) * 18 + r - 1) * 512; }
+
+/* ---- whole cylinders */
+
+static void whole_cylinders(void) {
+    unsigned long steps = guest.steps;
+    for (size_t i = 0; i < FLAT; i++) flat[i] = (uint8_t)(i * 31 + i / 512 * 7 + i / TRACK);
+    for (int c = 0; c < CYLINDERS; c++) {
+        const uint8_t bytes[] = {WRITE | MT, 0, (uint8_t)c, 0, 1, 2, 18, 0x1B, 0xFF};
+        transfer(&guest, bytes, sector(flat, c, 0, 1), 2 * TRACK);
+        need(guest.results == 7 && guest.result[0] == 0x04 && guest.passed == 2 * TRACK, "a cylinder is written");
+    }
+    for (int c = 0; c < CYLINDERS; c++) {
+        const uint8_t bytes[] = {READ | MT, 0, (uint8_t)c, 0, 1, 2, 18, 0x1B, 0xFF};
+        transfer(&guest, bytes, sector(back, c, 0, 1), 2 * TRACK);
+        need(guest.results == 7 && guest.result[0] == 0x04 && guest.passed == 2 * TRACK, "a cylinder is read");
+    }
+    check(memcmp(flat, back, FLAT) == 0, "what is read is what was written");
+    memset(back, 0, FLAT);
+    image_of(&guest, image, IMAGE);
+    export_flat(image, back);
+    check(memcmp(flat, back, FLAT) == 0, "and what export gives");
+    printf("%lu device steps for a cylinder of 36 sectors, with its seek\n", (guest.steps - steps) / (2 * CYLINDERS));
+}
+
+/* ---- one command for each rule */
+
+typedef struct {
+    const char *what;
+    uint8_t bytes[9];
+    size_t count, passed;       /* bytes of the channel; bytes that are to pass */
+    uint8_t wanted[7];
+} Case;
+
+static void try_one(const Case *one) {
+    transfer(&guest, one->bytes, buffer, one->count);
+    int is_so = guest.passed == one->passed && guest.results == 7 && memcmp(guest.result, one->wanted, 7) == 0;
+    if (!is_so) {
+        printf("%u bytes, results", (unsigned)guest.passed);
+        for (int i = 0; i < guest.results; i++) printf(" %02X", guest.result[i]);
+        printf("\n");
+    }
+    check(is_so, one->what);
+}
+
+static void try_all(const Case *cases, size_t count) {
+    for (size_t i = 0; i < count; i++) try_one(&cases[i]);
+}
+
+#define TRY(cases) try_all(cases, sizeof cases / sizeof cases[0])
+#define GAP 0x1B, 0xFF
+
+static const Case ends[] = {
+    {"MT goes on from head 0 to head 1", {READ | MT, 0, 5, 0, 17, 2, 18, GAP}, 4 * 512, 4 * 512, {0x04, 0, 0, 5, 1, 3, 2}},
+    {"behind EOT of head 1: the next cylinder", {READ | MT, 0, 5, 0, 1, 2, 18, GAP}, 2 * TRACK, 2 * TRACK, {0x04, 0, 0, 6, 0, 1, 2}},
+    {"behind EOT of head 0: the other head", {READ | MT, 0, 5, 0, 18, 2, 18, GAP}, 512, 512, {0x00, 0, 0, 5, 1, 1, 2}},
+    {"behind EOT of head 1 alone", {READ | MT, 4, 5, 1, 18, 2, 18, GAP}, 512, 512, {0x04, 0, 0, 6, 0, 1, 2}},
+    {"without MT behind EOT: the next cylinder, the same head", {READ, 4, 5, 1, 18, 2, 18, GAP}, 512, 512, {0x04, 0, 0, 6, 1, 1, 2}},
+    {"without MT below EOT: the next record", {READ, 4, 5, 1, 3, 2, 18, GAP}, 5 * 512, 5 * 512, {0x04, 0, 0, 5, 1, 8, 2}},
+    {"no terminal count: EN behind EOT of head 1", {READ | MT, 0, 5, 0, 1, 2, 18, GAP}, ENDLESS, 2 * TRACK, {0x44, 0x80, 0, 5, 1, 18, 2}},
+    {"no terminal count, no MT: EN behind EOT", {READ, 0, 5, 0, 10, 2, 18, GAP}, ENDLESS, 9 * 512, {0x40, 0x80, 0, 5, 0, 18, 2}},
+    {"the terminal count within a sector", {READ | MT, 0, 7, 0, 3, 2, 18, GAP}, 700, 700, {0x00, 0, 0, 7, 0, 5, 2}},
+    {"the terminal count with a sector's last byte", {READ | MT, 0, 7, 0, 3, 2, 18, GAP}, 512, 512, {0x00, 0, 0, 7, 0, 4, 2}},
+    {"R beyond the track: ND", {READ, 0, 7, 0, 19, 2, 19, GAP}, 512, 0, {0x40, 0x04, 0, 7, 0, 19, 2}},
+    {"EOT below R: R counts on, up to ND", {READ, 0, 7, 0, 5, 2, 3, GAP}, ENDLESS, 14 * 512, {0x40, 0x04, 0, 7, 0, 19, 2}},
+    {"EOT below R, with a count", {READ, 0, 7, 0, 5, 2, 3, GAP}, 1024, 1024, {0x00, 0, 0, 7, 0, 7, 2}},
+    {"EOT beyond the track: R counts on, up to ND", {READ, 0, 7, 0, 17, 2, 20, GAP}, ENDLESS, 1024, {0x40, 0x04, 0, 7, 0, 19, 2}},
+    {"the head isn't that of the key: ND", {READ, 4, 7, 0, 1, 2, 18, GAP}, 512, 0, {0x44, 0x04, 0, 7, 0, 1, 2}},
+    {"another size: ND", {READ, 0, 7, 0, 1, 3, 18, GAP}, 1024, 0, {0x40, 0x04, 0, 7, 0, 1, 3}},
+};
+
+static const Case marks[] = {
+    {"SK 0: a deleted sector is read, and ends the command", {READ, 0, 9, 0, 3, 2, 18, GAP}, 6 * 512, 3 * 512, {0x00, 0, 0x40, 9, 0, 6, 2}},
+    {"SK 1: it is passed over", {READ | SK, 0, 9, 0, 3, 2, 18, GAP}, 5 * 512, 5 * 512, {0x00, 0, 0x40, 9, 0, 9, 2}},
+    {"SK 1 up to EOT, no terminal count", {READ | SK, 0, 9, 0, 3, 2, 8, GAP}, ENDLESS, 5 * 512, {0x40, 0x80, 0x40, 9, 0, 8, 2}},
+    {"SK 1, and it is the last", {READ | SK, 0, 9, 0, 5, 2, 5, GAP}, 512, 0, {0x40, 0x80, 0x40, 9, 0, 5, 2}},
+    {"READ DELETED of it", {READ_DELETED, 0, 9, 0, 5, 2, 18, GAP}, 512, 512, {0x00, 0, 0, 9, 0, 6, 2}},
+    {"READ DELETED, SK 0: a sector that isn't deleted ends it", {READ_DELETED, 0, 9, 0, 3, 2, 18, GAP}, 1024, 512, {0x00, 0, 0x40, 9, 0, 4, 2}},
+    {"READ DELETED, SK 1: such are passed over", {READ_DELETED | SK, 0, 9, 0, 3, 2, 18, GAP}, 512, 512, {0x00, 0, 0x40, 9, 0, 6, 2}},
+    {"READ DELETED with MT", {READ_DELETED | MT, 0, 10, 0, 17, 2, 18, GAP}, 4 * 512, 4 * 512, {0x04, 0, 0, 10, 1, 3, 2}},
+};
+
+static int is_all(const uint8_t *bytes, size_t count, uint8_t value) {
+    for (size_t i = 0; i < count; i++)
+        if (bytes[i] != value) return 0;
+    return 1;
+}
+
+static int is_sector(const uint8_t *bytes, int c, int h, int r) { return memcmp(bytes, sector(flat, c, h, r), 512) == 0; }
+
+/* What a read gave is what `flat` has there. */
+static void reads(void) {
+    TRY(ends);
+    try_one(&ends[0]);
+    check(is_sector(buffer, 5, 0, 17) && is_sector(buffer + 512, 5, 0, 18) && is_sector(buffer + 1024, 5, 1, 1) && is_sector(buffer + 1536, 5, 1, 2), "its bytes are those of the sectors");
+}
+
+static void writes(void) {
+    static const Case write = {"WRITE, the terminal count within the third of its sectors", {WRITE | MT, 0, 9, 0, 17, 2, 18, GAP}, 1300, 1300, {0x04, 0, 0, 9, 1, 2, 2}};
+    static const Case read = {"they are read, and the one behind them", {READ | MT, 0, 9, 0, 17, 2, 18, GAP}, 4 * 512, 4 * 512, {0x04, 0, 0, 9, 1, 3, 2}};
+    static const Case beyond = {"WRITE beyond the track: ND", {WRITE, 0, 9, 0, 19, 2, 19, GAP}, 512, 1, {0x40, 0x04, 0, 9, 0, 19, 2}};
+    memset(buffer, 0xA5, 1300);
+    try_one(&write);
+    memset(buffer, 0, sizeof buffer);
+    try_one(&read);
+    check(is_all(buffer, 1300, 0xA5) && is_all(buffer + 1300, 236, 0), "what wasn't given is 00 up to the sector's end");
+    check(is_sector(buffer + 1536, 9, 1, 2), "the sector behind is as it was");
+    try_one(&beyond);
+}
+
+static void deleted(void) {
+    static const Case one = {"WRITE DELETED", {WRITE_DELETED, 0, 9, 0, 5, 2, 18, GAP}, 512, 512, {0x00, 0, 0, 9, 0, 6, 2}};
+    static const Case four = {"WRITE DELETED with MT", {WRITE_DELETED | MT, 0, 10, 0, 17, 2, 18, GAP}, 4 * 512, 4 * 512, {0x04, 0, 0, 10, 1, 3, 2}};
+    memset(buffer, 0x5D, 4 * 512);
+    try_one(&one);
+    try_one(&four);
+    TRY(marks);
+    try_one(&marks[1]);
+    check(is_sector(buffer, 9, 0, 3) && is_sector(buffer + 512, 9, 0, 4) && is_sector(buffer + 1024, 9, 0, 6) && is_sector(buffer + 2048, 9, 0, 8), "without the bytes of the one that is passed over");
+}
+
+/* ---- refusals, seeks, resets, media */
+
+static void refused(const char *what, const uint8_t *bytes, int count) {
+    channel(&guest, buffer, 512);
+    command(&guest, bytes, count);
+    check(guest.results == 1 && guest.result[0] == 0x80 && guest.passed == 0, what);
+}
+
+static void refusals(void) {
+    const uint8_t sizes[] = {0, 7};
+    const uint8_t skipping[] = {WRITE | MT | SK}, polled[] = {0x03, 0xDF, 0x03}, served[] = {0x03, 0xDF, 0x02}, away[] = {0x0F, 0, 20};
+    const uint8_t whole[] = {READ | MT, 0, 5, 0, 1, 2, 18, GAP};
+    configure(&guest, FIFO_OFF);
+    for (int i = 0; i < 2; i++) {
+        const uint8_t bytes[] = {READ | MT, 0, 5, 0, 1, sizes[i], 18, GAP};
+        refused(i == 0 ? "size code 0: 80" : "size code 7: 80", bytes, 9);
+    }
+    refused("SK on a write: 80", skipping, 1);
+    command(&guest, polled, 3);
+    refused("no DMA, by SPECIFY: 80", whole, 9);
+    command(&guest, served, 3);
+    put(&guest, away, 3);
+    refused("while heads seek: 80", whole, 9);
+    run(&guest, 1000000);
+    refused("before SENSE INTERRUPT has told that they are there: 80", whole, 9);
+    sense_interrupt(&guest);
+    check(guest.results == 2 && guest.result[0] == 0x20 && guest.result[1] == 20, "which tells it");
+    configure(&guest, FIFO_OFF | EIS);
+    command(&guest, polled, 3);
+    channel(&guest, buffer, 512);
+    put(&guest, whole, 9);
+    while (!(in(&guest, MSR) & RQM)) need(!run(&guest, 1), "no interrupt comes");
+    refused("no DMA, and a seek is implied: 80 once the heads are there", whole, 0);
+    command(&guest, served, 3);
+}
+
+static uint8_t cylinder(void) {
+    uint8_t cylinder_now, signs;
+    MUST(telwyddus_controller_bay(&guest.controller, 0, &cylinder_now, &signs));
+    return cylinder_now;
+}
+
+static void seeks(void) {
+    static const Case there = {"the strap: the heads seek first", {READ, 0, 40, 0, 1, 2, 18, GAP}, 1024, 1024, {0x00, 0, 0, 40, 0, 3, 2}};
+    static const Case not_there = {"without EIS and the strap they don't: ND", {READ, 0, 41, 0, 1, 2, 18, GAP}, 512, 0, {0x40, 0x04, 0, 41, 0, 1, 2}};
+    static const Case by_options = {"EIS of CONFIGURE: they do", {READ, 0, 41, 0, 1, 2, 18, GAP}, 512, 512, {0x00, 0, 0, 41, 0, 2, 2}};
+    static const Case cleared = {"a reset clears EIS", {READ, 0, 40, 0, 1, 2, 18, GAP}, 512, 0, {0x40, 0x04, 0, 40, 0, 1, 2}};
+    configure(&guest, FIFO_OFF);
+    MUST(telwyddus_controller_strap_seeks(&guest.controller, 1));
+    try_one(&there);
+    check(cylinder() == 40, "they are there");
+    MUST(telwyddus_controller_strap_seeks(&guest.controller, 0));
+    try_one(&not_there);
+    configure(&guest, FIFO_OFF | EIS);
+    try_one(&by_options);
+    start(&guest);
+    try_one(&cleared);
+    configure(&guest, FIFO_OFF | EIS);
+}
+
+/* What a guest does within a command: nothing comes of it. */
+static void within(void) {
+    const uint8_t bytes[] = {READ | MT, 0, 30, 0, 1, 2, 18, GAP}, sector_one[] = {0x00, 0, 0, 30, 0, 2, 2};
+    channel(&guest, buffer, 512);
+    put(&guest, bytes, 9);
+    while (!run(&guest, 1)) {
+        out(&guest, BYTES, 0x08);
+        need(in(&guest, BYTES) == 0xFF && in(&guest, MSR) == BUSY, "no byte is given or taken within a command");
+    }
+    finish(&guest);
+    check(guest.results == 7 && memcmp(guest.result, sector_one, 7) == 0 && is_sector(buffer, 30, 0, 1), "bytes that are sent within a command are ignored");
+}
+
+static void early_count(void) {
+    const uint8_t bytes[] = {READ | MT, 0, 60, 0, 4, 2, 18, GAP}, none[] = {0x00, 0, 0, 60, 0, 5, 2};
+    channel(&guest, buffer, 0);
+    put(&guest, bytes, 9);
+    MUST(telwyddus_controller_tc(&guest.controller));
+    finish(&guest);
+    check(guest.results == 7 && memcmp(guest.result, none, 7) == 0 && guest.passed == 0, "the terminal count within an implied seek: no byte passes, one sector is searched");
+}
+
+/* A command of four sectors, of which so many bytes pass. */
+static void begin_four(size_t bytes_passed) {
+    const uint8_t bytes[] = {READ | MT, 0, 60, 0, 1, 2, 18, GAP};
+    channel(&guest, buffer, 4 * 512);
+    put(&guest, bytes, 9);
+    while (guest.passed < bytes_passed) need(!run(&guest, 1), "it goes on");
+}
+
+/* The medium is out while such a command goes on. */
+static void take_medium(size_t bytes_passed, size_t passed, const uint8_t *wanted, const char *what) {
+    telwyddus_tray tray = {0};
+    begin_four(bytes_passed);
+    MUST(telwyddus_controller_eject(&guest.controller, 0, &tray));
+    finish(&guest);
+    if (guest.passed != passed || memcmp(guest.result, wanted, 7) != 0)
+        printf("%u bytes, results %02X %02X %02X, record %u\n", (unsigned)guest.passed, (unsigned)guest.result[0], (unsigned)guest.result[1], (unsigned)guest.result[2], (unsigned)guest.result[5]);
+    check(guest.results == 7 && guest.passed == passed && memcmp(guest.result, wanted, 7) == 0, what);
+    MUST(telwyddus_controller_insert(&guest.controller, 0, &tray));
+    MUST(telwyddus_tray_free(&tray));
+}
+
+static void breaks(void) {
+    static const Case again = {"the next command is as ever", {READ | MT, 0, 60, 0, 18, 2, 18, GAP}, 1024, 1024, {0x04, 0, 0, 60, 1, 2, 2}};
+    static const uint8_t within_data[] = {0x40, 0x20, 0x20, 60, 0, 2, 2}, between[] = {0x40, 0x01, 0, 60, 0, 2, 2};
+    begin_four(700);
+    start(&guest);
+    check(in(&guest, MSR) == RQM, "a reset ends a command");
+    configure(&guest, FIFO_OFF | EIS);
+    try_one(&again);
+    take_medium(700, 1024, within_data, "the medium is taken out within a sector's data: its check fails");
+    take_medium(512, 512, between, "the medium is taken out between two sectors: no address mark comes");
+    try_one(&again);
+}
+
+int main(void) {
+    import_flat(flat, image);
+    make_guest(&guest, image, IMAGE);
+    configure(&guest, FIFO_OFF | EIS);
+    whole_cylinders();
+    reads();
+    writes();
+    deleted();
+    refusals();
+    within();
+    early_count();
+    breaks();
+    seeks();
+    MUST(telwyddus_controller_free(&guest.controller));
+    return 0;
+}
