@@ -1,9 +1,9 @@
 /* telwyddus.h - the diskette path of a PC/AT, device step by device step: for emulators and for tests of drivers. And the
  * program `floppy` over files in memory, for tools.
  *
- * Four faces, one page each: the controller with its two drives, for a bus of your own; the whole machine, for benches of
- * drivers; trays, in which media lie outside drives; and shelves, on which the program runs. The code behind them is proved:
- * docs/C.md says what of, and how to build. For C and for C++.
+ * Five faces, one page each: the controller with its two drives, for a bus of your own; the whole machine, for benches of
+ * drivers; trays, in which media lie outside drives; shelves, on which the program runs; and disks, single sectors read and
+ * written. The code behind them is proved: docs/C.md says what of, and how to build. For C and for C++.
  *
  * SLOTS. A slot holds one object or none. It is yours: on your stack, in your device's state. Begin it all 0 ("= {0}"). Don't
  * write its fields, and don't copy or move it while it holds something: a copy that is freed besides frees twice. A call on a
@@ -40,13 +40,14 @@ typedef struct telwyddus_controller { void *at_; uint32_t tag_; } telwyddus_cont
 typedef struct telwyddus_machine { void *at_; uint32_t tag_; } telwyddus_machine;
 typedef struct telwyddus_tray { void *at_; uint32_t tag_; } telwyddus_tray;
 typedef struct telwyddus_shelf { void *at_; uint32_t tag_; } telwyddus_shelf;
+typedef struct telwyddus_disk { void *at_; uint32_t tag_; } telwyddus_disk;
 
 enum telwyddus_code {
     TELWYDDUS_DONE = 0,
     TELWYDDUS_EMPTY = 1,        /* the slot holds nothing */
     TELWYDDUS_FULL = 2,         /* the slot that was to be filled holds something already */
     TELWYDDUS_NO_MEMORY = 3,    /* memory is out */
-    TELWYDDUS_OUT_OF_RANGE = 4, /* a bay above 1, or addresses beyond memory */
+    TELWYDDUS_OUT_OF_RANGE = 4, /* a bay above 1, addresses beyond memory, a sector that no drive has */
     TELWYDDUS_BAD_IMAGE = 5,    /* the bytes are no image file */
     TELWYDDUS_HAS_MEDIUM = 6,   /* the bay has a medium in: the new one stays in its tray */
     TELWYDDUS_NO_MEDIUM = 7,    /* the bay, or the tray, has none */
@@ -54,7 +55,16 @@ enum telwyddus_code {
     TELWYDDUS_BAD_PLAN = 9,     /* a line of the plan isn't understood */
     TELWYDDUS_TOO_SHORT = 10,   /* the buffer is too short */
     TELWYDDUS_NOT_TEXT = 11,    /* a name, or a word, isn't UTF-8 */
-    TELWYDDUS_NO_FILE = 12      /* no file has the name */
+    TELWYDDUS_NO_FILE = 12,     /* no file has the name */
+    TELWYDDUS_NOT_READY = 13,   /* no medium is in the bay that is to be acknowledged */
+    TELWYDDUS_CHANGED = 14,     /* the bay isn't acknowledged since its medium was put in */
+    TELWYDDUS_PROTECTED = 15,   /* the medium is write-protected */
+    TELWYDDUS_NO_MARK = 16,     /* the track has no address mark, the sector no data, or the layout doesn't fit on the track */
+    TELWYDDUS_NOT_FOUND = 17,   /* the track has address marks, and no such sector */
+    TELWYDDUS_BAD_CRC = 18,     /* the sector's data is damaged, or was read back otherwise than it was written */
+    TELWYDDUS_OVERRUN = 19,     /* a DMA request waited too long */
+    TELWYDDUS_SEEK = 20,        /* the heads didn't find track 0 */
+    TELWYDDUS_UNFIT = 21        /* the other form can't have a track */
 };
 
 /* ---------------------------------------------------------------------------------------------------------------------------
@@ -69,6 +79,29 @@ TELWYDDUS_CALL uint32_t telwyddus_tray_write(telwyddus_tray *tray, uint8_t *out,
 
 /* Frees a tray and its medium, if any. DONE, EMPTY. */
 TELWYDDUS_CALL uint32_t telwyddus_tray_free(telwyddus_tray *tray);
+
+/* Makes a tray with an unformatted medium of 1 to 80 cylinders and two heads, at 500 or 250 kbit/s. DONE, FULL, NO_MEMORY,
+ * OUT_OF_RANGE. */
+TELWYDDUS_CALL uint32_t telwyddus_tray_blank(telwyddus_tray *tray, uint8_t cylinders, uint16_t kilobits);
+
+/* Makes a tray with the medium of an ImageDisk file (MFM at 500 or 250 kbit/s): all its sectors, and no others. UNFIT where a track
+ * has no room for its sectors: its cylinder and head are told. DONE, FULL, NO_MEMORY, BAD_IMAGE, UNFIT. */
+TELWYDDUS_CALL uint32_t telwyddus_tray_read_imd(telwyddus_tray *tray, const uint8_t *bytes, size_t length, uint8_t *cylinder,
+    uint8_t *head);
+
+/* Writes the ImageDisk file of its medium to the beginning of a buffer. *length is the file's, told where the buffer is too short
+ * too. UNFIT where such a file can't have a track: its cylinder and head are told. DONE, EMPTY, NO_MEMORY, NO_MEDIUM, TOO_SHORT,
+ * UNFIT. */
+TELWYDDUS_CALL uint32_t telwyddus_tray_write_imd(telwyddus_tray *tray, uint8_t *out, size_t room, size_t *length,
+    uint8_t *cylinder, uint8_t *head);
+
+/* Writes what stands on its medium to the beginning of a buffer: 11 bytes for each address field, by cylinder, head and place.
+ *   0, 1    cylinder and head of the track
+ *   2 to 5  the first cell of the field's three A1 from the index on, the lowest byte first
+ *   6 to 9  C, H, R and N of the field
+ *   10      00 the data is there, 01 and marked deleted, 02 there is none, 10 its check fails, FF N names no size
+ * *length is told as by write. DONE, EMPTY, NO_MEMORY, NO_MEDIUM, TOO_SHORT. */
+TELWYDDUS_CALL uint32_t telwyddus_tray_survey(telwyddus_tray *tray, uint8_t *out, size_t room, size_t *length);
 
 /* ---------------------------------------------------------------------------------------------------------------------------
  * THE CONTROLLER (82077AA, PC/AT mode), with two drives. Your emulator has the DMA controller, the interrupt controller and the
@@ -209,6 +242,47 @@ TELWYDDUS_CALL uint32_t telwyddus_shelf_run(telwyddus_shelf *shelf, const uint8_
 /* Copies all that runs printed since the report was had last to the beginning of a buffer, and forgets it. Where the buffer is
  * too short it is kept, and *length is its length. DONE, EMPTY, TOO_SHORT. */
 TELWYDDUS_CALL uint32_t telwyddus_shelf_report(telwyddus_shelf *shelf, uint8_t *out, size_t room, size_t *length);
+
+/* ---------------------------------------------------------------------------------------------------------------------------
+ * DISKS. Single sectors, for tools: a PC/AT whose driver is set up, with two drives without faults. Each call is done by the driver
+ * through the controller, down to the cells, with 3 attempts, and nothing disturbs it.
+ *
+ *   - Insert a medium, acknowledge its bay, and then read, write and format. The acknowledgement finds the rate; a medium on which
+ *     nothing is recorded counts as one of 500 kbit/s, so set the rate of a blank one of 250.
+ *   - A sector is named by the C, H, R and N of its address field: cylinder 0 to 79, head 0 or 1, record 1 to 255, size code 1 to 6
+ *     for 256 to 8,192 bytes. The heads go to cylinder C, and look under head H.
+ *   - The first refusal that applies is answered: OUT_OF_RANGE, TOO_SHORT, CHANGED, PROTECTED, and then what is found on the track. */
+
+/* Makes a desk with two empty bays. DONE, FULL, NO_MEMORY. */
+TELWYDDUS_CALL uint32_t telwyddus_disk_new(telwyddus_disk *disk);
+
+/* Frees it with its media. DONE, EMPTY. */
+TELWYDDUS_CALL uint32_t telwyddus_disk_free(telwyddus_disk *disk);
+
+/* Media in and out, as at the controller. The bay isn't acknowledged then. */
+TELWYDDUS_CALL uint32_t telwyddus_disk_insert(telwyddus_disk *disk, uint32_t bay, telwyddus_tray *tray);
+TELWYDDUS_CALL uint32_t telwyddus_disk_eject(telwyddus_disk *disk, uint32_t bay, telwyddus_tray *tray);
+
+/* Acknowledges the medium in a bay, and finds its rate by the address fields of cylinder 0, head 0. DONE, EMPTY, OUT_OF_RANGE,
+ * NOT_READY. */
+TELWYDDUS_CALL uint32_t telwyddus_disk_acknowledge(telwyddus_disk *disk, uint32_t bay);
+
+/* Sets the rate of an acknowledged bay, 500 or 250 kbit/s. DONE, EMPTY, OUT_OF_RANGE, CHANGED. */
+TELWYDDUS_CALL uint32_t telwyddus_disk_set_rate(telwyddus_disk *disk, uint32_t bay, uint16_t kilobits);
+
+/* Reads a sector to the beginning of a buffer of 128 << n bytes or more; *deleted is 1 where it is marked deleted, else 0. DONE, EMPTY,
+ * OUT_OF_RANGE, TOO_SHORT, CHANGED, NO_MARK, NOT_FOUND, BAD_CRC, OVERRUN, SEEK. */
+TELWYDDUS_CALL uint32_t telwyddus_disk_read(telwyddus_disk *disk, uint32_t bay, uint8_t c, uint8_t h, uint8_t r, uint8_t n,
+    uint8_t *out, size_t room, uint8_t *deleted);
+
+/* Writes a sector of exactly 128 << n bytes, marked deleted where `deleted` isn't 0, and reads it back. Behind a refusal of the drive
+ * the sector may have been written in part. DONE, EMPTY, OUT_OF_RANGE, CHANGED, PROTECTED, NO_MARK, NOT_FOUND, BAD_CRC, OVERRUN, SEEK. */
+TELWYDDUS_CALL uint32_t telwyddus_disk_write(telwyddus_disk *disk, uint32_t bay, uint8_t c, uint8_t h, uint8_t r, uint8_t n,
+    const uint8_t *bytes, size_t length, uint8_t deleted);
+
+/* Formats a track in the standard layout of the bay's rate: 18 records of 512 bytes F6 at 500 kbit/s, 9 at 250; and reads each back.
+ * DONE, EMPTY, OUT_OF_RANGE, CHANGED, PROTECTED, NO_MARK, NOT_FOUND, BAD_CRC, OVERRUN, SEEK. */
+TELWYDDUS_CALL uint32_t telwyddus_disk_format(telwyddus_disk *disk, uint32_t bay, uint8_t c, uint8_t h);
 
 #ifdef __cplusplus
 }

@@ -30,9 +30,19 @@ class BadPlan(Refused): """A line of the plan isn't understood: `line`, counted 
 class TooShort(Refused): """The buffer is too short."""
 class NotText(Refused): """A name, or a word, isn't UTF-8."""
 class NoFile(Refused): """No file has the name."""
+class NotReady(Refused): """No medium is in the bay that is to be acknowledged."""
+class Changed(Refused): """The bay isn't acknowledged since its medium was put in."""
+class Protected(Refused): """The medium is write-protected."""
+class NoMark(Refused): """The track has no address mark, or the sector no data."""
+class NotFound(Refused): """The track has no such sector."""
+class BadCrc(Refused): """The sector's data is damaged."""
+class Overrun(Refused): """A DMA request waited too long."""
+class Seek(Refused): """The heads didn't find track 0."""
+class Unfit(Refused): """The other form can't have a track: `cylinder` and `head`."""
 
 
-CODES = (None, Empty, Full, NoMemory, OutOfRange, BadImage, HasMedium, NoMedium, NotAsked, BadPlan, TooShort, NotText, NoFile)
+CODES = (None, Empty, Full, NoMemory, OutOfRange, BadImage, HasMedium, NoMedium, NotAsked, BadPlan, TooShort, NotText, NoFile,
+         NotReady, Changed, Protected, NoMark, NotFound, BadCrc, Overrun, Seek, Unfit)
 
 
 class Lines(enum.IntFlag):
@@ -41,6 +51,11 @@ class Lines(enum.IntFlag):
 
 class Signs(enum.IntFlag):
     MOTOR, SELECTED, GATE, MEDIUM = 1, 2, 4, 8
+
+
+class Found(enum.IntEnum):
+    """What a survey found behind an address field."""
+    OK, DELETED, NO_DATA, BAD_CRC, NO_SIZE = 0x00, 0x01, 0x02, 0x10, 0xFF
 
 
 class Slot(ctypes.Structure):
@@ -99,13 +114,13 @@ class Holder:
         self._call(name, *values, ctypes.byref(told))
         return told.value
 
-    def _bytes(self, name, *values):
+    def _bytes(self, name, *values, behind=()):
         """Bytes whose number the call tells."""
         room, length = 0, ctypes.c_size_t()
         while True:
             out = ctypes.create_string_buffer(room + 1)
             try:
-                self._call(name, *values, out, size(room), ctypes.byref(length))
+                self._call(name, *values, out, size(room), ctypes.byref(length), *behind)
                 return out.raw[:length.value]
             except TooShort:
                 room = length.value
@@ -121,7 +136,44 @@ class Tray(Holder):
         if image is not None:
             self._call("read", *given(image))
 
+    @classmethod
+    def blank(cls, cylinders, kilobits=500):
+        """An unformatted medium with two heads."""
+        tray = cls()
+        tray._call("blank", byte(cylinders), port(kilobits))
+        return tray
+
+    @classmethod
+    def of_imd(cls, data):
+        """The medium of an ImageDisk file."""
+        tray, place = cls(), (ctypes.c_uint8 * 2)()
+        tray._fitting(place, lambda: tray._call("read_imd", *given(data), *tray._places(place)))
+        return tray
+
     def image(self): return self._bytes("write")
+
+    def imd(self):
+        """Its ImageDisk file."""
+        place = (ctypes.c_uint8 * 2)()
+        return self._fitting(place, lambda: self._bytes("write_imd", behind=self._places(place)))
+
+    def survey(self):
+        """Its address fields: cylinder and head of the track, the first cell, (C, H, R, N), and what was found."""
+        data = self._bytes("survey")
+        for at in range(0, len(data), 11):
+            field = data[at:at + 11]
+            yield field[0], field[1], int.from_bytes(field[2:6], "little"), tuple(field[6:10]), Found(field[10])
+
+    @staticmethod
+    def _places(place): return ctypes.byref(place), ctypes.byref(place, 1)
+
+    @staticmethod
+    def _fitting(place, call):
+        try:
+            return call()
+        except Unfit as refused:
+            refused.cylinder, refused.head = place
+            raise
 
 
 class Drives(Holder):
@@ -221,3 +273,27 @@ class Shelf(Holder):
     def report(self):
         """What runs printed since this was asked last."""
         return self._bytes("report").decode()
+
+
+class Disk(Drives):
+    """Single sectors: a PC/AT with its driver, and two drives without faults."""
+
+    kind = "disk"
+
+    def __init__(self):
+        super().__init__()
+        self._call("new")
+
+    def acknowledge(self, bay): self._call("acknowledge", count(bay))
+    def set_rate(self, bay, kilobits): self._call("set_rate", count(bay), port(kilobits))
+    def format(self, bay, c, h): self._call("format", count(bay), byte(c), byte(h))
+
+    def read(self, bay, c, h, r, n=2):
+        """The bytes of a sector, and whether it is marked deleted."""
+        room, deleted = 128 << min(n, 6), ctypes.c_uint8()
+        out = ctypes.create_string_buffer(room)
+        self._call("read", count(bay), byte(c), byte(h), byte(r), byte(n), out, size(room), ctypes.byref(deleted))
+        return out.raw, bool(deleted.value)
+
+    def write(self, bay, c, h, r, data, n=2, deleted=False):
+        self._call("write", count(bay), byte(c), byte(h), byte(r), byte(n), *given(data), byte(int(deleted)))

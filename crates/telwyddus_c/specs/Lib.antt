@@ -1,7 +1,12 @@
+pub mod Blanks
 pub mod Buffers
 pub mod Controllers
+pub mod Disks
 pub mod Images
+pub mod Imds
 pub mod Machines
 pub mod Media
+pub mod Rates
 pub mod Shelves
 pub mod Slots
+pub mod Surveys

@@ -38,3 +38,30 @@ pub const NOT_TEXT: u32 = 11;
 
 /// No file has the name.
 pub const NO_FILE: u32 = 12;
+
+/// The bay isn't ready: no medium is in.
+pub const NOT_READY: u32 = 13;
+
+/// The bay isn't acknowledged since its medium was put in.
+pub const CHANGED: u32 = 14;
+
+/// The medium is write-protected.
+pub const PROTECTED: u32 = 15;
+
+/// The track has no address mark, or the sector no data.
+pub const NO_MARK: u32 = 16;
+
+/// The track has no such sector.
+pub const NOT_FOUND: u32 = 17;
+
+/// The sector's data is damaged.
+pub const BAD_CRC: u32 = 18;
+
+/// A DMA request waited too long.
+pub const OVERRUN: u32 = 19;
+
+/// The heads didn't find track 0.
+pub const SEEK: u32 = 20;
+
+/// The other form can't have a track.
+pub const UNFIT: u32 = 21;

@@ -1,12 +1,17 @@
-//! The controller, the machine, media, and the program over files in memory for C: c/telwyddus.h.
+//! The controller, the machine, sectors of diskettes, media, and the program over files in memory for C: c/telwyddus.h.
 //!
 //! C keeps slots, all 0 at first, and calls these functions with their addresses. Each answers a code.
 #![tactic(auto)]
 
+mod blank;
 mod buffer;
 mod code;
 mod controller;
+mod disk;
 mod image;
+mod imd;
 mod machine;
+mod rate;
 mod shelf;
+mod survey;
 mod tray;

@@ -1,0 +1,39 @@
+// The desk's making.
+ghost use Rattle.telwyddus_c.specs.Disks.{IsBareDesk};
+ghost use Rattle.telwyddus_c.specs.Slots.{Fills, Frees};
+
+use crate::code::{DONE, EMPTY, FULL, NO_MEMORY};
+use c_slots::DiskSlot;
+use sector_desk::SectorDesk;
+use std::alloc::Global;
+
+/// Makes a desk with two empty bays.
+#[unsafe(no_mangle)]
+pub extern "C" fn telwyddus_disk_new(alloc: Global, slot: &mut DiskSlot) -> u32
+    ensures { Fills IsBareDesk result slot.old.held.desk slot.new.held.desk }
+{
+    if slot.is_full() {
+        return FULL;
+    }
+    match SectorDesk::new(alloc) {
+        Ok(desk) => match Box::new(alloc, desk) {
+            Ok(desk) => {
+                slot.put(desk);
+                DONE
+            }
+            Err(_) => NO_MEMORY,
+        },
+        Err(_) => NO_MEMORY,
+    }
+}
+
+/// Frees the desk with its media.
+#[unsafe(no_mangle)]
+pub extern "C" fn telwyddus_disk_free(alloc: Global, slot: &mut DiskSlot) -> u32
+    ensures { Frees result slot.old.held.desk slot.new.held.desk }
+{
+    match slot.take(alloc) {
+        None => EMPTY,
+        Some(_desk) => DONE,
+    }
+}

@@ -1,0 +1,76 @@
+#!/usr/bin/env python3
+"""Single sectors by calls: a damaged image is read, a blank medium is formatted and written, and an ImageDisk file made of it."""
+import disks
+from telwyddus import BadCrc, Changed, Disk, Found, NotFound, Tray
+
+CYLINDERS, DAMAGED = 2, (1, 0, 3)
+
+
+def places():
+    for c in range(CYLINDERS):
+        for h in range(2):
+            for r in range(1, 19):
+                yield c, h, r
+
+
+def content(c, h, r):
+    return bytes((3 * i + 64 * c + 32 * h + r) % 256 for i in range(512))
+
+
+def damaged():
+    """An image with a content of its own in each sector; one word of one sector is spoilt."""
+    made = disks.formatted(CYLINDERS)
+    for c, h, r in places():
+        made.write(r, content(c, h, r), track=2 * c + h)
+    c, h, r = DAMAGED
+    made.tracks[2 * c + h][146 + 682 * (r - 1) + 44 + 100] = 0
+    return made.file()
+
+
+def refusal(call, *values):
+    try:
+        call(*values)
+    except (BadCrc, Changed, NotFound) as refused:
+        return type(refused)
+
+
+def rescued(disk):
+    """What can be read of the medium in bay 0."""
+    for place in places():
+        try:
+            yield place, disk.read(0, *place)[0]
+        except BadCrc:
+            yield place, None
+
+
+def main():
+    with Disk() as disk, Tray(damaged()) as old, Tray.blank(CYLINDERS) as new:
+        fields = list(old.survey())
+        assert [key for _, _, _, key, _ in fields] == [(c, h, r, 2) for c, h, r in places()]
+        assert [key[:3] for _, _, _, key, found in fields if found != Found.OK] == [DAMAGED]
+        disk.insert(0, old)
+        disk.insert(1, new)
+        assert refusal(disk.read, 0, 0, 0, 1) is Changed
+        disk.acknowledge(0)
+        disk.acknowledge(1)
+        assert refusal(disk.read, 0, 0, 0, 19) is NotFound
+        for c in range(CYLINDERS):
+            for h in range(2):
+                disk.format(1, c, h)
+        for place, data in rescued(disk):
+            assert (data is None) == (place == DAMAGED)
+            disk.write(1, *place, content(*place) if data is None else data)
+        with disk.eject(1) as saved:
+            file = saved.imd()
+            image = saved.image()
+        print(f"{len(fields)} fields, {len(file)} bytes of ImageDisk, {len(image)} bytes of image")
+    with Tray.of_imd(file) as tray, Disk() as disk:
+        disk.insert(0, tray)
+        disk.acknowledge(0)
+        for place in places():
+            assert disk.read(0, *place) == (content(*place), False)
+    print("each sector is where it was asked for")
+
+
+if __name__ == "__main__":
+    main()
