@@ -2,6 +2,3 @@ pub mod Opcodes
 pub mod Transfers
 pub mod Fronts
 pub mod Moves
-pub mod Serving
-pub mod Outcomes
-pub mod Calls

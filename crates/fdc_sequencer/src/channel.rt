@@ -2,7 +2,6 @@
 ghost use Rattle.std.specs.Prelude.{◌≡◌, ◌≤◌};
 ghost use Rattle.fdc_board.specs.Boards.{controller_of, SameDrives};
 ghost use Rattle.fdc_sequencer.specs.Fronts.{front_state, board_of, TakesFront, TakesMoving, GivesFront, GivesMoving, passed_one, told_front};
-ghost use Rattle.fdc_sequencer.specs.Serving.{KeepsServing, ServesCounted, passed_in, passed_out};
 
 use crate::sequencer::Sequencer;
 use crate::stage::{Moving, Stage};
@@ -12,7 +11,6 @@ impl<D: Inspect> Sequencer<D> {
     /// The channel takes a byte, where one is asked for.
     pub fn dack_read(&mut self) -> Option<u8>
         ensures takes { TakesFront (front_state D.state self.old) result (front_state D.state self.new) }
-        ensures serves { KeepsServing (passed_out result) (front_state D.state self.old) (front_state D.state self.new) }
         ensures drives { SameDrives (board_of self.old) (board_of self.new) }
     {
         match self.stage {
@@ -38,7 +36,6 @@ impl<D: Inspect> Sequencer<D> {
     /// The channel gives a byte, where one is asked for, and it is told whether one was.
     pub fn dack_write(&mut self, byte: u8) -> bool
         ensures gives { GivesFront byte (front_state D.state self.old) result (front_state D.state self.new) }
-        ensures serves { KeepsServing (passed_in result byte) (front_state D.state self.old) (front_state D.state self.new) }
         ensures drives { SameDrives (board_of self.old) (board_of self.new) }
     {
         match self.stage {
@@ -78,7 +75,6 @@ impl<D: Inspect> Sequencer<D> {
     /// The channel tells the terminal count: the command ends behind its sector, of which no further byte is moved.
     pub fn tc(&mut self)
         ensures told { front_state D.state self.new ≡ told_front (front_state D.state self.old) }
-        ensures serves { ServesCounted (front_state D.state self.old) (front_state D.state self.new) }
         ensures drives { SameDrives (board_of self.old) (board_of self.new) }
     {
         match self.stage {

@@ -6,7 +6,6 @@
 
 mod bays;
 mod channel;
-pub mod laws;
 mod moving;
 mod opcode;
 mod ports;

@@ -6,7 +6,6 @@ ghost use Rattle.fdc_seek.specs.Seeking.{has_ended_seek};
 ghost use Rattle.fdc_core.specs.Listening.{is_executing};
 ghost use Rattle.fdc_sequencer.specs.Fronts.{front_state, board_of, told_if, begun_if, BeginsSector, moving_of};
 ghost use Rattle.fdc_sequencer.specs.Moves.{StepsFront, FollowsStep, MovesOn, EndsSector, SeeksOn, passed_over_if, would_go_on, goes_on, is_unwanted, results_behind, results_failed, has_met_other};
-ghost use Rattle.fdc_sequencer.specs.Serving.{ServesOn};
 
 use crate::sequencer::Sequencer;
 use crate::stage::{Moving, Stage};
@@ -18,8 +17,7 @@ use inspected_drive::Inspect;
 impl<D: Inspect> Sequencer<D> {
     /// One device step: the board's, and where a sector ended in it, the next begins or there are results.
     pub fn step(&mut self)
-        ensures steps { StepsFront (front_state D.state self.old) (front_state D.state self.new) }
-        ensures serves { ServesOn (front_state D.state self.old) (front_state D.state self.new) }
+        ensures { StepsFront (front_state D.state self.old) (front_state D.state self.new) }
     {
         self.board.step();
         self.follow_step();

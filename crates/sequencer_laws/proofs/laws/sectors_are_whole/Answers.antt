@@ -1,5 +1,5 @@
-use Rattle.fdc_sequencer.proofs.Outcome.{has_field, passed_whole}
-use Rattle.fdc_sequencer.proofs.laws.sectors_are_whole.Goals as goal
+use Rattle.sequencer_laws.proofs.Outcome.{has_field, passed_whole}
+use Rattle.sequencer_laws.proofs.laws.sectors_are_whole.Goals as goal
 
 pub returns-clause-parts : goal.returns-clause-parts
 returns-clause-parts c = passed_whole

@@ -1,7 +1,7 @@
 use Rattle.std.proofs.Common.{refl}
-use Rattle.fdc_sequencer.proofs.Called.{media_serve, runs_serve}
-use Rattle.fdc_sequencer.proofs.Served.{begins_at, counts_serve, gives_serve, reads_serve, steps_serve, takes_serve, writes_serve}
-use Rattle.fdc_sequencer.proofs.laws.a_served_command_goes_on.Goals as goal
+use Rattle.sequencer_laws.proofs.Called.{media_serve, runs_serve}
+use Rattle.sequencer_laws.proofs.Served.{begins_at, counts_serve, gives_serve, reads_serve, steps_serve, takes_serve, writes_serve}
+use Rattle.sequencer_laws.proofs.laws.a_served_command_goes_on.Goals as goal
 
 pub returns-clause-steps : goal.returns-clause-steps
 returns-clause-steps c = steps_serve

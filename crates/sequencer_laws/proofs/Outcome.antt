@@ -13,8 +13,8 @@ use Rattle.fdc_core.specs.Written.{IsContent}
 use Rattle.fdc_core.specs.declared.controller.Fdc.{Fdc}
 use Rattle.fdc_sequencer.specs.Fronts.{Front}
 use Rattle.fdc_sequencer.specs.Moves.{goes_on, has_met_other, results_behind, results_failed, would_go_on}
-use Rattle.fdc_sequencer.specs.Outcomes.{AreBut, EndsSo, HasField, IsFailure, IsFieldWith, PassedWhole, PassesOfSector, ResultsSay, StopsBehind, TellsOther}
-use Rattle.fdc_sequencer.specs.Serving.{Accounts, AreLeft, Ends, History, IsLastOne, IsMarkOf, IsMoved, IsOfSector, Means, Part, Serves, ServesAt, bytes_moved, has_other, results_ended, sector_after, sent_of}
+use Rattle.sequencer_laws.specs.Outcomes.{AreBut, EndsSo, HasField, IsFailure, IsFieldWith, PassedWhole, PassesOfSector, ResultsSay, StopsBehind, TellsOther}
+use Rattle.sequencer_laws.specs.Serving.{Accounts, AreLeft, Ends, History, IsLastOne, IsMarkOf, IsMoved, IsOfSector, Means, Part, Serves, ServesAt, bytes_moved, has_other, results_ended, sector_after, sent_of}
 use Rattle.fdc_sequencer.specs.Transfers.{is_last, is_other, is_skipping, next_of, results_told}
 use Rattle.fdc_sequencer.specs.declared.opcode.Operation.{Operation}
 use Rattle.fdc_sequencer.specs.declared.opcode.Operation.TheVariants.{Read, Write}
@@ -22,8 +22,8 @@ use Rattle.fdc_sequencer.specs.declared.stage.Moving.{Moving as MovingSector}
 use Rattle.fdc_sequencer.specs.declared.stage.Stage.{Stage}
 use Rattle.fdc_sequencer.specs.declared.stage.Stage.TheVariants.{Through, Collecting, Seeking, Moving, Telling}
 use Rattle.fdc_sequencer.specs.declared.transfer.Transfer.{Transfer}
-use Rattle.fdc_sequencer.proofs.Courses.{done_counted, done_written, met_then, part_moved, sector_opcode, would_uncounted}
-use Rattle.fdc_sequencer.proofs.Served.{of_sector}
+use Rattle.sequencer_laws.proofs.Courses.{done_counted, done_written, met_then, part_moved, sector_opcode, would_uncounted}
+use Rattle.sequencer_laws.proofs.Served.{of_sector}
 
 -- ---- EN comes from in front alone
 

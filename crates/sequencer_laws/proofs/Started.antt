@@ -23,14 +23,14 @@ use Rattle.fdc_core.specs.declared.controller.Lines.{Lines}
 use Rattle.fdc_core.specs.declared.phases.Phase.TheVariants.{Result}
 use Rattle.fdc_board.specs.Boards.{BoardState}
 use Rattle.fdc_sequencer.specs.Fronts.{told_if, moving_of}
-use Rattle.fdc_sequencer.specs.Serving.{Accounts, Carries, IsOfOther, MayMove, bytes_moved, sent_of}
+use Rattle.sequencer_laws.specs.Serving.{Accounts, Carries, IsOfOther, MayMove, bytes_moved, sent_of}
 use Rattle.fdc_sequencer.specs.Transfers.{command_for, command_of, is_skipping, size_of}
 use Rattle.fdc_sequencer.specs.declared.opcode.Operation.{Operation}
 use Rattle.fdc_sequencer.specs.declared.opcode.Operation.TheVariants.{Read, Write}
 use Rattle.fdc_sequencer.specs.declared.stage.Moving.{Moving as MovingSector}
 use Rattle.fdc_sequencer.specs.declared.transfer.Transfer.{Transfer}
-use Rattle.fdc_sequencer.proofs.Known.{clash, either_way, told_busy, told_on}
-use Rattle.fdc_sequencer.proofs.Marks.{fresh_mark, told_mark}
+use Rattle.sequencer_laws.proofs.Known.{clash, either_way, told_busy, told_on}
+use Rattle.sequencer_laws.proofs.Marks.{fresh_mark, told_mark}
 
 -- ---- sizes
 

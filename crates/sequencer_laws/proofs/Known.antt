@@ -35,10 +35,10 @@ use Rattle.fdc_core.specs.declared.transfers.Writing.{Writing}
 use Rattle.fdc_core.proofs.MayRead.{out_reads, told_reads}
 use Rattle.fdc_core.proofs.MayWrite.{in_writes, rule_room, told_writes, writes_on}
 use Rattle.fdc_board.specs.Boards.{BoardState, StepsBoard, selected_at}
-use Rattle.fdc_sequencer.specs.Serving.{MayMove, bytes_moved}
+use Rattle.sequencer_laws.specs.Serving.{MayMove, bytes_moved}
 use Rattle.fdc_sequencer.specs.declared.opcode.Operation.{Operation}
 use Rattle.fdc_sequencer.specs.declared.opcode.Operation.TheVariants.{Read, Write}
-use Rattle.fdc_sequencer.proofs.Marks.{MarkStays, mark_then, step_stays}
+use Rattle.sequencer_laws.proofs.Marks.{MarkStays, mark_then, step_stays}
 
 pub clash : {A : Type 0} (b : Bool) → b ≡ false → b ≡ true → A
 clash b is other = absurd (false≢true (sym is ∙ other))

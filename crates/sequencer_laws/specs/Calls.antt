@@ -7,8 +7,8 @@ use Rattle.fdc_commands.specs.declared.command.Command.{Command}
 use Rattle.fdc_commands.specs.declared.results.Results.{Results}
 use Rattle.fdc_sequencer.specs.Fronts.{Front, GivesFront, KeepsFront, TakesFront, WritesFront, after_reading, told_front}
 use Rattle.fdc_sequencer.specs.Moves.{StepsFront}
-use Rattle.fdc_sequencer.specs.Outcomes.{PassesOfSector, ResultsSay}
-use Rattle.fdc_sequencer.specs.Serving.{AreMoved, History, Serves, all_bytes, passed_in, passed_out}
+use Rattle.sequencer_laws.specs.Outcomes.{PassesOfSector, ResultsSay}
+use Rattle.sequencer_laws.specs.Serving.{AreMoved, History, Serves, all_bytes, passed_in, passed_out}
 use Rattle.fdc_sequencer.specs.Transfers.{transfer_of}
 use Rattle.fdc_sequencer.specs.declared.opcode.Opcode.{Opcode}
 use Rattle.fdc_sequencer.specs.declared.stage.Stage.TheVariants.{Through, Collecting}

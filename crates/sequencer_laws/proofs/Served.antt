@@ -28,7 +28,7 @@ use Rattle.fdc_core.proofs.Tellings.{write_tells, writes_window}
 use Rattle.fdc_board.specs.Boards.{BoardState, StepsBoard, WritesBoard, lines_at}
 use Rattle.fdc_sequencer.specs.Fronts.{BeginsSector, CollectsAs, Front, GivesAt, GivesFront, GivesMoving, SeeksFirst, Starts, StartsIf, TakesAt, TakesByte, TakesFront, TakesMoving, WritesFront, after_reading, begun_if, byte_given, count_told, moving_of, passed_one, reset_if, told_front, told_if, with_controller}
 use Rattle.fdc_sequencer.specs.Moves.{EndsIf, EndsSector, FollowsStep, MovesOn, SeeksOn, StepsFront, goes_on, has_met_other, is_unwanted, passed_over_if}
-use Rattle.fdc_sequencer.specs.Serving.{Accounts, AreLeft, AreMoved, BeginsAt, BeginsWith, Carries, GoesOn, History, IsLastOne, IsLeft, IsMarkOf, IsOfOther, IsOfSector, IsRefused, KeepsServing, MayMove, Means, Part, Serves, ServesAt, ServesCounted, ServesOn, ServesOrLeaves, bytes_moved, has_other, hears_count, nothing_moved, passed_in, passed_out, results_ended, sector_after, sent_of}
+use Rattle.sequencer_laws.specs.Serving.{Accounts, AreLeft, AreMoved, BeginsAt, BeginsWith, Carries, GoesOn, History, IsLastOne, IsLeft, IsMarkOf, IsOfOther, IsOfSector, IsRefused, KeepsServing, MayMove, Means, Part, Serves, ServesAt, ServesCounted, ServesOn, ServesOrLeaves, bytes_moved, has_other, hears_count, nothing_moved, passed_in, passed_out, results_ended, sector_after, sent_of}
 use Rattle.fdc_sequencer.specs.Transfers.{is_other, is_skipping, next_of, size_of}
 use Rattle.fdc_sequencer.specs.declared.opcode.Opcode.{Opcode}
 use Rattle.fdc_sequencer.specs.declared.opcode.Operation.{Operation}
@@ -37,10 +37,10 @@ use Rattle.fdc_sequencer.specs.declared.stage.Moving.{Moving as MovingSector}
 use Rattle.fdc_sequencer.specs.declared.stage.Stage.{Stage}
 use Rattle.fdc_sequencer.specs.declared.stage.Stage.TheVariants.{Through, Collecting, Seeking, Moving, Telling}
 use Rattle.fdc_sequencer.specs.declared.transfer.Transfer.{Transfer}
-use Rattle.fdc_sequencer.proofs.Known.{MovedOn, bytes_told, clash, in_on, out_on, port_busy, port_mark, port_on, steps_on}
-use Rattle.fdc_sequencer.proofs.Marks.{mark_then, then_busy, then_done}
-use Rattle.fdc_sequencer.proofs.Started.{Begun, answered_idle, begun_busy, begun_carries, seek_answered, size_is, told_carries}
-use Rattle.fdc_sequencer.proofs.Courses.{accounts_on, bytes_more, bytes_next, goes_would, met_then, moved_more, none_more, not_over, one_passed, one_told, other_more, over_told, part_moved, sector_more, sector_opcode, would_uncounted}
+use Rattle.sequencer_laws.proofs.Known.{MovedOn, bytes_told, clash, in_on, out_on, port_busy, port_mark, port_on, steps_on}
+use Rattle.sequencer_laws.proofs.Marks.{mark_then, then_busy, then_done}
+use Rattle.sequencer_laws.proofs.Started.{Begun, answered_idle, begun_busy, begun_carries, seek_answered, size_is, told_carries}
+use Rattle.sequencer_laws.proofs.Courses.{accounts_on, bytes_more, bytes_next, goes_would, met_then, moved_more, none_more, not_over, one_passed, one_told, other_more, over_told, part_moved, sector_more, sector_opcode, would_uncounted}
 
 -- ---- what stays
 

@@ -2,9 +2,9 @@
 ghost use Rattle.std.specs.Prelude.{◌≡◌, ℕ, Bool, Option, List, [], length};
 ghost use Rattle.fdc_sequencer.specs.Fronts.{Front, KeepsFront, TakesFront, GivesFront, WritesFront, after_reading, told_front};
 ghost use Rattle.fdc_sequencer.specs.Moves.{RunsFrontWith, StepsFront};
-ghost use Rattle.fdc_sequencer.specs.Calls.{AreWithin, Behind, Call, IsLastByte, Served};
-ghost use Rattle.fdc_sequencer.specs.Outcomes.{HasField, PassedWhole, PassesOfSector, ResultsSay};
-ghost use Rattle.fdc_sequencer.specs.Serving.{History, IsMoved, KeepsServing, Part, Serves, ServesCounted, ServesOn, ServesOrLeaves, BeginsAt, passed_in, passed_out};
+ghost use Rattle.sequencer_laws.specs.Calls.{AreWithin, Behind, Call, IsLastByte, Served};
+ghost use Rattle.sequencer_laws.specs.Outcomes.{HasField, PassedWhole, PassesOfSector, ResultsSay};
+ghost use Rattle.sequencer_laws.specs.Serving.{History, IsMoved, KeepsServing, Part, Serves, ServesCounted, ServesOn, ServesOrLeaves, BeginsAt, passed_in, passed_out};
 ghost use Rattle.flop_base.specs.declared.key.Chrn.{Chrn};
 ghost use Rattle.track_model.specs.Fields.{content_size};
 ghost use Rattle.fdc_stages.specs.Findings.{FindsSector};

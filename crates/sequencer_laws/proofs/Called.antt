@@ -9,16 +9,16 @@ use Rattle.fdc_core.specs.declared.answers.Answer.TheVariants.{Short}
 use Rattle.fdc_core.specs.declared.controller.Fdc.{Fdc}
 use Rattle.fdc_core.specs.declared.phases.Phase.TheVariants.{Result}
 use Rattle.fdc_board.specs.Boards.{BoardState, StepsBoard, selected_at}
-use Rattle.fdc_sequencer.specs.Calls.{AreWithin, Behind, Call, Changes, Counts, Does, Gives, Reads, Steps, Takes, Writes, is_count, passed_by, passed_in_all}
+use Rattle.sequencer_laws.specs.Calls.{AreWithin, Behind, Call, Changes, Counts, Does, Gives, Reads, Steps, Takes, Writes, is_count, passed_by, passed_in_all}
 use Rattle.fdc_sequencer.specs.Fronts.{Front, KeepsFront}
 use Rattle.fdc_sequencer.specs.Moves.{FollowsStep, RunsFrontWith, StepsFront}
-use Rattle.fdc_sequencer.specs.Serving.{GoesOn, History, IsRefused, KeepsServing, Serves, ServesAt, ServesOn, all_bytes, hears_count}
+use Rattle.sequencer_laws.specs.Serving.{GoesOn, History, IsRefused, KeepsServing, Serves, ServesAt, ServesOn, all_bytes, hears_count}
 use Rattle.fdc_sequencer.specs.declared.opcode.Operation.{Operation}
 use Rattle.fdc_sequencer.specs.declared.stage.Stage.TheVariants.{Through}
 use Rattle.fdc_sequencer.specs.declared.transfer.Transfer.{Transfer}
-use Rattle.fdc_sequencer.proofs.Courses.{none_more}
-use Rattle.fdc_sequencer.proofs.Known.{which_drive}
-use Rattle.fdc_sequencer.proofs.Served.{counts_serve, gives_serve, none_told, reads_serve, steps_serve, takes_serve, writes_serve}
+use Rattle.sequencer_laws.proofs.Courses.{none_more}
+use Rattle.sequencer_laws.proofs.Known.{which_drive}
+use Rattle.sequencer_laws.proofs.Served.{counts_serve, gives_serve, none_told, reads_serve, steps_serve, takes_serve, writes_serve}
 
 -- ---- one behind the other
 

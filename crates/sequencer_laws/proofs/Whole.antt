@@ -1,16 +1,16 @@
 -- A command from its last byte to its results.
 use Rattle.std.proofs.Common.{◌≡◌, inl, inr, ℕ, false, List, ◌++◌, refl, sym, ◌∙◌, subst}
-use Rattle.fdc_sequencer.specs.Calls.{AreWithin, Call, IsLastByte, Served}
+use Rattle.sequencer_laws.specs.Calls.{AreWithin, Call, IsLastByte, Served}
 use Rattle.fdc_sequencer.specs.Fronts.{Front, WritesFront}
-use Rattle.fdc_sequencer.specs.Serving.{BeginsAt, Serves, all_bytes, nothing_moved}
+use Rattle.sequencer_laws.specs.Serving.{BeginsAt, Serves, all_bytes, nothing_moved}
 use Rattle.fdc_sequencer.specs.declared.opcode.Operation.{Operation}
 use Rattle.fdc_sequencer.specs.declared.opcode.Operation.TheVariants.{Read, Write}
 use Rattle.fdc_sequencer.specs.declared.stage.Stage.TheVariants.{Through, Telling}
 use Rattle.fdc_sequencer.specs.declared.transfer.Transfer.{Transfer}
 use Rattle.fdc_commands.specs.declared.results.Results.{Results}
-use Rattle.fdc_sequencer.proofs.Called.{calls_serve}
-use Rattle.fdc_sequencer.proofs.Outcome.{passes_of, results_say}
-use Rattle.fdc_sequencer.proofs.Served.{begins_at}
+use Rattle.sequencer_laws.proofs.Called.{calls_serve}
+use Rattle.sequencer_laws.proofs.Outcome.{passes_of, results_say}
+use Rattle.sequencer_laws.proofs.Served.{begins_at}
 
 no_bytes : (operation : Operation) (bytes : List ℕ) → all_bytes operation (nothing_moved false) ++ bytes ≡ bytes
 no_bytes (Read wanted skip) bytes = refl

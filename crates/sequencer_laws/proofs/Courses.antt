@@ -10,14 +10,14 @@ use Rattle.fdc_writing.specs.Writings.{WritesWhole}
 use Rattle.fdc_core.specs.Heard.{Sent, told_in}
 use Rattle.fdc_core.specs.Written.{IsContent}
 use Rattle.fdc_sequencer.specs.Moves.{goes_on, has_met_other, would_go_on}
-use Rattle.fdc_sequencer.specs.Serving.{Accounts, AreAll, AreLeft, AreMoved, History, IsMoved, IsOfOther, IsWholeField, Means, Part, all_bytes, bytes_moved, bytes_of_parts, has_other, sector_after, sent_of}
+use Rattle.sequencer_laws.specs.Serving.{Accounts, AreAll, AreLeft, AreMoved, History, IsMoved, IsOfOther, IsWholeField, Means, Part, all_bytes, bytes_moved, bytes_of_parts, has_other, sector_after, sent_of}
 use Rattle.fdc_sequencer.specs.Transfers.{is_last, is_other, is_skipping, next_cylinder, next_of, next_record, other_head, size_of}
 use Rattle.fdc_sequencer.specs.declared.opcode.Operation.{Operation}
 use Rattle.fdc_sequencer.specs.declared.opcode.Operation.TheVariants.{Read, Write}
 use Rattle.fdc_sequencer.specs.declared.stage.Moving.{Moving as MovingSector}
 use Rattle.fdc_sequencer.specs.declared.transfer.Transfer.{Transfer}
-use Rattle.fdc_sequencer.proofs.Known.{MarkGoes}
-use Rattle.fdc_sequencer.proofs.Started.{size_is, size_some}
+use Rattle.sequencer_laws.proofs.Known.{MarkGoes}
+use Rattle.sequencer_laws.proofs.Started.{size_is, size_some}
 
 -- ---- the sectors
 

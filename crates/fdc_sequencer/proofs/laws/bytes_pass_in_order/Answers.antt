@@ -1,5 +1,0 @@
-use Rattle.fdc_sequencer.proofs.Called.{calls_serve}
-use Rattle.fdc_sequencer.proofs.laws.bytes_pass_in_order.Goals as goal
-
-pub returns : goal.returns
-returns c = calls_serve

@@ -1,5 +1,0 @@
-use Rattle.fdc_sequencer.proofs.Outcome as lemmas
-use Rattle.fdc_sequencer.proofs.laws.results_say.Goals as goal
-
-pub returns : goal.returns
-returns c = lemmas.results_say

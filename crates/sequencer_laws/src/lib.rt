@@ -1,0 +1,5 @@
+//! What a command of several sectors means, call by call and from its last byte to its results: the bytes that pass are, in
+//! order, those of its sectors.
+#![tactic(auto)]
+
+pub mod laws;
