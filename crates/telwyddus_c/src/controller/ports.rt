@@ -112,11 +112,18 @@ pub extern "C" fn telwyddus_controller_write(
     match slot.take(alloc) {
         None => EMPTY,
         Some(mut board) => {
-            board.write(port, value);
+            write_port(&mut board, port, value);
             slot.put(board);
             DONE
         }
     }
+}
+
+/// The same of a controller.
+fn write_port(board: &mut SequencedBoard, port: u16, value: u8)
+    ensures { WritesFront port value (state_of board.old) (state_of board.new) }
+{
+    board.write(port, value);
 }
 
 /// One device step.
@@ -128,11 +135,18 @@ pub extern "C" fn telwyddus_controller_step(alloc: Global, slot: &mut Controller
     match slot.take(alloc) {
         None => EMPTY,
         Some(mut board) => {
-            board.step();
+            make_step(&mut board);
             slot.put(board);
             DONE
         }
     }
+}
+
+/// The same of a controller.
+fn make_step(board: &mut SequencedBoard)
+    ensures { StepsFront (state_of board.old) (state_of board.new) }
+{
+    board.step();
 }
 
 /// Device steps until the interrupt line or the request line changes, at most `most`, and how many were made.
@@ -149,11 +163,18 @@ pub extern "C" fn telwyddus_controller_run(
     match slot.take(alloc) {
         None => EMPTY,
         Some(mut board) => {
-            *made = board.run(most);
+            *made = run_steps(&mut board, most);
             slot.put(board);
             DONE
         }
     }
+}
+
+/// The same of a controller.
+fn run_steps(board: &mut SequencedBoard, most: u32) -> u32
+    ensures { RunsFront most (state_of board.old) result (state_of board.new) }
+{
+    board.run(most)
 }
 
 /// The lines: 1 the interrupt's, 2 the DMA request's, 4 where bytes go to memory.
