@@ -6,3 +6,4 @@ mod Served
 mod Outcome
 mod Called
 mod Whole
+mod Idle

@@ -5,12 +5,15 @@ use Rattle.fdc_commands.specs.Table.{answer}
 use Rattle.fdc_commands.specs.declared.bytes.Accepted.TheVariants.{Ready}
 use Rattle.fdc_commands.specs.declared.command.Command.{Command}
 use Rattle.fdc_commands.specs.declared.results.Results.{Results}
+use Rattle.fdc_core.specs.Whole.{is_idle}
+use Rattle.fdc_core.specs.declared.controller.Fdc.{Fdc}
 use Rattle.fdc_sequencer.specs.Fronts.{Front, GivesFront, KeepsFront, TakesFront, WritesFront, after_reading, told_front}
 use Rattle.fdc_sequencer.specs.Moves.{StepsFront}
 use Rattle.sequencer_laws.specs.Outcomes.{PassesOfSector, ResultsSay}
 use Rattle.sequencer_laws.specs.Serving.{AreMoved, History, Serves, all_bytes, passed_in, passed_out}
 use Rattle.fdc_sequencer.specs.Transfers.{transfer_of}
 use Rattle.fdc_sequencer.specs.declared.opcode.Opcode.{Opcode}
+use Rattle.fdc_sequencer.specs.declared.stage.Stage.{Stage}
 use Rattle.fdc_sequencer.specs.declared.stage.Stage.TheVariants.{Through, Collecting}
 use Rattle.fdc_sequencer.specs.declared.transfer.Transfer.{Transfer}
 
@@ -48,6 +51,14 @@ passed_in_all calls = flat_map passed_by calls
 abbrev pub is_count : Call → Bool
 is_count Counts = true
 is_count _ = false
+
+-- while the bytes of a command come the controller takes commands, and none has begun there
+abbrev pub WaitsAt : Stage → Fdc → Type 0
+WaitsAt (Collecting _) fdc = is_idle fdc ≡ true
+WaitsAt _ fdc = Unit {0}
+
+abbrev pub Waits : Front → Type 0
+Waits front = WaitsAt front.stage front.board.controller
 
 -- these calls, behind none of which each access is the controller's again
 abbrev pub AreWithin : List Call → Front → Front → Type 0

@@ -1,10 +1,11 @@
 // What is known of a command of several sectors. The bodies are empty: the contracts say what follows from what each call does.
 ghost use Rattle.std.specs.Prelude.{◌≡◌, ℕ, Bool, Option, List, [], length};
-ghost use Rattle.fdc_sequencer.specs.Fronts.{Front, KeepsFront, TakesFront, GivesFront, WritesFront, after_reading, told_front};
+ghost use Rattle.fdc_sequencer.specs.Fronts.{Front, IsNewFront, KeepsFront, TakesFront, GivesFront, WritesFront, after_reading, told_front};
 ghost use Rattle.fdc_sequencer.specs.Moves.{RunsFrontWith, StepsFront};
-ghost use Rattle.sequencer_laws.specs.Calls.{AreWithin, Behind, Call, IsLastByte, Served};
+ghost use Rattle.sequencer_laws.specs.Calls.{AreWithin, Behind, Call, Does, IsLastByte, Served, Waits};
 ghost use Rattle.sequencer_laws.specs.Outcomes.{HasField, PassedWhole, PassesOfSector, ResultsSay};
 ghost use Rattle.sequencer_laws.specs.Serving.{History, IsMoved, KeepsServing, Part, Serves, ServesCounted, ServesOn, ServesOrLeaves, BeginsAt, passed_in, passed_out};
+ghost use Rattle.drive_model.specs.Drive.{DriveState};
 ghost use Rattle.flop_base.specs.declared.key.Chrn.{Chrn};
 ghost use Rattle.track_model.specs.Fields.{content_size};
 ghost use Rattle.fdc_stages.specs.Findings.{FindsSector};
@@ -57,4 +58,10 @@ pub fn a_command_moves_its_sectors()
     ensures { (byte : ℕ) (first : Transfer) (start begun end : Front) (calls : List Call) (results : Results) (read : ℕ)
         → IsLastByte byte first start → WritesFront 0x3F5 byte start begun → (begun.stage ≡ Through → ⊥)
         → AreWithin calls begun end → end.stage ≡ Telling results read → Served first calls results }
+{}
+
+/// While the bytes of a command of several sectors come, the controller takes commands.
+pub fn a_command_that_comes_finds_the_controller_idle()
+    ensures begins { (bay0 bay1 : DriveState) (new : Front) → IsNewFront bay0 bay1 new → Waits new }
+    ensures calls { (call : Call) (old new : Front) → Does call old new → Waits old → Waits new }
 {}
