@@ -225,10 +225,11 @@ static void begin_four(size_t bytes_passed) {
     while (guest.passed < bytes_passed) need(!run(&guest, 1), "it goes on");
 }
 
-/* The medium is out while such a command goes on. */
-static void take_medium(size_t bytes_passed, size_t passed, const uint8_t *wanted, const char *what) {
+/* The medium is taken out so many steps behind that. */
+static void take_medium(size_t bytes_passed, uint32_t steps, size_t passed, const uint8_t *wanted, const char *what) {
     telwyddus_tray tray = {0};
     begin_four(bytes_passed);
+    need(!run(&guest, steps), "it goes on");
     MUST(telwyddus_controller_eject(&guest.controller, 0, &tray));
     finish(&guest);
     if (guest.passed != passed || memcmp(guest.result, wanted, 7) != 0)
@@ -246,8 +247,8 @@ static void breaks(void) {
     check(in(&guest, MSR) == RQM, "a reset ends a command");
     configure(&guest, FIFO_OFF | EIS);
     try_one(&again);
-    take_medium(700, 1024, within_data, "the medium is taken out within a sector's data: its check fails");
-    take_medium(512, 512, between, "the medium is taken out between two sectors: no address mark comes");
+    take_medium(700, 0, 1024, within_data, "the medium is taken out within a sector's data: its check fails");
+    take_medium(512, 10, 512, between, "the medium is taken out between two sectors: no address mark comes");
     try_one(&again);
 }
 
