@@ -84,6 +84,10 @@ TELWYDDUS_CALL uint32_t telwyddus_tray_free(telwyddus_tray *tray);
  * OUT_OF_RANGE. */
 TELWYDDUS_CALL uint32_t telwyddus_tray_blank(telwyddus_tray *tray, uint8_t cylinders, uint16_t kilobits);
 
+/* Makes a tray with the medium of a flat sector file of 1,474,560 bytes (1.44 MB) or 737,280 (720 KB): all its sectors, and no others.
+ * DONE, FULL, NO_MEMORY, BAD_IMAGE for any other length. */
+TELWYDDUS_CALL uint32_t telwyddus_tray_read_flat(telwyddus_tray *tray, const uint8_t *bytes, size_t length);
+
 /* Makes a tray with the medium of an ImageDisk file (MFM at 500 or 250 kbit/s): all its sectors, and no others. UNFIT where a track
  * has no room for its sectors: its cylinder and head are told. DONE, FULL, NO_MEMORY, BAD_IMAGE, UNFIT. */
 TELWYDDUS_CALL uint32_t telwyddus_tray_read_imd(telwyddus_tray *tray, const uint8_t *bytes, size_t length, uint8_t *cylinder,

@@ -3,7 +3,7 @@
  * Single sectors by calls. Of the image file IMAGE, at RATE (500 or 250), the sector C H R is read and compared with the file WANTED; the
  * file CONTENT is written there, and the image that comes out is compared with the file AFTER. Then a blank medium of 2 cylinders is
  * formatted, and compared with the image file FORMATTED; all its sectors are written, read back and surveyed, and it goes through an
- * ImageDisk file. */
+ * ImageDisk file. And a flat sector file is put in. */
 #include "common.h"
 
 enum { SIZE = 512, CODE = 2, FIELD = 11, CYLINDERS = 2 };
@@ -153,6 +153,27 @@ static void whole(const uint8_t *formatted, size_t length) {
     MUST(telwyddus_tray_free(&tray));
 }
 
+/* A flat sector file: the sectors of some cylinders are read, and compared with its bytes. */
+static void flat(void) {
+    static uint8_t file[737280];
+    telwyddus_tray tray = {0};
+    int same = 0;
+    for (size_t i = 0; i < sizeof file; i++) file[i] = (uint8_t)(i * 7 ^ i / 512);
+    check(telwyddus_tray_read_flat(&tray, file, sizeof file - 1) == TELWYDDUS_BAD_IMAGE, "no flat file has so many bytes");
+    MUST(telwyddus_tray_read_flat(&tray, file, sizeof file));
+    put_in(&tray);
+    for (uint8_t c = 0; c < 80; c += 26)
+        for (uint8_t h = 0; h < 2; h++)
+            for (uint8_t r = 1; r <= 9; r++) {
+                uint8_t bytes[SIZE], deleted;
+                MUST(telwyddus_disk_read(&disk, 0, c, h, r, CODE, bytes, SIZE, &deleted));
+                same += deleted == 0 && memcmp(bytes, file + SIZE * ((c * 2 + h) * 9 + r - 1), SIZE) == 0;
+            }
+    check(same == 4 * 2 * 9, "the sectors are those of the file");
+    MUST(telwyddus_disk_eject(&disk, 0, &tray));
+    MUST(telwyddus_tray_free(&tray));
+}
+
 int main(int count, char **words) {
     if (count != 10) return 2;
     telwyddus_tray tray = {0};
@@ -170,6 +191,7 @@ int main(int count, char **words) {
     is_file(&tray, after, after_length, "the image is the one that was wanted");
     MUST(telwyddus_tray_free(&tray));
     whole(formatted, formatted_length);
+    flat();
     MUST(telwyddus_disk_free(&disk));
     free(image), free(wanted), free(content), free(after), free(formatted);
     puts("each sector is where it was asked for");

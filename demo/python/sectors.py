@@ -1,5 +1,6 @@
 #!/usr/bin/env python3
-"""Single sectors by calls: a damaged image is read, a blank medium is formatted and written, and an ImageDisk file made of it."""
+"""Single sectors by calls: a damaged image is read, a blank medium is formatted and written, an ImageDisk file made
+of it, and a flat file read."""
 import disks
 from telwyddus import BadCrc, Changed, Disk, Found, NotFound, Tray
 
@@ -69,6 +70,12 @@ def main():
         disk.acknowledge(0)
         for place in places():
             assert disk.read(0, *place) == (content(*place), False)
+    flat = bytes(i * 7 % 256 ^ i // 512 % 256 for i in range(737280))
+    with Tray.of_flat(flat) as tray, Disk() as disk:
+        disk.insert(0, tray)
+        disk.acknowledge(0)
+        there = [disk.read(0, c, h, r)[0] for c in (0, 1, 40, 79) for h in range(2) for r in range(1, 10)]
+        assert b"".join(there) == b"".join(flat[9216 * c:9216 * (c + 1)] for c in (0, 1, 40, 79))
     print("each sector is where it was asked for")
 
 

@@ -144,6 +144,13 @@ class Tray(Holder):
         return tray
 
     @classmethod
+    def of_flat(cls, data):
+        """The medium of a flat sector file, 1.44 MB or 720 KB."""
+        tray = cls()
+        tray._call("read_flat", *given(data))
+        return tray
+
+    @classmethod
     def of_imd(cls, data):
         """The medium of an ImageDisk file."""
         tray, place = cls(), (ctypes.c_uint8 * 2)()

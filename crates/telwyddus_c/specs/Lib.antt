@@ -2,6 +2,7 @@ pub mod Blanks
 pub mod Buffers
 pub mod Controllers
 pub mod Disks
+pub mod Flats
 pub mod Images
 pub mod Imds
 pub mod Machines

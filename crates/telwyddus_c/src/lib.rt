@@ -8,6 +8,7 @@ mod buffer;
 mod code;
 mod controller;
 mod disk;
+mod flat;
 mod image;
 mod imd;
 mod machine;
