@@ -145,7 +145,7 @@ static void refused(const char *what, const uint8_t *bytes, int count) {
 
 static void refusals(void) {
     const uint8_t sizes[] = {0, 7};
-    const uint8_t skipping[] = {WRITE | MT | SK}, polled[] = {0x03, 0xDF, 0x03}, served[] = {0x03, 0xDF, 0x02}, away[] = {0x0F, 0, 20};
+    const uint8_t skipping[] = {WRITE | MT | SK}, single_density[] = {0x06 | MT}, polled[] = {0x03, 0xDF, 0x03}, served[] = {0x03, 0xDF, 0x02}, away[] = {0x0F, 0, 20};
     const uint8_t whole[] = {READ | MT, 0, 5, 0, 1, 2, 18, GAP};
     configure(&guest, FIFO_OFF);
     for (int i = 0; i < 2; i++) {
@@ -153,6 +153,7 @@ static void refusals(void) {
         refused(i == 0 ? "size code 0: 80" : "size code 7: 80", bytes, 9);
     }
     refused("SK on a write: 80", skipping, 1);
+    refused("MFM clear: 80", single_density, 1);
     command(&guest, polled, 3);
     refused("no DMA, by SPECIFY: 80", whole, 9);
     command(&guest, served, 3);
@@ -239,6 +240,30 @@ static void take_medium(size_t bytes_passed, uint32_t steps, size_t passed, cons
     MUST(telwyddus_tray_free(&tray));
 }
 
+/* The channel serves no more behind some bytes of the second sector. */
+static void starve(void) {
+    static const uint8_t wanted[] = {0x40, 0x10, 0, 60, 0, 2, 2};
+    uint8_t lines = 0;
+    begin_four(600);
+    while (!(lines & TELWYDDUS_INT)) {
+        MUST(telwyddus_controller_step(&guest.controller));
+        MUST(telwyddus_controller_lines(&guest.controller, &lines));
+    }
+    finish(&guest);
+    check(guest.results == 7 && memcmp(guest.result, wanted, 7) == 0, "bytes aren't taken: OR at their sector");
+}
+
+/* The same disk, protected. */
+static void protect(void) {
+    static const Case write = {"a protected medium: NW", {WRITE | MT, 0, 60, 0, 1, 2, 18, GAP}, 1024, 1, {0x40, 0x02, 0, 60, 0, 1, 2}};
+    telwyddus_tray tray = {0};
+    MUST(telwyddus_controller_eject(&guest.controller, 0, &tray));
+    MUST(telwyddus_tray_free(&tray));
+    image[8] |= 1;
+    insert(&guest, image, IMAGE);
+    try_one(&write);
+}
+
 static void breaks(void) {
     static const Case again = {"the next command is as ever", {READ | MT, 0, 60, 0, 18, 2, 18, GAP}, 1024, 1024, {0x04, 0, 0, 60, 1, 2, 2}};
     static const uint8_t within_data[] = {0x40, 0x20, 0x20, 60, 0, 2, 2}, between[] = {0x40, 0x01, 0, 60, 0, 2, 2};
@@ -264,7 +289,9 @@ int main(void) {
     within();
     early_count();
     breaks();
+    starve();
     seeks();
+    protect();
     MUST(telwyddus_controller_free(&guest.controller));
     return 0;
 }
