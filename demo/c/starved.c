@@ -1,48 +1,88 @@
-/* starved IMAGE - memory is refused, request by request: of a few calls each is done then or answers NO_MEMORY, and a medium is
- * where it was. Nothing is lost, for which valgrind looks. The heap of this program stands in place of c/heap.c. */
+/* starved IMAGE EACH - memory is refused, request by request: each call is done then, or answers NO_MEMORY; a medium is where it was; and
+ * what was refused is done when it is tried again. Nothing is lost, for which this program counts blocks, and valgrind looks. Its heap
+ * stands in place of c/heap.c. IMAGE is a formatted disk of one cylinder at 250 kbit/s. A flat file takes some thousand requests: EACH is
+ * 1 where each of them is refused, 97 for each 97th. */
 #include "common.h"
 #include <stdbool.h>
+
+/* ---- the heap */
 
 typedef struct { bool is_ok; void *at; } tried;
 static char nothing;
 static long left = -1; /* how many requests are served before one is refused; all, below 0 */
+static long blocks;    /* how many are out */
+static bool was_short; /* a request was refused in the call that is tried */
 
-static bool refuses(void) { return left >= 0 && left-- == 0; }
-static tried tell(void *at) { return (tried){at != NULL, at != NULL ? at : &nothing}; }
-tried rattle_alloc(size_t size, size_t align) { return tell(refuses() ? NULL : malloc(size != 0 ? size : align)); }
-tried rattle_realloc(void *old, size_t kept, size_t size, size_t align) { (void)kept; return tell(refuses() ? NULL : realloc(old, size != 0 ? size : align)); }
-void rattle_dealloc(void *at) { free(at); }
-
-static uint8_t *image, *out;
-static size_t length;
-
-static bool is_done(uint32_t code, const char *what) {
-    if (code != TELWYDDUS_DONE && code != TELWYDDUS_NO_MEMORY) check(0, what);
-    return code == TELWYDDUS_DONE;
+static bool refuses(void) {
+    bool is_now = left >= 0 && left-- == 0;
+    was_short = was_short || is_now;
+    return is_now;
 }
 
-static void is_freed(uint32_t code) {
-    if (code != TELWYDDUS_DONE && code != TELWYDDUS_EMPTY) check(0, "it is freed, or nothing was there");
- }
+static tried tell(void *at) { return (tried){at != NULL, at != NULL ? at : &nothing}; }
+
+tried rattle_alloc(size_t size, size_t align) {
+    void *at = refuses() ? NULL : malloc(size != 0 ? size : align);
+    blocks += at != NULL;
+    return tell(at);
+}
+
+tried rattle_realloc(void *old, size_t kept, size_t size, size_t align) {
+    (void)kept;
+    return tell(refuses() ? NULL : realloc(old, size != 0 ? size : align));
+}
+
+void rattle_dealloc(void *at) {
+    blocks--;
+    free(at);
+}
+
+/* ---- calls */
+
+/* A call is done, or answers NO_MEMORY where a request was refused in it; then it is done when it is tried again. One that takes no
+ * memory is a MUST. */
+#define TRY(call) do { if (REFUSED(call)) MUST(call); } while (0)
+#define REFUSED(call) (was_short = false, is_refused((call), #call, __LINE__))
+
+static bool is_refused(uint32_t code, const char *call, int line) {
+    bool was = was_short && code == TELWYDDUS_NO_MEMORY;
+    if (!was) must(code, call, line);
+    return was;
+}
+
+static void is_so(bool is, const char *what) {
+    if (!is) check(0, what);
+}
+
+static uint8_t *image, *out, *other;
+static size_t length;
+
+static void is_image(telwyddus_tray *tray, const char *what) {
+    size_t told;
+    TRY(telwyddus_tray_write(tray, out, length, &told));
+    is_so(told == length && memcmp(image, out, length) == 0, what);
+}
+
+/* ---- scenarios */
 
 /* A medium goes into a drive, is looked at there, and goes out again. */
 static void move(void) {
     telwyddus_controller controller = {0};
     telwyddus_tray tray = {0}, back = {0};
     size_t told;
-    bool made = is_done(telwyddus_controller_new(&controller), "a controller");
-    if (is_done(telwyddus_tray_read(&tray, image, length), "a tray") && made) {
-        MUST(telwyddus_controller_insert(&controller, 0, &tray));
-        is_done(telwyddus_controller_image(&controller, 0, out, length, &told), "its image");
-        if (is_done(telwyddus_controller_eject(&controller, 0, &back), "an eject"))
-            is_done(telwyddus_tray_write(&back, out, length, &told), "a file");
-        else
-            MUST(telwyddus_controller_image(&controller, 0, out, length, &told)); /* only one request is refused */
-        if (left < 0 && memcmp(image, out, length) != 0) check(0, "the image is the same");
+    TRY(telwyddus_controller_new(&controller));
+    TRY(telwyddus_tray_read(&tray, image, length));
+    MUST(telwyddus_controller_insert(&controller, 0, &tray));
+    TRY(telwyddus_controller_image(&controller, 0, out, length, &told));
+    if (REFUSED(telwyddus_controller_eject(&controller, 0, &back))) {
+        MUST(telwyddus_controller_image(&controller, 0, out, length, &told));
+        is_so(memcmp(image, out, length) == 0, "behind a refused eject the medium is in the drive");
+        MUST(telwyddus_controller_eject(&controller, 0, &back));
     }
-    is_freed(telwyddus_tray_free(&tray));
-    is_freed(telwyddus_tray_free(&back));
-    is_freed(telwyddus_controller_free(&controller));
+    is_image(&back, "the medium that comes out went in");
+    MUST(telwyddus_tray_free(&tray));
+    MUST(telwyddus_tray_free(&back));
+    MUST(telwyddus_controller_free(&controller));
 }
 
 /* A machine, and the program on a shelf. */
@@ -51,34 +91,115 @@ static void run(void) {
     telwyddus_machine machine = {0};
     telwyddus_shelf shelf = {0};
     uint32_t status;
-    is_done(telwyddus_machine_new(&machine), "a machine");
-    if (is_done(telwyddus_shelf_new(&shelf), "a shelf") && is_done(telwyddus_shelf_put(&shelf, (const uint8_t *)name, sizeof name - 1, image, length), "a file on it")
-        && is_done(telwyddus_shelf_run(&shelf, (const uint8_t *)words, sizeof words - 1, &status), "a run") && status != 0 && status != 7)
-        check(0, "the run ends well, or with status 7");
-    is_freed(telwyddus_machine_free(&machine));
-    is_freed(telwyddus_shelf_free(&shelf));
+    TRY(telwyddus_machine_new(&machine));
+    TRY(telwyddus_shelf_new(&shelf));
+    TRY(telwyddus_shelf_put(&shelf, (const uint8_t *)name, sizeof name - 1, image, length));
+    TRY(telwyddus_shelf_run(&shelf, (const uint8_t *)words, sizeof words - 1, &status));
+    if (status == 7) MUST(telwyddus_shelf_run(&shelf, (const uint8_t *)words, sizeof words - 1, &status));
+    is_so(status == 0, "the run ends well, or with status 7 and well when it is tried again");
+    MUST(telwyddus_machine_free(&machine));
+    MUST(telwyddus_shelf_free(&shelf));
 }
 
-/* How many requests were refused, one in each round, until a round had no more. */
-static long rounds(void (*part)(void)) {
-    for (long served = 0;; served++) {
+/* Sectors at a desk: one is written and read, and its track formatted again. Only the desk itself and an eject take memory. */
+static void sectors(void) {
+    telwyddus_disk disk = {0};
+    telwyddus_tray tray = {0}, back = {0};
+    uint8_t content[512], bytes[512], deleted;
+    memset(content, 0x5A, sizeof content);
+    TRY(telwyddus_disk_new(&disk));
+    TRY(telwyddus_tray_read(&tray, image, length));
+    MUST(telwyddus_disk_insert(&disk, 1, &tray));
+    MUST(telwyddus_disk_acknowledge(&disk, 1));
+    MUST(telwyddus_disk_write(&disk, 1, 0, 1, 5, 2, content, sizeof content, 1));
+    MUST(telwyddus_disk_read(&disk, 1, 0, 1, 5, 2, bytes, sizeof bytes, &deleted));
+    is_so(deleted == 1 && memcmp(bytes, content, sizeof bytes) == 0, "the sector is the one that was written");
+    MUST(telwyddus_disk_format(&disk, 1, 0, 1));
+    if (REFUSED(telwyddus_disk_eject(&disk, 1, &back))) {
+        MUST(telwyddus_disk_read(&disk, 1, 0, 1, 5, 2, bytes, sizeof bytes, &deleted));
+        is_so(deleted == 0 && bytes[0] == 0xF6, "behind a refused eject the medium is in the bay, and acknowledged");
+        MUST(telwyddus_disk_eject(&disk, 1, &back));
+    }
+    is_image(&back, "the medium is formatted as it was");
+    MUST(telwyddus_tray_free(&tray));
+    MUST(telwyddus_tray_free(&back));
+    MUST(telwyddus_disk_free(&disk));
+}
+
+/* A medium on which nothing is recorded. */
+static void blank(void) {
+    telwyddus_tray tray = {0};
+    size_t told;
+    TRY(telwyddus_tray_blank(&tray, 1, 250));
+    TRY(telwyddus_tray_survey(&tray, out, length, &told));
+    is_so(told == 0, "a blank medium has no address field");
+    TRY(telwyddus_tray_write(&tray, out, length, &told));
+    is_so(told == length, "it has so many words");
+    MUST(telwyddus_tray_free(&tray));
+}
+
+/* What stands on a medium, which goes through an ImageDisk file. */
+static void archive(void) {
+    telwyddus_tray tray = {0}, again = {0};
+    size_t told, wanted;
+    uint8_t cylinder, head;
+    TRY(telwyddus_tray_read(&tray, image, length));
+    TRY(telwyddus_tray_survey(&tray, out, length, &told));
+    is_so(told == 2 * 9 * 11, "it has 18 address fields");
+    TRY(telwyddus_tray_write_imd(&tray, other, length, &wanted, &cylinder, &head));
+    TRY(telwyddus_tray_read_imd(&again, other, wanted, &cylinder, &head));
+    TRY(telwyddus_tray_write_imd(&again, out, length, &told, &cylinder, &head));
+    is_so(told == wanted && memcmp(out, other, told) == 0, "the medium of an ImageDisk file makes that file");
+    is_image(&tray, "the medium is in its tray");
+    MUST(telwyddus_tray_free(&tray));
+    MUST(telwyddus_tray_free(&again));
+}
+
+/* The medium of a flat sector file: its last sector is read at a desk. */
+static void flat(void) {
+    static uint8_t file[737280];
+    telwyddus_disk disk = {0};
+    telwyddus_tray tray = {0};
+    uint8_t bytes[512], deleted, *last = file + sizeof file - sizeof bytes;
+    memset(last, 0xA5, sizeof bytes);
+    TRY(telwyddus_tray_read_flat(&tray, file, sizeof file));
+    TRY(telwyddus_disk_new(&disk));
+    MUST(telwyddus_disk_insert(&disk, 0, &tray));
+    MUST(telwyddus_disk_acknowledge(&disk, 0));
+    MUST(telwyddus_disk_read(&disk, 0, 79, 1, 9, 2, bytes, sizeof bytes, &deleted));
+    is_so(deleted == 0 && memcmp(bytes, last, sizeof bytes) == 0, "the last sector is that of the file");
+    MUST(telwyddus_tray_free(&tray));
+    MUST(telwyddus_disk_free(&disk));
+}
+
+/* Requests are refused, one in each round, until a round has no more: each of them, or only each of so many. */
+static void rounds(void (*part)(void), const char *name, long each) {
+    long refused = 0;
+    for (long served = 0;; served += each, refused++) {
         left = served;
         part();
         bool is_last = left >= 0;
         left = -1;
-        if (is_last) return served;
+        is_so(blocks == 0, "no block is lost");
+        if (!is_last) continue;
+        printf("%s: %ld requests were refused in turn\n", name, refused);
+        is_so(refused > 0, "there were some");
+        return;
     }
 }
 
 int main(int count, char **words) {
-    if (count != 2) return 2;
+    if (count != 3) return 2;
     image = file_of(words[1], &length);
     out = (uint8_t *)malloc(length);
-    if (out == NULL) return 1;
-    long moved = rounds(move), ran = rounds(run);
-    free(image);
-    free(out);
-    printf("%ld and %ld requests were refused in turn\n", moved, ran);
-    check(moved > 3 && ran > 3, "there were some");
+    other = (uint8_t *)malloc(length);
+    if (out == NULL || other == NULL) return 1;
+    rounds(move, "a controller", 1);
+    rounds(run, "a machine and a shelf", 1);
+    rounds(sectors, "a desk", 1);
+    rounds(blank, "a blank medium", 1);
+    rounds(archive, "an ImageDisk file", 1);
+    rounds(flat, "a flat file", atol(words[2]));
+    free(image), free(out), free(other);
     return 0;
 }
