@@ -1,23 +1,25 @@
-/* sectors IMAGE RATE C H R WANTED CONTENT AFTER FORMATTED
+/* sectors IMAGE BAY RATE C H R WANTED CONTENT AFTER FORMATTED FILLED FLAT
  *
- * Single sectors by calls. Of the image file IMAGE, at RATE (500 or 250), the sector C H R is read and compared with the file WANTED; the
- * file CONTENT is written there, and the image that comes out is compared with the file AFTER. Then a blank medium of 2 cylinders is
- * formatted, and compared with the image file FORMATTED; all its sectors are written, read back and surveyed, and it goes through an
- * ImageDisk file. And a flat sector file is put in. */
-#include "common.h"
+ * Single sectors by calls, in BAY (0 or 1). Of the image file IMAGE, at RATE (500 or 250), the sector C H R is read and compared with the
+ * file WANTED; the file CONTENT is written there, and the image that comes out is compared with the file AFTER. Then a blank medium of 2
+ * cylinders is formatted, and compared with the image file FORMATTED; all its sectors are written, read back and surveyed, the image is
+ * compared with FILLED, and the medium goes through an ImageDisk file. And a flat sector file is put in, CONTENT is written to the
+ * sector C H R, the image is compared with FLAT, and a shelf exports it. */
+#include "flat.h"
 
 enum { SIZE = 512, CODE = 2, FIELD = 11, CYLINDERS = 2 };
 
 static telwyddus_disk disk;
+static uint32_t bay;
 static uint16_t rate;
 static uint8_t sectors;
 
-/* ---- media between trays, files and bay 0 */
+/* ---- media between trays, files and the bay */
 
 static void put_in(telwyddus_tray *tray) {
-    MUST(telwyddus_disk_insert(&disk, 0, tray));
+    MUST(telwyddus_disk_insert(&disk, bay, tray));
     MUST(telwyddus_tray_free(tray));
-    MUST(telwyddus_disk_acknowledge(&disk, 0));
+    MUST(telwyddus_disk_acknowledge(&disk, bay));
 }
 
 static void is_file(telwyddus_tray *tray, const uint8_t *wanted, size_t wanted_length, const char *what) {
@@ -34,15 +36,15 @@ static void one_sector(const uint8_t *image, size_t length, const uint8_t *key, 
     telwyddus_tray tray = {0};
     uint8_t bytes[SIZE], deleted;
     MUST(telwyddus_tray_read(&tray, image, length));
-    MUST(telwyddus_disk_insert(&disk, 0, &tray));
-    check(telwyddus_disk_insert(&disk, 0, &tray) == TELWYDDUS_NO_MEDIUM, "the tray has no other medium");
+    MUST(telwyddus_disk_insert(&disk, bay, &tray));
+    check(telwyddus_disk_insert(&disk, bay, &tray) == TELWYDDUS_NO_MEDIUM, "the tray has no other medium");
     MUST(telwyddus_tray_free(&tray));
-    check(telwyddus_disk_read(&disk, 0, key[0], key[1], key[2], CODE, bytes, SIZE, &deleted) == TELWYDDUS_CHANGED, "the bay isn't acknowledged");
-    MUST(telwyddus_disk_acknowledge(&disk, 0));
-    MUST(telwyddus_disk_read(&disk, 0, key[0], key[1], key[2], CODE, bytes, SIZE, &deleted));
+    check(telwyddus_disk_read(&disk, bay, key[0], key[1], key[2], CODE, bytes, SIZE, &deleted) == TELWYDDUS_CHANGED, "the bay isn't acknowledged");
+    MUST(telwyddus_disk_acknowledge(&disk, bay));
+    MUST(telwyddus_disk_read(&disk, bay, key[0], key[1], key[2], CODE, bytes, SIZE, &deleted));
     check(memcmp(bytes, wanted, SIZE) == 0 && deleted == 0, "the sector is the one that was wanted");
-    MUST(telwyddus_disk_write(&disk, 0, key[0], key[1], key[2], CODE, content, SIZE, 0));
-    MUST(telwyddus_disk_read(&disk, 0, key[0], key[1], key[2], CODE, bytes, SIZE, &deleted));
+    MUST(telwyddus_disk_write(&disk, bay, key[0], key[1], key[2], CODE, content, SIZE, 0));
+    MUST(telwyddus_disk_read(&disk, bay, key[0], key[1], key[2], CODE, bytes, SIZE, &deleted));
     check(memcmp(bytes, content, SIZE) == 0 && deleted == 0, "the sector is the one that was written");
 }
 
@@ -51,13 +53,13 @@ static void refusals(const uint8_t *key) {
     uint8_t bytes[SIZE], deleted = 7;
     memset(bytes, 0x55, SIZE);
     check(telwyddus_disk_read(&disk, 2, key[0], key[1], key[2], CODE, bytes, SIZE, &deleted) == TELWYDDUS_OUT_OF_RANGE, "no such bay");
-    check(telwyddus_disk_read(&disk, 0, 80, key[1], key[2], CODE, bytes, SIZE, &deleted) == TELWYDDUS_OUT_OF_RANGE, "no such cylinder");
-    check(telwyddus_disk_read(&disk, 0, key[0], key[1], key[2], 7, bytes, SIZE, &deleted) == TELWYDDUS_OUT_OF_RANGE, "no such size");
-    check(telwyddus_disk_read(&disk, 0, key[0], key[1], key[2], CODE, bytes, SIZE - 1, &deleted) == TELWYDDUS_TOO_SHORT, "no room");
-    check(telwyddus_disk_read(&disk, 0, key[0], key[1], 77, CODE, bytes, SIZE, &deleted) == TELWYDDUS_NOT_FOUND, "no such record");
-    check(telwyddus_disk_write(&disk, 0, key[0], key[1], key[2], CODE, bytes, SIZE - 1, 0) == TELWYDDUS_OUT_OF_RANGE, "too few bytes");
-    check(telwyddus_disk_read(&disk, 1, key[0], key[1], key[2], CODE, bytes, SIZE, &deleted) == TELWYDDUS_CHANGED, "nothing is in bay 1");
-    check(telwyddus_disk_acknowledge(&disk, 1) == TELWYDDUS_NOT_READY, "nothing to acknowledge in bay 1");
+    check(telwyddus_disk_read(&disk, bay, 80, key[1], key[2], CODE, bytes, SIZE, &deleted) == TELWYDDUS_OUT_OF_RANGE, "no such cylinder");
+    check(telwyddus_disk_read(&disk, bay, key[0], key[1], key[2], 7, bytes, SIZE, &deleted) == TELWYDDUS_OUT_OF_RANGE, "no such size");
+    check(telwyddus_disk_read(&disk, bay, key[0], key[1], key[2], CODE, bytes, SIZE - 1, &deleted) == TELWYDDUS_TOO_SHORT, "no room");
+    check(telwyddus_disk_read(&disk, bay, key[0], key[1], 77, CODE, bytes, SIZE, &deleted) == TELWYDDUS_NOT_FOUND, "no such record");
+    check(telwyddus_disk_write(&disk, bay, key[0], key[1], key[2], CODE, bytes, SIZE - 1, 0) == TELWYDDUS_OUT_OF_RANGE, "too few bytes");
+    check(telwyddus_disk_read(&disk, 1 - bay, key[0], key[1], key[2], CODE, bytes, SIZE, &deleted) == TELWYDDUS_CHANGED, "nothing is in the other bay");
+    check(telwyddus_disk_acknowledge(&disk, 1 - bay) == TELWYDDUS_NOT_READY, "nothing to acknowledge there");
     int left = 0;
     for (int i = 0; i < SIZE; i++) left += bytes[i] == 0x55;
     check(left == SIZE && deleted == 7, "refused reads leave the buffer and the mark");
@@ -76,7 +78,7 @@ static void compare_all(void) {
         for (uint8_t h = 0; h < 2; h++)
             for (uint8_t r = 1; r <= sectors; r++) {
                 uint8_t bytes[SIZE], deleted;
-                MUST(telwyddus_disk_read(&disk, 0, c, h, r, CODE, bytes, SIZE, &deleted));
+                MUST(telwyddus_disk_read(&disk, bay, c, h, r, CODE, bytes, SIZE, &deleted));
                 same += deleted == is_deleted(r);
                 for (int i = 0; i < SIZE; i++) same += bytes[i] == byte_of(c, h, r, i);
             }
@@ -89,7 +91,7 @@ static void fill_all(void) {
             for (uint8_t r = 1; r <= sectors; r++) {
                 uint8_t bytes[SIZE];
                 for (int i = 0; i < SIZE; i++) bytes[i] = byte_of(c, h, r, i);
-                MUST(telwyddus_disk_write(&disk, 0, c, h, r, CODE, bytes, SIZE, (uint8_t)is_deleted(r)));
+                MUST(telwyddus_disk_write(&disk, bay, c, h, r, CODE, bytes, SIZE, (uint8_t)is_deleted(r)));
             }
 }
 
@@ -124,76 +126,98 @@ static void archive(telwyddus_tray *tray) {
     MUST(telwyddus_tray_read_imd(&again, file, told, &cylinder, &head));
     survey(&again);
     put_in(&again);
-    if (rate == 250) MUST(telwyddus_disk_set_rate(&disk, 0, 250));
+    if (rate == 250) MUST(telwyddus_disk_set_rate(&disk, bay, 250));
     compare_all();
     check(telwyddus_tray_read_imd(&again, file, 3, &cylinder, &head) == TELWYDDUS_BAD_IMAGE, "three bytes are no file");
-    MUST(telwyddus_disk_eject(&disk, 0, &again));
+    MUST(telwyddus_disk_eject(&disk, bay, &again));
     MUST(telwyddus_tray_free(&again));
     free(file);
 }
 
-static void whole(const uint8_t *formatted, size_t length) {
+static void whole(const uint8_t *formatted, const uint8_t *filled, size_t length) {
     telwyddus_tray tray = {0};
     check(telwyddus_tray_blank(&tray, 81, rate) == TELWYDDUS_OUT_OF_RANGE, "no 81 cylinders");
     check(telwyddus_tray_blank(&tray, CYLINDERS, 300) == TELWYDDUS_OUT_OF_RANGE, "no 300 kbit/s");
     MUST(telwyddus_tray_blank(&tray, CYLINDERS, rate));
     put_in(&tray);
-    MUST(telwyddus_disk_set_rate(&disk, 0, rate));
+    MUST(telwyddus_disk_set_rate(&disk, bay, rate));
     for (uint8_t c = 0; c < CYLINDERS; c++)
-        for (uint8_t h = 0; h < 2; h++) MUST(telwyddus_disk_format(&disk, 0, c, h));
-    check(telwyddus_disk_format(&disk, 0, CYLINDERS, 0) == TELWYDDUS_NO_MARK, "no such track");
-    MUST(telwyddus_disk_eject(&disk, 0, &tray));
+        for (uint8_t h = 0; h < 2; h++) MUST(telwyddus_disk_format(&disk, bay, c, h));
+    check(telwyddus_disk_format(&disk, bay, CYLINDERS, 0) == TELWYDDUS_NO_MARK, "no such track");
+    MUST(telwyddus_disk_eject(&disk, bay, &tray));
     is_file(&tray, formatted, length, "the formatted medium is the one that was wanted");
     put_in(&tray);
     fill_all();
     compare_all();
-    MUST(telwyddus_disk_eject(&disk, 0, &tray));
+    MUST(telwyddus_disk_eject(&disk, bay, &tray));
+    is_file(&tray, filled, length, "the filled medium is the one that was wanted");
     survey(&tray);
     archive(&tray);
     MUST(telwyddus_tray_free(&tray));
 }
 
-/* A flat sector file: the sectors of some cylinders are read, and compared with its bytes. */
-static void flat(void) {
-    static uint8_t file[737280];
+/* ---- a flat sector file */
+
+/* The program exports an image, and the bytes are those of a flat file. */
+static void exports(const uint8_t *image, size_t length, const uint8_t *file, size_t file_length) {
+    static uint8_t back[FLAT];
+    telwyddus_shelf shelf = {0};
+    MUST(telwyddus_shelf_new(&shelf));
+    shelve(&shelf, "disk.rt", image, length);
+    check(convert(&shelf, "export\ndisk.rt\nout.flat", "out.flat", back, file_length), "a shelf exports the image");
+    check(memcmp(back, file, file_length) == 0, "what it exports has each sector");
+    MUST(telwyddus_shelf_free(&shelf));
+}
+
+/* The sectors of some cylinders are read, and compared with its bytes. One is written. */
+static void flat(const uint8_t *key, const uint8_t *content, const uint8_t *image, size_t length) {
+    static uint8_t file[FLAT];
     telwyddus_tray tray = {0};
+    size_t file_length = (size_t)160 * sectors * SIZE;
     int same = 0;
-    for (size_t i = 0; i < sizeof file; i++) file[i] = (uint8_t)(i * 7 ^ i / 512);
-    check(telwyddus_tray_read_flat(&tray, file, sizeof file - 1) == TELWYDDUS_BAD_IMAGE, "no flat file has so many bytes");
-    MUST(telwyddus_tray_read_flat(&tray, file, sizeof file));
+    for (size_t i = 0; i < file_length; i++) file[i] = (uint8_t)(i * 7 ^ i / 512);
+    check(telwyddus_tray_read_flat(&tray, file, file_length - 1) == TELWYDDUS_BAD_IMAGE, "no flat file has so many bytes");
+    MUST(telwyddus_tray_read_flat(&tray, file, file_length));
     put_in(&tray);
     for (uint8_t c = 0; c < 80; c += 26)
         for (uint8_t h = 0; h < 2; h++)
-            for (uint8_t r = 1; r <= 9; r++) {
+            for (uint8_t r = 1; r <= sectors; r++) {
                 uint8_t bytes[SIZE], deleted;
-                MUST(telwyddus_disk_read(&disk, 0, c, h, r, CODE, bytes, SIZE, &deleted));
-                same += deleted == 0 && memcmp(bytes, file + SIZE * ((c * 2 + h) * 9 + r - 1), SIZE) == 0;
+                MUST(telwyddus_disk_read(&disk, bay, c, h, r, CODE, bytes, SIZE, &deleted));
+                same += deleted == 0 && memcmp(bytes, file + SIZE * ((c * 2 + h) * sectors + r - 1), SIZE) == 0;
             }
-    check(same == 4 * 2 * 9, "the sectors are those of the file");
-    MUST(telwyddus_disk_eject(&disk, 0, &tray));
+    check(same == 4 * 2 * sectors, "the sectors are those of the file");
+    MUST(telwyddus_disk_write(&disk, bay, key[0], key[1], key[2], CODE, content, SIZE, 0));
+    memcpy(file + SIZE * ((key[0] * 2 + key[1]) * sectors + key[2] - 1), content, SIZE);
+    MUST(telwyddus_disk_eject(&disk, bay, &tray));
+    is_file(&tray, image, length, "the medium of the flat file is the one that was wanted");
+    exports(image, length, file, file_length);
     MUST(telwyddus_tray_free(&tray));
 }
 
 int main(int count, char **words) {
-    if (count != 10) return 2;
+    if (count != 13) return 2;
     telwyddus_tray tray = {0};
-    size_t length, wanted_length, content_length, after_length, formatted_length;
-    uint8_t key[3] = {(uint8_t)atoi(words[3]), (uint8_t)atoi(words[4]), (uint8_t)atoi(words[5])};
-    uint8_t *image = file_of(words[1], &length), *wanted = file_of(words[6], &wanted_length), *content = file_of(words[7], &content_length);
-    uint8_t *after = file_of(words[8], &after_length), *formatted = file_of(words[9], &formatted_length);
-    rate = (uint16_t)atoi(words[2]);
+    size_t length, wanted_length, content_length, after_length, formatted_length, filled_length, flat_length;
+    uint8_t key[3] = {(uint8_t)atoi(words[4]), (uint8_t)atoi(words[5]), (uint8_t)atoi(words[6])};
+    uint8_t *image = file_of(words[1], &length), *wanted = file_of(words[7], &wanted_length), *content = file_of(words[8], &content_length);
+    uint8_t *after = file_of(words[9], &after_length), *formatted = file_of(words[10], &formatted_length);
+    uint8_t *filled = file_of(words[11], &filled_length), *flat_image = file_of(words[12], &flat_length);
+    bay = (uint32_t)atoi(words[2]);
+    rate = (uint16_t)atoi(words[3]);
     sectors = rate == 500 ? 18 : 9;
     check(wanted_length == SIZE && content_length == SIZE, "sectors have 512 bytes");
+    check(formatted_length == filled_length, "media of one form have files of one length");
     MUST(telwyddus_disk_new(&disk));
     one_sector(image, length, key, wanted, content);
     refusals(key);
-    MUST(telwyddus_disk_eject(&disk, 0, &tray));
+    MUST(telwyddus_disk_eject(&disk, bay, &tray));
     is_file(&tray, after, after_length, "the image is the one that was wanted");
     MUST(telwyddus_tray_free(&tray));
-    whole(formatted, formatted_length);
-    flat();
+    whole(formatted, filled, formatted_length);
+    flat(key, content, flat_image, flat_length);
     MUST(telwyddus_disk_free(&disk));
-    free(image), free(wanted), free(content), free(after), free(formatted);
+    free(image), free(wanted), free(content), free(after), free(formatted), free(filled), free(flat_image);
     puts("each sector is where it was asked for");
     return 0;
 }
