@@ -64,7 +64,7 @@ enum telwyddus_code {
     TELWYDDUS_BAD_CRC = 18,     /* the sector's data is damaged, or was read back otherwise than it was written */
     TELWYDDUS_OVERRUN = 19,     /* a DMA request waited too long */
     TELWYDDUS_SEEK = 20,        /* the heads didn't find track 0 */
-    TELWYDDUS_UNFIT = 21        /* the other form can't have a track */
+    TELWYDDUS_UNFIT = 21        /* the other form can't have a track, or the medium */
 };
 
 /* ---------------------------------------------------------------------------------------------------------------------------
@@ -87,6 +87,11 @@ TELWYDDUS_CALL uint32_t telwyddus_tray_blank(telwyddus_tray *tray, uint8_t cylin
 /* Makes a tray with the medium of a flat sector file of 1,474,560 bytes (1.44 MB) or 737,280 (720 KB): all its sectors, and no others.
  * DONE, FULL, NO_MEMORY, BAD_IMAGE for any other length. */
 TELWYDDUS_CALL uint32_t telwyddus_tray_read_flat(telwyddus_tray *tray, const uint8_t *bytes, size_t length);
+
+/* Writes the flat sector file of its medium to the beginning of a buffer: of 80 cylinders and two heads the sectors 1 to 18 at 500 kbit/s,
+ * 1 to 9 at 250, each of 512 bytes. *length is the file's, told where the buffer is too short too. UNFIT where the medium has another shape, or
+ * lacks one of these sectors, or has it damaged. DONE, EMPTY, NO_MEMORY, NO_MEDIUM, TOO_SHORT, UNFIT. */
+TELWYDDUS_CALL uint32_t telwyddus_tray_write_flat(telwyddus_tray *tray, uint8_t *out, size_t room, size_t *length);
 
 /* Makes a tray with the medium of an ImageDisk file (MFM at 500 or 250 kbit/s): all its sectors, and no others. UNFIT where a track
  * has no room for its sectors: its cylinder and head are told. DONE, FULL, NO_MEMORY, BAD_IMAGE, UNFIT. */
