@@ -71,6 +71,7 @@ static void move(void) {
     telwyddus_tray tray = {0}, back = {0};
     size_t told;
     TRY(telwyddus_controller_new(&controller));
+    MUST(telwyddus_controller_strap_seeks(&controller, 1));
     TRY(telwyddus_tray_read(&tray, image, length));
     MUST(telwyddus_controller_insert(&controller, 0, &tray));
     TRY(telwyddus_controller_image(&controller, 0, out, length, &told));
