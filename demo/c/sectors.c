@@ -171,9 +171,9 @@ static void exports(const uint8_t *image, size_t length, const uint8_t *file, si
 
 /* The sectors of some cylinders are read, and compared with its bytes. One is written. */
 static void flat(const uint8_t *key, const uint8_t *content, const uint8_t *image, size_t length) {
-    static uint8_t file[FLAT];
+    static uint8_t file[FLAT], again[FLAT];
     telwyddus_tray tray = {0};
-    size_t file_length = (size_t)160 * sectors * SIZE;
+    size_t file_length = (size_t)160 * sectors * SIZE, told = 0;
     int same = 0;
     for (size_t i = 0; i < file_length; i++) file[i] = (uint8_t)(i * 7 ^ i / 512);
     check(telwyddus_tray_read_flat(&tray, file, file_length - 1) == TELWYDDUS_BAD_IMAGE, "no flat file has so many bytes");
@@ -192,6 +192,12 @@ static void flat(const uint8_t *key, const uint8_t *content, const uint8_t *imag
     MUST(telwyddus_disk_eject(&disk, bay, &tray));
     is_file(&tray, image, length, "the medium of the flat file is the one that was wanted");
     exports(image, length, file, file_length);
+    check(telwyddus_tray_write_flat(&tray, again, file_length - 1, &told) == TELWYDDUS_TOO_SHORT && told == file_length, "the length is told");
+    MUST(telwyddus_tray_write_flat(&tray, again, file_length, &told));
+    check(told == file_length && memcmp(again, file, file_length) == 0, "its flat file has each sector");
+    MUST(telwyddus_tray_free(&tray));
+    MUST(telwyddus_tray_blank(&tray, CYLINDERS, rate));
+    check(telwyddus_tray_write_flat(&tray, again, file_length, &told) == TELWYDDUS_UNFIT, "a blank medium has no flat file");
     MUST(telwyddus_tray_free(&tray));
 }
 

@@ -156,14 +156,17 @@ static void archive(void) {
     MUST(telwyddus_tray_free(&again));
 }
 
-/* The medium of a flat sector file: its last sector is read at a desk. */
+/* The medium of a flat sector file: that file again, and its last sector is read at a desk. */
 static void flat(void) {
-    static uint8_t file[737280];
+    static uint8_t file[737280], again[737280];
+    size_t told = 0;
     telwyddus_disk disk = {0};
     telwyddus_tray tray = {0};
     uint8_t bytes[512], deleted, *last = file + sizeof file - sizeof bytes;
     memset(last, 0xA5, sizeof bytes);
     TRY(telwyddus_tray_read_flat(&tray, file, sizeof file));
+    TRY(telwyddus_tray_write_flat(&tray, again, sizeof again, &told));
+    is_so(told == sizeof file && memcmp(again, file, sizeof file) == 0, "the flat file of the medium is the same");
     TRY(telwyddus_disk_new(&disk));
     MUST(telwyddus_disk_insert(&disk, 0, &tray));
     MUST(telwyddus_disk_acknowledge(&disk, 0));
