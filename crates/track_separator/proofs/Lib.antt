@@ -1,3 +1,4 @@
+mod Saved
 mod Bits
 mod Shared
 mod Runs

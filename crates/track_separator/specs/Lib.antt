@@ -5,3 +5,4 @@ pub mod Hunts
 pub mod Waits
 pub mod Turns
 pub mod Lifts
+pub mod Saving

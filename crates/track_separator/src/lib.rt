@@ -8,6 +8,7 @@ mod hunting;
 pub mod laws;
 mod reading;
 mod register;
+mod saving;
 mod separator;
 mod state;
 mod waiting;

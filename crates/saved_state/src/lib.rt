@@ -1,0 +1,19 @@
+//! States as bytes: what is saved, and how it is read back.
+//!
+//! A value is written field after field, each in a fixed order, and read back in the same order. Reading never fails by
+//! itself: bytes that no value has give some value, and `restore` refuses it, since saving it gives other bytes.
+#![tactic(auto)]
+
+mod lists;
+mod numbers;
+mod saved;
+mod sink;
+mod source;
+mod values;
+mod whole;
+
+pub use lists::{load_bytes, load_list, save_bytes, save_list};
+pub use saved::{Saved, SavedWhole};
+pub use sink::Sink;
+pub use source::Source;
+pub use whole::{RestoreError, restore_state, save_state};

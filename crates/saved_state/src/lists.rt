@@ -1,0 +1,49 @@
+// Lists.
+ghost use Rattle.std.specs.Prelude.{◌≡◌, ◌≤◌, IfOk, List, ℕ, length, ⊤};
+ghost use Rattle.saved_state.specs.Saved.{Adds, Gives, spelled_bytes, spelled_list, EachFits};
+
+use crate::saved::Saved;
+use crate::sink::Sink;
+use crate::source::Source;
+use flop_base::NoMemory;
+use std::alloc::Global;
+
+/// Writes bytes, their number first.
+pub fn save_bytes(bytes: &[u8], to: &mut Sink)
+    ensures { Adds (spelled_bytes bytes.now) to.old to.new }
+{
+    bytes.len().save(to);
+    to.part(bytes);
+}
+
+/// Reads bytes whose number comes first.
+pub fn load_bytes<'a>(from: &mut Source<'a>) -> &'a [u8]
+    ensures gives { Gives (λ _. ⊤) spelled_bytes from.old result.now from.new }
+    ensures shorter { length from.new ≤ length from.old }
+{
+    let count = usize::load(from);
+    from.part(count)
+}
+
+/// Writes a list of values.
+pub fn save_list<T: Saved>(values: &[T], to: &mut Sink)
+    ensures fits { EachFits T.Fits values.now }
+    ensures adds { Adds (spelled_list T.spelled values.now) to.old to.new }
+{
+    for value in values {
+        to.byte(1);
+        value.save(to);
+    }
+    to.byte(0);
+}
+
+/// Reads a list of values.
+pub fn load_list<T: Saved + Drop>(alloc: Global, from: &mut Source<'_>) -> Result<Vec<T>, NoMemory>
+    ensures { IfOk result (λ list. Gives (EachFits T.Fits) (spelled_list T.spelled) from.old list.items from.new) }
+{
+    let mut list = Vec::new(alloc);
+    while from.byte() == 1 {
+        list.push(T::load(from))?;
+    }
+    Ok(list)
+}

@@ -1,0 +1,45 @@
+// Values that are saved and read back.
+ghost use Rattle.std.specs.Prelude.{◌≡◌, ◌≤◌, ℕ, List, length, IfOk};
+ghost use Rattle.saved_state.specs.Saved.{Adds, Gives};
+
+use crate::sink::Sink;
+use crate::source::Source;
+use flop_base::NoMemory;
+use std::alloc::Global;
+
+/// A value that owns no memory.
+pub trait Saved {
+    /// The bytes of a value, and `rest` behind them.
+    ghost spelled: { Self → List ℕ → List ℕ };
+
+    /// What is so of each value that code holds.
+    ghost Fits: { Self → Type 0 };
+
+    /// Writes the bytes.
+    fn save(&self, to: &mut Sink)
+        ensures fits { Fits self.now }
+        ensures adds { Adds (spelled self.now) to.old to.new };
+
+    /// Reads the value that comes next. Bytes that no value has give any.
+    fn load(from: &mut Source<'_>) -> Self
+        ensures gives { Gives Fits spelled from.old result from.new }
+        ensures shorter { length from.new ≤ length from.old };
+}
+
+/// A value that owns memory.
+pub trait SavedWhole {
+    /// The bytes of a value, and `rest` behind them.
+    ghost spelled: { Self → List ℕ → List ℕ };
+
+    /// What is so of each value that code holds.
+    ghost Fits: { Self → Type 0 };
+
+    /// Writes the bytes. What they take besides is allocated here.
+    fn save(&self, alloc: Global, to: &mut Sink)
+        ensures fits { Fits self.now }
+        ensures adds { Adds (spelled self.now) to.old to.new };
+
+    /// Reads the value that comes next. Bytes that no value has give any.
+    fn load(alloc: Global, from: &mut Source<'_>) -> Result<Self, NoMemory>
+        ensures gives { IfOk result (λ value. Gives Fits spelled from.old value from.new) };
+}

@@ -1,0 +1,18 @@
+use Rattle.std.proofs.Common.{rules, arith, sym, ◌∙◌, subst, ℕ, ◌<◌, ◌≤◌}
+use Rattle.track_separator.specs.Stages.{size_in, since_in}
+use Rattle.track_separator.specs.declared.state.Stage.{Stage}
+use Rattle.track_separator.proofs.Saved.{same_separator}
+use Rattle.track_separator.proofs.saving.SeparatorSaved.load.Goals as goal
+
+pub returns : goal.returns
+returns c value rest fits left =
+    let cells = c.load-cells.ensures value.cells _ fits left in
+    let back = c.load.ensures value.back _ fits cells.1 in
+    let stage = c.load-2.ensures value.stage rest fits back.1 in
+    let small : size_in c.load-2.result ≤ 8192 = subst (λ s. size_in s ≤ 8192) (sym stage.0) value.small in
+    let early : since_in c.load-2.result < 1023 = subst (λ s. since_in s < 1023) (sym stage.0) value.early in
+    let few : c.load.result < 16 = omega (arith, back.0, value.few) in (
+      same_separator value _ _ _ _ _ _ (sym cells.0) (sym (c.limited_place-back.ensures.same few ∙ back.0))
+          (sym (c.limited-stage.ensures.same small early ∙ stage.0)),
+      stage.1,
+    )
