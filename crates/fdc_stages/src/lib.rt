@@ -7,6 +7,7 @@
 mod ending;
 pub mod laws;
 mod reading;
+mod saving;
 mod searching;
 
 pub use ending::Ending;

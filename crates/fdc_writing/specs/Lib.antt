@@ -2,3 +2,4 @@ pub mod Windows
 pub mod Writings
 pub mod Formats
 pub mod Leads
+pub mod Saving

@@ -6,6 +6,7 @@
 
 mod formatting;
 pub mod laws;
+mod saving;
 mod window;
 mod writing;
 

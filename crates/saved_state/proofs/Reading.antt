@@ -17,6 +17,7 @@ pub next_value : {A : Type 0} (fits : A → Type 0) (spelled : A → List ℕ �
     (here behind after rest : List ℕ) (byte : ℕ)
     → Left fits spelled values list here rest → Next here byte behind → byte ≡ 1 → Gives fits spelled behind read after
     → longer ≡ list ++ read ∷ [] → Left fits spelled values longer after rest
+unfolding spelled_list
 next_value fits spelled values list longer read here behind after rest byte ([], f, e, h) next is gives more =
     absurd (omega (arith, is, (next 0 rest h).0))
 next_value fits spelled values list longer read here behind after rest byte (x ∷ xs, f, e, h) next is gives more =
@@ -27,5 +28,6 @@ next_value fits spelled values list longer read here behind after rest byte (x �
 pub no_value : {A : Type 0} (fits : A → Type 0) (spelled : A → List ℕ → List ℕ) (values list : List A)
     (here behind rest : List ℕ) (byte : ℕ)
     → Left fits spelled values list here rest → Next here byte behind → (byte ≡ 1 → ⊥) → (list ≡ values) × (behind ≡ rest)
+unfolding spelled_list
 no_value fits spelled values list here behind rest byte ([], f, e, h) next isnt = (rw e grind (arith, common_steps), (next 0 rest h).1)
 no_value fits spelled values list here behind rest byte (x ∷ xs, f, e, h) next isnt = absurd (isnt (next 1 _ h).0)

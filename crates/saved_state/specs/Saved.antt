@@ -16,19 +16,19 @@ Gives {A = A} fits spelled old result new =
     (value : A) (rest : List ℕ) → fits value → old ≡ spelled value rest → (result ≡ value) × (new ≡ rest)
 
 -- numbers, the low byte first
-abbrev pub spelled_byte : ℕ → List ℕ → List ℕ
+unfoldable pub spelled_byte : ℕ → List ℕ → List ℕ
 spelled_byte n rest = n ∷ rest
 
-abbrev pub spelled_word : ℕ → List ℕ → List ℕ
+unfoldable pub spelled_word : ℕ → List ℕ → List ℕ
 spelled_word n rest = n % 256 ∷ n / 256 ∷ rest
 
-abbrev pub spelled_double : ℕ → List ℕ → List ℕ
+unfoldable pub spelled_double : ℕ → List ℕ → List ℕ
 spelled_double n rest = spelled_word (n % 65536) (spelled_word (n / 65536) rest)
 
-abbrev pub spelled_count : ℕ → List ℕ → List ℕ
+unfoldable pub spelled_count : ℕ → List ℕ → List ℕ
 spelled_count n rest = spelled_double (n % 4294967296) (spelled_double (n / 4294967296) rest)
 
-abbrev pub spelled_cells : ℕ → List ℕ → List ℕ
+unfoldable pub spelled_cells : ℕ → List ℕ → List ℕ
 spelled_cells n rest = spelled_count (n % 18446744073709551616) (spelled_count (n / 18446744073709551616) rest)
 
 -- a truth value
@@ -36,20 +36,20 @@ abbrev pub flag_byte : Bool → ℕ
 flag_byte true = 1
 flag_byte false = 0
 
-abbrev pub spelled_flag : Bool → List ℕ → List ℕ
+unfoldable pub spelled_flag : Bool → List ℕ → List ℕ
 spelled_flag flag rest = flag_byte flag ∷ rest
 
 -- a value that may be missing: 1 before it, else 0
-abbrev pub spelled_option : {A : Type 0} → (A → List ℕ → List ℕ) → Option A → List ℕ → List ℕ
+unfoldable pub spelled_option : {A : Type 0} → (A → List ℕ → List ℕ) → Option A → List ℕ → List ℕ
 spelled_option spelled None rest = 0 ∷ rest
 spelled_option spelled (Some value) rest = 1 ∷ spelled value rest
 
 -- bytes, their number first
-abbrev pub spelled_bytes : List ℕ → List ℕ → List ℕ
+unfoldable pub spelled_bytes : List ℕ → List ℕ → List ℕ
 spelled_bytes bytes rest = spelled_count (length bytes) (bytes ++ rest)
 
 -- a list of values: 1 before each, and 0 behind the last
-abbrev pub spelled_list : {A : Type 0} → (A → List ℕ → List ℕ) → List A → List ℕ → List ℕ
+unfoldable pub spelled_list : {A : Type 0} → (A → List ℕ → List ℕ) → List A → List ℕ → List ℕ
 spelled_list spelled [] rest = 0 ∷ rest
 spelled_list spelled (value ∷ values) rest = 1 ∷ spelled value (spelled_list spelled values rest)
 
@@ -59,5 +59,5 @@ EachFits fits [] = ⊤
 EachFits fits (value ∷ values) = fits value × EachFits fits values
 
 -- the key of a sector
-abbrev pub spelled_key : Chrn → List ℕ → List ℕ
-spelled_key key rest = key.c ∷ key.h ∷ key.r ∷ key.n ∷ rest
+unfoldable pub spelled_key : Chrn → List ℕ → List ℕ
+spelled_key key rest = spelled_byte key.c (spelled_byte key.h (spelled_byte key.r (spelled_byte key.n rest)))

@@ -9,6 +9,7 @@ use flop_base::NoMemory;
 use std::alloc::Global;
 
 /// Writes bytes, their number first.
+#[tactic(auto, unfolding(crate::specs::Saved::spelled_bytes))]
 pub fn save_bytes(bytes: &[u8], to: &mut Sink)
     ensures { Adds (spelled_bytes bytes.now) to.old to.new }
 {
@@ -17,6 +18,7 @@ pub fn save_bytes(bytes: &[u8], to: &mut Sink)
 }
 
 /// Reads bytes whose number comes first.
+#[tactic(auto, unfolding(crate::specs::Saved::spelled_bytes))]
 pub fn load_bytes<'a>(from: &mut Source<'a>) -> &'a [u8]
     ensures gives { Gives (λ _. ⊤) spelled_bytes from.old result.now from.new }
     ensures shorter { length from.new ≤ length from.old }
@@ -26,6 +28,7 @@ pub fn load_bytes<'a>(from: &mut Source<'a>) -> &'a [u8]
 }
 
 /// Writes a list of values.
+#[tactic(auto, unfolding(crate::specs::Saved::spelled_list))]
 pub fn save_list<T: Saved>(values: &[T], to: &mut Sink)
     ensures fits { EachFits T.Fits values.now }
     ensures adds { Adds (spelled_list T.spelled values.now) to.old to.new }
@@ -38,6 +41,7 @@ pub fn save_list<T: Saved>(values: &[T], to: &mut Sink)
 }
 
 /// Reads a list of values.
+#[tactic(auto, unfolding(crate::specs::Saved::spelled_list))]
 pub fn load_list<T: Saved + Drop>(alloc: Global, from: &mut Source<'_>) -> Result<Vec<T>, NoMemory>
     ensures { IfOk result (λ list. Gives (EachFits T.Fits) (spelled_list T.spelled) from.old list.items from.new) }
 {

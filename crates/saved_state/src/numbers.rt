@@ -11,10 +11,12 @@ impl Saved for u8 {
 
     ghost Fits = { λ _. ⊤ };
 
+    #[tactic(auto, unfolding(crate::specs::Saved::spelled_byte))]
     fn save(&self, to: &mut Sink) {
         to.byte(*self);
     }
 
+    #[tactic(auto, unfolding(crate::specs::Saved::spelled_byte))]
     fn load(from: &mut Source<'_>) -> u8 {
         from.byte()
     }
@@ -28,10 +30,12 @@ impl Saved for bool {
 
     ghost Fits = { λ _. ⊤ };
 
+    #[tactic(auto, unfolding(crate::specs::Saved::spelled_flag))]
     fn save(&self, to: &mut Sink) {
         to.byte(if *self { 1 } else { 0 });
     }
 
+    #[tactic(auto, unfolding(crate::specs::Saved::spelled_flag))]
     fn load(from: &mut Source<'_>) -> bool {
         from.byte() == 1
     }
@@ -45,11 +49,13 @@ impl Saved for u16 {
 
     ghost Fits = { λ _. ⊤ };
 
+    #[tactic(auto, unfolding(crate::specs::Saved::spelled_word))]
     fn save(&self, to: &mut Sink) {
         to.byte((*self % 256) as u8);
         to.byte((*self / 256) as u8);
     }
 
+    #[tactic(auto, unfolding(crate::specs::Saved::spelled_word))]
     fn load(from: &mut Source<'_>) -> u16 {
         let low = from.byte();
         let high = from.byte();
@@ -65,11 +71,13 @@ impl Saved for u32 {
 
     ghost Fits = { λ _. ⊤ };
 
+    #[tactic(auto, unfolding(crate::specs::Saved::spelled_double))]
     fn save(&self, to: &mut Sink) {
         ((*self % 0x1_0000) as u16).save(to);
         ((*self / 0x1_0000) as u16).save(to);
     }
 
+    #[tactic(auto, unfolding(crate::specs::Saved::spelled_double))]
     fn load(from: &mut Source<'_>) -> u32 {
         let low = u16::load(from);
         let high = u16::load(from);
@@ -85,11 +93,13 @@ impl Saved for u64 {
 
     ghost Fits = { λ _. ⊤ };
 
+    #[tactic(auto, unfolding(crate::specs::Saved::spelled_count))]
     fn save(&self, to: &mut Sink) {
         ((*self % 0x1_0000_0000) as u32).save(to);
         ((*self / 0x1_0000_0000) as u32).save(to);
     }
 
+    #[tactic(auto, unfolding(crate::specs::Saved::spelled_count))]
     fn load(from: &mut Source<'_>) -> u64 {
         let low = u32::load(from);
         let high = u32::load(from);
@@ -105,11 +115,13 @@ impl Saved for u128 {
 
     ghost Fits = { λ _. ⊤ };
 
+    #[tactic(auto, unfolding(crate::specs::Saved::spelled_cells))]
     fn save(&self, to: &mut Sink) {
         ((*self % 0x1_0000_0000_0000_0000) as u64).save(to);
         ((*self / 0x1_0000_0000_0000_0000) as u64).save(to);
     }
 
+    #[tactic(auto, unfolding(crate::specs::Saved::spelled_cells))]
     fn load(from: &mut Source<'_>) -> u128 {
         let low = u64::load(from);
         let high = u64::load(from);

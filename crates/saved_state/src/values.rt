@@ -13,6 +13,7 @@ impl<T: Saved> Saved for Option<T> {
 
     ghost Fits = { λ value. ForSome value T.Fits };
 
+    #[tactic(auto, unfolding(crate::specs::Saved::spelled_option))]
     fn save(&self, to: &mut Sink) {
         match self {
             None => to.byte(0),
@@ -23,6 +24,7 @@ impl<T: Saved> Saved for Option<T> {
         }
     }
 
+    #[tactic(auto, unfolding(crate::specs::Saved::spelled_option))]
     fn load(from: &mut Source<'_>) -> Option<T> {
         if from.byte() == 1 {
             Some(T::load(from))
@@ -40,6 +42,7 @@ impl Saved for Chrn {
 
     ghost Fits = { λ _. ⊤ };
 
+    #[tactic(auto, unfolding(crate::specs::Saved::spelled_key))]
     fn save(&self, to: &mut Sink) {
         self.c.save(to);
         self.h.save(to);
@@ -47,6 +50,7 @@ impl Saved for Chrn {
         self.n.save(to);
     }
 
+    #[tactic(auto, unfolding(crate::specs::Saved::spelled_key))]
     fn load(from: &mut Source<'_>) -> Chrn {
         let c = u8::load(from);
         let h = u8::load(from);

@@ -6,6 +6,8 @@ ghost use Rattle.track_model.specs.declared.symbol.Symbol.TheVariants.{Key};
 ghost use Rattle.track_model.specs.Layouts.{word_after, symbol_bit, next_symbol, track_symbols};
 ghost use Rattle.track_format.specs.Streams.{Gives, AsksKey, KeyIs, HasSectors, IsInPart, words_of_part};
 
+mod saving;
+
 use crate::gap::START_WORDS;
 use crate::symbols::{
     FIELD_START, GAP, check_behind, field_symbol, last_bit_of, start_symbol, word_of,

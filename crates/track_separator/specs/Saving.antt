@@ -6,7 +6,7 @@ use Rattle.track_separator.specs.declared.state.Stage.TheVariants.{Hunting, Read
 use Rattle.track_separator.specs.declared.state.Separator.{Separator}
 
 -- a stage: its number, and what it keeps
-abbrev pub spelled_stage : Stage → List ℕ → List ℕ
+unfoldable pub spelled_stage : Stage → List ℕ → List ℕ
 spelled_stage Hunting rest = 0 ∷ rest
 spelled_stage (Reading bytes) rest = 1 ∷ spelled_byte bytes rest
 spelled_stage Addressed rest = 2 ∷ rest
@@ -15,6 +15,6 @@ spelled_stage (Waiting size since marked) rest = 4 ∷ spelled_word size (spelle
 spelled_stage (Content size taken check touched) rest =
     5 ∷ spelled_word size (spelled_word taken (spelled_word check (spelled_flag touched rest)))
 
-abbrev pub spelled_separator : Separator → List ℕ → List ℕ
+unfoldable pub spelled_separator : Separator → List ℕ → List ℕ
 spelled_separator separator rest =
     spelled_cells separator.cells (spelled_word separator.back (spelled_stage separator.stage rest))

@@ -13,6 +13,7 @@ impl Saved for Stage {
 
     ghost Fits = { λ _. ⊤ };
 
+    #[tactic(auto, unfolding(crate::specs::Saving::spelled_stage))]
     fn save(&self, to: &mut Sink) {
         match *self {
             Stage::Hunting => to.byte(0),
@@ -47,6 +48,7 @@ impl Saved for Stage {
         }
     }
 
+    #[tactic(auto, unfolding(crate::specs::Saving::spelled_stage))]
     fn load(from: &mut Source<'_>) -> Stage {
         match from.byte() {
             1 => Stage::Reading {
@@ -110,12 +112,14 @@ impl Saved for Separator {
 
     ghost Fits = { λ _. ⊤ };
 
+    #[tactic(auto, unfolding(crate::specs::Saving::spelled_separator))]
     fn save(&self, to: &mut Sink) {
         self.cells.save(to);
         self.back.save(to);
         self.stage.save(to);
     }
 
+    #[tactic(auto, unfolding(crate::specs::Saving::spelled_separator))]
     fn load(from: &mut Source<'_>) -> Separator {
         let cells = u128::load(from);
         let back = limited_place(u16::load(from));

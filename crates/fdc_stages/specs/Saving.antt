@@ -1,0 +1,29 @@
+-- The bytes of stages that are saved: a byte for the kind of each, and what it keeps.
+use Rattle.std.specs.Prelude.{ℕ, List, ◌∷◌}
+use Rattle.saved_state.specs.Saved.{spelled_flag}
+use Rattle.track_separator.specs.Saving.{spelled_separator}
+use Rattle.fdc_stages.specs.declared.ending.Ending.{Ending}
+use Rattle.fdc_stages.specs.declared.ending.Ending.TheVariants.{Done, NoMark, NoSector, NoField, BadCheck, Overrun, NoCount, Protected, Late}
+use Rattle.fdc_stages.specs.declared.searching.Search.{Search}
+use Rattle.fdc_stages.specs.declared.reading.ReadStage.{ReadStage}
+use Rattle.fdc_stages.specs.declared.reading.ReadStage.TheVariants as stage
+
+unfoldable pub spelled_ending : Ending → List ℕ → List ℕ
+spelled_ending (Done deleted) rest = 0 ∷ spelled_flag deleted rest
+spelled_ending NoMark rest = 1 ∷ rest
+spelled_ending NoSector rest = 2 ∷ rest
+spelled_ending NoField rest = 3 ∷ rest
+spelled_ending BadCheck rest = 4 ∷ rest
+spelled_ending Overrun rest = 5 ∷ rest
+spelled_ending NoCount rest = 6 ∷ rest
+spelled_ending Protected rest = 7 ∷ rest
+spelled_ending Late rest = 8 ∷ rest
+
+unfoldable pub spelled_search : Search → List ℕ → List ℕ
+spelled_search search rest = spelled_separator search.separator (spelled_flag search.turned (spelled_flag search.marked rest))
+
+unfoldable pub spelled_read : ReadStage → List ℕ → List ℕ
+spelled_read (stage.Search search) rest = 0 ∷ spelled_search search rest
+spelled_read (stage.Wait separator) rest = 1 ∷ spelled_separator separator rest
+spelled_read (stage.Content separator deleted) rest = 2 ∷ spelled_separator separator (spelled_flag deleted rest)
+spelled_read (stage.Over deleted good) rest = 3 ∷ spelled_flag deleted (spelled_flag good rest)
