@@ -70,7 +70,11 @@ impl Saved for Search {
         let separator = Separator::load(from);
         let turned = bool::load(from);
         let marked = bool::load(from);
-        Search { separator, turned, marked }
+        Search {
+            separator,
+            turned,
+            marked,
+        }
     }
 }
 
