@@ -2,3 +2,4 @@ pub mod Reads
 pub mod Writes
 pub mod Table
 pub mod Results
+pub mod Saving

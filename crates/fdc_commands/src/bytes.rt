@@ -4,6 +4,8 @@ ghost use Rattle.std.specs.Option.{option_map_or};
 ghost use Rattle.fdc_commands.specs.Table.{row_of, is_begun, answer, kept, IfReady, SizeInRange};
 ghost use Rattle.fdc_commands.specs.Table.{whole as whole_command};
 
+mod saving;
+
 use crate::Command;
 use crate::command::{LONGEST, parameter_count, spell};
 use std::marker::Model;

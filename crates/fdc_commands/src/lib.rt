@@ -6,6 +6,7 @@ mod bytes;
 mod command;
 pub mod laws;
 mod results;
+mod saving;
 
 pub use bytes::{Accepted, CommandBytes};
 pub use command::Command;

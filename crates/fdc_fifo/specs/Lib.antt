@@ -1,1 +1,2 @@
 pub mod Fifo
+pub mod Saving

@@ -2,6 +2,8 @@
 ghost use Rattle.std.specs.Prelude.{◌≡◌, ◌==◌, ◌≤◌, ◌↔◌, false, [], ◌∷◌, ◌++◌, length, drop, IsNone, IfOk, IfErr, IfSome, OnOk, OnErr};
 ghost use Rattle.fdc_fifo.specs.Fifo.{emptied, room_of, IsFull, wants, worth_fetching, low_level};
 
+mod saving;
+
 use circular_buffer::HeapCircularBuffer;
 use flop_base::NoMemory;
 use std::alloc::Global;

@@ -7,6 +7,7 @@
 mod drive_lines;
 mod main_status;
 mod results;
+mod saving;
 
 pub use bitflags::Flags;
 pub use drive_lines::{Dir, Dor};

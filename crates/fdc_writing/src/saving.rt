@@ -82,7 +82,13 @@ impl Saved for Window {
         let part = Part::load(from);
         let check = u16::load(from);
         let last = bool::load(from);
-        Window { deleted, more, part, check, last }
+        Window {
+            deleted,
+            more,
+            part,
+            check,
+            last,
+        }
     }
 }
 

@@ -53,6 +53,11 @@ unfoldable pub spelled_list : {A : Type 0} → (A → List ℕ → List ℕ) →
 spelled_list spelled [] rest = 0 ∷ rest
 spelled_list spelled (value ∷ values) rest = 1 ∷ spelled value (spelled_list spelled values rest)
 
+-- values one behind the other, whose number is known
+unfoldable pub spelled_each : {A : Type 0} → (A → List ℕ → List ℕ) → List A → List ℕ → List ℕ
+spelled_each spelled [] rest = rest
+spelled_each spelled (value ∷ values) rest = spelled value (spelled_each spelled values rest)
+
 -- each value of a list is so
 abbrev pub EachFits : {A : Type 0} → (A → Type 0) → List A → Type 0
 EachFits fits [] = ⊤

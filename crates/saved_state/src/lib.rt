@@ -12,7 +12,7 @@ mod source;
 mod values;
 mod whole;
 
-pub use lists::{load_bytes, load_list, save_bytes, save_list};
+pub use lists::{load_bytes, load_four, load_list, save_bytes, save_four, save_list};
 pub use saved::{Saved, SavedWhole};
 pub use sink::Sink;
 pub use source::Source;

@@ -1,6 +1,6 @@
 // Lists.
 ghost use Rattle.std.specs.Prelude.{◌≡◌, ◌≤◌, IfOk, List, ℕ, length, ⊤};
-ghost use Rattle.saved_state.specs.Saved.{Adds, Gives, spelled_bytes, spelled_list, EachFits};
+ghost use Rattle.saved_state.specs.Saved.{Adds, Gives, spelled_bytes, spelled_list, spelled_each, EachFits};
 
 use crate::saved::Saved;
 use crate::sink::Sink;
@@ -50,4 +50,28 @@ pub fn load_list<T: Saved + Drop>(alloc: Global, from: &mut Source<'_>) -> Resul
         list.push(T::load(from))?;
     }
     Ok(list)
+}
+
+/// Writes four values, one behind the other.
+#[tactic(auto, unfolding(crate::specs::Saved::spelled_each))]
+pub fn save_four<T: Saved>(values: &[T; 4], to: &mut Sink)
+    ensures fits { EachFits T.Fits values.now }
+    ensures adds { Adds (spelled_each T.spelled values.now) to.old to.new }
+{
+    for value in values {
+        value.save(to);
+    }
+}
+
+/// Reads four values, one behind the other.
+#[tactic(auto, unfolding(crate::specs::Saved::spelled_each))]
+pub fn load_four<T: Saved>(from: &mut Source<'_>) -> [T; 4]
+    ensures gives { Gives (λ values. (length values ≡ 4) × EachFits T.Fits values) (spelled_each T.spelled) from.old result from.new }
+    ensures shorter { length from.new ≤ length from.old }
+{
+    let first = T::load(from);
+    let second = T::load(from);
+    let third = T::load(from);
+    let fourth = T::load(from);
+    [first, second, third, fourth]
 }
