@@ -4,6 +4,7 @@
 
 pub mod laws;
 mod motion;
+mod saving;
 mod seeks;
 
 pub use motion::{Motion, Seek};

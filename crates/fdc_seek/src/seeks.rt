@@ -4,6 +4,8 @@ ghost use Rattle.fdc_seek.specs.Seeking.{InRange, at_rest, with_polls, with_moti
 ghost use Rattle.fdc_seek.specs.Seeking.{seek_bits, first_pending, sensed, after_sense, released, has_ended_seek, without_ended};
 ghost use Rattle.fdc_seek.specs.Seeking.{polled as polled_status, sought as sought_status, recalibrated as recalibrated_status};
 
+mod saving;
+
 use crate::{Motion, Seek};
 use fdc_registers::{Flags, St0};
 use std::marker::Model;

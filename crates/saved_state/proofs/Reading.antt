@@ -51,3 +51,8 @@ four_values fits spelled (_ ∷ []) _ _ _ _ _ _ _ _ _ _ four _ _ _ _ _ _ = absur
 four_values fits spelled (_ ∷ _ ∷ []) _ _ _ _ _ _ _ _ _ _ four _ _ _ _ _ _ = absurd (omega (arith, four))
 four_values fits spelled (_ ∷ _ ∷ _ ∷ []) _ _ _ _ _ _ _ _ _ _ four _ _ _ _ _ _ = absurd (omega (arith, four))
 four_values fits spelled (_ ∷ _ ∷ _ ∷ _ ∷ _ ∷ more) _ _ _ _ _ _ _ _ _ _ four _ _ _ _ _ _ = absurd (omega (arith, four))
+
+-- where each value of a type fits, so does each of a list
+pub each_fits : {A : Type 0} (fits : A → Type 0) → ((value : A) → fits value) → (values : List A) → EachFits fits values
+each_fits fits all [] = tt
+each_fits fits all (value ∷ values) = (all value, each_fits fits all values)
