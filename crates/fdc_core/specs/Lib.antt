@@ -19,3 +19,4 @@ pub mod Writes
 pub mod Waiting
 pub mod Tellings
 pub mod Whole
+pub mod Saving

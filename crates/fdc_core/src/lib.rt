@@ -12,6 +12,7 @@ mod phases;
 mod ports;
 mod rates;
 mod reading;
+mod saving;
 mod sized_key;
 mod steps;
 mod transfers;
