@@ -1,3 +1,4 @@
 pub mod WordTimes
 pub mod Boards
 pub mod History
+pub mod Saving

@@ -11,6 +11,8 @@ ghost use Rattle.fdc_core.specs.Written.{KeepsKnown, MayWrite};
 ghost use Rattle.fdc_stages.specs.History.{Past};
 ghost use Rattle.fdc_core.specs.declared.controller.Lines.{Lines as LinesValue};
 
+mod saving;
+
 use crate::lines::{ABSENT, follow_write, lines_of_drive, pass, work, work_alone};
 use crate::rates::word_time_after;
 use fdc_core::{Fdc, Lines};

@@ -3,6 +3,8 @@ ghost use Rattle.std.specs.Prelude.{◌≡◌, ◌==◌, ◌||◌, if◌then◌e
 ghost use Rattle.fdc_board.specs.WordTimes.{nanoseconds};
 ghost use Rattle.fdc_core.specs.Rates.{rate_chosen};
 
+use fdc_core::DataRate;
+
 /// The data rate select register.
 const DSR: u16 = 0x3F4;
 
@@ -30,5 +32,17 @@ fn word_time_at(byte: u8) -> u32
         1 => 26_667,
         2 => 32_000,
         _ => 8_000,
+    }
+}
+
+/// The nanoseconds of a word time at a rate.
+pub(crate) fn word_time_of(rate: DataRate) -> u32
+    ensures { result ≡ nanoseconds rate }
+{
+    match rate {
+        DataRate::Kbit500 => 16_000,
+        DataRate::Kbit300 => 26_667,
+        DataRate::Kbit250 => 32_000,
+        DataRate::Mbit1 => 8_000,
     }
 }

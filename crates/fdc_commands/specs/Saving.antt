@@ -7,6 +7,7 @@ use Rattle.fdc_commands.specs.declared.results.Results.{Results}
 abbrev pub IsPart : List ℕ → Type 0
 IsPart bytes = length bytes ≤ 8
 
+-- the results of a data command
 unfoldable pub spelled_results : Results → List ℕ → List ℕ
 spelled_results results rest =
     spelled_byte results.st0.0 (spelled_byte results.st1.0 (spelled_byte results.st2.0 (spelled_key results.key rest)))

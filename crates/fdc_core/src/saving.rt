@@ -96,7 +96,11 @@ impl Saved for Answer {
                 next.save(to);
                 last.save(to);
             }
-            Answer::Long { ending, results, read } => {
+            Answer::Long {
+                ending,
+                results,
+                read,
+            } => {
                 to.byte(1);
                 ending.save(to);
                 results.save(to);
@@ -112,7 +116,11 @@ impl Saved for Answer {
                 let ending = Ending::load(from);
                 let results = Results::load(from);
                 let read = u8::load(from);
-                Answer::Long { ending, results, read }
+                Answer::Long {
+                    ending,
+                    results,
+                    read,
+                }
             }
             _ => {
                 let next = u8::load(from);
@@ -145,7 +153,12 @@ impl Saved for Reading {
         let last_sector = u8::load(from);
         let counted = bool::load(from);
         let stage = ReadStage::load(from);
-        Reading { wanted, last_sector, counted, stage }
+        Reading {
+            wanted,
+            last_sector,
+            counted,
+            stage,
+        }
     }
 }
 
@@ -173,7 +186,13 @@ impl Saved for Writing {
         let last_sector = u8::load(from);
         let counted = bool::load(from);
         let stage = WriteStage::load(from);
-        Writing { wanted, deleted, last_sector, counted, stage }
+        Writing {
+            wanted,
+            deleted,
+            last_sector,
+            counted,
+            stage,
+        }
     }
 }
 
@@ -272,7 +291,11 @@ impl Saved for Execution {
         let head_drive = u8::load(from);
         let steps = u16::load(from);
         let task = Task::load(from);
-        Execution { head_drive, steps, task }
+        Execution {
+            head_drive,
+            steps,
+            task,
+        }
     }
 }
 

@@ -9,5 +9,6 @@ pub record IsFifo (fifo : Fifo) : Type 0 where
   pub at_least : 1 ≤ fifo.threshold
   pub at_most : fifo.threshold ≤ 16
 
+-- its mode, and its bytes, the oldest first
 unfoldable pub spelled_fifo : Fifo → List ℕ → List ℕ
 spelled_fifo fifo rest = spelled_flag fifo.on (spelled_byte fifo.threshold (spelled_bytes fifo.bytes rest))

@@ -6,14 +6,17 @@ use Rattle.fdc_seek.specs.declared.motion.Motion.TheVariants.{Outward, Toward, E
 use Rattle.fdc_seek.specs.declared.motion.Seek.{Seek}
 use Rattle.fdc_seek.specs.Seeking.{Seeking}
 
+-- what a seek still does
 unfoldable pub spelled_motion : Motion → List ℕ → List ℕ
 spelled_motion (Outward pulses) rest = 0 ∷ spelled_byte pulses rest
 spelled_motion (Toward cylinder target) rest = 1 ∷ spelled_byte cylinder (spelled_byte target rest)
 spelled_motion Ended rest = 2 ∷ rest
 
+-- a seek
 unfoldable pub spelled_seek : Seek → List ℕ → List ℕ
 spelled_seek seek rest = spelled_byte seek.drive (spelled_motion seek.motion rest)
 
+-- the seeks of the four drives
 unfoldable pub spelled_seeking : Seeking → List ℕ → List ℕ
 spelled_seeking seeking rest =
     spelled_each spelled_byte seeking.cylinders

@@ -2,3 +2,4 @@ pub mod Opcodes
 pub mod Transfers
 pub mod Fronts
 pub mod Moves
+pub mod Saving

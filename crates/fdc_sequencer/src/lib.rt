@@ -9,6 +9,7 @@ mod channel;
 mod moving;
 mod opcode;
 mod ports;
+mod saving;
 mod sequencer;
 mod stage;
 mod transfer;

@@ -1,6 +1,6 @@
 // The state, and the lines that are seen outside.
 ghost use Rattle.std.specs.Prelude.{◌≡◌, IfOk, IsTrue, IsFalse};
-ghost use Rattle.fdc_board.specs.Boards.{controller_of};
+ghost use Rattle.fdc_board.specs.Boards.{controller_of, SameDrives};
 ghost use Rattle.fdc_core.specs.Dma.{to_memory_of};
 ghost use Rattle.fdc_sequencer.specs.Fronts.{front_state, board_of, IsNewFront, interrupts_outside, asks_outside};
 ghost use Rattle.fdc_sequencer.specs.Moves.{HasLinesOutside, RunsFront};
@@ -42,7 +42,8 @@ impl<D: Inspect> Sequencer<D> {
     /// Lets each command of several sectors seek its cylinder first, as a strap of a board would, whatever CONFIGURE sets;
     /// or leaves that to CONFIGURE.
     pub fn strap_seeks(&mut self, on: bool)
-        ensures { self.new ≡ record self.old { strapped = on } }
+        ensures state { front_state D.state self.new ≡ record (front_state D.state self.old) { strapped = on } }
+        ensures drives { SameDrives (board_of self.old) (board_of self.new) }
     {
         self.strapped = on;
     }

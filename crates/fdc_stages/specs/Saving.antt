@@ -8,6 +8,7 @@ use Rattle.fdc_stages.specs.declared.searching.Search.{Search}
 use Rattle.fdc_stages.specs.declared.reading.ReadStage.{ReadStage}
 use Rattle.fdc_stages.specs.declared.reading.ReadStage.TheVariants as stage
 
+-- how a command ends
 unfoldable pub spelled_ending : Ending → List ℕ → List ℕ
 spelled_ending (Done deleted) rest = 0 ∷ spelled_flag deleted rest
 spelled_ending NoMark rest = 1 ∷ rest
@@ -19,9 +20,12 @@ spelled_ending NoCount rest = 6 ∷ rest
 spelled_ending Protected rest = 7 ∷ rest
 spelled_ending Late rest = 8 ∷ rest
 
+-- a search for an address field
 unfoldable pub spelled_search : Search → List ℕ → List ℕ
-spelled_search search rest = spelled_separator search.separator (spelled_flag search.turned (spelled_flag search.marked rest))
+spelled_search search rest =
+    spelled_separator search.separator (spelled_flag search.turned (spelled_flag search.marked rest))
 
+-- a stage of READ DATA
 unfoldable pub spelled_read : ReadStage → List ℕ → List ℕ
 spelled_read (stage.Search search) rest = 0 ∷ spelled_search search rest
 spelled_read (stage.Wait separator) rest = 1 ∷ spelled_separator separator rest

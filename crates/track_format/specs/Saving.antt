@@ -5,11 +5,16 @@ use Rattle.track_format.specs.declared.stream.Part.{Part}
 use Rattle.track_format.specs.declared.stream.Part.TheVariants.{Start, Address, Data, End}
 use Rattle.track_format.specs.declared.stream.FormatStream.{FormatStream}
 
+-- a part of a track
 unfoldable pub spelled_part : Part → List ℕ → List ℕ
 spelled_part Start rest = 0 ∷ rest
 spelled_part Address rest = 1 ∷ rest
 spelled_part Data rest = 2 ∷ rest
 spelled_part End rest = 3 ∷ rest
 
+-- a layout: what it lays, and where it is
 unfoldable pub spelled_stream : FormatStream → List ℕ → List ℕ
-spelled_stream stream rest = spelled_word stream.size (spelled_byte stream.gap3 (spelled_byte stream.fill (spelled_count stream.sectors (spelled_part stream.part (spelled_count stream.place (spelled_word stream.check (spelled_flag stream.last rest)))))))
+spelled_stream stream rest =
+    spelled_word stream.size (spelled_byte stream.gap3 (spelled_byte stream.fill (spelled_count stream.sectors
+        (spelled_part stream.part (spelled_count stream.place (spelled_word stream.check
+        (spelled_flag stream.last rest)))))))

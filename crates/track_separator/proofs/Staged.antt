@@ -5,16 +5,7 @@ use Rattle.track_model.specs.Looks.{IsFirstDataMark}
 use Rattle.track_separator.specs.declared.state.Stage.{Stage}
 use Rattle.track_separator.specs.declared.state.Stage.TheVariants.{Hunting, Reading, Addressed, TurnEnded, Waiting, Content}
 use Rattle.track_separator.specs.Parts.{EndsInLast}
-use Rattle.track_separator.specs.Hunts.{AddressedIn}
 use Rattle.track_separator.specs.Waits.{WaitsIn, ReadsIn}
-
-pub addressed_at : (fed : List ℕ) (cells back p : ℕ) (stage : Stage) → back < 16 → AddressedIn fed cells back p stage → EndsInLast fed (p + 160)
-addressed_at fed cells back p Addressed small h = let place = h.place in record { inside = omega arith; last = omega arith }
-addressed_at fed cells back p Hunting small h = absurd h
-addressed_at fed cells back p (Reading bytes) small h = absurd h
-addressed_at fed cells back p TurnEnded small h = absurd h
-addressed_at fed cells back p (Waiting asked since marked) small h = absurd h
-addressed_at fed cells back p (Content asked passed check touched) small h = absurd h
 
 pub waits_at : (fed : List ℕ) (cells back p size : ℕ) (stage : Stage) → WaitsIn fed cells back p size stage → (p + 160 ≤ 16 * length fed) × (16 * length fed ≤ p + 160 + 1022) × ((q : ℕ) (deleted : Bool) → IsDataMark fed p q deleted → ⊥)
 waits_at fed cells back p size (Waiting asked since marked) h =

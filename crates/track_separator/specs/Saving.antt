@@ -15,6 +15,7 @@ spelled_stage (Waiting size since marked) rest = 4 ∷ spelled_word size (spelle
 spelled_stage (Content size taken check touched) rest =
     5 ∷ spelled_word size (spelled_word taken (spelled_word check (spelled_flag touched rest)))
 
+-- a separator: its cells, its place, and its stage
 unfoldable pub spelled_separator : Separator → List ℕ → List ℕ
 spelled_separator separator rest =
     spelled_cells separator.cells (spelled_word separator.back (spelled_stage separator.stage rest))

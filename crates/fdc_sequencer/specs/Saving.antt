@@ -1,0 +1,52 @@
+-- The bytes of a sequencer that is saved.
+use Rattle.std.specs.Prelude.{ℕ, List, ◌∷◌}
+use Rattle.saved_state.specs.Saved.{spelled_byte, spelled_bytes, spelled_flag, spelled_key, spelled_word}
+use Rattle.fdc_commands.specs.Saving.{spelled_results, IsPart}
+use Rattle.fdc_board.specs.Saving.{spelled_board, BoardFits}
+use Rattle.fdc_sequencer.specs.declared.opcode.Operation.{Operation}
+use Rattle.fdc_sequencer.specs.declared.opcode.Operation.TheVariants.{Read, Write}
+use Rattle.fdc_sequencer.specs.declared.opcode.Opcode.{Opcode}
+use Rattle.fdc_sequencer.specs.declared.transfer.Transfer.{Transfer}
+use Rattle.fdc_sequencer.specs.declared.stage.Moving.{Moving}
+use Rattle.fdc_sequencer.specs.declared.stage.Stage.{Stage}
+use Rattle.fdc_sequencer.specs.declared.stage.Stage.TheVariants as stage
+use Rattle.fdc_sequencer.specs.declared.sequencer.Sequencer.{Sequencer}
+
+-- what a command does with its sectors
+unfoldable pub spelled_operation : Operation → List ℕ → List ℕ
+spelled_operation (Read deleted skip) rest = 0 ∷ spelled_flag deleted (spelled_flag skip rest)
+spelled_operation (Write deleted) rest = 1 ∷ spelled_flag deleted rest
+
+-- the code of a command
+unfoldable pub spelled_opcode : Opcode → List ℕ → List ℕ
+spelled_opcode opcode rest = spelled_operation opcode.operation (spelled_flag opcode.multitrack rest)
+
+-- a command as it stands at a sector
+unfoldable pub spelled_transfer : Transfer → List ℕ → List ℕ
+spelled_transfer transfer rest =
+    spelled_opcode transfer.opcode (spelled_byte transfer.head_drive (spelled_key transfer.key
+        (spelled_byte transfer.last_sector (spelled_byte transfer.gap (spelled_byte transfer.length rest)))))
+
+-- a sector that is moved
+unfoldable pub spelled_moving : Moving → List ℕ → List ℕ
+spelled_moving moving rest =
+    spelled_transfer moving.transfer (spelled_word moving.left (spelled_flag moving.counted
+        (spelled_flag moving.passed_over rest)))
+
+-- what is done in front of the controller
+unfoldable pub spelled_stage : Stage → List ℕ → List ℕ
+spelled_stage stage.Through rest = 0 ∷ rest
+spelled_stage (stage.Collecting opcode) rest = 1 ∷ spelled_opcode opcode rest
+spelled_stage (stage.Seeking transfer counted) rest = 2 ∷ spelled_transfer transfer (spelled_flag counted rest)
+spelled_stage (stage.Moving moving) rest = 3 ∷ spelled_moving moving rest
+spelled_stage (stage.Telling results read) rest = 4 ∷ spelled_results results (spelled_byte read rest)
+
+-- a sequencer whose board and bytes fit
+abbrev pub SequencerFits : {D : Type 0} → (D → Type 0) → Sequencer D → Type 0
+SequencerFits fits sequencer = BoardFits fits sequencer.board × IsPart sequencer.bytes
+
+-- a C, the board, whose drives are spelled so, and what the sequencer keeps
+unfoldable pub spelled_sequencer : {D : Type 0} → (D → List ℕ → List ℕ) → Sequencer D → List ℕ → List ℕ
+spelled_sequencer spelled sequencer rest =
+    67 ∷ spelled_board spelled sequencer.board (spelled_stage sequencer.stage (spelled_bytes sequencer.bytes
+        (spelled_flag sequencer.strapped (spelled_flag sequencer.configured rest))))
