@@ -2,6 +2,8 @@
 ghost use Rattle.std.specs.Prelude.{◌≡◌, ◌==◌, ◌<◌, IsTrue, length, slice_set, slice_index, if◌then◌else◌};
 ghost use Rattle.dma_8237.specs.Channel.{power_up, after_write, value_read, after_read, is_channel_2, grants, after_transfer, place_of, writes_memory, reads_memory};
 
+mod saving;
+
 use crate::word::{byte_of, toggle, with_byte};
 use std::marker::Model;
 

@@ -1,1 +1,2 @@
 pub mod Latch
+pub mod Saving

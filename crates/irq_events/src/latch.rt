@@ -2,6 +2,8 @@
 ghost use Rattle.std.specs.Prelude.{◌≡◌, true, false, ◌&&◌, ◌||◌, not, List, [], ◌∷◌};
 ghost use Rattle.irq_events.specs.Latch.{Event, shows, strays, takes, IsAfter};
 
+mod saving;
+
 use std::marker::Model;
 
 /// Remembers that the line has risen, or that a stray came, until it is taken.

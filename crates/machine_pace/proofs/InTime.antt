@@ -1,9 +1,9 @@
 -- Holds of at most 8.
-use Rattle.std.proofs.Common.{◌≡◌, ◌⊎◌, inl, inr, ℕ, ◌+◌, ◌-◌, ◌<◌, ◌≤◌, min, Bool, true, false, nat_lt, if◌then◌else◌, refl, arith}
+use Rattle.std.proofs.Common.{◌≡◌, ◌⊎◌, inl, inr, ℕ, ◌+◌, ◌≤◌, Bool, true, false, nat_lt, if◌then◌else◌, refl, arith}
 use Rattle.std.proofs.lemmas.Bool.Decides.{nat_tests}
-use Rattle.flop_base.specs.Counts.{last_count, Rose}
+use Rattle.flop_base.specs.Counts.{Rose}
 use Rattle.machine_pace.specs.Entries.{next_entry}
-use Rattle.machine_pace.specs.Holds.{Holds, IsReady, IsInTime, looked, waited, stalls_with, counted}
+use Rattle.machine_pace.specs.Holds.{Holds, IsReady, IsInTime, looked, waited, counted}
 use Rattle.machine_pace.specs.declared.holding.Request.{Request}
 use Rattle.machine_pace.specs.declared.holding.Request.TheVariants.{Low, High}
 

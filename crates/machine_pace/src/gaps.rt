@@ -2,22 +2,23 @@
 ghost use Rattle.std.specs.Prelude.{◌≡◌};
 ghost use Rattle.machine_pace.specs.Entries.{next_entry, rest_of};
 
+mod saving;
+
+use std::collections::VecDeque;
 use std::marker::Model;
-use std::vec::IntoIter;
 
 /// The gaps that are left.
 #[derive(Drop)]
 pub struct Gaps {
-    entries: IntoIter<u8>,
+    entries: VecDeque<u8>,
 }
 
 impl Model for Gaps {
     ghost use Rattle.std.specs.Prelude.{List, ℕ};
-    ghost use Rattle.std.specs.Vec.Iter.{into_iter_items};
 
     ghost Value = { List ℕ };
 
-    ghost view = { λ gaps. into_iter_items gaps.entries };
+    ghost view = { λ gaps. gaps.entries.items };
 }
 
 impl Gaps {
@@ -26,7 +27,7 @@ impl Gaps {
         ensures { result ≡ entries.items }
     {
         Gaps {
-            entries: entries.into_iter(),
+            entries: VecDeque::from_vec(entries),
         }
     }
 
@@ -35,7 +36,7 @@ impl Gaps {
         ensures gap { result ≡ next_entry self.old }
         ensures rest { self.new ≡ rest_of self.old }
     {
-        match self.entries.next() {
+        match self.entries.pop_front() {
             Some(gap) => gap,
             None => 0,
         }

@@ -4,8 +4,10 @@ ghost use Rattle.machine_pace.specs.Entries.{next_entry, rest_of};
 ghost use Rattle.machine_pace.specs.Holds.{looked, shown, is_due, waited, stalls_with};
 ghost use Rattle.machine_pace.specs.declared.holding.Request.TheVariants.{Low};
 
+mod saving;
+
+use std::collections::VecDeque;
 use std::marker::Model;
-use std::vec::IntoIter;
 
 /// A request that is held back longer than this is a stall.
 const LONGEST: u8 = 8;
@@ -22,19 +24,18 @@ pub enum Request {
 /// The request line as device steps see it, and the holds that are left.
 #[derive(Drop)]
 pub struct Holding {
-    entries: IntoIter<u8>,
+    entries: VecDeque<u8>,
     request: Request,
     stalls: u64,
 }
 
 impl Model for Holding {
-    ghost use Rattle.std.specs.Vec.Iter.{into_iter_items};
     ghost use Rattle.machine_pace.specs.Holds.{Holds};
 
     ghost Value = { Holds };
 
     ghost view = { λ holding. record {
-      entries = into_iter_items holding.entries;
+      entries = holding.entries.items;
       request = holding.request;
       stalls = holding.stalls;
     } };
@@ -46,7 +47,7 @@ impl Holding {
         ensures { result ≡ record { entries = holds.items; request = Low; stalls = 0 } }
     {
         Holding {
-            entries: holds.into_iter(),
+            entries: VecDeque::from_vec(holds),
             request: Request::Low,
             stalls: 0,
         }
@@ -100,7 +101,7 @@ impl Holding {
           stalls = stalls_with (next_entry self.old.entries) self.old.stalls;
         } }
     {
-        let hold = self.entries.next().unwrap_or(0);
+        let hold = self.entries.pop_front().unwrap_or(0);
         if hold > LONGEST {
             self.stalls = self.stalls.saturating_add(1);
         }

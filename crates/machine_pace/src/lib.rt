@@ -4,6 +4,7 @@
 mod gaps;
 mod holding;
 pub mod laws;
+mod queues;
 mod strays;
 
 pub use gaps::Gaps;

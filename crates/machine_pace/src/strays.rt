@@ -2,8 +2,10 @@
 ghost use Rattle.std.specs.Prelude.{◌≡◌};
 ghost use Rattle.machine_pace.specs.Entries.{is_stray_due, strays_after};
 
+mod saving;
+
+use std::collections::VecDeque;
 use std::marker::Model;
-use std::vec::IntoIter;
 
 /// The stray interrupts that are to come.
 #[derive(Drop)]
@@ -11,17 +13,16 @@ pub struct Strays {
     /// The device steps to the next one, that in which it comes included; 0 counts as 1. None where no more come.
     next: Option<u16>,
     /// The same from each to the one behind it.
-    entries: IntoIter<u16>,
+    entries: VecDeque<u16>,
 }
 
 impl Model for Strays {
     ghost use Rattle.std.specs.Prelude.{List, ℕ};
     ghost use Rattle.machine_pace.specs.Entries.{coming};
-    ghost use Rattle.std.specs.Vec.Iter.{into_iter_items};
 
     ghost Value = { List ℕ };
 
-    ghost view = { λ strays. coming strays.next (into_iter_items strays.entries) };
+    ghost view = { λ strays. coming strays.next strays.entries.items };
 }
 
 impl Strays {
@@ -29,8 +30,8 @@ impl Strays {
     pub fn new(strays: Vec<u16>) -> Strays
         ensures { result ≡ strays.items }
     {
-        let mut entries = strays.into_iter();
-        let next = entries.next();
+        let mut entries = VecDeque::from_vec(strays);
+        let next = entries.pop_front();
         Strays { next, entries }
     }
 
@@ -43,7 +44,7 @@ impl Strays {
             None => false,
             Some(steps) => {
                 if steps <= 1 {
-                    self.next = self.entries.next();
+                    self.next = self.entries.pop_front();
                     return true;
                 }
                 self.next = Some(steps - 1);

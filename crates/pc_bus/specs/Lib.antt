@@ -4,3 +4,4 @@ pub mod Steps
 pub mod Ports
 pub mod Handling
 pub mod Calls
+pub mod Saving

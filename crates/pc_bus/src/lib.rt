@@ -11,6 +11,7 @@ mod handling;
 mod machine;
 mod memory;
 mod ports;
+mod saving;
 mod steps;
 
 pub use machine::{Machine, MachineOf};

@@ -4,6 +4,8 @@ ghost use Rattle.bay_model.specs.Memory.{zeroes};
 ghost use Rattle.dma_8237.specs.Channel.{grants, after_transfer};
 ghost use Rattle.pc_bus.specs.Transfers.{byte_read, memory_after};
 
+mod saving;
+
 use dma_8237::{Dma, MEMORY_SIZE};
 use flop_base::NoMemory;
 use std::alloc::Global;
