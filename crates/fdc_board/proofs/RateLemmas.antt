@@ -2,7 +2,8 @@
 use Rattle.std.proofs.Common.{◌≡◌, ℕ, Bool, true, false, Option, Some, None, [], ◌∷◌, ◌++◌, refl, sym, ap, ◌∙◌}
 use Rattle.std.specs.Prelude.{◌==◌, ◌||◌, if◌then◌else◌}
 use Rattle.std.proofs.lemmas.Bool.{eqb-true, true≢false}
-use Rattle.fdc_board.specs.WordTimes.{data_rate, nanoseconds}
+use Rattle.fdc_board.specs.WordTimes.{nanoseconds}
+use Rattle.fdc_core.specs.State.{data_rate}
 use Rattle.fdc_commands.specs.Table.{answer, kept}
 use Rattle.fdc_commands.specs.declared.bytes.Accepted.{Accepted}
 use Rattle.fdc_commands.specs.declared.bytes.Accepted.TheVariants.{More, Ready, Invalid}

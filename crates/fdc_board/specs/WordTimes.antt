@@ -1,12 +1,7 @@
 -- How long a word time lasts.
 use Rattle.std.specs.Prelude.{ℕ}
-use Rattle.fdc_core.specs.declared.controller.Fdc.{Fdc}
 use Rattle.fdc_core.specs.declared.rates.DataRate.{DataRate}
 use Rattle.fdc_core.specs.declared.rates.DataRate.TheVariants.{Kbit500, Kbit300, Kbit250, Mbit1}
-
--- the rate that the controller is set to
-abbrev pub data_rate : Fdc → DataRate
-data_rate fdc = fdc.rate
 
 -- the nanoseconds in which sixteen cells pass: at 300 kbit/s 26,666 and two thirds, rounded up
 abbrev pub nanoseconds : DataRate → ℕ

@@ -1,12 +1,12 @@
 // The controller and its drives: ports, device steps, and the controller's lines.
 ghost use Rattle.std.specs.Prelude.{◌≡◌, ◌%◌, Bool, IfOk, IsTrue, IsFalse, true};
-ghost use Rattle.fdc_board.specs.WordTimes.{nanoseconds, data_rate};
+ghost use Rattle.fdc_board.specs.WordTimes.{nanoseconds};
 ghost use Rattle.fdc_board.specs.History.{gave_if, took_if};
 ghost use Rattle.fdc_core.specs.Dma.{told_count, to_memory_of};
 ghost use Rattle.fdc_core.specs.Heard.{Sent, MayRead, told_in};
 ghost use Rattle.fdc_core.specs.Listening.{is_executing};
 ghost use Rattle.fdc_core.specs.Ports.{value_read, after_read, Writes};
-ghost use Rattle.fdc_core.specs.State.{asks, interrupts, dor_of};
+ghost use Rattle.fdc_core.specs.State.{asks, interrupts, dor_of, data_rate};
 ghost use Rattle.fdc_core.specs.Written.{KeepsKnown, MayWrite};
 ghost use Rattle.fdc_stages.specs.History.{Past};
 ghost use Rattle.fdc_core.specs.declared.controller.Lines.{Lines as LinesValue};

@@ -9,6 +9,7 @@ use Rattle.fdc_core.specs.Answers.{results_of}
 use Rattle.fdc_core.specs.declared.answers.Answer.TheVariants.{Long}
 use Rattle.fdc_core.specs.declared.controller.Fdc.{Fdc}
 use Rattle.fdc_core.specs.declared.phases.Phase.TheVariants.{Command, Result}
+use Rattle.fdc_core.specs.declared.rates.DataRate.{DataRate}
 use Rattle.fdc_core.specs.declared.rates.DataRate.TheVariants.{Kbit250}
 
 -- held in reset, at 250 kbit/s, polling on, with no command and no seek
@@ -50,6 +51,10 @@ finished ending head_drive key old = record old {
   phase = Result (Long ending (results_of ending head_drive key) 0);
   fifo = emptied old.fifo.on old.fifo.threshold;
 }
+
+-- the rate that was chosen
+abbrev pub data_rate : Fdc → DataRate
+data_rate fdc = fdc.rate
 
 -- DOR has these bits
 abbrev pub has_bits : Fdc → ℕ → Bool

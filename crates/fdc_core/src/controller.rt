@@ -1,6 +1,6 @@
 // The controller's state, its reset and its lines.
 ghost use Rattle.std.specs.Prelude.{◌≡◌, ◌<◌, ◌+◌, ◌↔◌, ◌%◌, IfOk, IsTrue, IsBitSet, true, false};
-ghost use Rattle.fdc_core.specs.State.{at_power_up, reset, is_held, interrupts, asks, is_gated, data_commands_of, dor_of, finished};
+ghost use Rattle.fdc_core.specs.State.{at_power_up, reset, is_held, interrupts, asks, is_gated, data_commands_of, dor_of, data_rate, finished};
 
 use crate::answers::{Answer, results};
 use crate::phases::Phase;
@@ -126,6 +126,13 @@ impl Fdc {
         ensures { result ≡ asks self.now }
     {
         self.is_gated() && self.asking
+    }
+
+    /// The data rate that DSR or CCR chose last.
+    pub fn data_rate(&self) -> DataRate
+        ensures { result ≡ data_rate self.now }
+    {
+        self.rate
     }
 
     /// The drive that DOR selects, 0 to 3.

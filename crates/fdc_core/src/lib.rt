@@ -21,3 +21,4 @@ mod writing;
 
 pub use answers::results;
 pub use controller::{Fdc, Lines};
+pub use rates::DataRate;

@@ -3,8 +3,8 @@ ghost use Rattle.std.specs.Prelude.{◌≡◌, ◌≤◌, ◌-◌, ◌+◌, ◌%
 ghost use Rattle.std.specs.Option.{option_copied};
 ghost use Rattle.drive_model.specs.Drive.{Becomes, loaded, unloaded};
 ghost use Rattle.fdc_board.specs.Boards.{controller_of, drive_at, written_at};
-ghost use Rattle.fdc_board.specs.WordTimes.{nanoseconds, data_rate};
-ghost use Rattle.fdc_core.specs.State.{dor_of};
+ghost use Rattle.fdc_board.specs.WordTimes.{nanoseconds};
+ghost use Rattle.fdc_core.specs.State.{dor_of, data_rate};
 ghost use Rattle.fdc_sequencer.specs.Fronts.{front_state, board_of, KeepsFront};
 
 use crate::sequencer::Sequencer;

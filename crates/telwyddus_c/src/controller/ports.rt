@@ -2,7 +2,8 @@
 ghost use Rattle.std.specs.Prelude.{◌≡◌, ◌==◌, not, ⊤, Some};
 ghost use Rattle.drive_model.specs.Mechanics.{at_rest};
 ghost use Rattle.fdc_board.specs.Boards.{controller_of, selected_at, SameDrives};
-ghost use Rattle.fdc_board.specs.WordTimes.{nanoseconds, data_rate};
+ghost use Rattle.fdc_board.specs.WordTimes.{nanoseconds};
+ghost use Rattle.fdc_core.specs.State.{data_rate};
 ghost use Rattle.fdc_sequencer.specs.Fronts.{board_of, value_outside, after_reading, IsNewFront, WritesFront};
 ghost use Rattle.fdc_sequencer.specs.Moves.{StepsFront, RunsFront};
 ghost use Rattle.telwyddus_c.specs.Controllers.{state_of, lines_byte, StrapsSeeks};

@@ -1,5 +1,6 @@
 use Rattle.std.proofs.Common.{◌∙◌, sym, ap}
-use Rattle.fdc_board.specs.WordTimes.{data_rate, nanoseconds}
+use Rattle.fdc_board.specs.WordTimes.{nanoseconds}
+use Rattle.fdc_core.specs.State.{data_rate}
 use Rattle.fdc_board.proofs.RateLemmas.{without_seek_rate}
 use Rattle.fdc_board.proofs.board.FdcBoard.forget_seek.Goals as goal
 
