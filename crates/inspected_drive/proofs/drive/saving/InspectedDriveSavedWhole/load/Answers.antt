@@ -1,6 +1,5 @@
-use Rattle.std.proofs.Common.{◌≡◌, ℕ, ◌≤◌, ◌-◌, Option, arith, sym, refl, subst, ◌∙◌}
-use Rattle.std.specs.Option.{ForSome}
-use Rattle.raw_image.specs.Disk.{Disk, IsDisk}
+use Rattle.std.proofs.Common.{◌≡◌, ◌≤◌, ◌-◌, Option, arith, sym, refl, subst}
+use Rattle.raw_image.specs.Disk.{Disk}
 use Rattle.drive_model.specs.Drive.{track_words}
 use Rattle.inspected_drive.proofs.Saved.{Parts, parts_of, same_drive}
 use Rattle.inspected_drive.proofs.drive.saving.InspectedDriveSavedWhole.load.Goals as goal
