@@ -1,1 +1,2 @@
 pub mod AnyDrive
+pub mod Saving

@@ -2,5 +2,6 @@
 #![tactic(auto)]
 
 mod drive;
+mod saving;
 
 pub use drive::AnyDrive;

@@ -3,3 +3,4 @@ pub mod Mechanics
 pub mod PlainDrive
 pub mod Fault
 pub mod ScriptDrive
+pub mod Saving

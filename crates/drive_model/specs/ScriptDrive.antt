@@ -11,7 +11,7 @@ use Rattle.drive_model.specs.declared.script.ScriptDrive.{ScriptDrive}
 
 -- the faults that are planned
 abbrev pub script_of : ScriptDrive → List Fault
-script_of drive = drive.script.items
+script_of drive = drive.plan
 
 -- so many faults can still come; told where they can all be counted
 abbrev pub told : ℕ → ℕ → Option ℕ
@@ -19,7 +19,7 @@ told counted left = if nat_lt (counted + left) last_count then Some left else No
 
 -- its state
 abbrev pub script_state : ScriptDrive → DriveState
-script_state drive = state_of drive.mechanics drive.faults (told drive.faults (total_left drive.script.items))
+script_state drive = state_of drive.mechanics drive.faults (told drive.faults (total_left drive.plan))
 
 -- a read of the word that passes under a head
 abbrev pub read_of : DriveState → ℕ → Event

@@ -8,11 +8,17 @@ mod boxed;
 mod drive;
 mod fault;
 pub mod laws;
+mod limits;
 mod mechanics;
+mod media;
 mod plain;
+mod plan;
+mod saving;
 mod script;
 
 pub use drive::{Drive, Turn};
 pub use fault::Fault;
+pub use limits::{limited_cylinder, limited_place, limited_spin};
+pub use media::{load_medium, save_medium};
 pub use plain::PlainDrive;
 pub use script::ScriptDrive;

@@ -1,6 +1,8 @@
 // A drive without faults.
 ghost use Rattle.std.specs.Prelude.{◌≡◌, Some};
 
+mod saving;
+
 use crate::mechanics::Mechanics;
 use crate::{Drive, Turn};
 use flop_base::Rate;

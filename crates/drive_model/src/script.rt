@@ -5,8 +5,11 @@ ghost use Rattle.flop_base.specs.Counts.{last_count, Rose};
 ghost use Rattle.drive_model.specs.Drive.{Becomes, InRange, loaded, unloaded, with_motor, with_gate, moved, passed, written, cut_off, at_index, word_under, Pulses, Reads, Writes};
 ghost use Rattle.drive_model.specs.Fault.{comes};
 
-use crate::fault::{Event, take_fault};
+mod saving;
+
+use crate::fault::Event;
 use crate::mechanics::Mechanics;
+use crate::plan::Plan;
 use crate::{Drive, Fault, Turn};
 use flop_base::Rate;
 use raw_image::Medium;
@@ -16,7 +19,7 @@ use raw_image::Medium;
 #[derive(Drop)]
 pub struct ScriptDrive {
     mechanics: Mechanics,
-    script: Vec<Fault>,
+    plan: Plan,
     faults: u64,
     ghost counted: { faults ≤ last_count },
 }
@@ -34,7 +37,7 @@ impl ScriptDrive {
     {
         ScriptDrive {
             mechanics: Mechanics::new(),
-            script: faults,
+            plan: Plan::new(faults),
             faults: 0,
         }
     }
@@ -48,7 +51,7 @@ impl ScriptDrive {
         ensures becomes { Becomes (script_state self.old)
             (script_state self.old) (script_state self.new) }
     {
-        let comes = take_fault(&mut self.script, event);
+        let comes = self.plan.take(event);
         if comes {
             self.faults = self.faults.saturating_add(1);
         }

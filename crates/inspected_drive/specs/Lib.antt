@@ -1,1 +1,2 @@
 pub mod InspectedDrive
+pub mod Saving

@@ -4,6 +4,8 @@ ghost use Rattle.std.specs.Option.{ForSome};
 ghost use Rattle.raw_image.specs.Disk.{IsDisk};
 ghost use Rattle.drive_model.specs.Drive.{track_words, words_on, rewritten, has_track};
 
+mod saving;
+
 use crate::Inspect;
 use drive_model::{Drive, Turn};
 use flop_base::Rate;
