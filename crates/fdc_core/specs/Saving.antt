@@ -43,13 +43,13 @@ spelled_answer (Long ending results read) rest =
 unfoldable pub spelled_reading : Reading → List ℕ → List ℕ
 spelled_reading reading rest =
     spelled_sized_key reading.wanted (spelled_byte reading.last_sector (spelled_flag reading.counted
-        (spelled_read reading.stage rest)))
+    (spelled_read reading.stage rest)))
 
 -- a WRITE DATA or WRITE DELETED
 unfoldable pub spelled_writing : Writing → List ℕ → List ℕ
 spelled_writing writing rest =
     spelled_sized_key writing.wanted (spelled_flag writing.deleted (spelled_byte writing.last_sector
-        (spelled_flag writing.counted (spelled_write writing.stage rest))))
+    (spelled_flag writing.counted (spelled_write writing.stage rest))))
 
 -- a FORMAT TRACK
 unfoldable pub spelled_formatting : Formatting → List ℕ → List ℕ

@@ -25,7 +25,7 @@ spelled_part Low rest = 5 ∷ rest
 unfoldable pub spelled_window : Window → List ℕ → List ℕ
 spelled_window window rest =
     spelled_flag window.deleted (spelled_word window.more (spelled_part window.part (spelled_word window.check
-        (spelled_flag window.last rest))))
+    (spelled_flag window.last rest))))
 
 -- a stage of WRITE DATA
 unfoldable pub spelled_write : WriteStage → List ℕ → List ℕ

@@ -16,5 +16,5 @@ spelled_part End rest = 3 ∷ rest
 unfoldable pub spelled_stream : FormatStream → List ℕ → List ℕ
 spelled_stream stream rest =
     spelled_word stream.size (spelled_byte stream.gap3 (spelled_byte stream.fill (spelled_count stream.sectors
-        (spelled_part stream.part (spelled_count stream.place (spelled_word stream.check
-        (spelled_flag stream.last rest)))))))
+    (spelled_part stream.part (spelled_count stream.place (spelled_word stream.check
+    (spelled_flag stream.last rest)))))))

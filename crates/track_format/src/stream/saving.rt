@@ -61,6 +61,15 @@ impl Saved for FormatStream {
         let place = usize::load(from);
         let check = u16::load(from);
         let last = bool::load(from);
-        FormatStream { size, gap3, fill, sectors, part, place, check, last }
+        FormatStream {
+            size,
+            gap3,
+            fill,
+            sectors,
+            part,
+            place,
+            check,
+            last,
+        }
     }
 }

@@ -1,4 +1,4 @@
-use Rattle.std.proofs.Common.{◌≡◌, ℕ, List, take, drop}
+use Rattle.std.proofs.Common.{ℕ, List, take, drop}
 use Rattle.saved_state.specs.Saved.{Awaits, spelled_list, EachFits}
 use Rattle.saved_state.proofs.lists.save_list.Given as goal
 
