@@ -51,8 +51,8 @@ static uint8_t images[2][14 + 4 * 2 * 25000];
 
 static const Kind *kind;
 static int now, both;           /* the slot that calls go to, and whether they go to the other one too */
-static unsigned long until;     /* accesses, DACK bytes and device steps up to the state */
-static enum { IN_BYTES, IN_EXECUTION, IN_RESULTS, BEHIND } phase;
+static enum { IN_BYTES, IN_EXECUTION, IN_RESULTS, BEHIND } phase, aim;
+static unsigned long until;     /* accesses, DACK bytes and device steps up to the state, of those in the phase that is aimed at */
 static unsigned long number, differences, taken[4], refused, others;
 static uint8_t state[ROOM], again[ROOM], kept[ROOM];
 static uint64_t seed;
@@ -128,22 +128,27 @@ static void take_state(void) {
     if (taken[phase]++ % 10 == 0) spoil(length);
 }
 
-static void draw_until(void) {
-    static const unsigned bounds[] = {40, 1000, 12500, 60000};
-    until = below(bounds[below(4)]);
+/* Half of the states are taken while a command runs. */
+static void draw_turn(void) {
+    static const unsigned bounds[] = {40, 1000, 6000, 25000};
+    unsigned way = below(8);
+    aim = way < 2 ? IN_BYTES : way < 4 ? IN_RESULTS : IN_EXECUTION;
+    until = below(aim == IN_BYTES ? 30 : aim == IN_RESULTS ? 12 : bounds[way - 4]);
 }
+
+static int counts_down(void) { return !both && phase == aim; }
 
 /* Before each access and each DACK byte. */
 static void turn(void) {
-    if (both) return;
+    if (!counts_down()) return;
     if (until == 0) take_state();
     else until--;
 }
 
 /* So many of the steps are made before the state is taken. */
 static uint32_t steps_before(unsigned long most) {
-    if (!both && until == 0) take_state();
-    return (uint32_t)(!both && most > until ? until : most);
+    if (counts_down() && until == 0) take_state();
+    return (uint32_t)(counts_down() && most > until ? until : most);
 }
 
 /* ---- calls on both */
@@ -237,7 +242,7 @@ static int await_controller(unsigned long most) {
         uint32_t steps = steps_before(most), made[2] = {0, 0};
         for (int i = 0; i <= both; i++) MUST(telwyddus_controller_run(&controllers[now ^ i], steps, &made[i]));
         if (both) same(made[0], made[1], "the steps of a run");
-        else until -= made[0];
+        else if (counts_down()) until -= made[0];
         most -= made[0];
         look();
         value = serve();
@@ -253,7 +258,7 @@ static int await_machine(unsigned long most) {
         uint8_t is_set[2] = {0, 0};
         for (int i = 0; i <= both; i++) MUST(telwyddus_machine_wait_irq(&machines[now ^ i], steps, &made[i], &is_set[i]));
         if (both) same(made[0], made[1], "the steps up to the latch"), same(is_set[0], is_set[1], "the latch");
-        else until -= made[0];
+        else if (counts_down()) until -= made[0];
         most -= made[0];
         if (!is_set[0]) continue;
         turn();
@@ -331,7 +336,8 @@ static void recalibrate(int bay) {
 }
 
 static void set_options(void) {
-    const uint8_t bytes[] = {0x13, 0, (uint8_t)((below(2) ? 0x20 : below(16)) | (below(2) ? 0x40 : 0)), 0};
+    unsigned fifo = below(2) ? 0x20 : below(16), implied = below(2) ? 0x40 : 0;
+    const uint8_t bytes[] = {0x13, 0, (uint8_t)(fifo | implied), 0};
     command(bytes, 4);
     if (kind != &controller_kind || below(3)) return;
     turn();
@@ -387,7 +393,11 @@ static void run_command(void) {
     case 1: seek(bay, cylinder); break;
     case 2: recalibrate(bay); break;
     case 3: ask(bay, head); break;
-    case 4: below(3) ? reset() : change((uint32_t)bay); break;
+    case 4:
+        phase = IN_EXECUTION;
+        if (below(3)) reset();
+        else change((uint32_t)bay);
+        break;
     default: move_sectors(bay, cylinder, head);
     }
     phase = BEHIND;
@@ -424,7 +434,7 @@ static void settle(void) {
     same(memcmp(state, again, one) == 0, 1, "the states are the same");
     now = 1 - now;
     both = 0;
-    draw_until();
+    draw_turn();
 }
 
 /* ---- runs */
@@ -451,20 +461,21 @@ static void begin(void) {
         MUST(kind->insert(now, bay, &tray));
         MUST(telwyddus_tray_free(&tray));
     }
-    until = 4000000000u;
+    until = 4000000000u; /* not yet */
     choose_bay(0);
     reset();
     const uint8_t specify[] = {0x03, 0xDF, 0x02};
     command(specify, 3);
     for (int bay = 0; bay < 2; bay++) recalibrate(bay);
-    draw_until();
+    phase = BEHIND;
+    draw_turn();
 }
 
 static void plan_machine(void) {
     char plan[1200];
     size_t length = 0, line;
     for (int i = 0; i < 24; i++) {
-        unsigned bay = below(2), c = below(cylinders[bay]), h = below(2), word = below(bay ? 6250 : 12500), count = 1 + below(3);
+        unsigned bay = below(2), c = below(cylinders[bay]), h = below(2), word = below(bay ? 6250 : 12500), count = 1 + below(3), times = 1 + below(200);
         char *at = plan + length;
         size_t room = sizeof plan - length;
         switch (below(7)) {
@@ -472,9 +483,9 @@ static void plan_machine(void) {
         case 1: length += (size_t)snprintf(at, room, "cut %u %u %u %u %u\n", bay, c, h, word, count); break;
         case 2: length += (size_t)snprintf(at, room, "lose %u %u %u\n", bay, c, count); break;
         case 3: length += (size_t)snprintf(at, room, "stick %u %u %u\n", bay, c, count); break;
-        case 4: length += (size_t)snprintf(at, room, "gap %u %u\n", below(20), 1 + below(200)); break;
-        case 5: length += (size_t)snprintf(at, room, "hold %u %u\n", below(4), 1 + below(1000)); break;
-        default: length += (size_t)snprintf(at, room, "stray %u %u\n", 1 + below(20000), 1 + below(20));
+        case 4: length += (size_t)snprintf(at, room, "gap %u %u\n", below(20), times); break;
+        case 5: length += (size_t)snprintf(at, room, "hold %u %u\n", below(4), 4 * times); break;
+        default: length += (size_t)snprintf(at, room, "stray %u %u\n", 1 + below(20000), count);
         }
     }
     MUST(telwyddus_machine_new_planned(&machines[now], (const uint8_t *)plan, length, &line));
