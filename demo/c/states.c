@@ -104,6 +104,7 @@ static void spoil(size_t length) {
     kind->end(SPARE);
     need(kind->save(SPARE, again, ROOM, &told) == TELWYDDUS_EMPTY, "an empty slot has no state");
     need(kind->restore(SPARE, state, length - 1) == TELWYDDUS_BAD_STATE && kind->end(SPARE) == TELWYDDUS_EMPTY, "a refusal leaves an empty slot");
+    need((kind == &controller_kind ? restore_machine : restore_controller)(SPARE, state, length) == TELWYDDUS_BAD_STATE, "the state of another kind is refused");
     MUST(kind->restore(SPARE, state, length));
     state[length] = (uint8_t)below(256);
     try_bytes(state, length + 1, 0);

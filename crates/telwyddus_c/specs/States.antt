@@ -5,7 +5,7 @@ use Rattle.any_drive.specs.Saving.{spelled_any_drive}
 use Rattle.c_slots.specs.Controllers.{ControllerValue}
 use Rattle.c_slots.specs.Machines.{MachineValue}
 use Rattle.fdc_sequencer.specs.Saving.{spelled_sequencer, SequencerFits}
-use Rattle.inspected_drive.specs.Saving.{spelled_drive}
+use Rattle.inspected_drive.specs.Saving.{spelled_inspected_drive}
 use Rattle.pc_bus.specs.Saving.{spelled_machine, MachineFits}
 use Rattle.saved_state.specs.declared.whole.RestoreError.{RestoreError}
 use Rattle.saved_state.specs.declared.whole.RestoreError.TheVariants.{NoState, NoMemory}
@@ -13,7 +13,7 @@ use Rattle.telwyddus_c.specs.Buffers.{WritesOr}
 
 -- the bytes of a controller with its drives and their media, and what is so of each that code holds
 abbrev pub spelled_controller : ControllerValue → List ℕ → List ℕ
-spelled_controller = spelled_sequencer spelled_drive
+spelled_controller = spelled_sequencer spelled_inspected_drive
 
 abbrev pub ControllerFits : ControllerValue → Type 0
 ControllerFits = SequencerFits (λ _. ⊤)
