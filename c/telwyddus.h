@@ -64,7 +64,8 @@ enum telwyddus_code {
     TELWYDDUS_BAD_CRC = 18,     /* the sector's data is damaged, or was read back otherwise than it was written */
     TELWYDDUS_OVERRUN = 19,     /* a DMA request waited too long */
     TELWYDDUS_SEEK = 20,        /* the heads didn't find track 0 */
-    TELWYDDUS_UNFIT = 21        /* the other form can't have a track, or the medium */
+    TELWYDDUS_UNFIT = 21,       /* the other form can't have a track, or the medium */
+    TELWYDDUS_BAD_STATE = 22    /* the bytes are no saved state */
 };
 
 /* ---------------------------------------------------------------------------------------------------------------------------
@@ -183,6 +184,17 @@ TELWYDDUS_CALL uint32_t telwyddus_controller_bay(telwyddus_controller *controlle
 /* The drive that is selected, 0 to 3; those of bays 2 and 3 are absent. DONE, EMPTY. */
 TELWYDDUS_CALL uint32_t telwyddus_controller_selected(telwyddus_controller *controller, uint8_t *bay);
 
+/* A SAVE STATE: the whole controller as bytes, between any two calls, also in the middle of a command, with its drives, the media
+ * in them, and what written tells. The form of the bytes is this version's own: another one needn't take them. */
+
+/* Writes the state to the beginning of a buffer; the controller goes on. *length is the state's, told where the buffer is too short
+ * too. DONE, EMPTY, NO_MEMORY, TOO_SHORT. */
+TELWYDDUS_CALL uint32_t telwyddus_controller_save(telwyddus_controller *controller, uint8_t *out, size_t room, size_t *length);
+
+/* Makes the slot hold the controller that was saved, in place of what it holds, which is freed; a slot that holds nothing is filled.
+ * Where the bytes are no state, all of them, or memory is out, the slot stays as it was. DONE, NO_MEMORY, BAD_STATE. */
+TELWYDDUS_CALL uint32_t telwyddus_controller_restore(telwyddus_controller *controller, const uint8_t *bytes, size_t length);
+
 /* ---------------------------------------------------------------------------------------------------------------------------
  * THE MACHINE: the controller, channel 2 of an 8237A (ports 04, 05, 08 to 0F, 81), 1 MiB of memory, and a latch for IRQ 6. The
  * latch looks at the line once a device step. For benches of drivers: its drives may have planned faults, its DMA delays, its
@@ -220,6 +232,10 @@ TELWYDDUS_CALL uint32_t telwyddus_machine_memory_set(telwyddus_machine *machine,
 /* Media in and out, as at the controller. */
 TELWYDDUS_CALL uint32_t telwyddus_machine_insert(telwyddus_machine *machine, uint32_t bay, telwyddus_tray *tray);
 TELWYDDUS_CALL uint32_t telwyddus_machine_eject(telwyddus_machine *machine, uint32_t bay, telwyddus_tray *tray);
+
+/* A save state, as at the controller: with memory, the latch, and what is still to come of the plan. */
+TELWYDDUS_CALL uint32_t telwyddus_machine_save(telwyddus_machine *machine, uint8_t *out, size_t room, size_t *length);
+TELWYDDUS_CALL uint32_t telwyddus_machine_restore(telwyddus_machine *machine, const uint8_t *bytes, size_t length);
 
 /* ---------------------------------------------------------------------------------------------------------------------------
  * SHELVES. Files in memory, and the program `floppy` run on them, as often as you like: it formats, copies, verifies, imports

@@ -5,6 +5,8 @@
 #include "common.h"
 #include <stdbool.h>
 
+#define ROOM (4 << 20) /* for the bytes of a state */
+
 /* ---- the heap */
 
 typedef struct { bool is_ok; void *at; } tried;
@@ -84,6 +86,39 @@ static void move(void) {
     MUST(telwyddus_tray_free(&tray));
     MUST(telwyddus_tray_free(&back));
     MUST(telwyddus_controller_free(&controller));
+}
+
+/* A state is restored over another one, and into an empty slot. Behind a refusal the slot is as it was. */
+static void restore(void) {
+    static uint8_t state[ROOM], was[ROOM], now[ROOM];
+    telwyddus_controller controller = {0}, again = {0};
+    telwyddus_machine machine = {0}, empty = {0};
+    telwyddus_tray tray = {0};
+    size_t told, was_told, now_told;
+    TRY(telwyddus_controller_new(&controller));
+    TRY(telwyddus_tray_read(&tray, image, length));
+    MUST(telwyddus_controller_insert(&controller, 0, &tray));
+    MUST(telwyddus_tray_free(&tray));
+    TRY(telwyddus_controller_save(&controller, state, ROOM, &told));
+    TRY(telwyddus_controller_new(&again));
+    TRY(telwyddus_controller_save(&again, was, ROOM, &was_told));
+    if (REFUSED(telwyddus_controller_restore(&again, state, told))) {
+        MUST(telwyddus_controller_save(&again, now, ROOM, &now_told));
+        is_so(now_told == was_told && memcmp(now, was, was_told) == 0, "behind a refused restore the slot holds what it held");
+        MUST(telwyddus_controller_restore(&again, state, told));
+    }
+    TRY(telwyddus_controller_save(&again, now, ROOM, &now_told));
+    is_so(now_told == told && memcmp(now, state, told) == 0, "what is restored was saved");
+    MUST(telwyddus_controller_free(&controller));
+    MUST(telwyddus_controller_free(&again));
+    TRY(telwyddus_machine_new(&machine));
+    TRY(telwyddus_machine_save(&machine, state, ROOM, &told));
+    if (REFUSED(telwyddus_machine_restore(&empty, state, told))) {
+        is_so(telwyddus_machine_free(&empty) == TELWYDDUS_EMPTY, "behind a refused restore an empty slot is empty");
+        MUST(telwyddus_machine_restore(&empty, state, told));
+    }
+    MUST(telwyddus_machine_free(&machine));
+    MUST(telwyddus_machine_free(&empty));
 }
 
 /* A machine, and the program on a shelf. */
@@ -199,6 +234,7 @@ int main(int count, char **words) {
     other = (uint8_t *)malloc(length);
     if (out == NULL || other == NULL) return 1;
     rounds(move, "a controller", 1);
+    rounds(restore, "states", 1);
     rounds(run, "a machine and a shelf", 1);
     rounds(sectors, "a desk", 1);
     rounds(blank, "a blank medium", 1);

@@ -75,6 +75,7 @@ def main():
         memory = bytearray(512)
         steps = transfer(controller, 0x46, memory)
         assert memory == WANTED and not controller.written(0)
+        controller.restore(controller.save())  # as it was
         transfer(controller, 0x45, CONTENT)
         assert controller.image(0) == after and controller.written(0)
         assert controller.bay(0) == (C, Signs.MOTOR | Signs.SELECTED | Signs.MEDIUM)

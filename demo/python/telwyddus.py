@@ -39,10 +39,11 @@ class BadCrc(Refused): """The sector's data is damaged."""
 class Overrun(Refused): """A DMA request waited too long."""
 class Seek(Refused): """The heads didn't find track 0."""
 class Unfit(Refused): """The other form can't have a track: `cylinder` and `head`."""
+class BadState(Refused): """The bytes are no saved state."""
 
 
 CODES = (None, Empty, Full, NoMemory, OutOfRange, BadImage, HasMedium, NoMedium, NotAsked, BadPlan, TooShort, NotText, NoFile,
-         NotReady, Changed, Protected, NoMark, NotFound, BadCrc, Overrun, Seek, Unfit)
+         NotReady, Changed, Protected, NoMark, NotFound, BadCrc, Overrun, Seek, Unfit, BadState)
 
 
 class Lines(enum.IntFlag):
@@ -184,7 +185,7 @@ class Tray(Holder):
 
 
 class Drives(Holder):
-    """What a controller and a machine have in common: two bays."""
+    """What a controller, a machine and a disk have in common: two bays."""
 
     def insert(self, bay, tray): self._call("insert", count(bay), ctypes.byref(tray._slot))
 
@@ -194,7 +195,17 @@ class Drives(Holder):
         return tray
 
 
-class Controller(Drives):
+class Saved(Drives):
+    """What a controller and a machine have in common besides: their state as bytes, with the media in them."""
+
+    def save(self): return self._bytes("save")
+
+    def restore(self, state):
+        """Becomes what was saved. What it was is gone; where this is refused it stays."""
+        self._call("restore", *given(state))
+
+
+class Controller(Saved):
     """The bare controller with two drives, for a bus of your own."""
 
     kind = "controller"
@@ -224,7 +235,7 @@ class Controller(Drives):
         return cylinder.value, Signs(signs)
 
 
-class Machine(Drives):
+class Machine(Saved):
     """The whole machine: controller, channel 2, memory, and the latch of IRQ 6; with the faults and delays of a plan, if any."""
 
     kind = "machine"

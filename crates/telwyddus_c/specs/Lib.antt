@@ -10,4 +10,5 @@ pub mod Media
 pub mod Rates
 pub mod Shelves
 pub mod Slots
+pub mod States
 pub mod Surveys

@@ -65,3 +65,6 @@ pub const SEEK: u32 = 20;
 
 /// The other form can't have a track.
 pub const UNFIT: u32 = 21;
+
+/// The bytes are no saved state.
+pub const BAD_STATE: u32 = 22;

@@ -2,3 +2,4 @@
 mod bays;
 mod dack;
 mod ports;
+mod saving;

@@ -14,5 +14,6 @@ mod imd;
 mod machine;
 mod rate;
 mod shelf;
+mod state;
 mod survey;
 mod tray;

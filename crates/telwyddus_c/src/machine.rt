@@ -3,3 +3,4 @@ mod bays;
 mod making;
 mod memory;
 mod ports;
+mod saving;

@@ -1,0 +1,55 @@
+-- Saved states in buffers of C.
+use Rattle.std.specs.Prelude.{◌≡◌, ℕ, ◌==◌, List, [], Option, Some, Result, Ok, Err, MatchBool, ⊤}
+use Rattle.std.specs.Global.{Box}
+use Rattle.any_drive.specs.Saving.{spelled_any_drive}
+use Rattle.c_slots.specs.Controllers.{ControllerValue}
+use Rattle.c_slots.specs.Machines.{MachineValue}
+use Rattle.fdc_sequencer.specs.Saving.{spelled_sequencer, SequencerFits}
+use Rattle.inspected_drive.specs.Saving.{spelled_inspected_drive}
+use Rattle.pc_bus.specs.Saving.{spelled_machine, MachineFits}
+use Rattle.saved_state.specs.declared.whole.RestoreError.{RestoreError}
+use Rattle.saved_state.specs.declared.whole.RestoreError.TheVariants.{NoState, NoMemory}
+use Rattle.telwyddus_c.specs.Buffers.{WritesOr}
+
+-- the bytes of a controller with its drives and their media, and what is so of each that code holds
+abbrev pub spelled_controller : ControllerValue → List ℕ → List ℕ
+spelled_controller = spelled_sequencer spelled_inspected_drive
+
+abbrev pub ControllerFits : ControllerValue → Type 0
+ControllerFits = SequencerFits (λ _. ⊤)
+
+-- the same of a machine with its memory, what its plan has still to come, its drives and their media
+abbrev pub spelled_bench : MachineValue → List ℕ → List ℕ
+spelled_bench = spelled_machine spelled_any_drive
+
+abbrev pub BenchFits : MachineValue → Type 0
+BenchFits = MachineFits (λ _. ⊤)
+
+-- the bytes of a state are written to a buffer, and their number told: 0. The buffer is too short, 10: it stays, and the number is told.
+-- Memory is out, 3: the buffer and what was told stay
+pub record WritesState {V : Type 0} (fits : V → Type 0) (spelled : V → List ℕ → List ℕ) (state : V) (code : ℕ) (old new : List ℕ) (was told : ℕ) : Type 0 where
+  pub fits_here : fits state
+  pub writes : WritesOr (MatchBool (code == 3) ((new ≡ old) × (told ≡ was)) ⊥) (spelled state []) code old new told
+
+-- a state has these bytes, and no other has them
+pub record HasBytes {V : Type 0} (fits : V → Type 0) (spelled : V → List ℕ → List ℕ) (bytes : List ℕ) (state : V) : Type 0 where
+  pub fits_here : fits state
+  pub spells : bytes ≡ spelled state []
+  pub only : (other : V) → fits other → bytes ≡ spelled other [] → other ≡ state
+
+-- no state has these bytes
+abbrev pub HasNone : {V : Type 0} → (V → Type 0) → (V → List ℕ → List ℕ) → List ℕ → Type 0
+HasNone {V} fits spelled bytes = (state : V) → fits state → bytes ≡ spelled state [] → ⊥
+
+-- the state whose bytes these are is found, or there is none, or memory is out
+abbrev pub FindsState : {V : Type 0} → (V → Type 0) → (V → List ℕ → List ℕ) → List ℕ → Result (Box V) RestoreError → Type 0
+FindsState fits spelled bytes (Ok found) = HasBytes fits spelled bytes found.value
+FindsState fits spelled bytes (Err NoState) = HasNone fits spelled bytes
+FindsState fits spelled bytes (Err NoMemory) = ⊤
+
+-- a slot holds the state whose bytes these are, in place of what it held: 0. No state has these bytes, 22, or memory is out, 3: it stays
+abbrev pub RestoresState : {V : Type 0} → (V → Type 0) → (V → List ℕ → List ℕ) → List ℕ → ℕ → Option V → Option V → Type 0
+RestoresState {V} fits spelled bytes code old new =
+    MatchBool (code == 0) ((state : V) × (new ≡ Some state) × HasBytes fits spelled bytes state)
+    (MatchBool (code == 22) (HasNone fits spelled bytes × (new ≡ old))
+    (MatchBool (code == 3) (new ≡ old) ⊥))

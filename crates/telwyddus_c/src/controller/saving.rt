@@ -1,0 +1,58 @@
+// The controller's state as bytes, and back.
+ghost use Rattle.std.specs.Prelude.{◌≡◌};
+ghost use Rattle.telwyddus_c.specs.Slots.{Serves};
+ghost use Rattle.telwyddus_c.specs.States.{spelled_controller, ControllerFits, WritesState, RestoresState};
+
+use crate::code::{BAD_STATE, DONE, EMPTY, NO_MEMORY};
+use crate::state::{read_state, write_state};
+use c_slots::{ControllerSlot, SequencedBoard};
+use saved_state::RestoreError;
+use std::alloc::Global;
+
+/// Writes the controller's state, with its drives and their media, to the beginning of a buffer, and tells its length. The
+/// controller goes on.
+#[unsafe(no_mangle)]
+pub extern "C" fn telwyddus_controller_save(
+    alloc: Global,
+    slot: &mut ControllerSlot,
+    out: &mut [u8],
+    length: &mut usize,
+) -> u32
+    ensures { Serves (λ code old new. (new ≡ old) × WritesState ControllerFits spelled_controller old code out.old out.new length.old length.new)
+        ((out.new ≡ out.old) × (length.new ≡ length.old)) result slot.old.held.controller slot.new.held.controller }
+{
+    match slot.take(alloc) {
+        None => EMPTY,
+        Some(board) => {
+            let code = save(alloc, &board, out, length);
+            slot.put(board);
+            code
+        }
+    }
+}
+
+/// The same of a controller.
+fn save(alloc: Global, board: &SequencedBoard, out: &mut [u8], length: &mut usize) -> u32
+    ensures { WritesState ControllerFits spelled_controller board.now result out.old out.new length.old length.new }
+{
+    write_state(alloc, board, out, length)
+}
+
+/// Makes the slot hold the controller whose state the bytes are, in place of what it holds.
+#[unsafe(no_mangle)]
+pub extern "C" fn telwyddus_controller_restore(
+    alloc: Global,
+    slot: &mut ControllerSlot,
+    bytes: &[u8],
+) -> u32
+    ensures { RestoresState ControllerFits spelled_controller bytes.now result slot.old.held.controller slot.new.held.controller }
+{
+    match read_state(alloc, bytes) {
+        Ok(board) => {
+            slot.put(board);
+            DONE
+        }
+        Err(RestoreError::NoState) => BAD_STATE,
+        Err(RestoreError::NoMemory) => NO_MEMORY,
+    }
+}
