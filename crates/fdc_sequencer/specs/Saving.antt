@@ -25,13 +25,13 @@ spelled_opcode opcode rest = spelled_operation opcode.operation (spelled_flag op
 unfoldable pub spelled_transfer : Transfer → List ℕ → List ℕ
 spelled_transfer transfer rest =
     spelled_opcode transfer.opcode (spelled_byte transfer.head_drive (spelled_key transfer.key
-        (spelled_byte transfer.last_sector (spelled_byte transfer.gap (spelled_byte transfer.length rest)))))
+    (spelled_byte transfer.last_sector (spelled_byte transfer.gap (spelled_byte transfer.length rest)))))
 
 -- a sector that is moved
 unfoldable pub spelled_moving : Moving → List ℕ → List ℕ
 spelled_moving moving rest =
     spelled_transfer moving.transfer (spelled_word moving.left (spelled_flag moving.counted
-        (spelled_flag moving.passed_over rest)))
+    (spelled_flag moving.passed_over rest)))
 
 -- what is done in front of the controller
 unfoldable pub spelled_stage : Stage → List ℕ → List ℕ
@@ -49,4 +49,4 @@ SequencerFits fits sequencer = BoardFits fits sequencer.board × IsPart sequence
 unfoldable pub spelled_sequencer : {D : Type 0} → (D → List ℕ → List ℕ) → Sequencer D → List ℕ → List ℕ
 spelled_sequencer spelled sequencer rest =
     67 ∷ spelled_board spelled sequencer.board (spelled_stage sequencer.stage (spelled_bytes sequencer.bytes
-        (spelled_flag sequencer.strapped (spelled_flag sequencer.configured rest))))
+    (spelled_flag sequencer.strapped (spelled_flag sequencer.configured rest))))

@@ -69,7 +69,10 @@ impl Saved for Opcode {
     fn load(from: &mut Source<'_>) -> Opcode {
         let operation = Operation::load(from);
         let multitrack = bool::load(from);
-        Opcode { operation, multitrack }
+        Opcode {
+            operation,
+            multitrack,
+        }
     }
 }
 
@@ -99,7 +102,14 @@ impl Saved for Transfer {
         let last_sector = u8::load(from);
         let gap = u8::load(from);
         let length = u8::load(from);
-        Transfer { opcode, head_drive, key, last_sector, gap, length }
+        Transfer {
+            opcode,
+            head_drive,
+            key,
+            last_sector,
+            gap,
+            length,
+        }
     }
 }
 
@@ -125,7 +135,12 @@ impl Saved for Moving {
         let left = u16::load(from);
         let counted = bool::load(from);
         let passed_over = bool::load(from);
-        Moving { transfer, left, counted, passed_over }
+        Moving {
+            transfer,
+            left,
+            counted,
+            passed_over,
+        }
     }
 }
 

@@ -5,4 +5,4 @@ pub returns-in-Some : goal.returns-in-Some
 returns-in-Some c =
     let straps = c.strap_seeks.ensures in
     rw (sym c.in-Some.ensures.taken)
-        (_, c.put.ensures, rw (sym c.deref_mut.ensures.value) (refl, record { strapped = straps.state; drives = straps.drives }))
+    (_, c.put.ensures, rw (sym c.deref_mut.ensures.value) (refl, record { strapped = straps.state; drives = straps.drives }))
