@@ -6,6 +6,7 @@ use saved_state::{Saved, Sink};
 use std::collections::VecDeque;
 
 /// Writes bytes, their number first.
+#[tactic(auto, unfolding(saved_state::specs::Saved::spelled_bytes))]
 pub fn save_bytes_left(bytes: &VecDeque<u8>, to: &mut Sink)
     ensures { Adds (spelled_bytes bytes.now.items) to.old to.new }
 {
@@ -16,6 +17,7 @@ pub fn save_bytes_left(bytes: &VecDeque<u8>, to: &mut Sink)
 }
 
 /// Writes a list of words.
+#[tactic(auto, unfolding(saved_state::specs::Saved::spelled_list))]
 pub fn save_words_left(words: &VecDeque<u16>, to: &mut Sink)
     ensures { Adds (spelled_list spelled_word words.now.items) to.old to.new }
 {

@@ -13,6 +13,7 @@ impl SavedWhole for Strays {
 
     ghost Fits = { λ _. ⊤ };
 
+    #[tactic(auto, unfolding(saved_state::specs::Saved::spelled_list))]
     fn save(&self, _alloc: Global, to: &mut Sink) {
         match self.next {
             None => to.byte(0),
