@@ -1,13 +1,16 @@
 -- The files of a command: what the one that it loads holds, and why it can't be had.
-use Rattle.std.specs.Prelude.{◌≡◌, ◌≤◌, ℕ, List, length, Option, Result, Err, IfSome, IsSomeAnd}
+use Rattle.std.specs.Prelude.{◌≡◌, ◌≢◌, ◌≤◌, ℕ, List, length, Option, Result, Err, IfSome, IsSomeAnd}
 use Rattle.flop_base.specs.Shelf.{Files, file_at}
 use Rattle.flop_base.specs.declared.answers.LoadError.{LoadError}
 use Rattle.flop_base.specs.declared.answers.LoadError.TheVariants as load
 use Rattle.flop_base.specs.declared.answers.StoreError.{StoreError}
 use Rattle.flop_base.specs.declared.answers.StoreError.TheVariants as store
+use Rattle.flop_base.specs.declared.answers.Status.{Status}
+use Rattle.flop_base.specs.declared.answers.Status.TheVariants as status
 use Rattle.raw_image.specs.declared.error.ImageError.{ImageError}
 use Rattle.sector_model.specs.declared.reply.Stop.{Stop}
 use Rattle.sector_model.specs.declared.reply.Stop.TheVariants as stop
+use Rattle.sector_model.specs.Faults.{Blames}
 use Rattle.sector_model.specs.Steps.{most_image_bytes, IsAbsent, IsLonger}
 
 -- all that a command may change: the told files, and the told report
@@ -17,6 +20,23 @@ pub record Desk : Type 0 where
 
 abbrev pub desk_of : {S K : Type 0} → (S → Option Files) → (K → Option (List ℕ)) → S → K → Desk
 desk_of files report shelf out = record { files = files shelf; report = report out }
+
+-- a desk, with the faults that its shelf and its sink counted
+pub record FaultyDesk : Type 0 where
+  pub desk : Desk
+  pub shelf_faults : ℕ
+  pub sink_faults : ℕ
+
+abbrev pub faulty_desk_of : {S K : Type 0} → (S → Option Files) → (S → ℕ) → (K → Option (List ℕ)) → (K → ℕ) → S → K → FaultyDesk
+faulty_desk_of files shelf_count report sink_count shelf out =
+    record { desk = desk_of files report shelf out; shelf_faults = shelf_count shelf; sink_faults = sink_count out }
+
+-- a command that takes shelf and sink through did this, its words were a form, and each fault that its status tells was counted
+pub record RanOnFiles (Does : Desk → Desk → Status → Type 0) (old new : FaultyDesk) (ended : Status) : Type 0 where
+  pub does : Does old.desk new.desk ended
+  pub is_form : ended ≢ status.BadWords
+  pub shelf_faults : Blames (ended ≡ status.FileFault) old.shelf_faults new.shelf_faults
+  pub sink_faults : Blames (ended ≡ status.SinkFault) old.sink_faults new.sink_faults
 
 -- the told file of this name isn't too long, and reading its bytes gives this
 abbrev pub ReadsAs : {T : Type 0} → (List ℕ → Result T ImageError) → Option Files → List ℕ → Result T ImageError → Type 0

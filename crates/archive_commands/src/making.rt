@@ -1,7 +1,7 @@
 // The commands that make a file of another.
-ghost use Rattle.std.specs.Prelude.{◌≡◌, ◌≢◌, Err, IfOk, IsErrOf};
+ghost use Rattle.std.specs.Prelude.{IsErrOf};
 ghost use Rattle.sector_model.specs.Faults.{Blames};
-ghost use Rattle.archive_commands.specs.Files.{desk_of};
+ghost use Rattle.archive_commands.specs.Files.{faulty_desk_of, RanOnFiles};
 ghost use Rattle.archive_commands.specs.Making.{MakesFromImd, MakesToImd, MakesRemaster, FromImd, ToImd, Remaster};
 
 use crate::files::{load_imd, load_medium, store};
@@ -66,10 +66,8 @@ pub fn from_imd<S: Shelf, K: Sink>(
     shelf: &mut S,
     out: &mut K,
 ) -> Status
-    ensures does { FromImd imd name (desk_of S.told K.told shelf.old out.old) (desk_of S.told K.told shelf.new out.new) result }
-    ensures is_form { result ≢ Status.BadWords }
-    ensures shelf_faults { Blames (result ≡ Status.FileFault) (S.fault_count shelf.old) (S.fault_count shelf.new) }
-    ensures sink_faults { Blames (result ≡ Status.SinkFault) (K.fault_count out.old) (K.fault_count out.new) }
+    ensures { RanOnFiles (FromImd imd name) (faulty_desk_of S.told S.fault_count K.told K.fault_count shelf.old out.old)
+        (faulty_desk_of S.told S.fault_count K.told K.fault_count shelf.new out.new) result }
 {
     let outcome = make_disk(alloc, shelf, &imd, &name);
     tell(alloc, out, "fromimd", &outcome)
@@ -84,10 +82,8 @@ pub fn to_imd<S: Shelf, K: Sink>(
     shelf: &mut S,
     out: &mut K,
 ) -> Status
-    ensures does { ToImd name imd (desk_of S.told K.told shelf.old out.old) (desk_of S.told K.told shelf.new out.new) result }
-    ensures is_form { result ≢ Status.BadWords }
-    ensures shelf_faults { Blames (result ≡ Status.FileFault) (S.fault_count shelf.old) (S.fault_count shelf.new) }
-    ensures sink_faults { Blames (result ≡ Status.SinkFault) (K.fault_count out.old) (K.fault_count out.new) }
+    ensures { RanOnFiles (ToImd name imd) (faulty_desk_of S.told S.fault_count K.told K.fault_count shelf.old out.old)
+        (faulty_desk_of S.told S.fault_count K.told K.fault_count shelf.new out.new) result }
 {
     let outcome = make_imd(alloc, shelf, &name, &imd);
     tell(alloc, out, "toimd", &outcome)
@@ -102,10 +98,8 @@ pub fn remaster_disk<S: Shelf, K: Sink>(
     shelf: &mut S,
     out: &mut K,
 ) -> Status
-    ensures does { Remaster from to (desk_of S.told K.told shelf.old out.old) (desk_of S.told K.told shelf.new out.new) result }
-    ensures is_form { result ≢ Status.BadWords }
-    ensures shelf_faults { Blames (result ≡ Status.FileFault) (S.fault_count shelf.old) (S.fault_count shelf.new) }
-    ensures sink_faults { Blames (result ≡ Status.SinkFault) (K.fault_count out.old) (K.fault_count out.new) }
+    ensures { RanOnFiles (Remaster from to) (faulty_desk_of S.told S.fault_count K.told K.fault_count shelf.old out.old)
+        (faulty_desk_of S.told S.fault_count K.told K.fault_count shelf.new out.new) result }
 {
     let outcome = make_remaster(alloc, shelf, &from, &to);
     tell(alloc, out, "remaster", &outcome)

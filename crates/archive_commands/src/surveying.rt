@@ -3,7 +3,7 @@ ghost use Rattle.std.specs.Prelude.{◌≡◌, ◌≢◌, Ok, Err, IfOk, IfErr, 
 ghost use Rattle.flop_base.specs.Sink.{grown, GrowsByPart};
 ghost use Rattle.sector_model.specs.Faults.{Blames};
 ghost use Rattle.sector_model.specs.Plays.{IsPutFault, Prints};
-ghost use Rattle.archive_commands.specs.Files.{desk_of};
+ghost use Rattle.archive_commands.specs.Files.{faulty_desk_of, RanOnFiles};
 ghost use Rattle.archive_commands.specs.Surveys.{field_line, field_lines, survey_text, end_line, is_found, found_count, IsSectorCount, SurveysFile, Surveys};
 
 use crate::files::load_medium;
@@ -99,10 +99,8 @@ pub fn survey_disk<S: Shelf, K: Sink>(
     shelf: &mut S,
     out: &mut K,
 ) -> Status
-    ensures does { Surveys name (desk_of S.told K.told shelf.old out.old) (desk_of S.told K.told shelf.new out.new) result }
-    ensures is_form { result ≢ Status.BadWords }
-    ensures shelf_faults { Blames (result ≡ Status.FileFault) (S.fault_count shelf.old) (S.fault_count shelf.new) }
-    ensures sink_faults { Blames (result ≡ Status.SinkFault) (K.fault_count out.old) (K.fault_count out.new) }
+    ensures { RanOnFiles (Surveys name) (faulty_desk_of S.told S.fault_count K.told K.fault_count shelf.old out.old)
+        (faulty_desk_of S.told S.fault_count K.told K.fault_count shelf.new out.new) result }
 {
     match survey_file(alloc, shelf, &name) {
         Ok(lines) => put_survey(alloc, out, &lines),

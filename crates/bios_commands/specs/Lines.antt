@@ -1,5 +1,5 @@
 -- What the calls of a text come to, part by part.
-use Rattle.std.specs.Prelude.{◌≡◌, ℕ, Bool, List, Option}
+use Rattle.std.specs.Prelude.{◌≡◌, ℕ, Bool, List, Option, Result, Ok, Err}
 use Rattle.flop_base.specs.Shelf.{Files}
 use Rattle.flop_base.specs.declared.answers.Status.{Status}
 use Rattle.flop_base.specs.declared.answers.Status.TheVariants as status
@@ -8,6 +8,7 @@ use Rattle.flop_base.specs.declared.answers.LoadError.TheVariants as load
 use Rattle.floppy_jobs.specs.Texts.{calls_of}
 use Rattle.floppy_jobs.specs.declared.calls.CallLine.{CallLine}
 use Rattle.floppy_jobs.specs.declared.calls.CallLine.TheVariants as call
+use Rattle.floppy_requests.specs.declared.request.Request.{Request}
 use Rattle.sector_model.specs.declared.reply.Stop.{Stop}
 use Rattle.sector_model.specs.States.{State}
 use Rattle.sector_model.specs.Texts.{stop_status, absent_text, bad_line_text}
@@ -16,7 +17,7 @@ use Rattle.sector_model.specs.Plays.{World, Prints, IsIdle, whole_status}
 use Rattle.int13.specs.declared.regs.Regs.{Regs}
 use Rattle.floppy_session.specs.Tries.{HasTries}
 use Rattle.bios_commands.specs.CallTexts.{registers}
-use Rattle.bios_commands.specs.Rounds.{Round, AreServed, has_refused}
+use Rattle.bios_commands.specs.Rounds.{Round, AreServed, has_refused, IsRound, Breaks}
 use Rattle.bios_commands.specs.Courses.{IsBroken, ServesLines, ServesParsed}
 
 -- the number of attempts is from 1 to 10, where a request sets it
@@ -38,6 +39,25 @@ pub record HasServed (lines : List CallLine) (old : World) (refused : Bool) (kep
 -- a line broke off
 abbrev pub HasBroken : List CallLine → World → World → Status → Type 0
 HasBroken lines old new ended = (course : List Taken) × IsBroken lines old course new ended
+
+-- a line was done and told whole, or broke off
+abbrev pub LineGoes : ℕ → ℕ → CallLine → World → Result Bool Status → World → Type 0
+LineGoes kept kept_after line old (Ok refused) new = IsRound kept line old refused new kept_after
+LineGoes kept kept_after line old (Err ended) new = (last : List Taken) × Breaks kept line old last new ended
+
+-- a request as in a job was, whatever status the service keeps
+abbrev pub AskGoes : Request → World → Result Bool Status → World → Type 0
+AskGoes asked old result new = (kept : ℕ) → LineGoes kept kept (call.Job asked) old result new
+
+-- a call with these registers was
+abbrev pub CallGoes : Regs → ℕ → ℕ → World → Result Bool Status → World → Type 0
+CallGoes regs kept kept_after old result new =
+    (line : CallLine) → IsCallOf regs line → LineGoes kept kept_after line old result new
+
+-- some lines were done and told whole, or one broke off
+abbrev pub LinesGo : List CallLine → World → Result Bool Status → World → Type 0
+LinesGo lines old (Ok refused) new = (kept : ℕ) × HasServed lines old refused kept new
+LinesGo lines old (Err ended) new = HasBroken lines old new ended
 
 -- the end of a run: what was left in was stored, or a stop came at a store
 pub data EndsAs (refused : Bool) (old : State) (files : Option Files) (new : State) (after : Option Files) (ended : Status) : Type 0 where

@@ -1,16 +1,13 @@
 // One line of a calls text: served, and told.
-ghost use Rattle.std.specs.Prelude.{◌≡◌, ◌≢◌, ℕ, List, IfOk, IfErr, IsErrOf, Err};
+ghost use Rattle.std.specs.Prelude.{◌≡◌, IfErr, Err};
 ghost use Rattle.floppy_jobs.specs.declared.calls.CallLine.{CallLine};
 ghost use Rattle.floppy_jobs.specs.declared.calls.CallLine.TheVariants as calls;
-ghost use Rattle.sector_model.specs.Faults.{Blames};
 ghost use Rattle.sector_model.specs.Texts.{is_refusal};
-ghost use Rattle.sector_model.specs.Runs.{Taken};
 ghost use Rattle.sector_model.specs.Plays.{IsPutFault};
 ghost use Rattle.floppy_session.specs.Session.{IsRunning};
 ghost use Rattle.floppy_session.specs.Tries.{HasTries};
-ghost use Rattle.disk_commands.specs.Worlds.{world_of};
-ghost use Rattle.bios_commands.specs.Rounds.{IsRound, Breaks};
-ghost use Rattle.bios_commands.specs.Lines.{LineHasTries, IsCallOf};
+ghost use Rattle.disk_commands.specs.Worlds.{faulty_of, RanPart};
+ghost use Rattle.bios_commands.specs.Lines.{LineHasTries, AskGoes, CallGoes, LineGoes};
 
 use crate::text::call_line;
 use flop_base::{Shelf, Sink, Status};
@@ -40,17 +37,9 @@ fn ask<S: Shelf, K: Sink, D: Station>(
 ) -> Result<bool, Status>
     requires running { IsRunning D.shown D.is_ready session.old }
     requires tries { HasTries request.now }
-    ensures round { (kept : ℕ) → IfOk result (λ refused. IsRound kept (calls.Job request.now) (world_of D.shown S.told K.told session.old shelf.old out.old) refused
-        (world_of D.shown S.told K.told session.new shelf.new out.new) kept) }
-    ensures breaks { (kept : ℕ) → IfErr result (λ ended. (last : List Taken) × Breaks
-        kept (calls.Job request.now) (world_of D.shown S.told K.told session.old shelf.old out.old) last
-        (world_of D.shown S.told K.told session.new shelf.new out.new) ended) }
-    ensures running { IsRunning D.shown D.is_ready session.new }
-    ensures is_form { result ≢ Err Status.BadWords }
-    ensures shelf_faults { Blames (IsErrOf result Status.FileFault) (S.fault_count shelf.old)
-        (S.fault_count shelf.new) }
-    ensures sink_faults { Blames (IsErrOf result Status.SinkFault) (K.fault_count out.old)
-        (K.fault_count out.new) }
+    ensures { RanPart (AskGoes request.now) (IsRunning D.shown D.is_ready session.new)
+        (faulty_of D.shown S.told S.fault_count K.told K.fault_count session.old shelf.old out.old) result
+        (faulty_of D.shown S.told S.fault_count K.told K.fault_count session.new shelf.new out.new) }
 {
     match session.run(shelf, request) {
         Ok(reply) => match put_reply(alloc, out, request, &reply) {
@@ -71,17 +60,10 @@ fn call<S: Shelf, K: Sink, D: Station>(
     out: &mut K,
 ) -> Result<bool, Status>
     requires running { IsRunning D.shown D.is_ready session.old }
-    ensures round { (line : CallLine) → IsCallOf regs line → IfOk result (λ refused. IsRound
-        front.old line (world_of D.shown S.told K.told session.old shelf.now out.old) refused
-        (world_of D.shown S.told K.told session.new shelf.now out.new) front.new) }
-    ensures breaks { (line : CallLine) → IsCallOf regs line → IfErr result (λ ended. (last : List Taken) × Breaks
-        front.old line (world_of D.shown S.told K.told session.old shelf.now out.old) last
-        (world_of D.shown S.told K.told session.new shelf.now out.new) ended) }
-    ensures running { IsRunning D.shown D.is_ready session.new }
-    ensures is_form { result ≢ Err Status.BadWords }
+    ensures ran { RanPart (CallGoes regs front.old front.new) (IsRunning D.shown D.is_ready session.new)
+        (faulty_of D.shown S.told S.fault_count K.told K.fault_count session.old shelf.now out.old) result
+        (faulty_of D.shown S.told S.fault_count K.told K.fault_count session.new shelf.now out.new) }
     ensures no_shelf_fault { IfErr result IsPutFault }
-    ensures sink_faults { Blames (IsErrOf result Status.SinkFault) (K.fault_count out.old)
-        (K.fault_count out.new) }
 {
     let answered = session.int13(front, regs);
     match put_line(out, call_line(alloc, answered)) {
@@ -101,17 +83,9 @@ pub(crate) fn serve_line<S: Shelf, K: Sink, D: Station>(
 ) -> Result<bool, Status>
     requires running { IsRunning D.shown D.is_ready session.old }
     requires tries { LineHasTries line.now }
-    ensures round { IfOk result (λ refused. IsRound front.old line.now (world_of D.shown S.told K.told session.old shelf.old out.old) refused
-        (world_of D.shown S.told K.told session.new shelf.new out.new) front.new) }
-    ensures breaks { IfErr result (λ ended. (last : List Taken) × Breaks
-        front.old line.now (world_of D.shown S.told K.told session.old shelf.old out.old) last
-        (world_of D.shown S.told K.told session.new shelf.new out.new) ended) }
-    ensures running { IsRunning D.shown D.is_ready session.new }
-    ensures is_form { result ≢ Err Status.BadWords }
-    ensures shelf_faults { Blames (IsErrOf result Status.FileFault) (S.fault_count shelf.old)
-        (S.fault_count shelf.new) }
-    ensures sink_faults { Blames (IsErrOf result Status.SinkFault) (K.fault_count out.old)
-        (K.fault_count out.new) }
+    ensures { RanPart (LineGoes front.old front.new line.now) (IsRunning D.shown D.is_ready session.new)
+        (faulty_of D.shown S.told S.fault_count K.told K.fault_count session.old shelf.old out.old) result
+        (faulty_of D.shown S.told S.fault_count K.told K.fault_count session.new shelf.new out.new) }
 {
     match line {
         CallLine::Job(request) => ask(alloc, session, request, shelf, out),

@@ -1,13 +1,12 @@
 // The form `int13 FILE`: the calls of a text are served to its end, or up to what stops the run.
-ghost use Rattle.std.specs.Prelude.{◌≡◌, ◌≢◌, ◌||◌, ℕ, All, List, IfOk, IfErr, IsErrOf, Err};
+ghost use Rattle.std.specs.Prelude.{◌≡◌, ◌≢◌, ◌||◌, All, Err};
 ghost use Rattle.sector_model.specs.Faults.{Blames};
-ghost use Rattle.sector_model.specs.Runs.{Taken};
 ghost use Rattle.sector_model.specs.Plays.{whole_status};
 ghost use Rattle.floppy_session.specs.Session.{state_of, IsRunning};
 ghost use Rattle.disk_commands.specs.Commands.{Runs};
-ghost use Rattle.disk_commands.specs.Worlds.{world_of};
+ghost use Rattle.disk_commands.specs.Worlds.{faulty_of, Ran, RanPart, printed_of, Told};
 ghost use Rattle.bios_commands.specs.Courses.{ServesCalls};
-ghost use Rattle.bios_commands.specs.Lines.{LineHasTries, HasServed, HasBroken, EndsAs, ServesOrStarves, Misses, Serving};
+ghost use Rattle.bios_commands.specs.Lines.{LineHasTries, LinesGo, EndsAs, ServesOrStarves, Misses, Serving};
 
 use crate::line::serve_line;
 use flop_base::{LoadError, Name, Shelf, Sink, Status};
@@ -38,16 +37,9 @@ fn serve_lines<S: Shelf, K: Sink, D: Station>(
 ) -> Result<bool, Status>
     requires running { IsRunning D.shown D.is_ready session.old }
     requires tries { All LineHasTries lines.now }
-    ensures serves { IfOk result (λ refused. (kept : ℕ) × HasServed lines.now (world_of D.shown S.told K.told session.old shelf.old out.old) refused kept
-        (world_of D.shown S.told K.told session.new shelf.new out.new)) }
-    ensures breaks { IfErr result (λ ended. HasBroken lines.now (world_of D.shown S.told K.told session.old shelf.old out.old)
-        (world_of D.shown S.told K.told session.new shelf.new out.new) ended) }
-    ensures running { IsRunning D.shown D.is_ready session.new }
-    ensures is_form { result ≢ Err Status.BadWords }
-    ensures shelf_faults { Blames (IsErrOf result Status.FileFault) (S.fault_count shelf.old)
-        (S.fault_count shelf.new) }
-    ensures sink_faults { Blames (IsErrOf result Status.SinkFault) (K.fault_count out.old)
-        (K.fault_count out.new) }
+    ensures { RanPart (LinesGo lines.now) (IsRunning D.shown D.is_ready session.new)
+        (faulty_of D.shown S.told S.fault_count K.told K.fault_count session.old shelf.old out.old) result
+        (faulty_of D.shown S.told S.fault_count K.told K.fault_count session.new shelf.new out.new) }
 {
     let mut front = Int13::new();
     let mut refused = false;
@@ -97,14 +89,9 @@ fn serve_all<S: Shelf, K: Sink, D: Station>(
 ) -> Status
     requires running { IsRunning D.shown D.is_ready session.old }
     requires tries { All LineHasTries lines.now }
-    ensures serves { Serving lines.now (world_of D.shown S.told K.told session.old shelf.old out.old)
-        (world_of D.shown S.told K.told session.new shelf.new out.new) result }
-    ensures running { IsRunning D.shown D.is_ready session.new }
-    ensures is_form { result ≢ Status.BadWords }
-    ensures shelf_faults { Blames (result ≡ Status.FileFault) (S.fault_count shelf.old)
-        (S.fault_count shelf.new) }
-    ensures sink_faults { Blames (result ≡ Status.SinkFault) (K.fault_count out.old)
-        (K.fault_count out.new) }
+    ensures { Ran (Serving lines.now) (IsRunning D.shown D.is_ready session.new)
+        (faulty_of D.shown S.told S.fault_count K.told K.fault_count session.old shelf.old out.old)
+        (faulty_of D.shown S.told S.fault_count K.told K.fault_count session.new shelf.new out.new) result }
 {
     match serve_lines(alloc, session, lines, shelf, out) {
         Ok(refused) => finish(session, shelf, refused),
@@ -121,14 +108,9 @@ fn serve_text<S: Shelf, K: Sink, D: Station>(
     out: &mut K,
 ) -> Status
     requires running { IsRunning D.shown D.is_ready session.old }
-    ensures serves { ServesOrStarves text.now (world_of D.shown S.told K.told session.old shelf.old out.old)
-        (world_of D.shown S.told K.told session.new shelf.new out.new) result }
-    ensures running { IsRunning D.shown D.is_ready session.new }
-    ensures is_form { result ≢ Status.BadWords }
-    ensures shelf_faults { Blames (result ≡ Status.FileFault) (S.fault_count shelf.old)
-        (S.fault_count shelf.new) }
-    ensures sink_faults { Blames (result ≡ Status.SinkFault) (K.fault_count out.old)
-        (K.fault_count out.new) }
+    ensures { Ran (ServesOrStarves text.now) (IsRunning D.shown D.is_ready session.new)
+        (faulty_of D.shown S.told S.fault_count K.told K.fault_count session.old shelf.old out.old)
+        (faulty_of D.shown S.told S.fault_count K.told K.fault_count session.new shelf.new out.new) result }
 {
     match parse_calls(alloc, text) {
         Ok(lines) => serve_all(alloc, session, &lines, shelf, out),
@@ -139,11 +121,8 @@ fn serve_text<S: Shelf, K: Sink, D: Station>(
 
 /// Ends a run whose text wasn't loaded.
 fn not_loaded<K: Sink>(alloc: Global, name: &Name, out: &mut K, error: LoadError) -> Status
-    ensures ends { Misses error name.now (K.told out.old) (K.told out.new) result }
-    ensures is_form { result ≢ Status.BadWords }
-    ensures shelf_fault { result ≡ Status.FileFault → error ≡ LoadError.Failed }
-    ensures sink_faults { Blames (result ≡ Status.SinkFault) (K.fault_count out.old)
-        (K.fault_count out.new) }
+    ensures { Told (Misses error name.now) (error ≡ LoadError.Failed)
+        (printed_of K.told K.fault_count out.old) (printed_of K.told K.fault_count out.new) result }
 {
     match error {
         LoadError::Absent => put_last_absent(alloc, out, name.as_str()),
@@ -163,14 +142,9 @@ pub fn serve_calls<S: Shelf, K: Sink, D: Station>(
     out: &mut K,
 ) -> Status
     requires running { IsRunning D.shown D.is_ready session.old }
-    ensures serves { Runs (ServesCalls name) (world_of D.shown S.told K.told session.old shelf.old out.old)
-        (world_of D.shown S.told K.told session.new shelf.new out.new) result }
-    ensures running { IsRunning D.shown D.is_ready session.new }
-    ensures is_form { result ≢ Status.BadWords }
-    ensures shelf_faults { Blames (result ≡ Status.FileFault) (S.fault_count shelf.old)
-        (S.fault_count shelf.new) }
-    ensures sink_faults { Blames (result ≡ Status.SinkFault) (K.fault_count out.old)
-        (K.fault_count out.new) }
+    ensures { Ran (Runs (ServesCalls name)) (IsRunning D.shown D.is_ready session.new)
+        (faulty_of D.shown S.told S.fault_count K.told K.fault_count session.old shelf.old out.old)
+        (faulty_of D.shown S.told S.fault_count K.told K.fault_count session.new shelf.new out.new) result }
 {
     match shelf.load(alloc, name.as_str(), MOST_CALLS_BYTES) {
         Ok(text) => serve_text(alloc, session, &text, shelf, out),

@@ -1,10 +1,11 @@
 -- How far a plan was carried out, up to the first request that was refused or stopped the run.
-use Rattle.std.specs.Prelude.{◌≡◌, false, List, ◌∷◌, ◌++◌, Option, Result, Ok, Err}
+use Rattle.std.specs.Prelude.{◌≡◌, ℕ, false, List, ◌∷◌, ◌++◌, Option, Result, Ok, Err}
 use Rattle.flop_base.specs.Shelf.{Files}
 use Rattle.floppy_requests.specs.declared.request.Request.{Request}
 use Rattle.sector_model.specs.declared.reply.Reply.{Reply}
 use Rattle.sector_model.specs.declared.reply.Reply.TheVariants as reply
 use Rattle.sector_model.specs.Stations.{StationState}
+use Rattle.sector_model.specs.Faults.{Blames}
 use Rattle.sector_model.specs.States.{State}
 use Rattle.sector_model.specs.Steps.{Step, StopsAt}
 use Rattle.sector_model.specs.Texts.{is_refusal}
@@ -67,3 +68,23 @@ pub record IsHalted (Fits : List Taken → Type 0) (plan : List Planned) (old : 
 abbrev pub Goes : (List Taken → Type 0) → List Planned → Stage → Result (Unit {0}) Halt → Stage → Type 0
 Goes Fits plan old (Ok _) new = Carries Fits plan old new
 Goes Fits plan old (Err cause) new = IsHalted Fits plan old cause new
+
+-- what requests change, with the faults that the shelf counted
+pub record Counted : Type 0 where
+  pub stage : Stage
+  pub faults : ℕ
+
+-- that of a session and a shelf, by what they show
+abbrev pub counted_of : {D S : Type 0} → (D → StationState) → (S → Option Files) → (S → ℕ) → Session D → S → Counted
+counted_of shown told fault_count session shelf = record { stage = stage_of shown told session shelf; faults = fault_count shelf }
+
+-- a call that takes a session and a shelf through did this, the session still runs, and each fault of a file that it tells was counted
+pub record Went {R : Type 0} (Does : Stage → R → Stage → Type 0) (Running TellsFault : Type 0) (old : Counted) (result : R) (new : Counted) : Type 0 where
+  pub goes : Does old.stage result new.stage
+  pub running : Running
+  pub faults : Blames TellsFault old.faults new.faults
+
+-- a request was answered, and not refused, or halts
+abbrev pub Takes : Request → Stage → Result Reply Halt → Stage → Type 0
+Takes asked old (Ok answer) new = IsTaken asked old answer new
+Takes asked old (Err cause) new = HaltsAt asked old cause new

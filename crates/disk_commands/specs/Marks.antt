@@ -1,5 +1,5 @@
 -- The marks that the reads of a track told, and a disk that was put in.
-use Rattle.std.specs.Prelude.{◌≡◌, ℕ, ◌-◌, ◌<◌, ◌≤◌, Bool, false, List, [], ◌∷◌, length, map, get_or, Some}
+use Rattle.std.specs.Prelude.{◌≡◌, ℕ, ◌-◌, ◌<◌, ◌≤◌, Bool, false, List, [], ◌∷◌, length, map, get_or, Some, Result, Ok, Err}
 use Rattle.floppy_requests.specs.declared.request.Request.TheVariants as request
 use Rattle.sector_model.specs.declared.reply.Reply.TheVariants as reply
 use Rattle.sector_model.specs.Stations.{bay_of}
@@ -7,7 +7,8 @@ use Rattle.sector_model.specs.Runs.{Taken}
 use Rattle.floppy_session.specs.declared.shape.Shape.{Shape}
 use Rattle.floppy_session.specs.Shapes.{shape_in}
 use Rattle.disk_commands.specs.Plans.{Planned, Asks, tells_deleted, answer_before}
-use Rattle.disk_commands.specs.Carried.{Stage, Any, Carries}
+use Rattle.disk_commands.specs.declared.ask.Halt.{Halt}
+use Rattle.disk_commands.specs.Carried.{Stage, Any, Carries, IsHalted}
 
 -- the answers of a course told these marks, so many of them
 pub record TellsMarks (count : ℕ) (marks : List Bool) (course : List Taken) : Type 0 where
@@ -29,3 +30,13 @@ pub record HasMarks (count : ℕ) (marks : List Bool) (course : List Taken) : Ty
 pub record Opens (name : List ℕ) (shape : Shape) (old new : Stage) : Type 0 where
   pub carried : Carries Any (Asks (request.Insert 0 name) ∷ []) old new
   pub there : shape_in (bay_of new.state.station 0) ≡ Some shape
+
+-- a plan was asked through, and its answers told these marks, or it was halted
+abbrev pub MarksGo : ℕ → List Planned → Stage → Result (List Bool) Halt → Stage → Type 0
+MarksGo count plan old (Ok marks) new = ReadsMarks count plan old marks new
+MarksGo count plan old (Err cause) new = IsHalted Any plan old cause new
+
+-- the disk of a name was put in, or that was halted
+abbrev pub OpenGoes : List ℕ → Stage → Result Shape Halt → Stage → Type 0
+OpenGoes name old (Ok shape) new = Opens name shape old new
+OpenGoes name old (Err cause) new = IsHalted Any (Asks (request.Insert 0 name) ∷ []) old cause new

@@ -1,12 +1,11 @@
 // The copy of a whole disk.
-ghost use Rattle.std.specs.Prelude.{◌≡◌, ◌≢◌, ◌+◌, ◌-◌, ◌*◌, ◌≤◌, ◌<◌, IfOk, IfErr, IsErrOf, string_bytes, set, get_or, length, false};
-ghost use Rattle.sector_model.specs.Faults.{Blames};
+ghost use Rattle.std.specs.Prelude.{◌≡◌, ◌+◌, ◌-◌, ◌*◌, ◌≤◌, ◌<◌, IfOk, IsErrOf, string_bytes, set, get_or, length, false};
 ghost use Rattle.floppy_session.specs.Session.{IsRunning};
 ghost use Rattle.disk_commands.specs.Plans.{Asks, each, by_track, record_address, write_request, tells_deleted, read_track, write_track, copy_track, prepare_plan, copy_rest};
-ghost use Rattle.disk_commands.specs.Carried.{Any, stage_of, IsHalted, Goes};
-ghost use Rattle.disk_commands.specs.Marks.{ReadsMarks, HasMarks};
+ghost use Rattle.disk_commands.specs.Carried.{Any, counted_of, Goes, Went};
+ghost use Rattle.disk_commands.specs.Marks.{MarksGo, HasMarks};
 ghost use Rattle.disk_commands.specs.Commands.{Copies, copy_text, sectors_of, Runs};
-ghost use Rattle.disk_commands.specs.Worlds.{world_of};
+ghost use Rattle.disk_commands.specs.Worlds.{faulty_of, Ran};
 
 use crate::ask::{Halt, acknowledge, ask, carry, tell_halt};
 use crate::format::blank_request;
@@ -91,13 +90,9 @@ fn read_records<S: Shelf, D: Station>(
 ) -> Result<[bool; MOST_RECORDS], Halt>
     requires running { IsRunning D.shown D.is_ready session.old }
     requires most { sectors ≤ 18 }
-    ensures reads { IfOk result (λ marks. ReadsMarks sectors (read_track sectors c h) (stage_of D.shown S.told session.old shelf.old)
-        marks (stage_of D.shown S.told session.new shelf.new)) }
-    ensures halted { IfErr result (λ halt. IsHalted Any (read_track sectors c h)
-        (stage_of D.shown S.told session.old shelf.old) halt (stage_of D.shown S.told session.new shelf.new)) }
-    ensures running { IsRunning D.shown D.is_ready session.new }
-    ensures faults { Blames (IsErrOf result (Halt.Stopped Stop.FileFault)) (S.fault_count shelf.old)
-        (S.fault_count shelf.new) }
+    ensures { Went (MarksGo sectors (read_track sectors c h)) (IsRunning D.shown D.is_ready session.new) (IsErrOf result (Halt.Stopped Stop.FileFault))
+        (counted_of D.shown S.told S.fault_count session.old shelf.old) result
+        (counted_of D.shown S.told S.fault_count session.new shelf.new) }
 {
     let mut marks = [false; MOST_RECORDS];
     for r in 1..sectors + 1 {
@@ -133,11 +128,9 @@ fn write_records<S: Shelf, D: Station>(
 ) -> Result<(), Halt>
     requires running { IsRunning D.shown D.is_ready session.old }
     requires most { sectors ≤ 18 }
-    ensures goes { Goes (HasMarks sectors marks.now) (write_track sectors c h)
-        (stage_of D.shown S.told session.old shelf.old) result (stage_of D.shown S.told session.new shelf.new) }
-    ensures running { IsRunning D.shown D.is_ready session.new }
-    ensures faults { Blames (IsErrOf result (Halt.Stopped Stop.FileFault)) (S.fault_count shelf.old)
-        (S.fault_count shelf.new) }
+    ensures { Went (Goes (HasMarks sectors marks.now) (write_track sectors c h)) (IsRunning D.shown D.is_ready session.new) (IsErrOf result (Halt.Stopped Stop.FileFault))
+        (counted_of D.shown S.told S.fault_count session.old shelf.old) result
+        (counted_of D.shown S.told S.fault_count session.new shelf.new) }
 {
     for r in 1..sectors + 1 {
         let key = Chrn {
@@ -166,11 +159,9 @@ fn copy_records<S: Shelf, D: Station>(
 ) -> Result<(), Halt>
     requires running { IsRunning D.shown D.is_ready session.old }
     requires most { sectors ≤ 18 }
-    ensures goes { Goes Any (copy_track sectors c h)
-        (stage_of D.shown S.told session.old shelf.old) result (stage_of D.shown S.told session.new shelf.new) }
-    ensures running { IsRunning D.shown D.is_ready session.new }
-    ensures faults { Blames (IsErrOf result (Halt.Stopped Stop.FileFault)) (S.fault_count shelf.old)
-        (S.fault_count shelf.new) }
+    ensures { Went (Goes Any (copy_track sectors c h)) (IsRunning D.shown D.is_ready session.new) (IsErrOf result (Halt.Stopped Stop.FileFault))
+        (counted_of D.shown S.told S.fault_count session.old shelf.old) result
+        (counted_of D.shown S.told S.fault_count session.new shelf.new) }
 {
     carry(session, shelf, Request::Format { bay: 1, c, h })?;
     let marks = read_records(session, shelf, sectors, c, h)?;
@@ -187,11 +178,9 @@ fn copy_cylinder<S: Shelf, D: Station>(
 ) -> Result<(), Halt>
     requires running { IsRunning D.shown D.is_ready session.old }
     requires most { sectors ≤ 18 }
-    ensures goes { Goes Any (each 0 heads (copy_track sectors c))
-        (stage_of D.shown S.told session.old shelf.old) result (stage_of D.shown S.told session.new shelf.new) }
-    ensures running { IsRunning D.shown D.is_ready session.new }
-    ensures faults { Blames (IsErrOf result (Halt.Stopped Stop.FileFault)) (S.fault_count shelf.old)
-        (S.fault_count shelf.new) }
+    ensures { Went (Goes Any (each 0 heads (copy_track sectors c))) (IsRunning D.shown D.is_ready session.new) (IsErrOf result (Halt.Stopped Stop.FileFault))
+        (counted_of D.shown S.told S.fault_count session.old shelf.old) result
+        (counted_of D.shown S.told S.fault_count session.new shelf.new) }
 {
     for h in 0..heads {
         copy_records(session, shelf, sectors, c, h)?;
@@ -209,11 +198,9 @@ fn copy_tracks<S: Shelf, D: Station>(
 ) -> Result<(), Halt>
     requires running { IsRunning D.shown D.is_ready session.old }
     requires most { sectors ≤ 18 }
-    ensures goes { Goes Any (by_track cylinders heads (copy_track sectors))
-        (stage_of D.shown S.told session.old shelf.old) result (stage_of D.shown S.told session.new shelf.new) }
-    ensures running { IsRunning D.shown D.is_ready session.new }
-    ensures faults { Blames (IsErrOf result (Halt.Stopped Stop.FileFault)) (S.fault_count shelf.old)
-        (S.fault_count shelf.new) }
+    ensures { Went (Goes Any (by_track cylinders heads (copy_track sectors))) (IsRunning D.shown D.is_ready session.new) (IsErrOf result (Halt.Stopped Stop.FileFault))
+        (counted_of D.shown S.told S.fault_count session.old shelf.old) result
+        (counted_of D.shown S.told S.fault_count session.new shelf.new) }
 {
     for c in 0..cylinders {
         copy_cylinder(session, shelf, heads, sectors, c)?;
@@ -229,11 +216,9 @@ fn prepare<S: Shelf, D: Station>(
     shape: Shape,
 ) -> Result<(), Halt>
     requires running { IsRunning D.shown D.is_ready session.old }
-    ensures goes { Goes Any (prepare_plan to shape)
-        (stage_of D.shown S.told session.old shelf.old) result (stage_of D.shown S.told session.new shelf.new) }
-    ensures running { IsRunning D.shown D.is_ready session.new }
-    ensures faults { Blames (IsErrOf result (Halt.Stopped Stop.FileFault)) (S.fault_count shelf.old)
-        (S.fault_count shelf.new) }
+    ensures { Went (Goes Any (prepare_plan to shape)) (IsRunning D.shown D.is_ready session.new) (IsErrOf result (Halt.Stopped Stop.FileFault))
+        (counted_of D.shown S.told S.fault_count session.old shelf.old) result
+        (counted_of D.shown S.told S.fault_count session.new shelf.new) }
 {
     let blank = blank_request(1, to, shape.cylinders, shape.rate);
     carry(session, shelf, blank)?;
@@ -249,11 +234,9 @@ fn run_copy<S: Shelf, D: Station>(
     shape: Shape,
 ) -> Result<(), Halt>
     requires running { IsRunning D.shown D.is_ready session.old }
-    ensures goes { Goes Any (copy_rest to shape)
-        (stage_of D.shown S.told session.old shelf.old) result (stage_of D.shown S.told session.new shelf.new) }
-    ensures running { IsRunning D.shown D.is_ready session.new }
-    ensures faults { Blames (IsErrOf result (Halt.Stopped Stop.FileFault)) (S.fault_count shelf.old)
-        (S.fault_count shelf.new) }
+    ensures { Went (Goes Any (copy_rest to shape)) (IsRunning D.shown D.is_ready session.new) (IsErrOf result (Halt.Stopped Stop.FileFault))
+        (counted_of D.shown S.told S.fault_count session.old shelf.old) result
+        (counted_of D.shown S.told S.fault_count session.new shelf.new) }
 {
     prepare(session, shelf, to, shape)?;
     copy_tracks(
@@ -292,13 +275,9 @@ pub fn copy_disk<S: Shelf, K: Sink, D: Station>(
     out: &mut K,
 ) -> Status
     requires running { IsRunning D.shown D.is_ready session.old }
-    ensures copies { Runs (Copies from to)
-        (world_of D.shown S.told K.told session.old shelf.old out.old)
-        (world_of D.shown S.told K.told session.new shelf.new out.new) result }
-    ensures running { IsRunning D.shown D.is_ready session.new }
-    ensures is_form { result ≢ Status.BadWords }
-    ensures shelf_faults { Blames (result ≡ Status.FileFault) (S.fault_count shelf.old) (S.fault_count shelf.new) }
-    ensures sink_faults { Blames (result ≡ Status.SinkFault) (K.fault_count out.old) (K.fault_count out.new) }
+    ensures { Ran (Runs (Copies from to)) (IsRunning D.shown D.is_ready session.new)
+        (faulty_of D.shown S.told S.fault_count K.told K.fault_count session.old shelf.old out.old)
+        (faulty_of D.shown S.told S.fault_count K.told K.fault_count session.new shelf.new out.new) result }
 {
     match open_disk(session, shelf, from) {
         Ok(shape) => match run_copy(session, shelf, to, shape) {

@@ -1,12 +1,11 @@
 // The format of a whole disk.
-ghost use Rattle.std.specs.Prelude.{◌≡◌, ◌≢◌, ◌*◌, IfOk, IsErrOf, string_bytes};
-ghost use Rattle.sector_model.specs.Faults.{Blames};
+ghost use Rattle.std.specs.Prelude.{◌≡◌, ◌*◌, IfOk, IsErrOf, string_bytes};
 ghost use Rattle.floppy_session.specs.Session.{IsRunning};
 ghost use Rattle.floppy_session.specs.Blanks.{blank_request};
 ghost use Rattle.disk_commands.specs.Plans.{each, by_track, format_track, format_plan};
-ghost use Rattle.disk_commands.specs.Carried.{Any, stage_of, Goes};
+ghost use Rattle.disk_commands.specs.Carried.{Any, counted_of, Goes, Went};
 ghost use Rattle.disk_commands.specs.Commands.{Formats, format_text, Runs};
-ghost use Rattle.disk_commands.specs.Worlds.{world_of};
+ghost use Rattle.disk_commands.specs.Worlds.{faulty_of, Ran};
 
 use crate::ask::{Halt, acknowledge, carry, tell_halt};
 use flop_base::{Name, Rate, Shelf, Sink, Status};
@@ -41,11 +40,9 @@ fn format_cylinder<S: Shelf, D: Station>(
     c: u8,
 ) -> Result<(), Halt>
     requires running { IsRunning D.shown D.is_ready session.old }
-    ensures goes { Goes Any (each 0 2 (format_track c))
-        (stage_of D.shown S.told session.old shelf.old) result (stage_of D.shown S.told session.new shelf.new) }
-    ensures running { IsRunning D.shown D.is_ready session.new }
-    ensures faults { Blames (IsErrOf result (Halt.Stopped Stop.FileFault)) (S.fault_count shelf.old)
-        (S.fault_count shelf.new) }
+    ensures { Went (Goes Any (each 0 2 (format_track c))) (IsRunning D.shown D.is_ready session.new) (IsErrOf result (Halt.Stopped Stop.FileFault))
+        (counted_of D.shown S.told S.fault_count session.old shelf.old) result
+        (counted_of D.shown S.told S.fault_count session.new shelf.new) }
 {
     for h in 0..2u8 {
         carry(session, shelf, Request::Format { bay: 0, c, h })?;
@@ -60,11 +57,9 @@ fn format_tracks<S: Shelf, D: Station>(
     cylinders: u8,
 ) -> Result<(), Halt>
     requires running { IsRunning D.shown D.is_ready session.old }
-    ensures goes { Goes Any (by_track cylinders 2 format_track)
-        (stage_of D.shown S.told session.old shelf.old) result (stage_of D.shown S.told session.new shelf.new) }
-    ensures running { IsRunning D.shown D.is_ready session.new }
-    ensures faults { Blames (IsErrOf result (Halt.Stopped Stop.FileFault)) (S.fault_count shelf.old)
-        (S.fault_count shelf.new) }
+    ensures { Went (Goes Any (by_track cylinders 2 format_track)) (IsRunning D.shown D.is_ready session.new) (IsErrOf result (Halt.Stopped Stop.FileFault))
+        (counted_of D.shown S.told S.fault_count session.old shelf.old) result
+        (counted_of D.shown S.told S.fault_count session.new shelf.new) }
 {
     for c in 0..cylinders {
         format_cylinder(session, shelf, c)?;
@@ -81,11 +76,9 @@ fn run_format<S: Shelf, D: Station>(
     rate: Rate,
 ) -> Result<(), Halt>
     requires running { IsRunning D.shown D.is_ready session.old }
-    ensures goes { Goes Any (format_plan name cylinders rate)
-        (stage_of D.shown S.told session.old shelf.old) result (stage_of D.shown S.told session.new shelf.new) }
-    ensures running { IsRunning D.shown D.is_ready session.new }
-    ensures faults { Blames (IsErrOf result (Halt.Stopped Stop.FileFault)) (S.fault_count shelf.old)
-        (S.fault_count shelf.new) }
+    ensures { Went (Goes Any (format_plan name cylinders rate)) (IsRunning D.shown D.is_ready session.new) (IsErrOf result (Halt.Stopped Stop.FileFault))
+        (counted_of D.shown S.told S.fault_count session.old shelf.old) result
+        (counted_of D.shown S.told S.fault_count session.new shelf.new) }
 {
     carry(session, shelf, blank_request(0, name, cylinders, rate))?;
     acknowledge(session, shelf, 0, rate)?;
@@ -113,13 +106,9 @@ pub fn format_disk<S: Shelf, K: Sink, D: Station>(
     out: &mut K,
 ) -> Status
     requires running { IsRunning D.shown D.is_ready session.old }
-    ensures formats { Runs (Formats name cylinders rate)
-        (world_of D.shown S.told K.told session.old shelf.old out.old)
-        (world_of D.shown S.told K.told session.new shelf.new out.new) result }
-    ensures running { IsRunning D.shown D.is_ready session.new }
-    ensures is_form { result ≢ Status.BadWords }
-    ensures shelf_faults { Blames (result ≡ Status.FileFault) (S.fault_count shelf.old) (S.fault_count shelf.new) }
-    ensures sink_faults { Blames (result ≡ Status.SinkFault) (K.fault_count out.old) (K.fault_count out.new) }
+    ensures { Ran (Runs (Formats name cylinders rate)) (IsRunning D.shown D.is_ready session.new)
+        (faulty_of D.shown S.told S.fault_count K.told K.fault_count session.old shelf.old out.old)
+        (faulty_of D.shown S.told S.fault_count K.told K.fault_count session.new shelf.new out.new) result }
 {
     match run_format(session, shelf, name, cylinders, rate) {
         Ok(()) => put_last_line(out, format_line(alloc, cylinders), Status::AllOk),

@@ -8,7 +8,7 @@ ghost use Rattle.floppy_session.specs.Session.{IsRunning};
 ghost use Rattle.disk_commands.specs.Plans.{Asks, each, track_address, verify_track, verify_plan};
 ghost use Rattle.disk_commands.specs.Commands.{sectors_of, Runs};
 ghost use Rattle.disk_commands.specs.Verifies.{failure_line, failure_text, VerifyGoes, VerifiesShape, Verifies, verify_text};
-ghost use Rattle.disk_commands.specs.Worlds.{world_of};
+ghost use Rattle.disk_commands.specs.Worlds.{faulty_of, Ran, RanPart};
 
 use crate::ask::{acknowledge, tell_halt};
 use crate::copy::{TRACK_ADDRESS, sector_count};
@@ -65,16 +65,10 @@ fn verify_record<S: Shelf, K: Sink, D: Station>(
     out: &mut K,
 ) -> Result<Tally, Status>
     requires running { IsRunning D.shown D.is_ready session.old }
-    ensures goes { VerifyGoes (Asks (Request.Read 0 key track_address) ∷ [])
-        (world_of D.shown S.told K.told session.old shelf.old out.old) result
-        (world_of D.shown S.told K.told session.new shelf.new out.new) }
+    ensures ran { RanPart (VerifyGoes (Asks (Request.Read 0 key track_address) ∷ [])) (IsRunning D.shown D.is_ready session.new)
+        (faulty_of D.shown S.told S.fault_count K.told K.fault_count session.old shelf.old out.old) result
+        (faulty_of D.shown S.told S.fault_count K.told K.fault_count session.new shelf.new out.new) }
     ensures few { IfOk result (λ tally. tally.well ≤ 1) }
-    ensures running { IsRunning D.shown D.is_ready session.new }
-    ensures is_form { result ≢ Err Status.BadWords }
-    ensures shelf_faults { Blames (IsErrOf result Status.FileFault) (S.fault_count shelf.old)
-        (S.fault_count shelf.new) }
-    ensures sink_faults { Blames (IsErrOf result Status.SinkFault) (K.fault_count out.old)
-        (K.fault_count out.new) }
 {
     let request = Request::Read {
         bay: 0,
@@ -102,16 +96,10 @@ fn verify_records<S: Shelf, K: Sink, D: Station>(
 ) -> Result<Tally, Status>
     requires running { IsRunning D.shown D.is_ready session.old }
     requires most { sectors ≤ 18 }
-    ensures goes { VerifyGoes (verify_track sectors c h)
-        (world_of D.shown S.told K.told session.old shelf.old out.old) result
-        (world_of D.shown S.told K.told session.new shelf.new out.new) }
+    ensures ran { RanPart (VerifyGoes (verify_track sectors c h)) (IsRunning D.shown D.is_ready session.new)
+        (faulty_of D.shown S.told S.fault_count K.told K.fault_count session.old shelf.old out.old) result
+        (faulty_of D.shown S.told S.fault_count K.told K.fault_count session.new shelf.new out.new) }
     ensures few { IfOk result (λ tally. tally.well ≤ 18) }
-    ensures running { IsRunning D.shown D.is_ready session.new }
-    ensures is_form { result ≢ Err Status.BadWords }
-    ensures shelf_faults { Blames (IsErrOf result Status.FileFault) (S.fault_count shelf.old)
-        (S.fault_count shelf.new) }
-    ensures sink_faults { Blames (IsErrOf result Status.SinkFault) (K.fault_count out.old)
-        (K.fault_count out.new) }
 {
     let mut tally = Tally::none();
     for r in 1..sectors + 1 {
@@ -139,16 +127,10 @@ fn verify_cylinder<S: Shelf, K: Sink, D: Station>(
 ) -> Result<Tally, Status>
     requires running { IsRunning D.shown D.is_ready session.old }
     requires most { sectors ≤ 18 }
-    ensures goes { VerifyGoes (each 0 heads (verify_track sectors c))
-        (world_of D.shown S.told K.told session.old shelf.old out.old) result
-        (world_of D.shown S.told K.told session.new shelf.new out.new) }
+    ensures ran { RanPart (VerifyGoes (each 0 heads (verify_track sectors c))) (IsRunning D.shown D.is_ready session.new)
+        (faulty_of D.shown S.told S.fault_count K.told K.fault_count session.old shelf.old out.old) result
+        (faulty_of D.shown S.told S.fault_count K.told K.fault_count session.new shelf.new out.new) }
     ensures few { IfOk result (λ tally. tally.well ≤ 4590) }
-    ensures running { IsRunning D.shown D.is_ready session.new }
-    ensures is_form { result ≢ Err Status.BadWords }
-    ensures shelf_faults { Blames (IsErrOf result Status.FileFault) (S.fault_count shelf.old)
-        (S.fault_count shelf.new) }
-    ensures sink_faults { Blames (IsErrOf result Status.SinkFault) (K.fault_count out.old)
-        (K.fault_count out.new) }
 {
     let mut tally = Tally::none();
     for h in 0..heads {
@@ -167,15 +149,9 @@ fn verify_tracks<S: Shelf, K: Sink, D: Station>(
     out: &mut K,
 ) -> Result<Tally, Status>
     requires running { IsRunning D.shown D.is_ready session.old }
-    ensures goes { VerifyGoes (verify_plan shape)
-        (world_of D.shown S.told K.told session.old shelf.old out.old) result
-        (world_of D.shown S.told K.told session.new shelf.new out.new) }
-    ensures running { IsRunning D.shown D.is_ready session.new }
-    ensures is_form { result ≢ Err Status.BadWords }
-    ensures shelf_faults { Blames (IsErrOf result Status.FileFault) (S.fault_count shelf.old)
-        (S.fault_count shelf.new) }
-    ensures sink_faults { Blames (IsErrOf result Status.SinkFault) (K.fault_count out.old)
-        (K.fault_count out.new) }
+    ensures { RanPart (VerifyGoes (verify_plan shape)) (IsRunning D.shown D.is_ready session.new)
+        (faulty_of D.shown S.told S.fault_count K.told K.fault_count session.old shelf.old out.old) result
+        (faulty_of D.shown S.told S.fault_count K.told K.fault_count session.new shelf.new out.new) }
 {
     let mut tally = Tally::none();
     let sectors = shape.rate.sectors();
@@ -216,13 +192,9 @@ pub fn verify_disk<S: Shelf, K: Sink, D: Station>(
     out: &mut K,
 ) -> Status
     requires running { IsRunning D.shown D.is_ready session.old }
-    ensures verifies { Runs (Verifies name)
-        (world_of D.shown S.told K.told session.old shelf.old out.old)
-        (world_of D.shown S.told K.told session.new shelf.new out.new) result }
-    ensures running { IsRunning D.shown D.is_ready session.new }
-    ensures is_form { result ≢ Status.BadWords }
-    ensures shelf_faults { Blames (result ≡ Status.FileFault) (S.fault_count shelf.old) (S.fault_count shelf.new) }
-    ensures sink_faults { Blames (result ≡ Status.SinkFault) (K.fault_count out.old) (K.fault_count out.new) }
+    ensures { Ran (Runs (Verifies name)) (IsRunning D.shown D.is_ready session.new)
+        (faulty_of D.shown S.told S.fault_count K.told K.fault_count session.old shelf.old out.old)
+        (faulty_of D.shown S.told S.fault_count K.told K.fault_count session.new shelf.new out.new) result }
 {
     match open_disk(session, shelf, name) {
         Ok(shape) => match acknowledge(session, shelf, 0, shape.rate) {
@@ -242,13 +214,9 @@ fn verify_shape<S: Shelf, K: Sink, D: Station>(
     out: &mut K,
 ) -> Status
     requires running { IsRunning D.shown D.is_ready session.old }
-    ensures verifies { VerifiesShape shape
-        (world_of D.shown S.told K.told session.old shelf.old out.old)
-        (world_of D.shown S.told K.told session.new shelf.new out.new) result }
-    ensures running { IsRunning D.shown D.is_ready session.new }
-    ensures is_form { result ≢ Status.BadWords }
-    ensures shelf_faults { Blames (result ≡ Status.FileFault) (S.fault_count shelf.old) (S.fault_count shelf.new) }
-    ensures sink_faults { Blames (result ≡ Status.SinkFault) (K.fault_count out.old) (K.fault_count out.new) }
+    ensures { Ran (VerifiesShape shape) (IsRunning D.shown D.is_ready session.new)
+        (faulty_of D.shown S.told S.fault_count K.told K.fault_count session.old shelf.old out.old)
+        (faulty_of D.shown S.told S.fault_count K.told K.fault_count session.new shelf.new out.new) result }
 {
     match verify_tracks(alloc, session, shape, shelf, out) {
         Ok(tally) => put_last_line(

@@ -1,6 +1,7 @@
 -- How far requests were carried out, up to the first that was refused or stopped the run.
-use Rattle.std.specs.Prelude.{◌≡◌, false, ℕ, List, [], ◌∷◌, ◌++◌, Option, Some, Result, Ok, Err, if◌then◌else◌}
+use Rattle.std.specs.Prelude.{◌≡◌, false, ℕ, List, [], ◌∷◌, ◌++◌, Option, Some, Result, Ok, Err, Vec, if◌then◌else◌}
 use Rattle.std.specs.List.{flat_map}
+use Rattle.std.specs.declared.alloc.Global.{Global}
 use Rattle.flop_base.specs.declared.answers.Status.{Status}
 use Rattle.flop_base.specs.declared.answers.Status.TheVariants as status
 use Rattle.bay_model.specs.Memory.{bytes_from}
@@ -20,6 +21,10 @@ use Rattle.floppy_session.specs.Shapes.{shape_in}
 use Rattle.disk_commands.specs.Carried.{Stage}
 use Rattle.flat_commands.specs.declared.ask.Halt.{Halt}
 use Rattle.flat_commands.specs.declared.ask.Halt.TheVariants as halt
+
+-- a request was answered
+abbrev pub Answers : Request → Stage → Reply → Stage → Type 0
+Answers asked old answer new = Step asked old.state old.files answer new.state new.files
 
 -- a request was answered, and not refused
 abbrev pub IsTaken : Request → Stage → Reply → Stage → Type 0
@@ -49,6 +54,11 @@ HaltsAt coming old (halt.Stopped cause) new =
     × StopsAt asked old.state old.files cause new.state new.files
 HaltsAt coming old halt.Starved new = new ≡ old
 
+-- a request was answered, and not refused, or halts
+abbrev pub Takes : Request → Stage → Result Reply Halt → Stage → Type 0
+Takes asked old (Ok answer) new = IsTaken asked old answer new
+Takes asked old (Err cause) new = HaltsAt (asked ∷ []) old cause new
+
 -- a part of the requests was asked and done, and then it halted
 pub record IsHalted (asked : List Request) (old : Stage) (cause : Halt) (new : Stage) : Type 0 where
   pub done : List Request
@@ -67,6 +77,11 @@ Goes asked old (Err cause) new = IsHalted asked old cause new
 pub record Opens (name : List ℕ) (shape : Shape) (old new : Stage) : Type 0 where
   pub carried : Carries (request.Insert 0 name ∷ []) old new
   pub there : shape_in (bay_of new.state.station 0) ≡ Some shape
+
+-- so it is, or that request halts
+abbrev pub OpenGoes : List ℕ → Stage → Result Shape Halt → Stage → Type 0
+OpenGoes name old (Ok shape) new = Opens name shape old new
+OpenGoes name old (Err cause) new = HaltsAt (request.Insert 0 name ∷ []) old cause new
 
 -- what is told of a halt
 abbrev pub TellsHalt : Halt → Option (List ℕ) → Option (List ℕ) → Status → Type 0
@@ -95,6 +110,11 @@ pub record Gathers (asked : List Request) (before : List ℕ) (old : Stage) (byt
   pub all : bytes ≡ before ++ all_given carried.course
 
 -- so it is, or the requests halted
-abbrev pub GathersOn : List Request → List ℕ → Stage → Result (Unit {0}) Halt → List ℕ → Stage → Type 0
-GathersOn asked before old (Ok _) bytes new = Gathers asked before old bytes new
-GathersOn asked before old (Err cause) bytes new = IsHalted asked old cause new
+abbrev pub GathersOn : List Request → List ℕ → List ℕ → Stage → Result (Unit {0}) Halt → Stage → Type 0
+GathersOn asked before bytes old (Ok _) new = Gathers asked before old bytes new
+GathersOn asked before bytes old (Err cause) new = IsHalted asked old cause new
+
+-- requests were carried out and gave these bytes, or halted
+abbrev pub GathersAll : List Request → Stage → Result (Vec ℕ Global) Halt → Stage → Type 0
+GathersAll asked old (Ok flat) new = Gathers asked [] old flat.items new
+GathersAll asked old (Err cause) new = IsHalted asked old cause new

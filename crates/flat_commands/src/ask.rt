@@ -1,13 +1,13 @@
 // Requests that a command asks, one after the other, up to the first that is refused or stops the run.
-ghost use Rattle.std.specs.Prelude.{◌≡◌, ◌≢◌, ◌≤◌, [], ◌∷◌, IfOk, IfErr, IsErrOf};
-ghost use Rattle.sector_model.specs.Faults.{Blames};
+ghost use Rattle.std.specs.Prelude.{◌≡◌, ◌≤◌, [], ◌∷◌, IsErrOf};
 ghost use Rattle.floppy_session.specs.Session.{IsRunning};
 ghost use Rattle.floppy_session.specs.Tries.{HasTries};
 ghost use Rattle.floppy_session.specs.Blanks.{blank_request};
 ghost use Rattle.disk_commands.specs.Plans.{record_address};
-ghost use Rattle.disk_commands.specs.Carried.{stage_of};
+ghost use Rattle.disk_commands.specs.Carried.{Went, counted_of};
+ghost use Rattle.disk_commands.specs.Worlds.{printed_of, Told};
 ghost use Rattle.flat_commands.specs.Requests.{ack_requests, rate_requests};
-ghost use Rattle.flat_commands.specs.Carried.{IsTaken, HaltsAt, Judges, Goes, TellsHalt};
+ghost use Rattle.flat_commands.specs.Carried.{Takes, Judges, Goes, TellsHalt};
 
 use flop_base::{Name, Rate, Shelf, Sink, Status};
 use floppy_report::{put_last, put_last_stopped};
@@ -35,13 +35,9 @@ pub(crate) fn ask<S: Shelf, D: Station>(
 ) -> Result<Reply, Halt>
     requires running { IsRunning D.shown D.is_ready session.old }
     requires tries { HasTries request }
-    ensures taken { IfOk result (λ reply. IsTaken request (stage_of D.shown S.told session.old shelf.old)
-        reply (stage_of D.shown S.told session.new shelf.new)) }
-    ensures halts { IfErr result (λ halt. HaltsAt (request ∷ [])
-        (stage_of D.shown S.told session.old shelf.old) halt (stage_of D.shown S.told session.new shelf.new)) }
-    ensures running { IsRunning D.shown D.is_ready session.new }
-    ensures faults { Blames (IsErrOf result (Halt.Stopped Stop.FileFault)) (S.fault_count shelf.old)
-        (S.fault_count shelf.new) }
+    ensures { Went (Takes request) (IsRunning D.shown D.is_ready session.new) (IsErrOf result (Halt.Stopped Stop.FileFault))
+        (counted_of D.shown S.told S.fault_count session.old shelf.old) result
+        (counted_of D.shown S.told S.fault_count session.new shelf.new) }
 {
     match session.run(shelf, &request) {
         Ok(reply) => unless_refused(request, reply),
@@ -67,11 +63,9 @@ pub(crate) fn carry<S: Shelf, D: Station>(
 ) -> Result<(), Halt>
     requires running { IsRunning D.shown D.is_ready session.old }
     requires tries { HasTries request }
-    ensures goes { Goes (request ∷ [])
-        (stage_of D.shown S.told session.old shelf.old) result (stage_of D.shown S.told session.new shelf.new) }
-    ensures running { IsRunning D.shown D.is_ready session.new }
-    ensures faults { Blames (IsErrOf result (Halt.Stopped Stop.FileFault)) (S.fault_count shelf.old)
-        (S.fault_count shelf.new) }
+    ensures { Went (Goes (request ∷ [])) (IsRunning D.shown D.is_ready session.new) (IsErrOf result (Halt.Stopped Stop.FileFault))
+        (counted_of D.shown S.told S.fault_count session.old shelf.old) result
+        (counted_of D.shown S.told S.fault_count session.new shelf.new) }
 {
     match ask(session, shelf, request) {
         Ok(_) => Ok(()),
@@ -86,11 +80,9 @@ pub(crate) fn acknowledge<S: Shelf, D: Station>(
     rate: Rate,
 ) -> Result<(), Halt>
     requires running { IsRunning D.shown D.is_ready session.old }
-    ensures goes { Goes (ack_requests rate)
-        (stage_of D.shown S.told session.old shelf.old) result (stage_of D.shown S.told session.new shelf.new) }
-    ensures running { IsRunning D.shown D.is_ready session.new }
-    ensures faults { Blames (IsErrOf result (Halt.Stopped Stop.FileFault)) (S.fault_count shelf.old)
-        (S.fault_count shelf.new) }
+    ensures { Went (Goes (ack_requests rate)) (IsRunning D.shown D.is_ready session.new) (IsErrOf result (Halt.Stopped Stop.FileFault))
+        (counted_of D.shown S.told S.fault_count session.old shelf.old) result
+        (counted_of D.shown S.told S.fault_count session.new shelf.new) }
 {
     carry(session, shelf, Request::Ack { bay: 0 })?;
     set_rate(session, shelf, rate)
@@ -103,11 +95,9 @@ fn set_rate<S: Shelf, D: Station>(
     rate: Rate,
 ) -> Result<(), Halt>
     requires running { IsRunning D.shown D.is_ready session.old }
-    ensures goes { Goes (rate_requests rate)
-        (stage_of D.shown S.told session.old shelf.old) result (stage_of D.shown S.told session.new shelf.new) }
-    ensures running { IsRunning D.shown D.is_ready session.new }
-    ensures faults { Blames (IsErrOf result (Halt.Stopped Stop.FileFault)) (S.fault_count shelf.old)
-        (S.fault_count shelf.new) }
+    ensures { Went (Goes (rate_requests rate)) (IsRunning D.shown D.is_ready session.new) (IsErrOf result (Halt.Stopped Stop.FileFault))
+        (counted_of D.shown S.told S.fault_count session.old shelf.old) result
+        (counted_of D.shown S.told S.fault_count session.new shelf.new) }
 {
     match rate {
         Rate::R500 => Ok(()),
@@ -144,10 +134,8 @@ pub(crate) fn record_address(r: u8) -> u32
 
 /// Puts the last line of a command that was halted, and gives the status.
 pub(crate) fn tell_halt<K: Sink>(alloc: Global, out: &mut K, halt: &Halt) -> Status
-    ensures tells { TellsHalt halt.now (K.told out.old) (K.told out.new) result }
-    ensures is_form { result ≢ Status.BadWords }
-    ensures shelf_fault { result ≡ Status.FileFault → halt.now ≡ Halt.Stopped Stop.FileFault }
-    ensures sink_faults { Blames (result ≡ Status.SinkFault) (K.fault_count out.old) (K.fault_count out.new) }
+    ensures { Told (TellsHalt halt.now) (halt.now ≡ Halt.Stopped Stop.FileFault)
+        (printed_of K.told K.fault_count out.old) (printed_of K.told K.fault_count out.new) result }
 {
     match halt {
         Halt::Refused { request, reason } => put_last_stopped(alloc, out, request, *reason),

@@ -1,11 +1,10 @@
 // The command that runs a generated workload.
-ghost use Rattle.std.specs.Prelude.{◌≡◌, ◌≢◌, ◌≤◌, nat_lt, codes, IfOk, IsErrOf, string_bytes};
-ghost use Rattle.sector_model.specs.Faults.{Blames};
+ghost use Rattle.std.specs.Prelude.{◌≡◌, ◌≢◌, nat_lt, codes, IfOk, IsErrOf, string_bytes};
 ghost use Rattle.sector_model.specs.Plays.{whole_status};
 ghost use Rattle.floppy_session.specs.Session.{IsRunning};
-ghost use Rattle.disk_commands.specs.Carried.{stage_of};
+ghost use Rattle.disk_commands.specs.Carried.{Went, counted_of};
 ghost use Rattle.disk_commands.specs.Commands.{Runs};
-ghost use Rattle.disk_commands.specs.Worlds.{world_of};
+ghost use Rattle.disk_commands.specs.Worlds.{faulty_of, Ran};
 ghost use Rattle.flat_commands.specs.Requests.{each, by_track};
 ghost use Rattle.flat_commands.specs.Workload.{format_track, exercise_opening};
 ghost use Rattle.flat_commands.specs.Carried.{Goes};
@@ -31,11 +30,9 @@ fn format_cylinder<S: Shelf, D: Station>(
     c: u8,
 ) -> Result<(), Halt>
     requires running { IsRunning D.shown D.is_ready session.old }
-    ensures goes { Goes (each 0 2 (format_track c))
-        (stage_of D.shown S.told session.old shelf.old) result (stage_of D.shown S.told session.new shelf.new) }
-    ensures running { IsRunning D.shown D.is_ready session.new }
-    ensures faults { Blames (IsErrOf result (Halt.Stopped Stop.FileFault)) (S.fault_count shelf.old)
-        (S.fault_count shelf.new) }
+    ensures { Went (Goes (each 0 2 (format_track c))) (IsRunning D.shown D.is_ready session.new) (IsErrOf result (Halt.Stopped Stop.FileFault))
+        (counted_of D.shown S.told S.fault_count session.old shelf.old) result
+        (counted_of D.shown S.told S.fault_count session.new shelf.new) }
 {
     for h in 0..2u8 {
         carry(session, shelf, Request::Format { bay: 0, c, h })?;
@@ -46,11 +43,9 @@ fn format_cylinder<S: Shelf, D: Station>(
 /// Formats all tracks, by cylinder, then head.
 fn format_tracks<S: Shelf, D: Station>(session: &mut Session<D>, shelf: &mut S) -> Result<(), Halt>
     requires running { IsRunning D.shown D.is_ready session.old }
-    ensures goes { Goes (by_track 4 format_track)
-        (stage_of D.shown S.told session.old shelf.old) result (stage_of D.shown S.told session.new shelf.new) }
-    ensures running { IsRunning D.shown D.is_ready session.new }
-    ensures faults { Blames (IsErrOf result (Halt.Stopped Stop.FileFault)) (S.fault_count shelf.old)
-        (S.fault_count shelf.new) }
+    ensures { Went (Goes (by_track 4 format_track)) (IsRunning D.shown D.is_ready session.new) (IsErrOf result (Halt.Stopped Stop.FileFault))
+        (counted_of D.shown S.told S.fault_count session.old shelf.old) result
+        (counted_of D.shown S.told S.fault_count session.new shelf.new) }
 {
     for c in 0..CYLINDERS {
         format_cylinder(session, shelf, c)?;
@@ -66,11 +61,9 @@ fn make_disk<S: Shelf, D: Station>(
 ) -> Result<(), Halt>
     requires running { IsRunning D.shown D.is_ready session.old }
     requires name { name ≡ codes "exercise" }
-    ensures goes { Goes exercise_opening
-        (stage_of D.shown S.told session.old shelf.old) result (stage_of D.shown S.told session.new shelf.new) }
-    ensures running { IsRunning D.shown D.is_ready session.new }
-    ensures faults { Blames (IsErrOf result (Halt.Stopped Stop.FileFault)) (S.fault_count shelf.old)
-        (S.fault_count shelf.new) }
+    ensures { Went (Goes exercise_opening) (IsRunning D.shown D.is_ready session.new) (IsErrOf result (Halt.Stopped Stop.FileFault))
+        (counted_of D.shown S.told S.fault_count session.old shelf.old) result
+        (counted_of D.shown S.told S.fault_count session.new shelf.new) }
 {
     carry(session, shelf, blank_request(name, CYLINDERS, Rate::R500))?;
     acknowledge(session, shelf, Rate::R500)?;
@@ -109,13 +102,9 @@ pub fn exercise_disk<S: Shelf, K: Sink, D: Station>(
     out: &mut K,
 ) -> Status
     requires running { IsRunning D.shown D.is_ready session.old }
-    ensures exercises { Runs (Exercises seed count)
-        (world_of D.shown S.told K.told session.old shelf.old out.old)
-        (world_of D.shown S.told K.told session.new shelf.new out.new) result }
-    ensures running { IsRunning D.shown D.is_ready session.new }
-    ensures is_form { result ≢ Status.BadWords }
-    ensures shelf_faults { Blames (result ≡ Status.FileFault) (S.fault_count shelf.old) (S.fault_count shelf.new) }
-    ensures sink_faults { Blames (result ≡ Status.SinkFault) (K.fault_count out.old) (K.fault_count out.new) }
+    ensures { Ran (Runs (Exercises seed count)) (IsRunning D.shown D.is_ready session.new)
+        (faulty_of D.shown S.told S.fault_count K.told K.fault_count session.old shelf.old out.old)
+        (faulty_of D.shown S.told S.fault_count K.told K.fault_count session.new shelf.new out.new) result }
 {
     let name = match Name::copy(alloc, "exercise") {
         Ok(name) => name,

@@ -1,13 +1,13 @@
 // The export of a disk to a flat file.
-ghost use Rattle.std.specs.Prelude.{◌≡◌, ◌≢◌, ◌+◌, ◌≤◌, ◌++◌, ◌∷◌, [], Some, IfOk, IfErr, OnOk, IsErrOf, string_bytes};
+ghost use Rattle.std.specs.Prelude.{◌≡◌, ◌≢◌, ◌+◌, ◌≤◌, ◌++◌, Some, IfOk, OnOk, IsErrOf, string_bytes};
 ghost use Rattle.bay_model.specs.Memory.{user_bytes, bytes_from};
 ghost use Rattle.sector_model.specs.Faults.{Blames};
 ghost use Rattle.floppy_session.specs.Session.{state_of, IsRunning};
-ghost use Rattle.disk_commands.specs.Carried.{stage_of};
+ghost use Rattle.disk_commands.specs.Carried.{Went, counted_of};
 ghost use Rattle.disk_commands.specs.Commands.{Runs};
-ghost use Rattle.disk_commands.specs.Worlds.{world_of};
+ghost use Rattle.disk_commands.specs.Worlds.{faulty_of, Ran};
 ghost use Rattle.flat_commands.specs.Requests.{each, by_track, read_record, read_track, read_disk};
-ghost use Rattle.flat_commands.specs.Carried.{HaltsAt, Opens, GathersOn, IsHalted, Gathers};
+ghost use Rattle.flat_commands.specs.Carried.{OpenGoes, GathersOn, GathersAll};
 ghost use Rattle.flat_commands.specs.Commands.{export_text, sectors_of, StoresFlat, Exports};
 
 use crate::ask::{Halt, acknowledge, ask, record_address, tell_halt};
@@ -29,13 +29,9 @@ fn open_disk<S: Shelf, D: Station>(
     name: Name,
 ) -> Result<Shape, Halt>
     requires running { IsRunning D.shown D.is_ready session.old }
-    ensures opens { IfOk result (λ shape. Opens name shape
-        (stage_of D.shown S.told session.old shelf.old) (stage_of D.shown S.told session.new shelf.new)) }
-    ensures halts { IfErr result (λ halt. HaltsAt (Request.Insert 0 name ∷ [])
-        (stage_of D.shown S.told session.old shelf.old) halt (stage_of D.shown S.told session.new shelf.new)) }
-    ensures running { IsRunning D.shown D.is_ready session.new }
-    ensures faults { Blames (IsErrOf result (Halt.Stopped Stop.FileFault)) (S.fault_count shelf.old)
-        (S.fault_count shelf.new) }
+    ensures { Went (OpenGoes name) (IsRunning D.shown D.is_ready session.new) (IsErrOf result (Halt.Stopped Stop.FileFault))
+        (counted_of D.shown S.told S.fault_count session.old shelf.old) result
+        (counted_of D.shown S.told S.fault_count session.new shelf.new) }
 {
     ask(session, shelf, Request::Insert { bay: 0, name })?;
     match session.shape(0) {
@@ -73,11 +69,9 @@ fn read_record<S: Shelf, D: Station>(
     requires running { IsRunning D.shown D.is_ready session.old }
     requires least { 1 ≤ r }
     requires most { r ≤ 18 }
-    ensures goes { GathersOn (read_record c h r) flat.old.items
-        (stage_of D.shown S.told session.old shelf.old) result flat.new.items (stage_of D.shown S.told session.new shelf.new) }
-    ensures running { IsRunning D.shown D.is_ready session.new }
-    ensures faults { Blames (IsErrOf result (Halt.Stopped Stop.FileFault)) (S.fault_count shelf.old)
-        (S.fault_count shelf.new) }
+    ensures { Went (GathersOn (read_record c h r) flat.old.items flat.new.items) (IsRunning D.shown D.is_ready session.new) (IsErrOf result (Halt.Stopped Stop.FileFault))
+        (counted_of D.shown S.told S.fault_count session.old shelf.old) result
+        (counted_of D.shown S.told S.fault_count session.new shelf.new) }
 {
     let key = Chrn {
         c,
@@ -109,11 +103,9 @@ fn read_track<S: Shelf, D: Station>(
 ) -> Result<(), Halt>
     requires running { IsRunning D.shown D.is_ready session.old }
     requires most { sectors ≤ 18 }
-    ensures goes { GathersOn (read_track sectors c h) flat.old.items
-        (stage_of D.shown S.told session.old shelf.old) result flat.new.items (stage_of D.shown S.told session.new shelf.new) }
-    ensures running { IsRunning D.shown D.is_ready session.new }
-    ensures faults { Blames (IsErrOf result (Halt.Stopped Stop.FileFault)) (S.fault_count shelf.old)
-        (S.fault_count shelf.new) }
+    ensures { Went (GathersOn (read_track sectors c h) flat.old.items flat.new.items) (IsRunning D.shown D.is_ready session.new) (IsErrOf result (Halt.Stopped Stop.FileFault))
+        (counted_of D.shown S.told S.fault_count session.old shelf.old) result
+        (counted_of D.shown S.told S.fault_count session.new shelf.new) }
 {
     for r in 1..sectors + 1 {
         read_record(session, shelf, c, h, r, flat)?;
@@ -131,11 +123,9 @@ fn read_cylinder<S: Shelf, D: Station>(
 ) -> Result<(), Halt>
     requires running { IsRunning D.shown D.is_ready session.old }
     requires most { sectors ≤ 18 }
-    ensures goes { GathersOn (each 0 2 (read_track sectors c)) flat.old.items
-        (stage_of D.shown S.told session.old shelf.old) result flat.new.items (stage_of D.shown S.told session.new shelf.new) }
-    ensures running { IsRunning D.shown D.is_ready session.new }
-    ensures faults { Blames (IsErrOf result (Halt.Stopped Stop.FileFault)) (S.fault_count shelf.old)
-        (S.fault_count shelf.new) }
+    ensures { Went (GathersOn (each 0 2 (read_track sectors c)) flat.old.items flat.new.items) (IsRunning D.shown D.is_ready session.new) (IsErrOf result (Halt.Stopped Stop.FileFault))
+        (counted_of D.shown S.told S.fault_count session.old shelf.old) result
+        (counted_of D.shown S.told S.fault_count session.new shelf.new) }
 {
     for h in 0..2u8 {
         read_track(session, shelf, sectors, c, h, flat)?;
@@ -152,11 +142,9 @@ fn read_tracks<S: Shelf, D: Station>(
 ) -> Result<(), Halt>
     requires running { IsRunning D.shown D.is_ready session.old }
     requires most { sectors ≤ 18 }
-    ensures goes { GathersOn (by_track 80 (read_track sectors)) flat.old.items
-        (stage_of D.shown S.told session.old shelf.old) result flat.new.items (stage_of D.shown S.told session.new shelf.new) }
-    ensures running { IsRunning D.shown D.is_ready session.new }
-    ensures faults { Blames (IsErrOf result (Halt.Stopped Stop.FileFault)) (S.fault_count shelf.old)
-        (S.fault_count shelf.new) }
+    ensures { Went (GathersOn (by_track 80 (read_track sectors)) flat.old.items flat.new.items) (IsRunning D.shown D.is_ready session.new) (IsErrOf result (Halt.Stopped Stop.FileFault))
+        (counted_of D.shown S.told S.fault_count session.old shelf.old) result
+        (counted_of D.shown S.told S.fault_count session.new shelf.new) }
 {
     for c in 0..CYLINDERS {
         read_cylinder(session, shelf, sectors, c, flat)?;
@@ -172,13 +160,9 @@ fn read_disk<S: Shelf, D: Station>(
     rate: Rate,
 ) -> Result<Vec<u8>, Halt>
     requires running { IsRunning D.shown D.is_ready session.old }
-    ensures gathers { IfOk result (λ flat. Gathers (read_disk rate) [] (stage_of D.shown S.told session.old shelf.old)
-        flat.items (stage_of D.shown S.told session.new shelf.new)) }
-    ensures halted { IfErr result (λ halt. IsHalted (read_disk rate)
-        (stage_of D.shown S.told session.old shelf.old) halt (stage_of D.shown S.told session.new shelf.new)) }
-    ensures running { IsRunning D.shown D.is_ready session.new }
-    ensures faults { Blames (IsErrOf result (Halt.Stopped Stop.FileFault)) (S.fault_count shelf.old)
-        (S.fault_count shelf.new) }
+    ensures { Went (GathersAll (read_disk rate)) (IsRunning D.shown D.is_ready session.new) (IsErrOf result (Halt.Stopped Stop.FileFault))
+        (counted_of D.shown S.told S.fault_count session.old shelf.old) result
+        (counted_of D.shown S.told S.fault_count session.new shelf.new) }
 {
     acknowledge(session, shelf, rate)?;
     let mut flat = Vec::new(alloc);
@@ -226,13 +210,9 @@ pub fn export_disk<S: Shelf, K: Sink, D: Station>(
     out: &mut K,
 ) -> Status
     requires running { IsRunning D.shown D.is_ready session.old }
-    ensures exports { Runs (Exports name flat)
-        (world_of D.shown S.told K.told session.old shelf.old out.old)
-        (world_of D.shown S.told K.told session.new shelf.new out.new) result }
-    ensures running { IsRunning D.shown D.is_ready session.new }
-    ensures is_form { result ≢ Status.BadWords }
-    ensures shelf_faults { Blames (result ≡ Status.FileFault) (S.fault_count shelf.old) (S.fault_count shelf.new) }
-    ensures sink_faults { Blames (result ≡ Status.SinkFault) (K.fault_count out.old) (K.fault_count out.new) }
+    ensures { Ran (Runs (Exports name flat)) (IsRunning D.shown D.is_ready session.new)
+        (faulty_of D.shown S.told S.fault_count K.told K.fault_count session.old shelf.old out.old)
+        (faulty_of D.shown S.told S.fault_count K.told K.fault_count session.new shelf.new out.new) result }
 {
     match open_disk(session, shelf, name) {
         Ok(shape) => match read_disk(alloc, session, shelf, shape.rate) {

@@ -1,12 +1,11 @@
 // The import of a flat file to a disk.
-ghost use Rattle.std.specs.Prelude.{◌≡◌, ◌≢◌, ◌+◌, ◌≤◌, ◌<◌, ◌⊎◌, length, IfOk, IsErrOf, string_bytes};
+ghost use Rattle.std.specs.Prelude.{◌≡◌, ◌+◌, ◌≤◌, ◌<◌, length, IfOk, IsErrOf, string_bytes};
 ghost use Rattle.flop_base.specs.Standard.{sectors_at};
 ghost use Rattle.flat_image.specs.Flat.{IsDensity, flat_length};
-ghost use Rattle.sector_model.specs.Faults.{Blames};
 ghost use Rattle.floppy_session.specs.Session.{IsRunning};
-ghost use Rattle.disk_commands.specs.Carried.{stage_of};
+ghost use Rattle.disk_commands.specs.Carried.{Went, counted_of};
 ghost use Rattle.disk_commands.specs.Commands.{Runs};
-ghost use Rattle.disk_commands.specs.Worlds.{world_of};
+ghost use Rattle.disk_commands.specs.Worlds.{faulty_of, Ran};
 ghost use Rattle.flat_commands.specs.Requests.{each, by_track, fill_record, fill_track, write_track, import_track, import_requests};
 ghost use Rattle.flat_commands.specs.Carried.{Goes};
 ghost use Rattle.flat_commands.specs.Commands.{import_text, sectors_of, Imports};
@@ -36,11 +35,9 @@ fn fill_record<S: Shelf, D: Station>(
     requires running { IsRunning D.shown D.is_ready session.old }
     requires inside { place + 512 ≤ length flat.now }
     requires low { address ≤ 0xF0000 }
-    ensures goes { Goes (fill_record flat.now place address)
-        (stage_of D.shown S.told session.old shelf.old) result (stage_of D.shown S.told session.new shelf.new) }
-    ensures running { IsRunning D.shown D.is_ready session.new }
-    ensures faults { Blames (IsErrOf result (Halt.Stopped Stop.FileFault)) (S.fault_count shelf.old)
-        (S.fault_count shelf.new) }
+    ensures { Went (Goes (fill_record flat.now place address)) (IsRunning D.shown D.is_ready session.new) (IsErrOf result (Halt.Stopped Stop.FileFault))
+        (counted_of D.shown S.told S.fault_count session.old shelf.old) result
+        (counted_of D.shown S.told S.fault_count session.new shelf.new) }
 {
     for i in 0..512u32 {
         let byte = flat[place + i as usize];
@@ -69,11 +66,9 @@ fn fill_track<S: Shelf, D: Station>(
     requires whole { length flat.now ≡ flat_length sectors }
     requires cylinder { c < 80 }
     requires head { h < 2 }
-    ensures goes { Goes (fill_track flat.now sectors c h)
-        (stage_of D.shown S.told session.old shelf.old) result (stage_of D.shown S.told session.new shelf.new) }
-    ensures running { IsRunning D.shown D.is_ready session.new }
-    ensures faults { Blames (IsErrOf result (Halt.Stopped Stop.FileFault)) (S.fault_count shelf.old)
-        (S.fault_count shelf.new) }
+    ensures { Went (Goes (fill_track flat.now sectors c h)) (IsRunning D.shown D.is_ready session.new) (IsErrOf result (Halt.Stopped Stop.FileFault))
+        (counted_of D.shown S.told S.fault_count session.old shelf.old) result
+        (counted_of D.shown S.told S.fault_count session.new shelf.new) }
 {
     for r in 1..sectors + 1 {
         let from = place(sectors, c, h, r);
@@ -92,11 +87,9 @@ fn write_track<S: Shelf, D: Station>(
 ) -> Result<(), Halt>
     requires running { IsRunning D.shown D.is_ready session.old }
     requires most { sectors ≤ 18 }
-    ensures goes { Goes (write_track sectors c h)
-        (stage_of D.shown S.told session.old shelf.old) result (stage_of D.shown S.told session.new shelf.new) }
-    ensures running { IsRunning D.shown D.is_ready session.new }
-    ensures faults { Blames (IsErrOf result (Halt.Stopped Stop.FileFault)) (S.fault_count shelf.old)
-        (S.fault_count shelf.new) }
+    ensures { Went (Goes (write_track sectors c h)) (IsRunning D.shown D.is_ready session.new) (IsErrOf result (Halt.Stopped Stop.FileFault))
+        (counted_of D.shown S.told S.fault_count session.old shelf.old) result
+        (counted_of D.shown S.told S.fault_count session.new shelf.new) }
 {
     for r in 1..sectors + 1 {
         let key = Chrn {
@@ -131,11 +124,9 @@ fn import_track<S: Shelf, D: Station>(
     requires whole { length flat.now ≡ flat_length sectors }
     requires cylinder { c < 80 }
     requires head { h < 2 }
-    ensures goes { Goes (import_track flat.now sectors c h)
-        (stage_of D.shown S.told session.old shelf.old) result (stage_of D.shown S.told session.new shelf.new) }
-    ensures running { IsRunning D.shown D.is_ready session.new }
-    ensures faults { Blames (IsErrOf result (Halt.Stopped Stop.FileFault)) (S.fault_count shelf.old)
-        (S.fault_count shelf.new) }
+    ensures { Went (Goes (import_track flat.now sectors c h)) (IsRunning D.shown D.is_ready session.new) (IsErrOf result (Halt.Stopped Stop.FileFault))
+        (counted_of D.shown S.told S.fault_count session.old shelf.old) result
+        (counted_of D.shown S.told S.fault_count session.new shelf.new) }
 {
     carry(session, shelf, Request::Format { bay: 0, c, h })?;
     fill_track(session, shelf, flat, sectors, c, h)?;
@@ -155,11 +146,9 @@ fn import_cylinder<S: Shelf, D: Station>(
     requires most { sectors ≤ 18 }
     requires whole { length flat.now ≡ flat_length sectors }
     requires cylinder { c < 80 }
-    ensures goes { Goes (each 0 2 (import_track flat.now sectors c))
-        (stage_of D.shown S.told session.old shelf.old) result (stage_of D.shown S.told session.new shelf.new) }
-    ensures running { IsRunning D.shown D.is_ready session.new }
-    ensures faults { Blames (IsErrOf result (Halt.Stopped Stop.FileFault)) (S.fault_count shelf.old)
-        (S.fault_count shelf.new) }
+    ensures { Went (Goes (each 0 2 (import_track flat.now sectors c))) (IsRunning D.shown D.is_ready session.new) (IsErrOf result (Halt.Stopped Stop.FileFault))
+        (counted_of D.shown S.told S.fault_count session.old shelf.old) result
+        (counted_of D.shown S.told S.fault_count session.new shelf.new) }
 {
     for h in 0..2u8 {
         import_track(session, shelf, flat, sectors, c, h)?;
@@ -178,11 +167,9 @@ fn import_tracks<S: Shelf, D: Station>(
     requires density { IsDensity sectors }
     requires most { sectors ≤ 18 }
     requires whole { length flat.now ≡ flat_length sectors }
-    ensures goes { Goes (by_track 80 (import_track flat.now sectors))
-        (stage_of D.shown S.told session.old shelf.old) result (stage_of D.shown S.told session.new shelf.new) }
-    ensures running { IsRunning D.shown D.is_ready session.new }
-    ensures faults { Blames (IsErrOf result (Halt.Stopped Stop.FileFault)) (S.fault_count shelf.old)
-        (S.fault_count shelf.new) }
+    ensures { Went (Goes (by_track 80 (import_track flat.now sectors))) (IsRunning D.shown D.is_ready session.new) (IsErrOf result (Halt.Stopped Stop.FileFault))
+        (counted_of D.shown S.told S.fault_count session.old shelf.old) result
+        (counted_of D.shown S.told S.fault_count session.new shelf.new) }
 {
     for c in 0..CYLINDERS {
         import_cylinder(session, shelf, flat, sectors, c)?;
@@ -200,11 +187,9 @@ fn run_import<S: Shelf, D: Station>(
 ) -> Result<(), Halt>
     requires running { IsRunning D.shown D.is_ready session.old }
     requires whole { length flat.now ≡ flat_length (sectors_at rate) }
-    ensures goes { Goes (import_requests flat.now name rate)
-        (stage_of D.shown S.told session.old shelf.old) result (stage_of D.shown S.told session.new shelf.new) }
-    ensures running { IsRunning D.shown D.is_ready session.new }
-    ensures faults { Blames (IsErrOf result (Halt.Stopped Stop.FileFault)) (S.fault_count shelf.old)
-        (S.fault_count shelf.new) }
+    ensures { Went (Goes (import_requests flat.now name rate)) (IsRunning D.shown D.is_ready session.new) (IsErrOf result (Halt.Stopped Stop.FileFault))
+        (counted_of D.shown S.told S.fault_count session.old shelf.old) result
+        (counted_of D.shown S.told S.fault_count session.new shelf.new) }
 {
     carry(session, shelf, blank_request(name, CYLINDERS, rate))?;
     acknowledge(session, shelf, rate)?;
@@ -231,13 +216,9 @@ pub fn import_disk<S: Shelf, K: Sink, D: Station>(
     out: &mut K,
 ) -> Status
     requires running { IsRunning D.shown D.is_ready session.old }
-    ensures imports { Runs (Imports flat name)
-        (world_of D.shown S.told K.told session.old shelf.old out.old)
-        (world_of D.shown S.told K.told session.new shelf.new out.new) result }
-    ensures running { IsRunning D.shown D.is_ready session.new }
-    ensures is_form { result ≢ Status.BadWords }
-    ensures shelf_faults { Blames (result ≡ Status.FileFault) (S.fault_count shelf.old) (S.fault_count shelf.new) }
-    ensures sink_faults { Blames (result ≡ Status.SinkFault) (K.fault_count out.old) (K.fault_count out.new) }
+    ensures { Ran (Runs (Imports flat name)) (IsRunning D.shown D.is_ready session.new)
+        (faulty_of D.shown S.told S.fault_count K.told K.fault_count session.old shelf.old out.old)
+        (faulty_of D.shown S.told S.fault_count K.told K.fault_count session.new shelf.new out.new) result }
 {
     match load_flat(alloc, shelf, flat) {
         Ok(loaded) => match run_import(session, shelf, &loaded.bytes, name, loaded.rate) {

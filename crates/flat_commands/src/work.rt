@@ -1,11 +1,11 @@
 // The requests of a workload, which goes on whatever is answered.
-ghost use Rattle.std.specs.Prelude.{◌≡◌, ◌≢◌, ◌+◌, ◌≤◌, ◌∷◌, [], sum};
+ghost use Rattle.std.specs.Prelude.{◌≡◌, ◌+◌, ◌≤◌, ◌∷◌, [], sum};
 ghost use Rattle.bay_model.specs.Memory.{user_bytes, bytes_from};
-ghost use Rattle.sector_model.specs.Steps.{Step};
 ghost use Rattle.sector_model.specs.Texts.{is_refusal};
 ghost use Rattle.floppy_session.specs.Session.{state_of, IsRunning};
 ghost use Rattle.floppy_session.specs.Tries.{HasTries};
-ghost use Rattle.disk_commands.specs.Carried.{stage_of};
+ghost use Rattle.disk_commands.specs.Carried.{Went, counted_of};
+ghost use Rattle.flat_commands.specs.Carried.{Answers};
 ghost use Rattle.flat_commands.specs.Workload.{write_requests, drawn_requests, work_requests, number_after};
 ghost use Rattle.flat_commands.specs.Exercises.{RunsOn, Works};
 
@@ -27,10 +27,9 @@ fn answer<S: Shelf, D: Station>(session: &mut Session<D>, shelf: &mut S, request
     requires running { IsRunning D.shown D.is_ready session.old }
     requires tries { HasTries request }
     requires runs_on { RunsOn request }
-    ensures step { Step request (state_of D.shown session.old) (S.told shelf.old) result
-        (state_of D.shown session.new) (S.told shelf.new) }
-    ensures running { IsRunning D.shown D.is_ready session.new }
-    ensures faults { S.fault_count shelf.old ≤ S.fault_count shelf.new }
+    ensures { Went (Answers request) (IsRunning D.shown D.is_ready session.new) ⊥
+        (counted_of D.shown S.told S.fault_count session.old shelf.old) result
+        (counted_of D.shown S.told S.fault_count session.new shelf.new) }
 {
     match session.run(shelf, &request) {
         Ok(reply) => reply,
@@ -63,12 +62,11 @@ fn sum_read<D: Station>(session: &Session<D>, address: u32) -> u64
 /// Reads the record of a key.
 fn read<S: Shelf, D: Station>(session: &mut Session<D>, shelf: &mut S, key: Chrn) -> Tally
     requires running { IsRunning D.shown D.is_ready session.old }
-    ensures works { Works (Request.Read 0 key 0x10000 ∷ [])
-        (stage_of D.shown S.told session.old shelf.old) result (stage_of D.shown S.told session.new shelf.new) }
+    ensures went { Went (Works (Request.Read 0 key 0x10000 ∷ [])) (IsRunning D.shown D.is_ready session.new) ⊥
+        (counted_of D.shown S.told S.fault_count session.old shelf.old) result
+        (counted_of D.shown S.told S.fault_count session.new shelf.new) }
     ensures few { result.done + result.refused ≤ 1 }
     ensures small { result.sum ≤ 130560 }
-    ensures running { IsRunning D.shown D.is_ready session.new }
-    ensures faults { S.fault_count shelf.old ≤ S.fault_count shelf.new }
 {
     let read = Request::Read {
         bay: 0,
@@ -114,12 +112,11 @@ fn write<S: Shelf, D: Station>(
     byte: u8,
 ) -> Tally
     requires running { IsRunning D.shown D.is_ready session.old }
-    ensures works { Works (Request.Fill 0x20000 512 byte ∷ write_requests deleted key)
-        (stage_of D.shown S.told session.old shelf.old) result (stage_of D.shown S.told session.new shelf.new) }
+    ensures went { Went (Works (Request.Fill 0x20000 512 byte ∷ write_requests deleted key)) (IsRunning D.shown D.is_ready session.new) ⊥
+        (counted_of D.shown S.told S.fault_count session.old shelf.old) result
+        (counted_of D.shown S.told S.fault_count session.new shelf.new) }
     ensures few { result.done + result.refused ≤ 1 }
     ensures small { result.sum ≤ 130560 }
-    ensures running { IsRunning D.shown D.is_ready session.new }
-    ensures faults { S.fault_count shelf.old ≤ S.fault_count shelf.new }
 {
     let fill = Request::Fill {
         address: WRITE_ADDRESS,
@@ -138,12 +135,11 @@ fn write<S: Shelf, D: Station>(
 /// Runs what five draws ask for.
 fn run_drawn<S: Shelf, D: Station>(session: &mut Session<D>, shelf: &mut S, work: Work) -> Tally
     requires running { IsRunning D.shown D.is_ready session.old }
-    ensures works { Works (drawn_requests work.kind work.key work.byte)
-        (stage_of D.shown S.told session.old shelf.old) result (stage_of D.shown S.told session.new shelf.new) }
+    ensures went { Went (Works (drawn_requests work.kind work.key work.byte)) (IsRunning D.shown D.is_ready session.new) ⊥
+        (counted_of D.shown S.told S.fault_count session.old shelf.old) result
+        (counted_of D.shown S.told S.fault_count session.new shelf.new) }
     ensures few { result.done + result.refused ≤ 1 }
     ensures small { result.sum ≤ 130560 }
-    ensures running { IsRunning D.shown D.is_ready session.new }
-    ensures faults { S.fault_count shelf.old ≤ S.fault_count shelf.new }
 {
     if work.kind == 0 {
         write(session, shelf, false, work.key, work.byte)
@@ -162,10 +158,9 @@ pub(crate) fn run_work<S: Shelf, D: Station>(
     count: u16,
 ) -> Tally
     requires running { IsRunning D.shown D.is_ready session.old }
-    ensures works { Works (work_requests seed count)
-        (stage_of D.shown S.told session.old shelf.old) result (stage_of D.shown S.told session.new shelf.new) }
-    ensures running { IsRunning D.shown D.is_ready session.new }
-    ensures faults { S.fault_count shelf.old ≤ S.fault_count shelf.new }
+    ensures { Went (Works (work_requests seed count)) (IsRunning D.shown D.is_ready session.new) ⊥
+        (counted_of D.shown S.told S.fault_count session.old shelf.old) result
+        (counted_of D.shown S.told S.fault_count session.new shelf.new) }
 {
     let mut draws = Draws { number: seed };
     let mut tally = Tally::none();

@@ -3,12 +3,14 @@ use Rattle.std.specs.Prelude.{◌≡◌, List, [], Option, Some, None}
 use Rattle.flop_base.specs.declared.answers.Rate.TheVariants.{R500, R250}
 use Rattle.flop_base.specs.declared.answers.Status.{Status}
 use Rattle.flop_base.specs.declared.answers.Status.TheVariants as status
+use Rattle.sector_model.specs.Faults.{Blames}
 use Rattle.sector_model.specs.Runs.{Taken}
 use Rattle.sector_model.specs.Plays.{World, Plays, TellsAlone, IsIdle}
 use Rattle.floppy_report.specs.LastLines.{bad_words_text}
 use Rattle.floppy_words.specs.declared.form.Form.{Form}
 use Rattle.floppy_words.specs.declared.form.Form.TheVariants as form
 use Rattle.disk_commands.specs.Commands.{Formats, Copies}
+use Rattle.disk_commands.specs.Worlds.{Faulty}
 use Rattle.disk_commands.specs.Verifies.{Verifies}
 use Rattle.archive_commands.specs.Files.{Desk}
 use Rattle.archive_commands.specs.Making.{FromImd, ToImd, Remaster}
@@ -53,3 +55,11 @@ pub data DoesOrStarves (asked : Form) (old : World) (course : List Taken) (new :
 abbrev pub Does : Option Form → World → List Taken → World → Status → Type 0
 Does (Some asked) old course new ended = DoesOrStarves asked old course new ended
 Does None old course new ended = TellsAlone bad_words_text status.BadWords old course new ended
+
+-- what words ask for was done, the session still runs, the words are no form where the status says so, and each fault that it tells was counted
+pub record Performed (Does : World → World → Status → Type 0) (Running NoForm : Type 0) (old new : Faulty) (ended : Status) : Type 0 where
+  pub runs : Does old.world new.world ended
+  pub running : Running
+  pub bad_words : ended ≡ status.BadWords → NoForm
+  pub shelf_faults : Blames (ended ≡ status.FileFault) old.shelf_faults new.shelf_faults
+  pub sink_faults : Blames (ended ≡ status.SinkFault) old.sink_faults new.sink_faults

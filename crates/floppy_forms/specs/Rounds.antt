@@ -1,5 +1,5 @@
 -- One request of a job: run, and told.
-use Rattle.std.specs.Prelude.{◌≡◌, ℕ, Bool, List, Option}
+use Rattle.std.specs.Prelude.{◌≡◌, ℕ, Bool, List, Option, Result, Ok, Err}
 use Rattle.flop_base.specs.Shelf.{Files}
 use Rattle.flop_base.specs.Sink.{grown, GrowsByPart}
 use Rattle.flop_base.specs.declared.answers.Status.{Status}
@@ -14,7 +14,7 @@ use Rattle.sector_model.specs.States.{State}
 use Rattle.sector_model.specs.Steps.{Step, StopsAt}
 use Rattle.sector_model.specs.Texts.{reply_text, stop_text, stop_status, is_refusal, absent_text, bad_line_text}
 use Rattle.sector_model.specs.Runs.{Taken, Run, requests_of, course_text, has_refusal, Ends, EndStopsAt, IsEndStop}
-use Rattle.sector_model.specs.Plays.{World, Prints, IsPutFault, IsIdle, PlaysRequests, PlaysParsed, whole_status}
+use Rattle.sector_model.specs.Plays.{World, Prints, IsPutFault, IsIdle, PlaysRequests, PlaysParsed, Plays, whole_status}
 
 -- all that a play may change
 abbrev pub world : State → Option Files → Option (List ℕ) → World
@@ -34,6 +34,11 @@ pub data Breaks (asked : Request) (old new : World) (ended : Status) : Type 0 wh
   AtPut : (answer : Reply) → Step asked old.state old.files answer new.state new.files
       → GrowsByPart old.report (reply_text asked answer) new.report → IsPutFault ended → Breaks asked old new ended
 
+-- a request was run and told whole, or broke off
+abbrev pub RoundGoes : Request → World → Result Bool Status → World → Type 0
+RoundGoes asked old (Ok refused) new = IsRound asked old refused new
+RoundGoes asked old (Err ended) new = Breaks asked old new ended
+
 -- some requests were run and told whole
 pub record HasRun (requests : List Request) (old : World) (refused : Bool) (new : World) : Type 0 where
   pub course : List Taken
@@ -45,6 +50,15 @@ pub record HasRun (requests : List Request) (old : World) (refused : Bool) (new 
 -- requests of a job are played, by some course
 abbrev pub HasPlayed : List Request → World → World → Status → Type 0
 HasPlayed requests old new ended = (course : List Taken) × PlaysRequests requests old course new ended
+
+-- requests were run and told whole, or played up to what stopped them
+abbrev pub RoundsGo : List Request → World → Result Bool Status → World → Type 0
+RoundsGo requests old (Ok refused) new = HasRun requests old refused new
+RoundsGo requests old (Err ended) new = HasPlayed requests old new ended
+
+-- the job of a name is played, by some course
+abbrev pub PlaysJob : List ℕ → World → World → Status → Type 0
+PlaysJob job old new ended = (course : List Taken) × Plays job old course new ended
 
 -- the end of a run: what was left in was stored, or a stop came at a store
 pub data EndsAs (refused : Bool) (old : State) (files : Option Files) (new : State) (after : Option Files) (ended : Status) : Type 0 where

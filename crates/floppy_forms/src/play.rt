@@ -1,13 +1,12 @@
 // The form `play JOB`: a job is read and run to its end, or up to what stops it.
-ghost use Rattle.std.specs.Prelude.{◌≡◌, ◌≢◌, ◌≤◌, ◌||◌, All, List, IfOk, IfErr, IsErrOf, Err};
+ghost use Rattle.std.specs.Prelude.{◌≡◌, ◌≢◌, ◌||◌, All, Err};
 ghost use Rattle.sector_model.specs.Faults.{Blames};
 ghost use Rattle.sector_model.specs.Texts.{is_refusal};
-ghost use Rattle.sector_model.specs.Runs.{Taken};
-ghost use Rattle.sector_model.specs.Plays.{Plays, whole_status};
+ghost use Rattle.sector_model.specs.Plays.{whole_status};
 ghost use Rattle.floppy_session.specs.Session.{state_of, IsRunning};
 ghost use Rattle.floppy_session.specs.Tries.{HasTries};
-ghost use Rattle.disk_commands.specs.Worlds.{world_of};
-ghost use Rattle.floppy_forms.specs.Rounds.{IsRound, Breaks, HasRun, HasPlayed, EndsAs, PlaysOrStarves, Misses};
+ghost use Rattle.disk_commands.specs.Worlds.{faulty_of, Ran, RanPart, printed_of, Told};
+ghost use Rattle.floppy_forms.specs.Rounds.{RoundGoes, RoundsGo, HasPlayed, PlaysJob, EndsAs, PlaysOrStarves, Misses};
 
 use flop_base::{LoadError, Shelf, Sink, Status};
 use floppy_jobs::{JobError, Request, parse_job};
@@ -29,18 +28,9 @@ fn run_one<S: Shelf, K: Sink, D: Station>(
 ) -> Result<bool, Status>
     requires running { IsRunning D.shown D.is_ready session.old }
     requires tries { HasTries request.now }
-    ensures round { IfOk result (λ refused. IsRound
-        request.now (world_of D.shown S.told K.told session.old shelf.old out.old) refused
-        (world_of D.shown S.told K.told session.new shelf.new out.new)) }
-    ensures breaks { IfErr result (λ ended. Breaks
-        request.now (world_of D.shown S.told K.told session.old shelf.old out.old)
-        (world_of D.shown S.told K.told session.new shelf.new out.new) ended) }
-    ensures running { IsRunning D.shown D.is_ready session.new }
-    ensures is_form { result ≢ Err Status.BadWords }
-    ensures shelf_faults { Blames (IsErrOf result Status.FileFault) (S.fault_count shelf.old)
-        (S.fault_count shelf.new) }
-    ensures sink_faults { Blames (IsErrOf result Status.SinkFault) (K.fault_count out.old)
-        (K.fault_count out.new) }
+    ensures { RanPart (RoundGoes request.now) (IsRunning D.shown D.is_ready session.new)
+        (faulty_of D.shown S.told S.fault_count K.told K.fault_count session.old shelf.old out.old) result
+        (faulty_of D.shown S.told S.fault_count K.told K.fault_count session.new shelf.new out.new) }
 {
     match session.run(shelf, request) {
         Ok(reply) => match put_reply(alloc, out, request, &reply) {
@@ -77,18 +67,9 @@ fn run_requests<S: Shelf, K: Sink, D: Station>(
 ) -> Result<bool, Status>
     requires running { IsRunning D.shown D.is_ready session.old }
     requires tries { All HasTries requests.now }
-    ensures run { IfOk result (λ refused. HasRun
-        requests.now (world_of D.shown S.told K.told session.old shelf.old out.old) refused
-        (world_of D.shown S.told K.told session.new shelf.new out.new)) }
-    ensures plays { IfErr result (λ ended. HasPlayed
-        requests.now (world_of D.shown S.told K.told session.old shelf.old out.old)
-        (world_of D.shown S.told K.told session.new shelf.new out.new) ended) }
-    ensures running { IsRunning D.shown D.is_ready session.new }
-    ensures is_form { result ≢ Err Status.BadWords }
-    ensures shelf_faults { Blames (IsErrOf result Status.FileFault) (S.fault_count shelf.old)
-        (S.fault_count shelf.new) }
-    ensures sink_faults { Blames (IsErrOf result Status.SinkFault) (K.fault_count out.old)
-        (K.fault_count out.new) }
+    ensures { RanPart (RoundsGo requests.now) (IsRunning D.shown D.is_ready session.new)
+        (faulty_of D.shown S.told S.fault_count K.told K.fault_count session.old shelf.old out.old) result
+        (faulty_of D.shown S.told S.fault_count K.told K.fault_count session.new shelf.new out.new) }
 {
     let mut refused = false;
     for request in requests {
@@ -137,15 +118,9 @@ fn play_requests<S: Shelf, K: Sink, D: Station>(
 ) -> Status
     requires running { IsRunning D.shown D.is_ready session.old }
     requires tries { All HasTries requests.now }
-    ensures plays { HasPlayed
-        requests.now (world_of D.shown S.told K.told session.old shelf.old out.old)
-        (world_of D.shown S.told K.told session.new shelf.new out.new) result }
-    ensures running { IsRunning D.shown D.is_ready session.new }
-    ensures is_form { result ≢ Status.BadWords }
-    ensures shelf_faults { Blames (result ≡ Status.FileFault) (S.fault_count shelf.old)
-        (S.fault_count shelf.new) }
-    ensures sink_faults { Blames (result ≡ Status.SinkFault) (K.fault_count out.old)
-        (K.fault_count out.new) }
+    ensures { Ran (HasPlayed requests.now) (IsRunning D.shown D.is_ready session.new)
+        (faulty_of D.shown S.told S.fault_count K.told K.fault_count session.old shelf.old out.old)
+        (faulty_of D.shown S.told S.fault_count K.told K.fault_count session.new shelf.new out.new) result }
 {
     match run_requests(alloc, session, requests, shelf, out) {
         Ok(refused) => finish(session, shelf, refused),
@@ -162,15 +137,9 @@ fn play_text<S: Shelf, K: Sink, D: Station>(
     out: &mut K,
 ) -> Status
     requires running { IsRunning D.shown D.is_ready session.old }
-    ensures plays { PlaysOrStarves
-        text.now (world_of D.shown S.told K.told session.old shelf.old out.old)
-        (world_of D.shown S.told K.told session.new shelf.new out.new) result }
-    ensures running { IsRunning D.shown D.is_ready session.new }
-    ensures is_form { result ≢ Status.BadWords }
-    ensures shelf_faults { Blames (result ≡ Status.FileFault) (S.fault_count shelf.old)
-        (S.fault_count shelf.new) }
-    ensures sink_faults { Blames (result ≡ Status.SinkFault) (K.fault_count out.old)
-        (K.fault_count out.new) }
+    ensures { Ran (PlaysOrStarves text.now) (IsRunning D.shown D.is_ready session.new)
+        (faulty_of D.shown S.told S.fault_count K.told K.fault_count session.old shelf.old out.old)
+        (faulty_of D.shown S.told S.fault_count K.told K.fault_count session.new shelf.new out.new) result }
 {
     match parse_job(alloc, text) {
         Ok(requests) => play_requests(alloc, session, &requests, shelf, out),
@@ -181,11 +150,8 @@ fn play_text<S: Shelf, K: Sink, D: Station>(
 
 /// Ends a run whose job wasn't loaded.
 fn not_loaded<K: Sink>(alloc: Global, job: &str, out: &mut K, error: LoadError) -> Status
-    ensures ends { Misses error job.now (K.told out.old) (K.told out.new) result }
-    ensures is_form { result ≢ Status.BadWords }
-    ensures shelf_fault { result ≡ Status.FileFault → error ≡ LoadError.Failed }
-    ensures sink_faults { Blames (result ≡ Status.SinkFault) (K.fault_count out.old)
-        (K.fault_count out.new) }
+    ensures { Told (Misses error job.now) (error ≡ LoadError.Failed)
+        (printed_of K.told K.fault_count out.old) (printed_of K.told K.fault_count out.new) result }
 {
     match error {
         LoadError::Absent => put_last_absent(alloc, out, job),
@@ -204,15 +170,9 @@ pub(crate) fn play<S: Shelf, K: Sink, D: Station>(
     out: &mut K,
 ) -> Status
     requires running { IsRunning D.shown D.is_ready session.old }
-    ensures plays { (course : List Taken) × Plays
-        job.now (world_of D.shown S.told K.told session.old shelf.old out.old) course
-        (world_of D.shown S.told K.told session.new shelf.new out.new) result }
-    ensures running { IsRunning D.shown D.is_ready session.new }
-    ensures is_form { result ≢ Status.BadWords }
-    ensures shelf_faults { Blames (result ≡ Status.FileFault) (S.fault_count shelf.old)
-        (S.fault_count shelf.new) }
-    ensures sink_faults { Blames (result ≡ Status.SinkFault) (K.fault_count out.old)
-        (K.fault_count out.new) }
+    ensures { Ran (PlaysJob job.now) (IsRunning D.shown D.is_ready session.new)
+        (faulty_of D.shown S.told S.fault_count K.told K.fault_count session.old shelf.old out.old)
+        (faulty_of D.shown S.told S.fault_count K.told K.fault_count session.new shelf.new out.new) result }
 {
     match shelf.load(alloc, job, MOST_JOB_BYTES) {
         Ok(text) => play_text(alloc, session, &text, shelf, out),

@@ -1,5 +1,5 @@
 // The words of the program, done over a session.
-ghost use Rattle.std.specs.Prelude.{◌≡◌, ◌≢◌, ◌≤◌, ◌+◌, ℕ, List, Option, Some, None, Ok, map, string_bytes};
+ghost use Rattle.std.specs.Prelude.{◌≡◌, ◌≤◌, ◌+◌, ℕ, List, Option, Some, None, Ok, map, string_bytes};
 ghost use Rattle.floppy_requests.specs.declared.request.Request.{Request};
 ghost use Rattle.bay_model.specs.Bays.{Two};
 ghost use Rattle.sector_model.specs.Faults.{Blames};
@@ -11,9 +11,9 @@ ghost use Rattle.floppy_words.specs.declared.form.Form.TheVariants as form;
 ghost use Rattle.floppy_words.specs.declared.form.Form.{Form};
 ghost use Rattle.floppy_words.specs.Forms.{form_of, Reads};
 ghost use Rattle.disk_commands.specs.Commands.{Runs};
-ghost use Rattle.disk_commands.specs.Worlds.{world_of};
+ghost use Rattle.disk_commands.specs.Worlds.{world_of, faulty_of, Ran};
 ghost use Rattle.floppy_forms.specs.Rounds.{world};
-ghost use Rattle.floppy_forms.specs.Programs.{Does, DoesForm};
+ghost use Rattle.floppy_forms.specs.Programs.{Does, DoesForm, Performed};
 
 use crate::play::play;
 use archive_commands::{from_imd, remaster_disk, survey_disk, to_imd};
@@ -74,17 +74,14 @@ fn perform<S: Shelf, K: Sink, D: Station>(
     out: &mut K,
 ) -> Status
     requires running { IsRunning D.shown D.is_ready session.old }
-    ensures runs { Runs (Does (form_of (map string_bytes words.now)))
-        (world_of D.shown S.told K.told session.old shelf.old out.old)
-        (world_of D.shown S.told K.told session.new shelf.new out.new) result }
+    ensures performed { Performed (Runs (Does (form_of (map string_bytes words.now)))) (IsRunning D.shown D.is_ready session.new)
+        (form_of (map string_bytes words.now) ≡ None)
+        (faulty_of D.shown S.told S.fault_count K.told K.fault_count session.old shelf.old out.old)
+        (faulty_of D.shown S.told S.fault_count K.told K.fault_count session.new shelf.new out.new) result }
     ensures accesses { (job : List ℕ) (requests : List Request)
         → form_of (map string_bytes words.now) ≡ Some (form.Play job) → IsJob (S.told shelf.old) job requests
         → (state_of D.shown session.new).station.counters.direct
         ≤ (state_of D.shown session.old).station.counters.direct + accesses_of_job requests }
-    ensures bad_words { result ≡ Status.BadWords → form_of (map string_bytes words.now) ≡ None }
-    ensures running { IsRunning D.shown D.is_ready session.new }
-    ensures shelf_faults { Blames (result ≡ Status.FileFault) (S.fault_count shelf.old) (S.fault_count shelf.new) }
-    ensures sink_faults { Blames (result ≡ Status.SinkFault) (K.fault_count out.old) (K.fault_count out.new) }
 {
     run_asked(alloc, session, form_named(alloc, words), shelf, out)
 }
@@ -121,13 +118,9 @@ fn perform_any<S: Shelf, K: Sink, D: Station>(
     out: &mut K,
 ) -> Status
     requires running { IsRunning D.shown D.is_ready session.old }
-    ensures runs { Runs (Does form)
-        (world_of D.shown S.told K.told session.old shelf.old out.old)
-        (world_of D.shown S.told K.told session.new shelf.new out.new) result }
-    ensures bad_words { result ≡ Status.BadWords → form ≡ None }
-    ensures running { IsRunning D.shown D.is_ready session.new }
-    ensures shelf_faults { Blames (result ≡ Status.FileFault) (S.fault_count shelf.old) (S.fault_count shelf.new) }
-    ensures sink_faults { Blames (result ≡ Status.SinkFault) (K.fault_count out.old) (K.fault_count out.new) }
+    ensures { Performed (Runs (Does form)) (IsRunning D.shown D.is_ready session.new) (form ≡ None)
+        (faulty_of D.shown S.told S.fault_count K.told K.fault_count session.old shelf.old out.old)
+        (faulty_of D.shown S.told S.fault_count K.told K.fault_count session.new shelf.new out.new) result }
 {
     match form {
         Some(form) => perform_form(alloc, session, form, shelf, out),
@@ -144,13 +137,9 @@ fn perform_form<S: Shelf, K: Sink, D: Station>(
     out: &mut K,
 ) -> Status
     requires running { IsRunning D.shown D.is_ready session.old }
-    ensures runs { Runs (DoesForm form)
-        (world_of D.shown S.told K.told session.old shelf.old out.old)
-        (world_of D.shown S.told K.told session.new shelf.new out.new) result }
-    ensures running { IsRunning D.shown D.is_ready session.new }
-    ensures is_form { result ≢ Status.BadWords }
-    ensures shelf_faults { Blames (result ≡ Status.FileFault) (S.fault_count shelf.old) (S.fault_count shelf.new) }
-    ensures sink_faults { Blames (result ≡ Status.SinkFault) (K.fault_count out.old) (K.fault_count out.new) }
+    ensures { Ran (Runs (DoesForm form)) (IsRunning D.shown D.is_ready session.new)
+        (faulty_of D.shown S.told S.fault_count K.told K.fault_count session.old shelf.old out.old)
+        (faulty_of D.shown S.told S.fault_count K.told K.fault_count session.new shelf.new out.new) result }
 {
     match form {
         Form::Play { job } => play(alloc, session, job.as_str(), shelf, out),

@@ -110,6 +110,11 @@ pub record Opens (name : List ℕ) (shape : Shape) (old new : Stage) : Type 0 wh
   pub carried : Carries (open_tasks name) [] old new
   pub there : shape_in (bay_of new.state.station 0) ≡ Some shape
 
+-- so it is, or that was halted
+abbrev pub OpenGoes : List ℕ → Stage → Result Shape Halt → Stage → Type 0
+OpenGoes name old (Ok shape) new = Opens name shape old new
+OpenGoes name old (Err cause) new = IsHalted (open_tasks name) old cause new
+
 -- what is told of a halt
 abbrev pub TellsHalt : Halt → Option (List ℕ) → Option (List ℕ) → Status → Type 0
 TellsHalt (halt.Refused named cause) old new ended = Prints (stopped_text named cause) status.SomeRefused old new ended

@@ -1,9 +1,9 @@
 // Requests that a rescue asks, one after the other, up to the first that ends it.
-ghost use Rattle.std.specs.Prelude.{◌≡◌, ◌≢◌, [], ◌∷◌, IfOk, IfErr, IsErrOf};
-ghost use Rattle.sector_model.specs.Faults.{Blames};
+ghost use Rattle.std.specs.Prelude.{◌≡◌, [], ◌∷◌, IsErrOf};
 ghost use Rattle.floppy_session.specs.Session.{IsRunning};
 ghost use Rattle.floppy_session.specs.Tries.{HasTries};
-ghost use Rattle.disk_commands.specs.Carried.{stage_of};
+ghost use Rattle.disk_commands.specs.Carried.{Went, counted_of};
+ghost use Rattle.disk_commands.specs.Worlds.{printed_of, Told};
 ghost use Rattle.rescue_commands.specs.Tasks.{Ask};
 ghost use Rattle.rescue_commands.specs.Carried.{Judges, Goes, no_lines, TellsHalt};
 
@@ -33,11 +33,9 @@ pub(crate) fn ask<S: Shelf, D: Station>(
 ) -> Result<(), Halt>
     requires running { IsRunning D.shown D.is_ready session.old }
     requires tries { HasTries request }
-    ensures goes { Goes no_lines (Ask request ∷ [])
-        (stage_of D.shown S.told session.old shelf.old) result (stage_of D.shown S.told session.new shelf.new) }
-    ensures running { IsRunning D.shown D.is_ready session.new }
-    ensures faults { Blames (IsErrOf result (Halt.Stopped Stop.FileFault)) (S.fault_count shelf.old)
-        (S.fault_count shelf.new) }
+    ensures { Went (Goes no_lines (Ask request ∷ [])) (IsRunning D.shown D.is_ready session.new) (IsErrOf result (Halt.Stopped Stop.FileFault))
+        (counted_of D.shown S.told S.fault_count session.old shelf.old) result
+        (counted_of D.shown S.told S.fault_count session.new shelf.new) }
 {
     match session.run(shelf, &request) {
         Ok(reply) => unless_refused(request, &reply),
@@ -60,10 +58,8 @@ fn unless_refused(request: Request, reply: &Reply) -> Result<(), Halt>
 
 /// Puts the last line of a rescue that was halted, and gives the status.
 pub(crate) fn tell_halt<K: Sink>(alloc: Global, out: &mut K, halt: &Halt) -> Status
-    ensures tells { TellsHalt halt.now (K.told out.old) (K.told out.new) result }
-    ensures is_form { result ≢ Status.BadWords }
-    ensures shelf_fault { result ≡ Status.FileFault → halt.now ≡ Halt.Stopped Stop.FileFault }
-    ensures sink_faults { Blames (result ≡ Status.SinkFault) (K.fault_count out.old) (K.fault_count out.new) }
+    ensures { Told (TellsHalt halt.now) (halt.now ≡ Halt.Stopped Stop.FileFault)
+        (printed_of K.told K.fault_count out.old) (printed_of K.told K.fault_count out.new) result }
 {
     match halt {
         Halt::Refused { request, reason } => put_last_stopped(alloc, out, request, *reason),

@@ -1,5 +1,5 @@
 // The log's file.
-ghost use Rattle.std.specs.Prelude.{◌≡◌, ◌≢◌, IfOk, IfErr, OnOk, OnErr, IsErrOf};
+ghost use Rattle.std.specs.Prelude.{◌≡◌, IfOk, IfErr, OnOk, OnErr, IsErrOf};
 ghost use Rattle.flop_base.specs.Shelf.{stored};
 ghost use Rattle.sector_model.specs.Faults.{Blames};
 ghost use Rattle.rescue.specs.Log.{log_text};

@@ -1,13 +1,12 @@
 // What comes before the records: both diskettes are put in and acknowledged, and a new one is formatted.
-ghost use Rattle.std.specs.Prelude.{◌≡◌, true, false, Some, [], ◌∷◌, IfOk, IfErr, IsErrOf};
+ghost use Rattle.std.specs.Prelude.{◌≡◌, true, false, Some, IsErrOf};
 ghost use Rattle.flop_base.specs.declared.answers.Rate.{Rate};
-ghost use Rattle.sector_model.specs.Faults.{Blames};
 ghost use Rattle.floppy_session.specs.Session.{IsRunning};
 ghost use Rattle.floppy_session.specs.Tries.{HasTries};
 ghost use Rattle.floppy_session.specs.Blanks.{blank_request};
-ghost use Rattle.disk_commands.specs.Carried.{stage_of};
-ghost use Rattle.rescue_commands.specs.Tasks.{Ask, each, by_track, format_task, rate_tasks, ack_tasks, both_tasks, prepare_tasks};
-ghost use Rattle.rescue_commands.specs.Carried.{Goes, no_lines, Opens, IsHalted};
+ghost use Rattle.disk_commands.specs.Carried.{Went, counted_of};
+ghost use Rattle.rescue_commands.specs.Tasks.{each, by_track, format_task, rate_tasks, ack_tasks, both_tasks, prepare_tasks};
+ghost use Rattle.rescue_commands.specs.Carried.{Goes, no_lines, OpenGoes};
 
 use crate::ask::{Halt, ask};
 use flop_base::{Name, Rate, Shelf};
@@ -22,13 +21,9 @@ pub(crate) fn open_disk<S: Shelf, D: Station>(
     name: Name,
 ) -> Result<Shape, Halt>
     requires running { IsRunning D.shown D.is_ready session.old }
-    ensures opens { IfOk result (λ shape. Opens name shape
-        (stage_of D.shown S.told session.old shelf.old) (stage_of D.shown S.told session.new shelf.new)) }
-    ensures halts { IfErr result (λ halt. IsHalted (Ask (Request.Insert 0 name) ∷ [])
-        (stage_of D.shown S.told session.old shelf.old) halt (stage_of D.shown S.told session.new shelf.new)) }
-    ensures running { IsRunning D.shown D.is_ready session.new }
-    ensures faults { Blames (IsErrOf result (Halt.Stopped Stop.FileFault)) (S.fault_count shelf.old)
-        (S.fault_count shelf.new) }
+    ensures { Went (OpenGoes name) (IsRunning D.shown D.is_ready session.new) (IsErrOf result (Halt.Stopped Stop.FileFault))
+        (counted_of D.shown S.told S.fault_count session.old shelf.old) result
+        (counted_of D.shown S.told S.fault_count session.new shelf.new) }
 {
     ask(session, shelf, Request::Insert { bay: 0, name })?;
     match session.shape(0) {
@@ -45,11 +40,9 @@ fn set_rate<S: Shelf, D: Station>(
     rate: Rate,
 ) -> Result<(), Halt>
     requires running { IsRunning D.shown D.is_ready session.old }
-    ensures goes { Goes no_lines (rate_tasks bay rate)
-        (stage_of D.shown S.told session.old shelf.old) result (stage_of D.shown S.told session.new shelf.new) }
-    ensures running { IsRunning D.shown D.is_ready session.new }
-    ensures faults { Blames (IsErrOf result (Halt.Stopped Stop.FileFault)) (S.fault_count shelf.old)
-        (S.fault_count shelf.new) }
+    ensures { Went (Goes no_lines (rate_tasks bay rate)) (IsRunning D.shown D.is_ready session.new) (IsErrOf result (Halt.Stopped Stop.FileFault))
+        (counted_of D.shown S.told S.fault_count session.old shelf.old) result
+        (counted_of D.shown S.told S.fault_count session.new shelf.new) }
 {
     match rate {
         Rate::R500 => Ok(()),
@@ -65,11 +58,9 @@ fn acknowledge<S: Shelf, D: Station>(
     rate: Rate,
 ) -> Result<(), Halt>
     requires running { IsRunning D.shown D.is_ready session.old }
-    ensures goes { Goes no_lines (ack_tasks bay rate)
-        (stage_of D.shown S.told session.old shelf.old) result (stage_of D.shown S.told session.new shelf.new) }
-    ensures running { IsRunning D.shown D.is_ready session.new }
-    ensures faults { Blames (IsErrOf result (Halt.Stopped Stop.FileFault)) (S.fault_count shelf.old)
-        (S.fault_count shelf.new) }
+    ensures { Went (Goes no_lines (ack_tasks bay rate)) (IsRunning D.shown D.is_ready session.new) (IsErrOf result (Halt.Stopped Stop.FileFault))
+        (counted_of D.shown S.told S.fault_count session.old shelf.old) result
+        (counted_of D.shown S.told S.fault_count session.new shelf.new) }
 {
     ask(session, shelf, Request::Ack { bay })?;
     set_rate(session, shelf, bay, rate)
@@ -82,11 +73,9 @@ fn acknowledge_both<S: Shelf, D: Station>(
     rate: Rate,
 ) -> Result<(), Halt>
     requires running { IsRunning D.shown D.is_ready session.old }
-    ensures goes { Goes no_lines (both_tasks rate)
-        (stage_of D.shown S.told session.old shelf.old) result (stage_of D.shown S.told session.new shelf.new) }
-    ensures running { IsRunning D.shown D.is_ready session.new }
-    ensures faults { Blames (IsErrOf result (Halt.Stopped Stop.FileFault)) (S.fault_count shelf.old)
-        (S.fault_count shelf.new) }
+    ensures { Went (Goes no_lines (both_tasks rate)) (IsRunning D.shown D.is_ready session.new) (IsErrOf result (Halt.Stopped Stop.FileFault))
+        (counted_of D.shown S.told S.fault_count session.old shelf.old) result
+        (counted_of D.shown S.told S.fault_count session.new shelf.new) }
 {
     acknowledge(session, shelf, 0, rate)?;
     acknowledge(session, shelf, 1, rate)
@@ -100,11 +89,9 @@ fn format_cylinder<S: Shelf, D: Station>(
     c: u8,
 ) -> Result<(), Halt>
     requires running { IsRunning D.shown D.is_ready session.old }
-    ensures goes { Goes no_lines (each 0 heads (format_task c))
-        (stage_of D.shown S.told session.old shelf.old) result (stage_of D.shown S.told session.new shelf.new) }
-    ensures running { IsRunning D.shown D.is_ready session.new }
-    ensures faults { Blames (IsErrOf result (Halt.Stopped Stop.FileFault)) (S.fault_count shelf.old)
-        (S.fault_count shelf.new) }
+    ensures { Went (Goes no_lines (each 0 heads (format_task c))) (IsRunning D.shown D.is_ready session.new) (IsErrOf result (Halt.Stopped Stop.FileFault))
+        (counted_of D.shown S.told S.fault_count session.old shelf.old) result
+        (counted_of D.shown S.told S.fault_count session.new shelf.new) }
 {
     for h in 0..heads {
         ask(session, shelf, Request::Format { bay: 1, c, h })?;
@@ -120,11 +107,9 @@ fn format_tracks<S: Shelf, D: Station>(
     heads: u8,
 ) -> Result<(), Halt>
     requires running { IsRunning D.shown D.is_ready session.old }
-    ensures goes { Goes no_lines (by_track cylinders heads format_task)
-        (stage_of D.shown S.told session.old shelf.old) result (stage_of D.shown S.told session.new shelf.new) }
-    ensures running { IsRunning D.shown D.is_ready session.new }
-    ensures faults { Blames (IsErrOf result (Halt.Stopped Stop.FileFault)) (S.fault_count shelf.old)
-        (S.fault_count shelf.new) }
+    ensures { Went (Goes no_lines (by_track cylinders heads format_task)) (IsRunning D.shown D.is_ready session.new) (IsErrOf result (Halt.Stopped Stop.FileFault))
+        (counted_of D.shown S.told S.fault_count session.old shelf.old) result
+        (counted_of D.shown S.told S.fault_count session.new shelf.new) }
 {
     for c in 0..cylinders {
         format_cylinder(session, shelf, heads, c)?;
@@ -160,11 +145,9 @@ fn prepare_new<S: Shelf, D: Station>(
     shape: Shape,
 ) -> Result<(), Halt>
     requires running { IsRunning D.shown D.is_ready session.old }
-    ensures goes { Goes no_lines (prepare_tasks to shape false)
-        (stage_of D.shown S.told session.old shelf.old) result (stage_of D.shown S.told session.new shelf.new) }
-    ensures running { IsRunning D.shown D.is_ready session.new }
-    ensures faults { Blames (IsErrOf result (Halt.Stopped Stop.FileFault)) (S.fault_count shelf.old)
-        (S.fault_count shelf.new) }
+    ensures { Went (Goes no_lines (prepare_tasks to shape false)) (IsRunning D.shown D.is_ready session.new) (IsErrOf result (Halt.Stopped Stop.FileFault))
+        (counted_of D.shown S.told S.fault_count session.old shelf.old) result
+        (counted_of D.shown S.told S.fault_count session.new shelf.new) }
 {
     ask(
         session,
@@ -183,11 +166,9 @@ fn prepare_old<S: Shelf, D: Station>(
     shape: Shape,
 ) -> Result<(), Halt>
     requires running { IsRunning D.shown D.is_ready session.old }
-    ensures goes { Goes no_lines (prepare_tasks to shape true)
-        (stage_of D.shown S.told session.old shelf.old) result (stage_of D.shown S.told session.new shelf.new) }
-    ensures running { IsRunning D.shown D.is_ready session.new }
-    ensures faults { Blames (IsErrOf result (Halt.Stopped Stop.FileFault)) (S.fault_count shelf.old)
-        (S.fault_count shelf.new) }
+    ensures { Went (Goes no_lines (prepare_tasks to shape true)) (IsRunning D.shown D.is_ready session.new) (IsErrOf result (Halt.Stopped Stop.FileFault))
+        (counted_of D.shown S.told S.fault_count session.old shelf.old) result
+        (counted_of D.shown S.told S.fault_count session.new shelf.new) }
 {
     ask(session, shelf, Request::Insert { bay: 1, name: to })?;
     acknowledge_both(session, shelf, shape.rate)
@@ -202,11 +183,9 @@ pub(crate) fn prepare<S: Shelf, D: Station>(
     logged: bool,
 ) -> Result<(), Halt>
     requires running { IsRunning D.shown D.is_ready session.old }
-    ensures goes { Goes no_lines (prepare_tasks to shape logged)
-        (stage_of D.shown S.told session.old shelf.old) result (stage_of D.shown S.told session.new shelf.new) }
-    ensures running { IsRunning D.shown D.is_ready session.new }
-    ensures faults { Blames (IsErrOf result (Halt.Stopped Stop.FileFault)) (S.fault_count shelf.old)
-        (S.fault_count shelf.new) }
+    ensures { Went (Goes no_lines (prepare_tasks to shape logged)) (IsRunning D.shown D.is_ready session.new) (IsErrOf result (Halt.Stopped Stop.FileFault))
+        (counted_of D.shown S.told S.fault_count session.old shelf.old) result
+        (counted_of D.shown S.told S.fault_count session.new shelf.new) }
 {
     if logged {
         prepare_old(session, shelf, to, shape)

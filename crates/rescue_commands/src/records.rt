@@ -1,10 +1,9 @@
 // The records that are asked for: each is read, and then written or logged.
-ghost use Rattle.std.specs.Prelude.{◌≡◌, [], ◌∷◌, map, IsErrOf};
-ghost use Rattle.sector_model.specs.Faults.{Blames};
+ghost use Rattle.std.specs.Prelude.{[], ◌∷◌, map, IsErrOf};
 ghost use Rattle.sector_model.specs.Steps.{Step};
 ghost use Rattle.sector_model.specs.Plays.{World};
 ghost use Rattle.floppy_session.specs.Session.{state_of, IsRunning};
-ghost use Rattle.disk_commands.specs.Carried.{stage_of};
+ghost use Rattle.disk_commands.specs.Carried.{Went, counted_of};
 ghost use Rattle.rescue_commands.specs.Tasks.{Rescue};
 ghost use Rattle.rescue_commands.specs.Carried.{Goes, GoesAfter, line_of, lines_in, IsNextOf, PushesLine};
 
@@ -35,11 +34,9 @@ fn follow<S: Shelf, D: Station>(
     reply: &Reply,
 ) -> Result<Option<LogLine>, Halt>
     requires running { IsRunning D.shown D.is_ready session.old }
-    ensures goes { GoesAfter key reply.now
-        (stage_of D.shown S.told session.old shelf.old) result (stage_of D.shown S.told session.new shelf.new) }
-    ensures running { IsRunning D.shown D.is_ready session.new }
-    ensures faults { Blames (IsErrOf result (Halt.Stopped Stop.FileFault)) (S.fault_count shelf.old)
-        (S.fault_count shelf.new) }
+    ensures { Went (GoesAfter key reply.now) (IsRunning D.shown D.is_ready session.new) (IsErrOf result (Halt.Stopped Stop.FileFault))
+        (counted_of D.shown S.told S.fault_count session.old shelf.old) result
+        (counted_of D.shown S.told S.fault_count session.new shelf.new) }
 {
     let request = read_request(key);
     match next_of(key, reply) {
@@ -63,11 +60,9 @@ fn rescue_record<S: Shelf, D: Station>(
     key: &Chrn,
 ) -> Result<Option<LogLine>, Halt>
     requires running { IsRunning D.shown D.is_ready session.old }
-    ensures goes { Goes line_of (Rescue key.now ∷ [])
-        (stage_of D.shown S.told session.old shelf.old) result (stage_of D.shown S.told session.new shelf.new) }
-    ensures running { IsRunning D.shown D.is_ready session.new }
-    ensures faults { Blames (IsErrOf result (Halt.Stopped Stop.FileFault)) (S.fault_count shelf.old)
-        (S.fault_count shelf.new) }
+    ensures { Went (Goes line_of (Rescue key.now ∷ [])) (IsRunning D.shown D.is_ready session.new) (IsErrOf result (Halt.Stopped Stop.FileFault))
+        (counted_of D.shown S.told S.fault_count session.old shelf.old) result
+        (counted_of D.shown S.told S.fault_count session.new shelf.new) }
 {
     let key = *key;
     let request = read_request(key);
@@ -97,11 +92,9 @@ pub(crate) fn rescue_records<S: Shelf, D: Station>(
     keys: &[Chrn],
 ) -> Result<Vec<LogLine>, Halt>
     requires running { IsRunning D.shown D.is_ready session.old }
-    ensures goes { Goes lines_in (map Rescue keys.now)
-        (stage_of D.shown S.told session.old shelf.old) result (stage_of D.shown S.told session.new shelf.new) }
-    ensures running { IsRunning D.shown D.is_ready session.new }
-    ensures faults { Blames (IsErrOf result (Halt.Stopped Stop.FileFault)) (S.fault_count shelf.old)
-        (S.fault_count shelf.new) }
+    ensures { Went (Goes lines_in (map Rescue keys.now)) (IsRunning D.shown D.is_ready session.new) (IsErrOf result (Halt.Stopped Stop.FileFault))
+        (counted_of D.shown S.told S.fault_count session.old shelf.old) result
+        (counted_of D.shown S.told S.fault_count session.new shelf.new) }
 {
     let mut log = Vec::new(alloc);
     for key in keys {

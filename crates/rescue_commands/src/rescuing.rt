@@ -1,10 +1,10 @@
 // The rescue of a diskette.
-ghost use Rattle.std.specs.Prelude.{◌≡◌, ◌≢◌, ◌∷◌, [], ◌-◌, length, is_some, IfOk, IsErrOf, string_bytes};
+ghost use Rattle.std.specs.Prelude.{◌≡◌, ◌≢◌, ◌-◌, length, IfOk, IsErrOf, string_bytes};
 ghost use Rattle.sector_model.specs.Faults.{Blames};
 ghost use Rattle.floppy_session.specs.Session.{IsRunning};
-ghost use Rattle.disk_commands.specs.Carried.{stage_of};
+ghost use Rattle.disk_commands.specs.Carried.{Went, counted_of};
 ghost use Rattle.disk_commands.specs.Commands.{Runs};
-ghost use Rattle.disk_commands.specs.Worlds.{world_of};
+ghost use Rattle.disk_commands.specs.Worlds.{faulty_of, Ran, printed_of, Told};
 ghost use Rattle.rescue.specs.declared.outcome.Outcome.{Outcome};
 ghost use Rattle.rescue_commands.specs.Tasks.{asked_keys, rescue_tasks};
 ghost use Rattle.rescue_commands.specs.Logs.{lines_found};
@@ -49,11 +49,9 @@ fn run_rescue<S: Shelf, D: Station>(
     keys: &[Chrn],
 ) -> Result<Vec<LogLine>, Halt>
     requires running { IsRunning D.shown D.is_ready session.old }
-    ensures goes { Goes lines_in (rescue_tasks to shape logged keys.now)
-        (stage_of D.shown S.told session.old shelf.old) result (stage_of D.shown S.told session.new shelf.new) }
-    ensures running { IsRunning D.shown D.is_ready session.new }
-    ensures faults { Blames (IsErrOf result (Halt.Stopped Stop.FileFault)) (S.fault_count shelf.old)
-        (S.fault_count shelf.new) }
+    ensures { Went (Goes lines_in (rescue_tasks to shape logged keys.now)) (IsRunning D.shown D.is_ready session.new) (IsErrOf result (Halt.Stopped Stop.FileFault))
+        (counted_of D.shown S.told S.fault_count session.old shelf.old) result
+        (counted_of D.shown S.told S.fault_count session.new shelf.new) }
 {
     prepare(session, shelf, to, shape, logged)?;
     let log = rescue_records(alloc, session, shelf, keys)?;
@@ -111,10 +109,8 @@ fn bad_log_line(alloc: Global, line: usize) -> Result<String, AllocError>
 
 /// Tells why a log wasn't had.
 fn tell_no_log<K: Sink>(alloc: Global, out: &mut K, cause: NoLog) -> Status
-    ensures misses { Misses cause (K.told out.old) (K.told out.new) result }
-    ensures is_form { result ≢ Status.BadWords }
-    ensures shelf_fault { result ≡ Status.FileFault → cause ≡ NoLog.FileFault }
-    ensures sink_faults { Blames (result ≡ Status.SinkFault) (K.fault_count out.old) (K.fault_count out.new) }
+    ensures { Told (Misses cause) (cause ≡ NoLog.FileFault)
+        (printed_of K.told K.fault_count out.old) (printed_of K.told K.fault_count out.new) result }
 {
     match cause {
         NoLog::BadLine { line } => { put_last_line(out, bad_log_line(alloc, line), Status::BadJob) }
@@ -135,13 +131,9 @@ fn rescue_found<S: Shelf, K: Sink, D: Station>(
     out: &mut K,
 ) -> Status
     requires running { IsRunning D.shown D.is_ready session.old }
-    ensures rescues { RescuesFound to log.now shape (lines_found found.now)
-        (world_of D.shown S.told K.told session.old shelf.old out.old)
-        (world_of D.shown S.told K.told session.new shelf.new out.new) result }
-    ensures running { IsRunning D.shown D.is_ready session.new }
-    ensures is_form { result ≢ Status.BadWords }
-    ensures shelf_faults { Blames (result ≡ Status.FileFault) (S.fault_count shelf.old) (S.fault_count shelf.new) }
-    ensures sink_faults { Blames (result ≡ Status.SinkFault) (K.fault_count out.old) (K.fault_count out.new) }
+    ensures { Ran (RescuesFound to log.now shape (lines_found found.now)) (IsRunning D.shown D.is_ready session.new)
+        (faulty_of D.shown S.told S.fault_count K.told K.fault_count session.old shelf.old out.old)
+        (faulty_of D.shown S.told S.fault_count K.told K.fault_count session.new shelf.new out.new) result }
 {
     let Ok(keys) = asked_keys(alloc, shape, found) else {
         return Status::NoMemory;
@@ -163,13 +155,9 @@ fn rescue_opened<S: Shelf, K: Sink, D: Station>(
     out: &mut K,
 ) -> Status
     requires running { IsRunning D.shown D.is_ready session.old }
-    ensures rescues { RescuesOpened to log shape
-        (world_of D.shown S.told K.told session.old shelf.old out.old)
-        (world_of D.shown S.told K.told session.new shelf.new out.new) result }
-    ensures running { IsRunning D.shown D.is_ready session.new }
-    ensures is_form { result ≢ Status.BadWords }
-    ensures shelf_faults { Blames (result ≡ Status.FileFault) (S.fault_count shelf.old) (S.fault_count shelf.new) }
-    ensures sink_faults { Blames (result ≡ Status.SinkFault) (K.fault_count out.old) (K.fault_count out.new) }
+    ensures { Ran (RescuesOpened to log shape) (IsRunning D.shown D.is_ready session.new)
+        (faulty_of D.shown S.told S.fault_count K.told K.fault_count session.old shelf.old out.old)
+        (faulty_of D.shown S.told S.fault_count K.told K.fault_count session.new shelf.new out.new) result }
 {
     match find_log(alloc, shelf, log.as_str(), shape.rate.sectors()) {
         Ok(found) => rescue_found(alloc, session, to, log.as_str(), shape, &found, shelf, out),
@@ -190,13 +178,9 @@ pub fn rescue_disk<S: Shelf, K: Sink, D: Station>(
     out: &mut K,
 ) -> Status
     requires running { IsRunning D.shown D.is_ready session.old }
-    ensures rescues { Runs (Rescues from to log)
-        (world_of D.shown S.told K.told session.old shelf.old out.old)
-        (world_of D.shown S.told K.told session.new shelf.new out.new) result }
-    ensures running { IsRunning D.shown D.is_ready session.new }
-    ensures is_form { result ≢ Status.BadWords }
-    ensures shelf_faults { Blames (result ≡ Status.FileFault) (S.fault_count shelf.old) (S.fault_count shelf.new) }
-    ensures sink_faults { Blames (result ≡ Status.SinkFault) (K.fault_count out.old) (K.fault_count out.new) }
+    ensures { Ran (Runs (Rescues from to log)) (IsRunning D.shown D.is_ready session.new)
+        (faulty_of D.shown S.told S.fault_count K.told K.fault_count session.old shelf.old out.old)
+        (faulty_of D.shown S.told S.fault_count K.told K.fault_count session.new shelf.new out.new) result }
 {
     match open_disk(session, shelf, from) {
         Ok(shape) => rescue_opened(alloc, session, to, log, shape, shelf, out),

@@ -1,11 +1,23 @@
-use Rattle.std.proofs.Common.{refl}
+use Rattle.std.proofs.Common.{rules, refl}
 use Rattle.disk_commands.specs.Worlds.{world_of}
 use Rattle.bios_commands.specs.CallTexts.{call_text}
 use Rattle.bios_commands.proofs.Served.{served_round, served_cut}
 use Rattle.bios_commands.proofs.line.call.Goals as goal
 
-pub returns-in-Ok-clause-round : goal.returns-in-Ok-clause-round
-returns-in-Ok-clause-round g c = λ line is. served_round line c.args.regs c.args.front.now c.int13-answered.new.front (world_of g.D.Station.shown g.S.Shelf.told g.K.Sink.told c.args.session.now c.args.shelf.now c.args.out.now) (world_of g.D.Station.shown g.S.Shelf.told g.K.Sink.told c.int13-answered.new.self c.args.shelf.now c.put_line.new.out) c.int13-answered.result is (c.int13-answered.ensures.serves (g.S.Shelf.told c.args.shelf.now)) refl (c.in-Ok.ensures.ok (call_text c.int13-answered.result) c.call_line.ensures)
+pub returns-in-Ok-clause-ran : goal.returns-in-Ok-clause-ran
+returns-in-Ok-clause-ran g c = record {
+  goes = λ line is. served_round line c.args.regs c.args.front.now c.int13-answered.new.front (world_of g.D.Station.shown g.S.Shelf.told g.K.Sink.told c.args.session.now c.args.shelf.now c.args.out.now) (world_of g.D.Station.shown g.S.Shelf.told g.K.Sink.told c.int13-answered.new.self c.args.shelf.now c.put_line.new.out) c.int13-answered.result is (c.int13-answered.ensures.serves (g.S.Shelf.told c.args.shelf.now)) refl (c.in-Ok.ensures.ok (call_text c.int13-answered.result) c.call_line.ensures);
+  running = search rules;
+  is_form = search rules;
+  shelf_faults = search rules;
+  sink_faults = search rules;
+}
 
-pub returns-in-Err-clause-breaks : goal.returns-in-Err-clause-breaks
-returns-in-Err-clause-breaks g c = λ line is. served_cut line c.args.regs c.args.front.now c.int13-answered.new.front (world_of g.D.Station.shown g.S.Shelf.told g.K.Sink.told c.args.session.now c.args.shelf.now c.args.out.now) (world_of g.D.Station.shown g.S.Shelf.told g.K.Sink.told c.int13-answered.new.self c.args.shelf.now c.put_line.new.out) c.int13-answered.result c.in-Err.ended is (c.int13-answered.ensures.serves (g.S.Shelf.told c.args.shelf.now)) refl (c.in-Err.ensures.err (call_text c.int13-answered.result) c.call_line.ensures) c.in-Err.ensures.only
+pub returns-in-Err-clause-ran : goal.returns-in-Err-clause-ran
+returns-in-Err-clause-ran g c = record {
+  goes = λ line is. served_cut line c.args.regs c.args.front.now c.int13-answered.new.front (world_of g.D.Station.shown g.S.Shelf.told g.K.Sink.told c.args.session.now c.args.shelf.now c.args.out.now) (world_of g.D.Station.shown g.S.Shelf.told g.K.Sink.told c.int13-answered.new.self c.args.shelf.now c.put_line.new.out) c.int13-answered.result c.in-Err.ended is (c.int13-answered.ensures.serves (g.S.Shelf.told c.args.shelf.now)) refl (c.in-Err.ensures.err (call_text c.int13-answered.result) c.call_line.ensures) c.in-Err.ensures.only;
+  running = search rules;
+  is_form = search rules;
+  shelf_faults = search rules;
+  sink_faults = search rules;
+}

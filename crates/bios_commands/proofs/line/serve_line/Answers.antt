@@ -1,10 +1,14 @@
-use Rattle.std.proofs.Common.{subst, sym, List}
-use Rattle.std.specs.Prelude.{IfErr}
+use Rattle.std.proofs.Common.{subst, sym}
 use Rattle.floppy_jobs.specs.declared.calls.CallLine.{CallLine}
-use Rattle.sector_model.specs.Runs.{Taken}
 use Rattle.disk_commands.specs.Worlds.{world_of}
-use Rattle.bios_commands.specs.Rounds.{Breaks}
+use Rattle.bios_commands.specs.Lines.{LineGoes}
 use Rattle.bios_commands.proofs.line.serve_line.Goals as goal
 
-pub returns-in-Job-clause-breaks : goal.returns-in-Job-clause-breaks
-returns-in-Job-clause-breaks g c = subst (λ (l : CallLine). IfErr c.ask.result (λ ended. (last : List Taken) × Breaks c.args.front.now l (world_of g.D.Station.shown g.S.Shelf.told g.K.Sink.told c.args.session.now c.args.shelf.now c.args.out.now) last (world_of g.D.Station.shown g.S.Shelf.told g.K.Sink.told c.ask.new.session c.ask.new.shelf c.ask.new.out) ended)) (sym c.in-Job.is) (c.ask.ensures.breaks c.args.front.now)
+pub returns-in-Job : goal.returns-in-Job
+returns-in-Job g c = record {
+  goes = subst (λ (l : CallLine). LineGoes c.args.front.now c.args.front.now l (world_of g.D.Station.shown g.S.Shelf.told g.K.Sink.told c.args.session.now c.args.shelf.now c.args.out.now) c.ask.result (world_of g.D.Station.shown g.S.Shelf.told g.K.Sink.told c.ask.new.session c.ask.new.shelf c.ask.new.out)) (sym c.in-Job.is) (c.ask.ensures.goes c.args.front.now);
+  running = c.ask.ensures.running;
+  is_form = c.ask.ensures.is_form;
+  shelf_faults = c.ask.ensures.shelf_faults;
+  sink_faults = c.ask.ensures.sink_faults;
+}

@@ -1,4 +1,4 @@
-use Rattle.std.proofs.Common.{arith}
+use Rattle.std.proofs.Common.{rules, arith}
 use Rattle.std.proofs.lemmas.Result.{err_from_is_err_and}
 use Rattle.disk_commands.specs.Plans.{format_track}
 use Rattle.disk_commands.specs.Carried.{stage_of, Any}
@@ -8,10 +8,14 @@ use Rattle.disk_commands.proofs.format.format_cylinder.Goals as goal
 pub loop-h-init : goal.loop-h-init
 loop-h-init g c = record { carried = none_carried Any (stage_of g.D.Station.shown g.S.Shelf.told c.args.session.now c.args.shelf.now); running = c.requires.running; counts = omega arith }
 
-pub returns-in_err-carry-clause-goes : goal.returns-in_err-carry-clause-goes
-returns-in_err-carry-clause-goes g c =
-    let p = err_from_is_err_and c.from_residual.result c.from_residual.ensures.1 in
-    rw (p.1, p.2) (more_halted 0 c.loop-h.h c.loop-h.h 2 (format_track c.args.c) (stage_of g.D.Station.shown g.S.Shelf.told c.args.session.now c.args.shelf.now) (stage_of g.D.Station.shown g.S.Shelf.told c.loop-h.session c.loop-h.shelf) (stage_of g.D.Station.shown g.S.Shelf.told c.carry.new.session c.carry.new.shelf) c.in_err-carry.field-0.0 (omega arith) (omega arith) c.loop-h.invariant.carried c.in_err-carry.ensures.goes)
+pub returns-in_err-carry : goal.returns-in_err-carry
+returns-in_err-carry g c = record {
+  goes =
+      let p = err_from_is_err_and c.from_residual.result c.from_residual.ensures.1 in
+      rw (p.1, p.2) (more_halted 0 c.loop-h.h c.loop-h.h 2 (format_track c.args.c) (stage_of g.D.Station.shown g.S.Shelf.told c.args.session.now c.args.shelf.now) (stage_of g.D.Station.shown g.S.Shelf.told c.loop-h.session c.loop-h.shelf) (stage_of g.D.Station.shown g.S.Shelf.told c.carry.new.session c.carry.new.shelf) c.in_err-carry.field-0.0 (omega arith) (omega arith) c.loop-h.invariant.carried c.in_err-carry.ensures.goes);
+  running = search rules;
+  faults = search rules;
+}
 
 pub loop-h-preserved : goal.loop-h-preserved
 loop-h-preserved g c = record {

@@ -1,4 +1,4 @@
-use Rattle.std.proofs.Common.{arith, ◌+◌, ◌-◌, ◌≡◌, ◌∷◌, [], ℕ, subst}
+use Rattle.std.proofs.Common.{rules, arith, ◌+◌, ◌-◌, ◌≡◌, ◌∷◌, [], ℕ, subst}
 use Rattle.std.proofs.lemmas.Result.{err_from_is_err_and}
 use Rattle.sector_map.specs.Standard.{key_of}
 use Rattle.floppy_requests.specs.declared.request.Request.TheVariants as request
@@ -17,21 +17,33 @@ loop-r-init g c = record {
   sink_counts = omega arith;
 }
 
-pub returns-in_err-more-clause-goes : goal.returns-in_err-more-clause-goes
-returns-in_err-more-clause-goes g c =
-    let p = err_from_is_err_and c.from_residual.result c.from_residual.ensures.1 in
-    rw (p.1, p.2) (verified_stop 1 (c.loop-r.r - 1) c.loop-r.r c.args.sectors (λ (n : ℕ). Asks (request.Read 0 (key_of c.args.c c.args.h n) track_address) ∷ []) (world_of g.D.Station.shown g.S.Shelf.told g.K.Sink.told c.args.session.now c.args.shelf.now c.args.out.now) (world_of g.D.Station.shown g.S.Shelf.told g.K.Sink.told c.loop-r.session c.loop-r.shelf c.loop-r.out) (world_of g.D.Station.shown g.S.Shelf.told g.K.Sink.told c.verify_record.new.session c.verify_record.new.shelf c.verify_record.new.out) c.loop-r.tally c.in_err-more.field-0.0 (omega arith) (omega arith) c.loop-r.invariant.verified c.in_err-more.ensures.goes)
+pub returns-in_err-more-clause-ran : goal.returns-in_err-more-clause-ran
+returns-in_err-more-clause-ran g c = record {
+  goes =
+      let p = err_from_is_err_and c.from_residual.result c.from_residual.ensures.1 in
+      rw (p.1, p.2) (verified_stop 1 (c.loop-r.r - 1) c.loop-r.r c.args.sectors (λ (n : ℕ). Asks (request.Read 0 (key_of c.args.c c.args.h n) track_address) ∷ []) (world_of g.D.Station.shown g.S.Shelf.told g.K.Sink.told c.args.session.now c.args.shelf.now c.args.out.now) (world_of g.D.Station.shown g.S.Shelf.told g.K.Sink.told c.loop-r.session c.loop-r.shelf c.loop-r.out) (world_of g.D.Station.shown g.S.Shelf.told g.K.Sink.told c.verify_record.new.session c.verify_record.new.shelf c.verify_record.new.out) c.loop-r.tally c.in_err-more.field-0.0 (omega arith) (omega arith) c.loop-r.invariant.verified c.in_err-more.ensures.ran.goes);
+  running = search rules;
+  is_form = search rules;
+  shelf_faults = search rules;
+  sink_faults = search rules;
+}
 
 pub loop-r-preserved : goal.loop-r-preserved
 loop-r-preserved g c = record {
-  verified = verified_more 1 (c.loop-r.r - 1) c.loop-r.r (c.loop-r.r + 1 - 1) (λ (n : ℕ). Asks (request.Read 0 (key_of c.args.c c.args.h n) track_address) ∷ []) (world_of g.D.Station.shown g.S.Shelf.told g.K.Sink.told c.args.session.now c.args.shelf.now c.args.out.now) (world_of g.D.Station.shown g.S.Shelf.told g.K.Sink.told c.loop-r.session c.loop-r.shelf c.loop-r.out) (world_of g.D.Station.shown g.S.Shelf.told g.K.Sink.told c.verify_record.new.session c.verify_record.new.shelf c.verify_record.new.out) c.loop-r.tally c.in_ok-more.more c.and-tally.result (omega arith) (omega arith) c.loop-r.invariant.verified c.in_ok-more.ensures.goes c.and-tally.ensures.well c.and-tally.ensures.refused;
+  verified = verified_more 1 (c.loop-r.r - 1) c.loop-r.r (c.loop-r.r + 1 - 1) (λ (n : ℕ). Asks (request.Read 0 (key_of c.args.c c.args.h n) track_address) ∷ []) (world_of g.D.Station.shown g.S.Shelf.told g.K.Sink.told c.args.session.now c.args.shelf.now c.args.out.now) (world_of g.D.Station.shown g.S.Shelf.told g.K.Sink.told c.loop-r.session c.loop-r.shelf c.loop-r.out) (world_of g.D.Station.shown g.S.Shelf.told g.K.Sink.told c.verify_record.new.session c.verify_record.new.shelf c.verify_record.new.out) c.loop-r.tally c.in_ok-more.more c.and-tally.result (omega arith) (omega arith) c.loop-r.invariant.verified c.in_ok-more.ensures.ran.goes c.and-tally.ensures.well c.and-tally.ensures.refused;
   few = omega (arith, c.loop-r.invariant.few, c.in_ok-more.ensures.few, c.and-tally.ensures.well);
-  running = c.verify_record.ensures.running;
-  shelf_counts = omega (arith, c.loop-r.invariant.shelf_counts, c.verify_record.ensures.shelf_faults.never_falls);
-  sink_counts = omega (arith, c.loop-r.invariant.sink_counts, c.verify_record.ensures.sink_faults.never_falls);
+  running = c.verify_record.ensures.ran.running;
+  shelf_counts = omega (arith, c.loop-r.invariant.shelf_counts, c.verify_record.ensures.ran.shelf_faults.never_falls);
+  sink_counts = omega (arith, c.loop-r.invariant.sink_counts, c.verify_record.ensures.ran.sink_faults.never_falls);
 }
 
-pub returns-clause-goes : goal.returns-clause-goes
-returns-clause-goes g c =
-    let all : c.loop-r.r - 1 ≡ c.args.sectors = omega arith in
-    subst (λ (k : ℕ). Verified (each 1 k (λ (n : ℕ). Asks (request.Read 0 (key_of c.args.c c.args.h n) track_address) ∷ [])) (world_of g.D.Station.shown g.S.Shelf.told g.K.Sink.told c.args.session.now c.args.shelf.now c.args.out.now) c.loop-r.tally (world_of g.D.Station.shown g.S.Shelf.told g.K.Sink.told c.loop-r.session c.loop-r.shelf c.loop-r.out)) all c.loop-r.invariant.verified
+pub returns-clause-ran : goal.returns-clause-ran
+returns-clause-ran g c = record {
+  goes =
+      let all : c.loop-r.r - 1 ≡ c.args.sectors = omega arith in
+      subst (λ (k : ℕ). Verified (each 1 k (λ (n : ℕ). Asks (request.Read 0 (key_of c.args.c c.args.h n) track_address) ∷ [])) (world_of g.D.Station.shown g.S.Shelf.told g.K.Sink.told c.args.session.now c.args.shelf.now c.args.out.now) c.loop-r.tally (world_of g.D.Station.shown g.S.Shelf.told g.K.Sink.told c.loop-r.session c.loop-r.shelf c.loop-r.out)) all c.loop-r.invariant.verified;
+  running = search rules;
+  is_form = search rules;
+  shelf_faults = search rules;
+  sink_faults = search rules;
+}

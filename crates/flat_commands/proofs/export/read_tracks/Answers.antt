@@ -1,4 +1,4 @@
-use Rattle.std.proofs.Common.{arith, ◌+◌, ℕ}
+use Rattle.std.proofs.Common.{rules, arith, ◌+◌, ℕ}
 use Rattle.std.proofs.lemmas.Result.{err_from_is_err_and}
 use Rattle.disk_commands.specs.Carried.{stage_of}
 use Rattle.flat_commands.specs.Requests.{each, read_track}
@@ -9,10 +9,14 @@ use Rattle.flat_commands.proofs.export.read_tracks.Goals as goal
 pub loop-c-init : goal.loop-c-init
 loop-c-init g c = record { carried = no_number_gathered 0 (λ (k : ℕ). each 0 2 (read_track c.args.sectors k)) _ _; running = c.requires.running; counts = omega arith }
 
-pub returns-in_err-read_cylinder-clause-goes : goal.returns-in_err-read_cylinder-clause-goes
-returns-in_err-read_cylinder-clause-goes g c =
-    let p = err_from_is_err_and c.from_residual.result c.from_residual.ensures.1 in
-    rw (p.1, p.2) (more_halted 0 c.loop-c.c c.loop-c.c 80 (λ (k : ℕ). each 0 2 (read_track c.args.sectors k)) (stage_of g.D.Station.shown g.S.Shelf.told c.args.session.now c.args.shelf.now) (stage_of g.D.Station.shown g.S.Shelf.told c.loop-c.session c.loop-c.shelf) (stage_of g.D.Station.shown g.S.Shelf.told c.read_cylinder.new.session c.read_cylinder.new.shelf) c.in_err-read_cylinder.field-0.0 (omega arith) (omega arith) c.loop-c.invariant.carried.carried c.in_err-read_cylinder.ensures.goes)
+pub returns-in_err-read_cylinder : goal.returns-in_err-read_cylinder
+returns-in_err-read_cylinder g c = record {
+  goes =
+      let p = err_from_is_err_and c.from_residual.result c.from_residual.ensures.1 in
+      rw (p.1, p.2) (more_halted 0 c.loop-c.c c.loop-c.c 80 (λ (k : ℕ). each 0 2 (read_track c.args.sectors k)) (stage_of g.D.Station.shown g.S.Shelf.told c.args.session.now c.args.shelf.now) (stage_of g.D.Station.shown g.S.Shelf.told c.loop-c.session c.loop-c.shelf) (stage_of g.D.Station.shown g.S.Shelf.told c.read_cylinder.new.session c.read_cylinder.new.shelf) c.in_err-read_cylinder.field-0.0 (omega arith) (omega arith) c.loop-c.invariant.carried.carried c.in_err-read_cylinder.ensures.goes);
+  running = search rules;
+  faults = search rules;
+}
 
 pub loop-c-preserved : goal.loop-c-preserved
 loop-c-preserved g c = record {
@@ -21,5 +25,9 @@ loop-c-preserved g c = record {
   counts = omega (arith, c.loop-c.invariant.counts, c.read_cylinder.ensures.faults.never_falls);
 }
 
-pub returns-clause-goes : goal.returns-clause-goes
-returns-clause-goes g c = all_gathered 0 c.loop-c.c 80 (λ (k : ℕ). each 0 2 (read_track c.args.sectors k)) _ _ _ _ (omega arith) c.loop-c.invariant.carried
+pub returns : goal.returns
+returns g c = record {
+  goes = all_gathered 0 c.loop-c.c 80 (λ (k : ℕ). each 0 2 (read_track c.args.sectors k)) _ _ _ _ (omega arith) c.loop-c.invariant.carried;
+  running = search rules;
+  faults = search rules;
+}

@@ -1,4 +1,4 @@
-use Rattle.std.proofs.Common.{arith, ◌+◌, ◌-◌, subst, ℕ}
+use Rattle.std.proofs.Common.{rules, arith, ◌+◌, ◌-◌, subst, ℕ}
 use Rattle.std.proofs.lemmas.Result.{err_from_is_err_and}
 use Rattle.flat_image.specs.Flat.{sector_place}
 use Rattle.disk_commands.specs.Plans.{record_address}
@@ -11,10 +11,14 @@ use Rattle.flat_commands.proofs.import.fill_track.Goals as goal
 pub loop-r-init : goal.loop-r-init
 loop-r-init g c = record { carried = no_number 1 (λ (r : ℕ). fill_record c.args.flat.now (sector_place c.args.sectors c.args.c c.args.h r) (record_address r)) _; running = c.requires.running; counts = omega arith }
 
-pub returns-in_err-fill_record-clause-goes : goal.returns-in_err-fill_record-clause-goes
-returns-in_err-fill_record-clause-goes g c =
-    let p = err_from_is_err_and c.from_residual.result c.from_residual.ensures.1 in
-    rw (p.1, p.2) (more_halted 1 (c.loop-r.r - 1) c.loop-r.r c.args.sectors (λ (r : ℕ). fill_record c.args.flat.now (sector_place c.args.sectors c.args.c c.args.h r) (record_address r)) (stage_of g.D.Station.shown g.S.Shelf.told c.args.session.now c.args.shelf.now) (stage_of g.D.Station.shown g.S.Shelf.told c.loop-r.session c.loop-r.shelf) (stage_of g.D.Station.shown g.S.Shelf.told c.fill_record.new.session c.fill_record.new.shelf) c.in_err-fill_record.field-0.0 (omega arith) (omega arith) c.loop-r.invariant.carried (subst (λ (p : ℕ). IsHalted (fill_record c.args.flat.now p (record_address c.loop-r.r)) (stage_of g.D.Station.shown g.S.Shelf.told c.loop-r.session c.loop-r.shelf) c.in_err-fill_record.field-0.0 (stage_of g.D.Station.shown g.S.Shelf.told c.fill_record.new.session c.fill_record.new.shelf)) c.place-from.ensures.place (subst (λ (a : ℕ). IsHalted (fill_record c.args.flat.now c.place-from.result a) (stage_of g.D.Station.shown g.S.Shelf.told c.loop-r.session c.loop-r.shelf) c.in_err-fill_record.field-0.0 (stage_of g.D.Station.shown g.S.Shelf.told c.fill_record.new.session c.fill_record.new.shelf)) c.record_address.ensures c.in_err-fill_record.ensures.goes)))
+pub returns-in_err-fill_record : goal.returns-in_err-fill_record
+returns-in_err-fill_record g c = record {
+  goes =
+      let p = err_from_is_err_and c.from_residual.result c.from_residual.ensures.1 in
+      rw (p.1, p.2) (more_halted 1 (c.loop-r.r - 1) c.loop-r.r c.args.sectors (λ (r : ℕ). fill_record c.args.flat.now (sector_place c.args.sectors c.args.c c.args.h r) (record_address r)) (stage_of g.D.Station.shown g.S.Shelf.told c.args.session.now c.args.shelf.now) (stage_of g.D.Station.shown g.S.Shelf.told c.loop-r.session c.loop-r.shelf) (stage_of g.D.Station.shown g.S.Shelf.told c.fill_record.new.session c.fill_record.new.shelf) c.in_err-fill_record.field-0.0 (omega arith) (omega arith) c.loop-r.invariant.carried (subst (λ (p : ℕ). IsHalted (fill_record c.args.flat.now p (record_address c.loop-r.r)) (stage_of g.D.Station.shown g.S.Shelf.told c.loop-r.session c.loop-r.shelf) c.in_err-fill_record.field-0.0 (stage_of g.D.Station.shown g.S.Shelf.told c.fill_record.new.session c.fill_record.new.shelf)) c.place-from.ensures.place (subst (λ (a : ℕ). IsHalted (fill_record c.args.flat.now c.place-from.result a) (stage_of g.D.Station.shown g.S.Shelf.told c.loop-r.session c.loop-r.shelf) c.in_err-fill_record.field-0.0 (stage_of g.D.Station.shown g.S.Shelf.told c.fill_record.new.session c.fill_record.new.shelf)) c.record_address.ensures c.in_err-fill_record.ensures.goes)));
+  running = search rules;
+  faults = search rules;
+}
 
 pub loop-r-preserved : goal.loop-r-preserved
 loop-r-preserved g c = record {
@@ -23,5 +27,9 @@ loop-r-preserved g c = record {
   counts = omega (arith, c.loop-r.invariant.counts, c.fill_record.ensures.faults.never_falls);
 }
 
-pub returns-clause-goes : goal.returns-clause-goes
-returns-clause-goes g c = all_carried 1 (c.loop-r.r - 1) c.args.sectors (λ (r : ℕ). fill_record c.args.flat.now (sector_place c.args.sectors c.args.c c.args.h r) (record_address r)) _ _ (omega arith) c.loop-r.invariant.carried
+pub returns : goal.returns
+returns g c = record {
+  goes = all_carried 1 (c.loop-r.r - 1) c.args.sectors (λ (r : ℕ). fill_record c.args.flat.now (sector_place c.args.sectors c.args.c c.args.h r) (record_address r)) _ _ (omega arith) c.loop-r.invariant.carried;
+  running = search rules;
+  faults = search rules;
+}

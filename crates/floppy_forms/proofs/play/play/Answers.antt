@@ -1,12 +1,23 @@
+use Rattle.std.proofs.Common.{rules}
 use Rattle.floppy_session.specs.Session.{state_of}
 use Rattle.floppy_forms.specs.Rounds.{world}
 use Rattle.floppy_forms.proofs.InRounds.{text_plays, missed_plays}
 use Rattle.floppy_forms.proofs.play.play.Goals as goal
 
-pub returns-in-Ok-clause-plays : goal.returns-in-Ok-clause-plays
-returns-in-Ok-clause-plays g c =
-    text_plays (state_of g.D.Station.shown c.args.session.now) (g.S.Shelf.told c.args.shelf.now) (g.S.Shelf.told c.load.new.self) (g.K.Sink.told c.args.out.now) (world (state_of g.D.Station.shown c.play_text.new.session) (g.S.Shelf.told c.play_text.new.shelf) (g.K.Sink.told c.play_text.new.out)) c.args.job.now c.deref.result.now c.in-Ok.text c.play_text.result c.in-Ok.ensures.stays c.deref.ensures.value c.in-Ok.ensures.gives c.play_text.ensures.plays
+pub returns-in-Ok : goal.returns-in-Ok
+returns-in-Ok g c = record {
+  does = text_plays (state_of g.D.Station.shown c.args.session.now) (g.S.Shelf.told c.args.shelf.now) (g.S.Shelf.told c.load.new.self) (g.K.Sink.told c.args.out.now) (world (state_of g.D.Station.shown c.play_text.new.session) (g.S.Shelf.told c.play_text.new.shelf) (g.K.Sink.told c.play_text.new.out)) c.args.job.now c.deref.result.now c.in-Ok.text c.play_text.result c.in-Ok.ensures.stays c.deref.ensures.value c.in-Ok.ensures.gives c.play_text.ensures.does;
+  running = search rules;
+  is_form = search rules;
+  shelf_faults = search rules;
+  sink_faults = search rules;
+}
 
-pub returns-in-Err-clause-plays : goal.returns-in-Err-clause-plays
-returns-in-Err-clause-plays g c =
-    missed_plays (state_of g.D.Station.shown c.args.session.now) (g.S.Shelf.told c.args.shelf.now) (g.S.Shelf.told c.load.new.self) (g.K.Sink.told c.args.out.now) (g.K.Sink.told c.not_loaded.new.out) c.args.job.now c.in-Err.error c.not_loaded.result c.in-Err.ensures.stays c.in-Err.ensures.gives c.not_loaded.ensures.ends
+pub returns-in-Err : goal.returns-in-Err
+returns-in-Err g c = record {
+  does = missed_plays (state_of g.D.Station.shown c.args.session.now) (g.S.Shelf.told c.args.shelf.now) (g.S.Shelf.told c.load.new.self) (g.K.Sink.told c.args.out.now) (g.K.Sink.told c.not_loaded.new.out) c.args.job.now c.in-Err.error c.not_loaded.result c.in-Err.ensures.stays c.in-Err.ensures.gives c.not_loaded.ensures.tells;
+  running = search rules;
+  is_form = search rules;
+  shelf_faults = search rules;
+  sink_faults = search rules;
+}
