@@ -511,10 +511,33 @@ static void run_commands(const Kind *with, unsigned long commands) {
         kind->name, taken[IN_BYTES], taken[IN_EXECUTION], taken[IN_RESULTS], taken[BEHIND], refused, others);
 }
 
+/* The bytes of a controller that was just made, field by field: it is held in reset at 250 kbit/s, with polling on and its poll due, and
+ * its FIFO off with a threshold of one byte; the change lines of both empty drives are up. Counts have eight bytes, the low one first. */
+static void made_as_written(void) {
+    static const uint8_t wanted[75] = {
+        'C',
+        0, 2, 0, 1, 1, 0, 0, 0,             /* DOR, the rate, non-DMA, polling, poll due, INT, DRQ, the command phase */
+        0, 0, 0, 0, 0, 0, 0, 0, 0,          /* the cylinders, no seek, no results */
+        0, 0, 0, 0, 0, 0, 0, 0,             /* no command bytes */
+        0, 1, 0, 0, 0, 0, 0, 0, 0, 0,       /* the FIFO off, its threshold, no bytes in it */
+        0, 0, 0, 0, 0, 0, 0, 0,             /* no data command yet */
+        0, 0, 0, 0, 0, 0, 0, 1, 0, 0,       /* a drive: no medium, cylinder, place, spin, motor, change, gate, written */
+        0, 0, 0, 0, 0, 0, 0, 1, 0, 0,
+        0, 0, 0, 0, 0, 0, 0, 0, 0, 0, 0,    /* nothing in front, no bytes, no strap, no EIS */
+    };
+    telwyddus_controller controller = {0};
+    size_t length;
+    MUST(telwyddus_controller_new(&controller));
+    MUST(telwyddus_controller_save(&controller, state, ROOM, &length));
+    check(length == sizeof wanted && memcmp(state, wanted, length) == 0, "a new controller has the bytes that its fields have");
+    MUST(telwyddus_controller_free(&controller));
+}
+
 int main(int count, char **words) {
     unsigned long commands = count > 1 ? strtoul(words[1], NULL, 10) : 1000;
     seed = count > 2 ? strtoull(words[2], NULL, 10) : 1;
     make_images();
+    made_as_written();
     run_commands(&controller_kind, commands);
     run_commands(&machine_kind, commands / 10);
     printf("%lu commands, %lu differences\n", commands + commands / 10, differences);
