@@ -16,26 +16,13 @@ pub(crate) fn word_time_after(port: u16, byte: u8, before: u32) -> u32
     ensures { result ≡ (if port == 0x3F4 || port == 0x3F7 then nanoseconds (rate_chosen byte) else before) }
 {
     if port == DSR || port == CCR {
-        word_time_at(byte)
+        word_time_of(DataRate::chosen_by(byte))
     } else {
         before
     }
 }
 
-/// The nanoseconds of a word time at the rate that a byte written to DSR or CCR chooses. At 300 kbit/s it is 26,666 and
-/// two thirds, here rounded up.
-fn word_time_at(byte: u8) -> u32
-    ensures { result ≡ nanoseconds (rate_chosen byte) }
-{
-    match byte % 4 {
-        0 => 16_000,
-        1 => 26_667,
-        2 => 32_000,
-        _ => 8_000,
-    }
-}
-
-/// The nanoseconds of a word time at a rate.
+/// The nanoseconds of a word time at a rate. At 300 kbit/s it is 26,666 and two thirds, here rounded up.
 pub(crate) fn word_time_of(rate: DataRate) -> u32
     ensures { result ≡ nanoseconds rate }
 {

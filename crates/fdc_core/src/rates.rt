@@ -19,7 +19,7 @@ pub enum DataRate {
 
 impl DataRate {
     /// The rate that a byte written to DSR or CCR chooses.
-    pub(crate) fn chosen_by(byte: u8) -> DataRate
+    pub fn chosen_by(byte: u8) -> DataRate
         ensures { result ≡ rate_chosen byte }
     {
         match byte % 4 {

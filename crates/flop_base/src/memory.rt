@@ -1,5 +1,5 @@
 // A shelf and a sink in memory, whose calls fail where their maker says so.
-ghost use Rattle.std.specs.Prelude.{◌≡◌, ◌≤◌, ◌+◌, ◌++◌, ◌↔◌, [], min, length, Some, Contains, IsTrue, IfOk, OnOk, OnErr, IsErrOf, option_copied};
+ghost use Rattle.std.specs.Prelude.{◌≡◌, ◌≢◌, ◌≤◌, ◌+◌, ◌++◌, ◌↔◌, [], min, length, Some, Err, Contains, IsTrue, IfOk, OnOk, OnErr, IsErrOf, option_copied};
 ghost use Rattle.std.specs.Bool.{OnTrue, OnFalse};
 ghost use Rattle.flop_base.specs.Counts.{Rose, last_count};
 ghost use Rattle.flop_base.specs.Shelf.{Loads, no_files, file_at, stored};
@@ -185,6 +185,7 @@ impl Sink for MemSink {
         ensures err { OnErr result (bytes_of self.new ≡ bytes_of self.old) }
         ensures failed { IsErrOf result PutError.Failed
             → Rose (faults_of self.old) (faults_of self.new) }
+        ensures else_stays { result ≢ Err PutError.Failed → faults_of self.new ≡ faults_of self.old }
         ensures never_falls { faults_of self.old ≤ faults_of self.new }
 
         ensures failing { failing_of self.new ≡ failing_of self.old }

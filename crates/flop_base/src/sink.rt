@@ -1,5 +1,5 @@
 // Where the program prints.
-ghost use Rattle.std.specs.Prelude.{◌≡◌, ◌≤◌, ℕ, List, Option, OnOk, OnErr, IsErrOf};
+ghost use Rattle.std.specs.Prelude.{◌≡◌, ◌≢◌, ◌≤◌, ℕ, List, Option, Err, OnOk, OnErr, IsErrOf};
 ghost use Rattle.flop_base.specs.Counts.{Rose};
 ghost use Rattle.flop_base.specs.Sink.{grown, GrowsByPart};
 
@@ -21,6 +21,7 @@ pub trait Sink {
         ensures err { OnErr result (GrowsByPart (told self.old) bytes.now (told self.new)) }
         ensures failed { IsErrOf result PutError.Failed
             → Rose (fault_count self.old) (fault_count self.new) }
+        ensures else_stays { result ≢ Err PutError.Failed → fault_count self.new ≡ fault_count self.old }
         ensures never_falls { fault_count self.old ≤ fault_count self.new };
 
     /// The count of faults, which stays at its last value. Each call that ends with `Failed` raises it.
