@@ -4,7 +4,7 @@ ghost use Rattle.std.specs.Fmt.{decimal};
 ghost use Rattle.flop_base.specs.Sink.{grown, GrowsByPart};
 ghost use Rattle.sector_model.specs.Texts.{reply_text, stop_text, stop_status, bad_line_text, absent_text, image_text, image_error_text, reason_text, dump_text, dump_line, dump_byte, line_end};
 ghost use Rattle.sector_model.specs.Plays.{IsPutFault, Prints};
-ghost use Rattle.sector_model.specs.Faults.{Blames};
+ghost use Rattle.floppy_report.specs.Faults.{BlamesAlone};
 ghost use Rattle.floppy_report.specs.LastLines.{bad_words_text, stopped_text, unfit_text};
 
 use flop_base::{PutError, Sink, Status};
@@ -21,7 +21,7 @@ fn put<K: Sink>(out: &mut K, line: &str) -> Result<(), Status>
     ensures ok { OnOk result (K.told out.new ≡ grown (K.told out.old) line.now) }
     ensures err { OnErr result (GrowsByPart (K.told out.old) line.now (K.told out.new)) }
     ensures only { IfErr result IsPutFault }
-    ensures faults { Blames (IsErrOf result Status.SinkFault) (K.fault_count out.old) (K.fault_count out.new) }
+    ensures faults { BlamesAlone (IsErrOf result Status.SinkFault) (K.fault_count out.old) (K.fault_count out.new) }
 {
     match out.put(line.as_bytes()) {
         Ok(()) => Ok(()),
@@ -37,7 +37,7 @@ pub fn put_line<K: Sink>(out: &mut K, line: Result<String, AllocError>) -> Resul
     ensures err { (text : List ℕ) → IfOk line (λ made. string_bytes made ≡ text)
         → OnErr result (GrowsByPart (K.told out.old) text (K.told out.new)) }
     ensures only { IfErr result IsPutFault }
-    ensures faults { Blames (IsErrOf result Status.SinkFault) (K.fault_count out.old) (K.fault_count out.new) }
+    ensures faults { BlamesAlone (IsErrOf result Status.SinkFault) (K.fault_count out.old) (K.fault_count out.new) }
 {
     match line {
         Ok(line) => put(out, line.as_str()),
@@ -121,7 +121,7 @@ fn put_row<K: Sink>(alloc: Global, out: &mut K, address: u32, row: &[u8]) -> Res
     ensures ok { OnOk result (K.told out.new ≡ grown (K.told out.old) (dump_line address row.now)) }
     ensures err { OnErr result (GrowsByPart (K.told out.old) (dump_line address row.now) (K.told out.new)) }
     ensures only { IfErr result IsPutFault }
-    ensures faults { Blames (IsErrOf result Status.SinkFault) (K.fault_count out.old) (K.fault_count out.new) }
+    ensures faults { BlamesAlone (IsErrOf result Status.SinkFault) (K.fault_count out.old) (K.fault_count out.new) }
 {
     put_line(out, dump_line(alloc, address, row))
 }
@@ -131,7 +131,7 @@ fn put_dump<K: Sink>(alloc: Global, out: &mut K, address: u32, content: &[u8]) -
     ensures ok { OnOk result (K.told out.new ≡ grown (K.told out.old) (dump_text address content.now)) }
     ensures err { OnErr result (GrowsByPart (K.told out.old) (dump_text address content.now) (K.told out.new)) }
     ensures only { IfErr result IsPutFault }
-    ensures faults { Blames (IsErrOf result Status.SinkFault) (K.fault_count out.old) (K.fault_count out.new) }
+    ensures faults { BlamesAlone (IsErrOf result Status.SinkFault) (K.fault_count out.old) (K.fault_count out.new) }
 {
     let mut place = address;
     for i in 0..content.len().div_ceil(DUMP_LINE) {
@@ -154,7 +154,7 @@ pub fn put_reply<K: Sink>(
     ensures ok { OnOk result (K.told out.new ≡ grown (K.told out.old) (reply_text request.now reply.now)) }
     ensures err { OnErr result (GrowsByPart (K.told out.old) (reply_text request.now reply.now) (K.told out.new)) }
     ensures only { IfErr result IsPutFault }
-    ensures faults { Blames (IsErrOf result Status.SinkFault) (K.fault_count out.old) (K.fault_count out.new) }
+    ensures faults { BlamesAlone (IsErrOf result Status.SinkFault) (K.fault_count out.old) (K.fault_count out.new) }
 {
     let verb = request.verb();
     match reply {
@@ -171,7 +171,7 @@ fn put_stop<K: Sink>(alloc: Global, out: &mut K, stop: &Stop) -> Result<(), Stat
     ensures ok { OnOk result (K.told out.new ≡ grown (K.told out.old) (stop_text stop.now)) }
     ensures err { OnErr result (GrowsByPart (K.told out.old) (stop_text stop.now) (K.told out.new)) }
     ensures only { IfErr result IsPutFault }
-    ensures faults { Blames (IsErrOf result Status.SinkFault) (K.fault_count out.old) (K.fault_count out.new) }
+    ensures faults { BlamesAlone (IsErrOf result Status.SinkFault) (K.fault_count out.old) (K.fault_count out.new) }
 {
     match stop {
         Stop::BadImage { name, error } => put_line(out, image_line(alloc, name.as_str(), *error)),
@@ -194,7 +194,7 @@ fn put_absent<K: Sink>(alloc: Global, out: &mut K, name: &str) -> Result<(), Sta
     ensures ok { OnOk result (K.told out.new ≡ grown (K.told out.old) (absent_text name.now)) }
     ensures err { OnErr result (GrowsByPart (K.told out.old) (absent_text name.now) (K.told out.new)) }
     ensures only { IfErr result IsPutFault }
-    ensures faults { Blames (IsErrOf result Status.SinkFault) (K.fault_count out.old) (K.fault_count out.new) }
+    ensures faults { BlamesAlone (IsErrOf result Status.SinkFault) (K.fault_count out.old) (K.fault_count out.new) }
 {
     put_line(out, format!(in alloc; "{name} absent\n"))
 }
@@ -204,7 +204,7 @@ fn put_bad_line<K: Sink>(alloc: Global, out: &mut K, line: usize) -> Result<(), 
     ensures ok { OnOk result (K.told out.new ≡ grown (K.told out.old) (bad_line_text line)) }
     ensures err { OnErr result (GrowsByPart (K.told out.old) (bad_line_text line) (K.told out.new)) }
     ensures only { IfErr result IsPutFault }
-    ensures faults { Blames (IsErrOf result Status.SinkFault) (K.fault_count out.old) (K.fault_count out.new) }
+    ensures faults { BlamesAlone (IsErrOf result Status.SinkFault) (K.fault_count out.old) (K.fault_count out.new) }
 {
     put_line(out, bad_line(alloc, line))
 }
@@ -245,7 +245,7 @@ pub fn put_last<K: Sink>(alloc: Global, out: &mut K, stop: &Stop) -> Status
     ensures prints { Prints (stop_text stop.now) (stop_status stop.now) (K.told out.old) (K.told out.new) result }
     ensures is_form { result ≢ Status.BadWords }
     ensures shelf_fault { result ≡ Status.FileFault → stop.now ≡ Stop.FileFault }
-    ensures faults { Blames (result ≡ Status.SinkFault) (K.fault_count out.old) (K.fault_count out.new) }
+    ensures faults { BlamesAlone (result ≡ Status.SinkFault) (K.fault_count out.old) (K.fault_count out.new) }
 {
     after(put_stop(alloc, out, stop), stop_status(stop))
 }
@@ -254,7 +254,7 @@ pub fn put_last<K: Sink>(alloc: Global, out: &mut K, stop: &Stop) -> Status
 pub fn put_last_absent<K: Sink>(alloc: Global, out: &mut K, name: &str) -> Status
     ensures prints { Prints (absent_text name.now) Status.Absent (K.told out.old) (K.told out.new) result }
     ensures only { result ≢ Status.Absent → IsPutFault result }
-    ensures faults { Blames (result ≡ Status.SinkFault) (K.fault_count out.old) (K.fault_count out.new) }
+    ensures faults { BlamesAlone (result ≡ Status.SinkFault) (K.fault_count out.old) (K.fault_count out.new) }
 {
     after(put_absent(alloc, out, name), Status::Absent)
 }
@@ -263,7 +263,7 @@ pub fn put_last_absent<K: Sink>(alloc: Global, out: &mut K, name: &str) -> Statu
 pub fn put_last_bad_line<K: Sink>(alloc: Global, out: &mut K, line: usize) -> Status
     ensures prints { Prints (bad_line_text line) Status.BadJob (K.told out.old) (K.told out.new) result }
     ensures only { result ≢ Status.BadJob → IsPutFault result }
-    ensures faults { Blames (result ≡ Status.SinkFault) (K.fault_count out.old) (K.fault_count out.new) }
+    ensures faults { BlamesAlone (result ≡ Status.SinkFault) (K.fault_count out.old) (K.fault_count out.new) }
 {
     after(put_bad_line(alloc, out, line), Status::BadJob)
 }
@@ -287,7 +287,7 @@ pub fn put_last_stopped<K: Sink>(
 ) -> Status
     ensures prints { Prints (stopped_text request.now reason) Status.SomeRefused (K.told out.old) (K.told out.new) result }
     ensures only { result ≢ Status.SomeRefused → IsPutFault result }
-    ensures faults { Blames (result ≡ Status.SinkFault) (K.fault_count out.old) (K.fault_count out.new) }
+    ensures faults { BlamesAlone (result ≡ Status.SinkFault) (K.fault_count out.old) (K.fault_count out.new) }
 {
     put_last_line(
         out,
@@ -307,7 +307,7 @@ fn unfit_line(alloc: Global, c: u8, h: u8) -> Result<String, AllocError>
 pub fn put_last_unfit<K: Sink>(alloc: Global, out: &mut K, c: u8, h: u8) -> Status
     ensures prints { Prints (unfit_text c h) Status.SomeRefused (K.told out.old) (K.told out.new) result }
     ensures only { result ≢ Status.SomeRefused → IsPutFault result }
-    ensures faults { Blames (result ≡ Status.SinkFault) (K.fault_count out.old) (K.fault_count out.new) }
+    ensures faults { BlamesAlone (result ≡ Status.SinkFault) (K.fault_count out.old) (K.fault_count out.new) }
 {
     put_last_line(out, unfit_line(alloc, c, h), Status::SomeRefused)
 }
@@ -322,7 +322,7 @@ pub fn put_last_line<K: Sink>(
         → Prints text status (K.told out.old) (K.told out.new) result }
     ensures only { result ≢ status → IsPutFault result }
     ensures faults { status ≢ Status.SinkFault
-        → Blames (result ≡ Status.SinkFault) (K.fault_count out.old) (K.fault_count out.new) }
+        → BlamesAlone (result ≡ Status.SinkFault) (K.fault_count out.old) (K.fault_count out.new) }
 {
     after(put_line(out, line), status)
 }
@@ -331,7 +331,7 @@ pub fn put_last_line<K: Sink>(
 pub fn put_last_bad_words<K: Sink>(out: &mut K) -> Status
     ensures prints { Prints bad_words_text Status.BadWords (K.told out.old) (K.told out.new) result }
     ensures only { result ≢ Status.BadWords → IsPutFault result }
-    ensures faults { Blames (result ≡ Status.SinkFault) (K.fault_count out.old) (K.fault_count out.new) }
+    ensures faults { BlamesAlone (result ≡ Status.SinkFault) (K.fault_count out.old) (K.fault_count out.new) }
 {
     after(put(out, "words not understood\n"), Status::BadWords)
 }

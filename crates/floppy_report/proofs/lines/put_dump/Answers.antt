@@ -1,4 +1,4 @@
-use Rattle.std.proofs.Common.{arith, ◌≡◌, ap, sym, ◌∙◌, ◌+◌, ◌-◌, ◌*◌, ◌/◌, ◌<◌, length, take, drop, ℕ, min}
+use Rattle.std.proofs.Common.{arith, refl, rules, ◌≡◌, ap, sym, ◌∙◌, ◌+◌, ◌-◌, ◌*◌, ◌/◌, ◌<◌, length, take, drop, ℕ, min}
 use Rattle.flop_base.specs.Sink.{grown}
 use Rattle.floppy_report.proofs.DumpLines.{grown-nothing, lines_below, lines-none, lines-all, line-put, line-cut, row_of-line, on_err}
 use Rattle.floppy_report.proofs.lines.put_dump.Goals as goal
@@ -7,7 +7,7 @@ pub loop-i-init : goal.loop-i-init
 loop-i-init g c = record {
   told = sym (ap (grown (g.K.Sink.told c.args.out.now)) (lines-none c.args.address c.args.content.now) ∙ grown-nothing (g.K.Sink.told c.args.out.now));
   place = omega (arith, c.ranges.address);
-  counts = omega arith;
+  counts = refl;
 }
 
 pub returns-in_err-put_row-clause-err : goal.returns-in_err-put_row-clause-err
@@ -20,7 +20,7 @@ pub loop-i-preserved : goal.loop-i-preserved
 loop-i-preserved g c = let end : c.min-end.result ≡ min (length c.args.content.now) (16 * c.loop-i.i + 16) = omega (arith, c.min-end.ensures) in record {
   told = line-put (g.K.Sink.told c.args.out.now) (g.K.Sink.told c.loop-i.out) (g.K.Sink.told c.put_row.new.out) c.args.address c.loop-i.place c.loop-i.i c.args.content.now _ c.loop-i.invariant.told c.loop-i.invariant.place (row_of-line c.args.content.now _ c.loop-i.i (ap (λ (m : ℕ). take (m - 16 * c.loop-i.i) (drop (16 * c.loop-i.i) c.args.content.now)) end)) c.in_ok-put_row.ensures.ok;
   place = omega (arith, c.loop-i.invariant.place);
-  counts = omega (arith, c.loop-i.invariant.counts, c.put_row.ensures.faults.never_falls);
+  counts = search rules;
 }
 
 pub returns-clause-ok : goal.returns-clause-ok

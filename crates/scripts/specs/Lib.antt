@@ -1,0 +1,4 @@
+pub mod Scripts
+pub mod Parts
+pub mod Leading
+pub mod Records

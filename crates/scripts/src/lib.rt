@@ -1,0 +1,12 @@
+//! Scripts of commands over a session: what a command asks, prints and stores, part by part. Each function here goes through one part.
+#![tactic(auto)]
+
+mod asking;
+mod opening;
+mod printing;
+mod records;
+
+pub use asking::{ask, carry, is_refusal, need};
+pub use opening::{acknowledge, blank_request, format_tracks, open_disk};
+pub use printing::{finish, say, whole_status};
+pub use records::{TRACK_ADDRESS, record_address};
