@@ -5,8 +5,10 @@ mod asking;
 mod opening;
 mod printing;
 mod records;
+mod storing;
 
 pub use asking::{ask, carry, is_refusal, need};
 pub use opening::{acknowledge, blank_request, format_tracks, open_disk};
 pub use printing::{finish, say, whole_status};
 pub use records::{TRACK_ADDRESS, record_address};
+pub use storing::store_last;

@@ -25,11 +25,13 @@ pub fn say<K: Sink>(out: &mut K, line: Result<String, AllocError>) -> Result<(),
 
 /// Puts the last line of a script, and gives the status.
 pub fn finish<K: Sink>(out: &mut K, line: Result<String, AllocError>, status: Status) -> Status
-    requires status { status ≢ Status.SinkFault }
+    requires sink { status ≢ Status.SinkFault }
+    requires shelf { status ≢ Status.FileFault }
+    requires form { status ≢ Status.BadWords }
     ensures goes { (text : List ℕ) (state : State) (files : Option Files) → IfOk line (λ made. string_bytes made ≡ text)
         → Finishes (Ends text status) (with_report state files (K.told out.old)) (with_report state files (K.told out.new)) result }
-    ensures only { result ≢ status → result ≢ Status.BadWords }
-    ensures no_shelf_fault { result ≡ Status.FileFault → status ≡ Status.FileFault }
+    ensures is_form { result ≢ Status.BadWords }
+    ensures no_shelf_fault { result ≢ Status.FileFault }
     ensures sink_faults { BlamesAlone (result ≡ Status.SinkFault) (K.fault_count out.old) (K.fault_count out.new) }
 {
     put_last_line(out, line, status)
