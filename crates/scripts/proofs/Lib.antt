@@ -1,3 +1,4 @@
 pub mod Running
 pub mod Looping
+pub mod Reading
 mod Opened

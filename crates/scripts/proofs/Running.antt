@@ -21,7 +21,7 @@ use Rattle.sector_model.proofs.PlayTies.{ran_ties, stopped_ties}
 use Rattle.floppy_report.specs.LastLines.{stopped_text}
 use Rattle.scripts.specs.Scripts.{Script, Ends, Says, Asks, Stores, MayStarve, RunsScript, unless_refused, StoresLast, IsStored, NotStored}
 use Rattle.scripts.specs.Parts.{asks, needs, says, may_starve}
-use Rattle.scripts.specs.Leading.{IsRunOf, Leads, Goes, Runs, with_report}
+use Rattle.scripts.specs.Leading.{IsRunOf, Leads, Goes, Finishes, Runs, with_report}
 
 -- nothing was done yet
 pub leads_itself : (script : Script) (start : World) → Leads script start script start
@@ -185,3 +185,7 @@ ran_tied old course new (Stopped mid files asked cause run stops) = stopped_ties
 pub tied_run : (script : Script) (old new : World) (ended : Status) → IsRunOf script old new ended → Runs (RunsScript script) old new ended
 unfolding IsRunOf
 tied_run script old new ended run = record { course = run.0; does = run.1; ties = ran_tied old run.0 new (script_ran script old run.0 new ended run.1) }
+
+-- what ends a whole script, from its begin on, is a run of it
+pub finished : (script : Script) (old new : World) (ended : Status) → Finishes script old new ended → Runs (RunsScript script) old new ended
+finished script old new ended ends = tied_run script old new ended (ends script old (leads_itself script old))

@@ -1,0 +1,61 @@
+-- The script of a verify: each sector of a disk is read, and those that can't be read are listed.
+use Rattle.std.specs.Prelude.{ℕ, ◌+◌, ◌||◌, Bool, false, List, ◌++◌, codes, if◌then◌else◌}
+use Rattle.std.specs.Fmt.{decimal}
+use Rattle.flop_base.specs.Standard.{sectors_at}
+use Rattle.flop_base.specs.declared.key.Chrn.{Chrn}
+use Rattle.sector_map.specs.Standard.{key_of}
+use Rattle.floppy_requests.specs.declared.request.Request.TheVariants as request
+use Rattle.sector_model.specs.declared.reply.Reply.{Reply}
+use Rattle.sector_model.specs.declared.reply.Reply.TheVariants as reply
+use Rattle.sector_model.specs.declared.reply.Reason.{Reason}
+use Rattle.sector_model.specs.Texts.{is_refusal, reason_text, line_end}
+use Rattle.sector_model.specs.Plays.{whole_status}
+use Rattle.floppy_session.specs.declared.shape.Shape.{Shape}
+use Rattle.scripts.specs.Scripts.{Script, Ends}
+use Rattle.scripts.specs.Parts.{Part, asks, says, opens, acknowledges, each, by_track}
+use Rattle.scripts.specs.Records.{track_address}
+use Rattle.disk_commands.specs.declared.tally.Tally.{Tally}
+use Rattle.disk_commands.specs.Disks.{sectors_of}
+
+-- the line of a record that couldn't be read: its cylinder, head and record, and why
+unfoldable pub failure_line : Chrn → Reason → List ℕ
+failure_line key cause =
+    decimal key.c ++ (codes " " ++ (decimal key.h ++ (codes " " ++ (decimal key.r ++ (codes " " ++ (reason_text cause ++ line_end))))))
+
+-- the refusal of a read is told by a line
+unfoldable pub tells_failure : Chrn → Reply → Part (Unit {0})
+tells_failure key (reply.Refused cause) rest = says (failure_line key cause) rest
+tells_failure key reply.Done rest = rest tt
+tells_failure key reply.DoneDeleted rest = rest tt
+tells_failure key (reply.Bytes address content) rest = rest tt
+
+-- no read yet
+abbrev pub no_reads : Tally
+no_reads = record { well = 0; refused = false }
+
+-- one more read, which was refused or not
+abbrev pub one_more : Tally → Bool → Tally
+one_more tally refused = record { well = tally.well + (if refused then 0 else 1); refused = tally.refused || refused }
+
+-- a record is read, and told where it can't be
+unfoldable pub verifies_record : ℕ → ℕ → ℕ → Tally → Part Tally
+verifies_record c h r tally rest =
+    asks (request.Read 0 (key_of c h r) track_address) (λ answer after.
+    tells_failure (key_of c h r) answer (λ none.
+    rest (one_more tally (is_refusal answer))))
+
+-- so is each record of a track
+unfoldable pub verifies_track : ℕ → ℕ → ℕ → Tally → Part Tally
+verifies_track sectors c h tally rest = each 1 sectors (verifies_record c h) tally rest
+
+-- the last line: how many sectors of how many were read
+unfoldable pub verify_text : ℕ → ℕ → List ℕ
+verify_text well all = codes "verify " ++ (decimal well ++ (codes " of " ++ (decimal all ++ codes "\n")))
+
+-- every sector of the disk under this name is read, and the last line tells how many were read well
+unfoldable pub verify_script : List ℕ → Script
+verify_script name =
+    opens name (λ shape.
+    acknowledges 0 shape.rate (λ none.
+    by_track shape.cylinders shape.heads (verifies_track (sectors_at shape.rate)) no_reads (λ tally.
+    Ends (verify_text tally.well (sectors_of shape)) (whole_status tally.refused))))
