@@ -11,6 +11,7 @@ use Rattle.raw_image.specs.declared.error.ImageError.{ImageError}
 use Rattle.sector_model.specs.declared.reply.Stop.{Stop}
 use Rattle.sector_model.specs.declared.reply.Stop.TheVariants as stop
 use Rattle.sector_model.specs.Faults.{Blames}
+use Rattle.floppy_report.specs.Faults.{BlamesAlone}
 use Rattle.sector_model.specs.Steps.{most_image_bytes, IsAbsent, IsLonger}
 
 -- all that a command may change: the told files, and the told report
@@ -36,7 +37,7 @@ pub record RanOnFiles (Does : Desk → Desk → Status → Type 0) (old new : Fa
   pub does : Does old.desk new.desk ended
   pub is_form : ended ≢ status.BadWords
   pub shelf_faults : Blames (ended ≡ status.FileFault) old.shelf_faults new.shelf_faults
-  pub sink_faults : Blames (ended ≡ status.SinkFault) old.sink_faults new.sink_faults
+  pub sink_faults : BlamesAlone (ended ≡ status.SinkFault) old.sink_faults new.sink_faults
 
 -- the told file of this name isn't too long, and reading its bytes gives this
 abbrev pub ReadsAs : {T : Type 0} → (List ℕ → Result T ImageError) → Option Files → List ℕ → Result T ImageError → Type 0

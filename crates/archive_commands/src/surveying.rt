@@ -2,6 +2,7 @@
 ghost use Rattle.std.specs.Prelude.{◌≡◌, ◌≢◌, Ok, Err, IfOk, IfErr, OnOk, OnErr, IsErrOf, string_bytes};
 ghost use Rattle.flop_base.specs.Sink.{grown, GrowsByPart};
 ghost use Rattle.sector_model.specs.Faults.{Blames};
+ghost use Rattle.floppy_report.specs.Faults.{BlamesAlone};
 ghost use Rattle.sector_model.specs.Plays.{IsPutFault, Prints};
 ghost use Rattle.archive_commands.specs.Files.{faulty_desk_of, RanOnFiles};
 ghost use Rattle.archive_commands.specs.Surveys.{field_line, field_lines, survey_text, end_line, is_found, found_count, IsSectorCount, SurveysFile, Surveys};
@@ -63,7 +64,7 @@ fn put_fields<K: Sink>(alloc: Global, out: &mut K, lines: &[SurveyLine]) -> Resu
     ensures ok { OnOk result (K.told out.new ≡ grown (K.told out.old) (field_lines lines.now)) }
     ensures err { OnErr result (GrowsByPart (K.told out.old) (field_lines lines.now) (K.told out.new)) }
     ensures only { IfErr result IsPutFault }
-    ensures faults { Blames (IsErrOf result Status.SinkFault) (K.fault_count out.old) (K.fault_count out.new) }
+    ensures faults { BlamesAlone (IsErrOf result Status.SinkFault) (K.fault_count out.old) (K.fault_count out.new) }
 {
     for line in lines {
         put_line(out, field_line(alloc, *line))?;
@@ -83,7 +84,7 @@ fn end_line(alloc: Global, count: usize) -> Result<String, AllocError>
 fn put_survey<K: Sink>(alloc: Global, out: &mut K, lines: &[SurveyLine]) -> Status
     ensures prints { Prints (survey_text lines.now) Status.AllOk (K.told out.old) (K.told out.new) result }
     ensures only { result ≢ Status.AllOk → IsPutFault result }
-    ensures faults { Blames (result ≡ Status.SinkFault) (K.fault_count out.old) (K.fault_count out.new) }
+    ensures faults { BlamesAlone (result ≡ Status.SinkFault) (K.fault_count out.old) (K.fault_count out.new) }
 {
     match put_fields(alloc, out, lines) {
         Ok(()) => put_last_line(out, end_line(alloc, lines.len()), Status::AllOk),

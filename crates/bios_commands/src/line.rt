@@ -6,7 +6,7 @@ ghost use Rattle.sector_model.specs.Texts.{is_refusal};
 ghost use Rattle.sector_model.specs.Plays.{IsPutFault};
 ghost use Rattle.floppy_session.specs.Session.{IsRunning};
 ghost use Rattle.floppy_session.specs.Tries.{HasTries};
-ghost use Rattle.disk_commands.specs.Worlds.{faulty_of, RanPart};
+ghost use Rattle.scripts.specs.Leading.{faulty_of, RanPart};
 ghost use Rattle.bios_commands.specs.Lines.{LineHasTries, AskGoes, CallGoes, LineGoes};
 
 use crate::text::call_line;

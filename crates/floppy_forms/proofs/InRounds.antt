@@ -32,7 +32,7 @@ use Rattle.flop_base.specs.declared.answers.NoMemory.{NoMemory}
 use Rattle.floppy_words.specs.Forms.{Reads}
 use Rattle.floppy_words.specs.declared.form.Form.{Form}
 use Rattle.floppy_words.specs.declared.form.Form.TheVariants as form
-use Rattle.disk_commands.specs.Commands.{Runs}
+use Rattle.scripts.specs.Leading.{Runs}
 use Rattle.floppy_forms.specs.Programs.{DoesForm, DoesOrStarves, AsAsked, StarvesWords, Does}
 use Rattle.std.proofs.lemmas.Bool.{true≢false}
 use Rattle.floppy_report.proofs.DumpLines.{grown-twice, grown-nothing}

@@ -4,13 +4,14 @@ use Rattle.flop_base.specs.declared.answers.Rate.TheVariants.{R500, R250}
 use Rattle.flop_base.specs.declared.answers.Status.{Status}
 use Rattle.flop_base.specs.declared.answers.Status.TheVariants as status
 use Rattle.sector_model.specs.Faults.{Blames}
+use Rattle.floppy_report.specs.Faults.{BlamesAlone}
 use Rattle.sector_model.specs.Runs.{Taken}
 use Rattle.sector_model.specs.Plays.{World, Plays, TellsAlone, IsIdle}
 use Rattle.floppy_report.specs.LastLines.{bad_words_text}
 use Rattle.floppy_words.specs.declared.form.Form.{Form}
 use Rattle.floppy_words.specs.declared.form.Form.TheVariants as form
 use Rattle.disk_commands.specs.Commands.{Formats, Copies}
-use Rattle.disk_commands.specs.Worlds.{Faulty}
+use Rattle.scripts.specs.Leading.{Faulty}
 use Rattle.disk_commands.specs.Verifies.{Verifies}
 use Rattle.archive_commands.specs.Files.{Desk}
 use Rattle.archive_commands.specs.Making.{FromImd, ToImd, Remaster}
@@ -62,4 +63,4 @@ pub record Performed (Does : World → World → Status → Type 0) (Running NoF
   pub running : Running
   pub bad_words : ended ≡ status.BadWords → NoForm
   pub shelf_faults : Blames (ended ≡ status.FileFault) old.shelf_faults new.shelf_faults
-  pub sink_faults : Blames (ended ≡ status.SinkFault) old.sink_faults new.sink_faults
+  pub sink_faults : BlamesAlone (ended ≡ status.SinkFault) old.sink_faults new.sink_faults

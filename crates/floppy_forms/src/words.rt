@@ -3,6 +3,7 @@ ghost use Rattle.std.specs.Prelude.{◌≡◌, ◌≤◌, ◌+◌, ℕ, List, Op
 ghost use Rattle.floppy_requests.specs.declared.request.Request.{Request};
 ghost use Rattle.bay_model.specs.Bays.{Two};
 ghost use Rattle.sector_model.specs.Faults.{Blames};
+ghost use Rattle.floppy_report.specs.Faults.{BlamesAlone};
 ghost use Rattle.sector_model.specs.Ties.{IsJob, accesses_of_job};
 ghost use Rattle.sector_model.specs.Stations.{IsFresh};
 ghost use Rattle.sector_model.specs.States.{start_of};
@@ -10,8 +11,8 @@ ghost use Rattle.floppy_session.specs.Session.{state_of, IsRunning};
 ghost use Rattle.floppy_words.specs.declared.form.Form.TheVariants as form;
 ghost use Rattle.floppy_words.specs.declared.form.Form.{Form};
 ghost use Rattle.floppy_words.specs.Forms.{form_of, Reads};
-ghost use Rattle.disk_commands.specs.Commands.{Runs};
-ghost use Rattle.disk_commands.specs.Worlds.{world_of, faulty_of, Ran};
+ghost use Rattle.scripts.specs.Leading.{Runs};
+ghost use Rattle.scripts.specs.Leading.{world_of, faulty_of, Ran};
 ghost use Rattle.floppy_forms.specs.Rounds.{world};
 ghost use Rattle.floppy_forms.specs.Programs.{Does, DoesForm, Performed};
 
@@ -58,7 +59,7 @@ pub fn run_words<S: Shelf, K: Sink, D: Station>(
     ensures bad_words { result.0 ≡ Status.BadWords → form_of (map string_bytes words.now) ≡ None }
     ensures ready { D.is_ready result.1 }
     ensures shelf_faults { Blames (result.0 ≡ Status.FileFault) (S.fault_count shelf.old) (S.fault_count shelf.new) }
-    ensures sink_faults { Blames (result.0 ≡ Status.SinkFault) (K.fault_count out.old) (K.fault_count out.new) }
+    ensures sink_faults { BlamesAlone (result.0 ≡ Status.SinkFault) (K.fault_count out.old) (K.fault_count out.new) }
 {
     let mut session = Session::new(alloc, station);
     let status = perform(alloc, &mut session, words, shelf, out);
@@ -101,7 +102,7 @@ pub fn run_asked<S: Shelf, K: Sink, D: Station>(
     ensures bad_words { result ≡ Status.BadWords → asked ≡ Ok None }
     ensures running { IsRunning D.shown D.is_ready session.new }
     ensures shelf_faults { Blames (result ≡ Status.FileFault) (S.fault_count shelf.old) (S.fault_count shelf.new) }
-    ensures sink_faults { Blames (result ≡ Status.SinkFault) (K.fault_count out.old) (K.fault_count out.new) }
+    ensures sink_faults { BlamesAlone (result ≡ Status.SinkFault) (K.fault_count out.old) (K.fault_count out.new) }
 {
     match asked {
         Ok(form) => perform_any(alloc, session, form, shelf, out),

@@ -3,6 +3,7 @@ ghost use Rattle.std.specs.Prelude.{◌≡◌, ◌⊎◌, [], IfSome, None, map,
 ghost use Rattle.drive_model.specs.PlainDrive.{plain_state};
 ghost use Rattle.drive_model.specs.ScriptDrive.{script_state};
 ghost use Rattle.sector_model.specs.Faults.{Blames};
+ghost use Rattle.floppy_report.specs.Faults.{BlamesAlone};
 ghost use Rattle.fault_plan.specs.Plan.{lists_of};
 ghost use Rattle.archive_commands.specs.Files.{desk_of};
 ghost use Rattle.floppy_runs.specs.Drives.{AreEmpty, parts_with};
@@ -39,7 +40,7 @@ pub fn run_plain<S: Shelf, K: Sink>(
     ensures no_machine { result.machine ≡ None → Silent Status.NoMemory (K.told out.old) (K.told out.new) result.status }
     ensures untouched { result.machine ≡ None → S.told shelf.new ≡ S.told shelf.old }
     ensures shelf_faults { Blames (result.status ≡ Status.FileFault) (S.fault_count shelf.old) (S.fault_count shelf.new) }
-    ensures sink_faults { Blames (result.status ≡ Status.SinkFault) (K.fault_count out.old) (K.fault_count out.new) }
+    ensures sink_faults { BlamesAlone (result.status ≡ Status.SinkFault) (K.fault_count out.old) (K.fault_count out.new) }
 {
     run_on(
         alloc,
@@ -69,7 +70,7 @@ pub fn run_planned<S: Shelf, K: Sink>(
         ⊎ Silent Status.NoMemory (K.told out.old) (K.told out.new) result.status }
     ensures untouched { result.machine ≡ None → S.told shelf.new ≡ S.told shelf.old }
     ensures shelf_faults { Blames (result.status ≡ Status.FileFault) (S.fault_count shelf.old) (S.fault_count shelf.new) }
-    ensures sink_faults { Blames (result.status ≡ Status.SinkFault) (K.fault_count out.old) (K.fault_count out.new) }
+    ensures sink_faults { BlamesAlone (result.status ≡ Status.SinkFault) (K.fault_count out.old) (K.fault_count out.new) }
 {
     match read_plan(alloc, plan, shelf, out) {
         Ok(plan) => run_faulty(alloc, plan, words, shelf, out),
@@ -93,7 +94,7 @@ fn run_faulty<S: Shelf, K: Sink>(
     ensures no_machine { result.machine ≡ None → Silent Status.NoMemory (K.told out.old) (K.told out.new) result.status }
     ensures untouched { result.machine ≡ None → S.told shelf.new ≡ S.told shelf.old }
     ensures shelf_faults { Blames (result.status ≡ Status.FileFault) (S.fault_count shelf.old) (S.fault_count shelf.new) }
-    ensures sink_faults { Blames (result.status ≡ Status.SinkFault) (K.fault_count out.old) (K.fault_count out.new) }
+    ensures sink_faults { BlamesAlone (result.status ≡ Status.SinkFault) (K.fault_count out.old) (K.fault_count out.new) }
 {
     let FaultPlan {
         bay0,
@@ -137,7 +138,7 @@ fn run_on<S: Shelf, K: Sink, D: Drive>(
     ensures no_machine { result.machine ≡ None → Silent Status.NoMemory (K.told out.old) (K.told out.new) result.status }
     ensures untouched { result.machine ≡ None → S.told shelf.new ≡ S.told shelf.old }
     ensures shelf_faults { Blames (result.status ≡ Status.FileFault) (S.fault_count shelf.old) (S.fault_count shelf.new) }
-    ensures sink_faults { Blames (result.status ≡ Status.SinkFault) (K.fault_count out.old) (K.fault_count out.new) }
+    ensures sink_faults { BlamesAlone (result.status ≡ Status.SinkFault) (K.fault_count out.old) (K.fault_count out.new) }
 {
     let Ok(machine) = bays.machine(alloc, pace) else {
         return Ended {

@@ -3,6 +3,7 @@ ghost use Rattle.std.specs.Prelude.{◌≡◌, ◌≢◌, ◌≤◌, ◌+◌, Al
 ghost use Rattle.floppy_requests.specs.declared.request.Request.{Request};
 ghost use Rattle.pc_bus.specs.Boards.{board, IsEmpty};
 ghost use Rattle.sector_model.specs.Faults.{Blames};
+ghost use Rattle.floppy_report.specs.Faults.{BlamesAlone};
 ghost use Rattle.sector_model.specs.Ties.{IsJob, accesses_of_job};
 ghost use Rattle.floppy_words.specs.declared.form.Form.TheVariants as form;
 ghost use Rattle.floppy_words.specs.Forms.{form_of, ports_file_of};
@@ -57,7 +58,7 @@ pub fn floppy<S: Shelf, K: Sink, D: Drive>(
     ensures bad_words { result.0 ≡ Status.BadWords → form_of (map string_bytes words.now) ≡ None }
     ensures no_ports { result.0 ≡ Status.BadWords → ports_file_of (map string_bytes words.now) ≡ None }
     ensures shelf_faults { Blames (result.0 ≡ Status.FileFault) (S.fault_count shelf.old) (S.fault_count shelf.new) }
-    ensures sink_faults { Blames (result.0 ≡ Status.SinkFault) (K.fault_count out.old) (K.fault_count out.new) }
+    ensures sink_faults { BlamesAlone (result.0 ≡ Status.SinkFault) (K.fault_count out.old) (K.fault_count out.new) }
 {
     match ports_file(alloc, words) {
         Ok(Some(file)) => at_ports(alloc, file.as_str(), shelf, out, machine),
@@ -80,7 +81,7 @@ fn at_ports<S: Shelf, K: Sink, D: Drive>(
         (world_of D.state S.told K.told result.1 names shelf.new out.new) result.0 }
     ensures is_form { result.0 ≢ Status.BadWords }
     ensures shelf_faults { Blames (result.0 ≡ Status.FileFault) (S.fault_count shelf.old) (S.fault_count shelf.new) }
-    ensures sink_faults { Blames (result.0 ≡ Status.SinkFault) (K.fault_count out.old) (K.fault_count out.new) }
+    ensures sink_faults { BlamesAlone (result.0 ≡ Status.SinkFault) (K.fault_count out.old) (K.fault_count out.new) }
 {
     let mut machine = machine;
     let status = run_ports(alloc, &mut machine, file, shelf, out);
@@ -106,7 +107,7 @@ fn over_driver<S: Shelf, K: Sink, D: Drive>(
         → (board D.state result.1).bus.direct ≤ (board D.state machine).bus.direct + accesses_of_job requests }
     ensures bad_words { result.0 ≡ Status.BadWords → form_of (map string_bytes words.now) ≡ None }
     ensures shelf_faults { Blames (result.0 ≡ Status.FileFault) (S.fault_count shelf.old) (S.fault_count shelf.new) }
-    ensures sink_faults { Blames (result.0 ≡ Status.SinkFault) (K.fault_count out.old) (K.fault_count out.new) }
+    ensures sink_faults { BlamesAlone (result.0 ≡ Status.SinkFault) (K.fault_count out.old) (K.fault_count out.new) }
 {
     let asked = form_named(alloc, words);
     let mut session = Session::new(alloc, machine, spare);

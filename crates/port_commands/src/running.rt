@@ -1,6 +1,7 @@
 // A text of port accesses is read and run to its end, or up to what stops it.
 ghost use Rattle.std.specs.Prelude.{◌≡◌, ◌≢◌, ◌||◌, List, IfOk, IfErr, IsErrOf, Err};
 ghost use Rattle.sector_model.specs.Faults.{Blames};
+ghost use Rattle.floppy_report.specs.Faults.{BlamesAlone};
 ghost use Rattle.sector_model.specs.Plays.{whole_status};
 ghost use Rattle.pc_bus.specs.Boards.{board};
 ghost use Rattle.port_commands.specs.Benches.{AreNamed, IsBare, Names as NamesOfMedia, bench_of, no_names};
@@ -44,7 +45,7 @@ fn run_one<S: Shelf, K: Sink, D: Drive>(
     ensures is_form { result ≢ Err Status.BadWords }
     ensures shelf_faults { Blames (IsErrOf result Status.FileFault) (S.fault_count shelf.old)
         (S.fault_count shelf.new) }
-    ensures sink_faults { Blames (IsErrOf result Status.SinkFault) (K.fault_count out.old)
+    ensures sink_faults { BlamesAlone (IsErrOf result Status.SinkFault) (K.fault_count out.old)
         (K.fault_count out.new) }
 {
     match do_line(alloc, machine, names, line, shelf) {
@@ -91,7 +92,7 @@ fn run_lines<S: Shelf, K: Sink, D: Drive>(
     ensures is_form { result ≢ Err Status.BadWords }
     ensures shelf_faults { Blames (IsErrOf result Status.FileFault) (S.fault_count shelf.old)
         (S.fault_count shelf.new) }
-    ensures sink_faults { Blames (IsErrOf result Status.SinkFault) (K.fault_count out.old)
+    ensures sink_faults { BlamesAlone (IsErrOf result Status.SinkFault) (K.fault_count out.old)
         (K.fault_count out.new) }
 {
     let mut refused = false;
@@ -152,7 +153,7 @@ fn play_lines<S: Shelf, K: Sink, D: Drive>(
     ensures is_form { result ≢ Status.BadWords }
     ensures shelf_faults { Blames (result ≡ Status.FileFault) (S.fault_count shelf.old)
         (S.fault_count shelf.new) }
-    ensures sink_faults { Blames (result ≡ Status.SinkFault) (K.fault_count out.old)
+    ensures sink_faults { BlamesAlone (result ≡ Status.SinkFault) (K.fault_count out.old)
         (K.fault_count out.new) }
 {
     match run_lines(alloc, machine, names, lines, shelf, out) {
@@ -177,7 +178,7 @@ fn play_text<S: Shelf, K: Sink, D: Drive>(
     ensures is_form { result ≢ Status.BadWords }
     ensures shelf_faults { Blames (result ≡ Status.FileFault) (S.fault_count shelf.old)
         (S.fault_count shelf.new) }
-    ensures sink_faults { Blames (result ≡ Status.SinkFault) (K.fault_count out.old)
+    ensures sink_faults { BlamesAlone (result ≡ Status.SinkFault) (K.fault_count out.old)
         (K.fault_count out.new) }
 {
     match parse_ports(alloc, text) {
@@ -192,7 +193,7 @@ fn not_loaded<K: Sink>(alloc: Global, text_name: &str, out: &mut K, error: LoadE
     ensures ends { Misses error text_name.now (K.told out.old) (K.told out.new) result }
     ensures is_form { result ≢ Status.BadWords }
     ensures shelf_fault { result ≡ Status.FileFault → error ≡ LoadError.Failed }
-    ensures sink_faults { Blames (result ≡ Status.SinkFault) (K.fault_count out.old)
+    ensures sink_faults { BlamesAlone (result ≡ Status.SinkFault) (K.fault_count out.old)
         (K.fault_count out.new) }
 {
     match error {
@@ -218,7 +219,7 @@ pub fn run_ports<S: Shelf, K: Sink, D: Drive>(
     ensures is_form { result ≢ Status.BadWords }
     ensures shelf_faults { Blames (result ≡ Status.FileFault) (S.fault_count shelf.old)
         (S.fault_count shelf.new) }
-    ensures sink_faults { Blames (result ≡ Status.SinkFault) (K.fault_count out.old)
+    ensures sink_faults { BlamesAlone (result ≡ Status.SinkFault) (K.fault_count out.old)
         (K.fault_count out.new) }
 {
     let mut names = Names::new();

@@ -99,6 +99,14 @@ pub record Printed : Type 0 where
 abbrev pub printed_of : {K : Type 0} → (K → Option (List ℕ)) → (K → ℕ) → K → Printed
 printed_of report sink_count out = record { report = report out; faults = sink_count out }
 
+-- a call that takes the sink alone through told how a command ended: its words were a form, a fault of a file was so before, and each
+-- fault of the sink that it tells was counted
+pub record Told (Tells : Option (List ℕ) → Option (List ℕ) → Status → Type 0) (FileFault : Type 0) (old new : Printed) (ended : Status) : Type 0 where
+  pub tells : Tells old.report new.report ended
+  pub is_form : ended ≢ status.BadWords
+  pub shelf_fault : ended ≡ status.FileFault → FileFault
+  pub sink_faults : BlamesAlone (ended ≡ status.SinkFault) old.faults new.faults
+
 -- a world with another report
 abbrev pub with_report : State → Option Files → Option (List ℕ) → World
 with_report state files report = record { state = state; files = files; report = report }

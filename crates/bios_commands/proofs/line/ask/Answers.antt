@@ -1,5 +1,5 @@
 use Rattle.std.proofs.Common.{rules}
-use Rattle.disk_commands.specs.Worlds.{world_of}
+use Rattle.scripts.specs.Leading.{world_of}
 use Rattle.bios_commands.proofs.Served.{asked_round, asked_cut, asked_stop}
 use Rattle.bios_commands.proofs.line.ask.Goals as goal
 

@@ -1,5 +1,5 @@
 use Rattle.std.proofs.Common.{rules, refl}
-use Rattle.disk_commands.specs.Worlds.{world_of}
+use Rattle.scripts.specs.Leading.{world_of}
 use Rattle.bios_commands.specs.CallTexts.{call_text}
 use Rattle.bios_commands.proofs.Served.{served_round, served_cut}
 use Rattle.bios_commands.proofs.line.call.Goals as goal

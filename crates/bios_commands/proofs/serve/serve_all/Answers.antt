@@ -1,5 +1,5 @@
 use Rattle.std.proofs.Common.{rules, refl}
-use Rattle.disk_commands.specs.Worlds.{world_of}
+use Rattle.scripts.specs.Leading.{world_of}
 use Rattle.bios_commands.proofs.Served.{served_ends, broken_serving}
 use Rattle.bios_commands.proofs.serve.serve_all.Goals as goal
 

@@ -1,7 +1,7 @@
 use Rattle.std.proofs.Common.{rules, sym, subst, List, ℕ}
 use Rattle.floppy_session.specs.Session.{state_of}
-use Rattle.disk_commands.specs.Commands.{Runs}
-use Rattle.disk_commands.specs.Worlds.{world_of}
+use Rattle.scripts.specs.Leading.{Runs}
+use Rattle.scripts.specs.Leading.{world_of}
 use Rattle.bios_commands.specs.Courses.{ServesCalls}
 use Rattle.bios_commands.specs.Lines.{Misses}
 use Rattle.bios_commands.proofs.Ran.{calls_run}

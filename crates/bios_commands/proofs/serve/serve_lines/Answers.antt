@@ -1,5 +1,5 @@
 use Rattle.std.proofs.Common.{rules, arith, ◌<◌, length}
-use Rattle.disk_commands.specs.Worlds.{world_of}
+use Rattle.scripts.specs.Leading.{world_of}
 use Rattle.bios_commands.proofs.Served.{served_none, served_next, broken}
 use Rattle.bios_commands.proofs.serve.serve_lines.Goals as goal
 
@@ -8,7 +8,7 @@ loop-line-init g c = record {
   served = served_none (world_of g.D.Station.shown g.S.Shelf.told g.K.Sink.told c.args.session.now c.args.shelf.now c.args.out.now) c.new-front.result c.new-front.ensures;
   running = c.requires.running;
   shelf_counts = omega arith;
-  sink_counts = omega arith;
+  sink_counts = search rules;
 }
 
 pub returns-in-Err : goal.returns-in-Err
@@ -29,5 +29,5 @@ loop-line-preserved g c =
       served = served_next (world_of g.D.Station.shown g.S.Shelf.told g.K.Sink.told c.args.session.now c.args.shelf.now c.args.out.now) (world_of g.D.Station.shown g.S.Shelf.told g.K.Sink.told c.loop-line.session c.loop-line.shelf c.loop-line.out) (world_of g.D.Station.shown g.S.Shelf.told g.K.Sink.told c.serve_line.new.session c.serve_line.new.shelf c.serve_line.new.out) c.args.lines.now c.loop-line.line-index c.line-item.result c.loop-line.refused c.in-Ok.refusal c.either-refused.result c.loop-line.front c.serve_line.new.front c.loop-line.invariant.served c.in-Ok.ensures.goes within c.line-item.is c.either-refused.ensures;
       running = c.serve_line.ensures.running;
       shelf_counts = omega (arith, c.loop-line.invariant.shelf_counts, c.serve_line.ensures.shelf_faults.never_falls);
-      sink_counts = omega (arith, c.loop-line.invariant.sink_counts, c.serve_line.ensures.sink_faults.never_falls);
+      sink_counts = search rules;
     }

@@ -3,7 +3,7 @@ use Rattle.std.specs.Prelude.{Vec, All}
 use Rattle.std.specs.declared.alloc.Global.{Global}
 use Rattle.floppy_jobs.specs.Texts.{calls_of}
 use Rattle.floppy_jobs.specs.declared.calls.CallLine.{CallLine}
-use Rattle.disk_commands.specs.Worlds.{world_of}
+use Rattle.scripts.specs.Leading.{world_of}
 use Rattle.bios_commands.specs.Lines.{LineHasTries}
 use Rattle.bios_commands.proofs.Parsed.{all_tries}
 use Rattle.bios_commands.proofs.Served.{parsed_serves, read_bad, unparsed_tells}

@@ -22,5 +22,5 @@ loop-request-preserved g c =
       run = has-run-next (world (state_of g.D.Station.shown c.args.session.now) (g.S.Shelf.told c.args.shelf.now) (g.K.Sink.told c.args.out.now)) (world (state_of g.D.Station.shown c.loop-request.session) (g.S.Shelf.told c.loop-request.shelf) (g.K.Sink.told c.loop-request.out)) (world (state_of g.D.Station.shown c.run_one.new.session) (g.S.Shelf.told c.run_one.new.shelf) (g.K.Sink.told c.run_one.new.out)) c.args.requests.now c.loop-request.request-index c.request-item.result c.loop-request.refused c.in-Ok.refusal c.either-refused.result c.loop-request.invariant.run c.in-Ok.ensures.goes within c.request-item.is c.either-refused.ensures;
       running = c.run_one.ensures.running;
       shelf_counts = omega (arith, c.loop-request.invariant.shelf_counts, c.run_one.ensures.shelf_faults.never_falls);
-      sink_counts = omega (arith, c.loop-request.invariant.sink_counts, c.run_one.ensures.sink_faults.never_falls);
+      sink_counts = search rules;
     }

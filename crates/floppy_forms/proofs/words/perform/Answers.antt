@@ -1,7 +1,7 @@
 use Rattle.std.proofs.Common.{rules}
 use Rattle.std.specs.Prelude.{map, string_bytes}
 use Rattle.floppy_words.specs.Forms.{form_of}
-use Rattle.disk_commands.specs.Worlds.{world_of}
+use Rattle.scripts.specs.Leading.{world_of}
 use Rattle.floppy_forms.proofs.InRounds.{named_accesses, read_none}
 use Rattle.floppy_forms.proofs.words.perform.Goals as goal
 

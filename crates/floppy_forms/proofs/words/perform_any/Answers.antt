@@ -1,5 +1,5 @@
 use Rattle.std.proofs.Common.{rules, refl}
-use Rattle.disk_commands.specs.Worlds.{world_of}
+use Rattle.scripts.specs.Leading.{world_of}
 use Rattle.floppy_forms.proofs.InRounds.{runs_asked, runs_none}
 use Rattle.floppy_forms.proofs.words.perform_any.Goals as goal
 

@@ -2,7 +2,7 @@ use Rattle.std.proofs.Common.{rules, subst, List, ℕ}
 use Rattle.flop_base.specs.declared.answers.Rate.TheVariants.{R500, R250}
 use Rattle.floppy_words.specs.declared.form.Form.TheVariants as form
 use Rattle.disk_commands.specs.Commands.{Runs, Formats}
-use Rattle.disk_commands.specs.Worlds.{world_of}
+use Rattle.scripts.specs.Leading.{world_of}
 use Rattle.floppy_forms.specs.Programs.{DoesForm}
 use Rattle.archive_commands.specs.Files.{desk_of}
 use Rattle.archive_commands.specs.Making.{FromImd, ToImd, Remaster}
