@@ -1,5 +1,1 @@
-mod Carrying
-pub mod Gathering
 mod Working
-mod Ending
-mod Tied

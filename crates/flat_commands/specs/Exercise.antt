@@ -1,5 +1,5 @@
 -- What an exercise asks and prints: the generated workload, on a disk made for it.
-use Rattle.std.specs.Prelude.{ℕ, ◌+◌, ◌*◌, ◌%◌, ◌==◌, Bool, true, false, nat_lt, sum, List, ◌++◌, codes, if◌then◌else◌}
+use Rattle.std.specs.Prelude.{◌≤◌, ◌<◌, ℕ, ◌+◌, ◌*◌, ◌%◌, ◌==◌, Bool, true, false, nat_lt, sum, List, ◌++◌, codes, if◌then◌else◌}
 use Rattle.std.specs.Fmt.{decimal}
 use Rattle.flop_base.specs.declared.answers.Rate.TheVariants.{R500}
 use Rattle.flop_base.specs.declared.key.Chrn.{Chrn}
@@ -71,17 +71,29 @@ works_behind x =
 unfoldable pub works : ℕ → ℕ → Tally → Part Tally
 works seed count tally = each 0 count (λ i. works_behind (number_after (5 * i) seed)) tally
 
--- the disk on which they are run: four cylinders, formatted
-abbrev pub makes_disk : Part (Unit {0})
-makes_disk rest =
+-- a disk of four cylinders is made and formatted, and the workload is run on it
+abbrev pub exercises : ℕ → ℕ → Part Tally
+exercises seed count rest =
     carries (blank_request 0 (codes "exercise") 4 R500) (λ none. acknowledges 0 R500
-    (λ none. by_track 4 2 (formats 0) tt rest))
+    (λ none. by_track 4 2 (formats 0) tt (λ none. works seed count no_work rest)))
 
 -- the last line of an exercise, with the status
 abbrev pub exercise_end : ℕ → ℕ → Tally → Script
 exercise_end seed count tally =
     Ends (exercise_text seed count tally.done tally.refused tally.sum) (whole_status (nat_lt 0 tally.refused))
 
--- the disk is made, and all of the workload is run on it
+-- it takes memory for the name of its disk, which isn't stored
 abbrev pub exercise_script : ℕ → ℕ → Script
-exercise_script seed count = may_starve (λ none. makes_disk (λ none. works seed count no_work (exercise_end seed count)))
+exercise_script seed count = may_starve (λ none. exercises seed count (exercise_end seed count))
+
+-- ---- The bounds of a tally.
+
+-- a tally with room for one more
+pub record HasRoom (tally : Tally) : Type 0 where
+  pub few : tally.done + tally.refused < 65535
+  pub small : tally.sum ≤ 130560 * 65535
+
+-- at most one more, of 512 bytes
+pub record IsOneMore (old new : Tally) : Type 0 where
+  pub few : new.done + new.refused ≤ old.done + old.refused + 1
+  pub small : new.sum ≤ old.sum + 130560
