@@ -35,6 +35,7 @@ fn gather<D: Station>(
 }
 
 /// Reads a record to its own place, and puts its bytes behind those of the flat file.
+#[tactic(auto, unfolding(crate::specs::Export::reads_record))]
 fn read_record<S: Shelf, K: Sink, D: Station>(
     alloc: Global,
     session: &mut Session<D>,

@@ -6,8 +6,8 @@ use Rattle.flat_commands.specs.Workload.{number_after}
 use Rattle.flat_commands.specs.Exercise.{no_work, works_behind}
 use Rattle.flat_commands.proofs.work.run_work.Given as goal
 
-abbrev pub invariant-loop-_i : goal.invariant-loop-_i
-invariant-loop-_i g l = record {
+abbrev pub invariant-loop-i : goal.invariant-loop-i
+invariant-loop-i g l = record {
   turn : IsAtTurn 0 l.fn.count (λ i. works_behind (number_after (5 * i) l.fn.seed)) no_work
       (world_of g.D.Station.shown g.S.Shelf.told g.K.Sink.told l.fn.session l.fn.shelf l.fn.out)
       l._i l.tally (world_of g.D.Station.shown g.S.Shelf.told g.K.Sink.told l.session l.shelf l.out);
