@@ -303,7 +303,15 @@ pub fn import_disk<S: Shelf, K: Sink, D: Station>(
         (faulty_of D.shown S.told S.fault_count K.told K.fault_count session.new shelf.new out.new) result }
 {
     match load_flat(alloc, shelf, flat) {
-        Ok(loaded) => match make_disk(alloc, session, &loaded.bytes, name, loaded.rate, shelf, out) {
+        Ok(loaded) => match make_disk(
+            alloc,
+            session,
+            &loaded.bytes,
+            name,
+            loaded.rate,
+            shelf,
+            out,
+        ) {
             Ok(()) => finish(out, import_line(alloc, loaded.rate), Status::AllOk),
             Err(ended) => ended,
         },

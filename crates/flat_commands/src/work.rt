@@ -137,7 +137,9 @@ fn run_drawn<S: Shelf, K: Sink, D: Station>(
     ensures more { IfOk result (IsOneMore tally) }
 {
     if work.kind == 0 {
-        write(alloc, session, false, work.key, work.byte, tally, shelf, out)
+        write(
+            alloc, session, false, work.key, work.byte, tally, shelf, out,
+        )
     } else if work.kind == 3 {
         write(alloc, session, true, work.key, work.byte, tally, shelf, out)
     } else {

@@ -1,6 +1,6 @@
 use Rattle.std.proofs.Common.{rules}
 use Rattle.scripts.proofs.Running.{leads_itself, fed, starved, tied_run}
-use Rattle.flat_commands.specs.Exercise.{exercises, exercise_text, exercise_end, exercise_script}
+use Rattle.flat_commands.specs.Exercise.{exercises, exercise_end, exercise_script}
 use Rattle.flat_commands.proofs.exercise.exercise_disk.Goals as goal
 
 pub returns-in-Err : goal.returns-in-Err

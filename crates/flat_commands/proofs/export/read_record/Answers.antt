@@ -2,7 +2,6 @@ use Rattle.std.proofs.Common.{rules, ℕ, List, ◌++◌}
 use Rattle.std.proofs.lemmas.Result.{err_from_is_err_and}
 use Rattle.bay_model.specs.Memory.{bytes_from}
 use Rattle.floppy_session.specs.Session.{state_of}
-use Rattle.sector_model.specs.declared.reply.Reply.{Reply}
 use Rattle.sector_model.specs.States.{State}
 use Rattle.scripts.specs.Scripts.{Script}
 use Rattle.scripts.specs.Parts.{may_starve}
@@ -21,7 +20,7 @@ returns-in_err-need g c = record {
   goes =
       let p = err_from_is_err_and c.from_residual.result c.from_residual.ensures.1 in
       rw (p.1, p.2) (λ whole start rest leads. c.in_err-need.ensures.ran.goes whole start
-          (λ answer after. may_starve (kept c.args.r c.args.flat.now.items rest after)) (rw c.record_address-address.ensures leads));
+      (λ answer after. may_starve (kept c.args.r c.args.flat.now.items rest after)) (rw c.record_address-address.ensures leads));
   running = search rules;
   is_form = search rules;
   shelf_faults = search rules;

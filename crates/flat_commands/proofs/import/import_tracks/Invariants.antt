@@ -1,6 +1,6 @@
-use Rattle.std.proofs.Common.{◌≡◌, ◌≤◌, ◌+◌, ◌-◌, ◌*◌, ℕ}
+use Rattle.std.proofs.Common.{◌≡◌, ◌≤◌}
 use Rattle.floppy_session.specs.Session.{IsRunning}
-use Rattle.scripts.specs.Parts.{each, formats}
+use Rattle.scripts.specs.Parts.{each}
 use Rattle.scripts.specs.Leading.{world_of, IsAtTurn}
 use Rattle.flat_commands.specs.Import.{imports_track}
 use Rattle.flat_commands.proofs.import.import_tracks.Given as goal
@@ -13,5 +13,4 @@ invariant-loop-c g l = record {
   running : IsRunning g.D.Station.shown g.D.Station.is_ready l.session;
   counted : g.S.Shelf.fault_count l.fn.shelf ≤ g.S.Shelf.fault_count l.shelf;
   stays : g.K.Sink.fault_count l.out ≡ g.K.Sink.fault_count l.fn.out;
-
 }

@@ -1,6 +1,5 @@
-use Rattle.std.proofs.Common.{◌≡◌, ◌≤◌, ◌+◌, ◌-◌, ◌*◌, ℕ}
+use Rattle.std.proofs.Common.{◌≡◌, ◌≤◌}
 use Rattle.floppy_session.specs.Session.{IsRunning}
-use Rattle.scripts.specs.Parts.{each, formats}
 use Rattle.scripts.specs.Leading.{world_of, IsAtTurn}
 use Rattle.flat_commands.specs.Import.{writes_record}
 use Rattle.flat_commands.proofs.import.write_track.Given as goal
@@ -13,5 +12,4 @@ invariant-loop-r g l = record {
   running : IsRunning g.D.Station.shown g.D.Station.is_ready l.session;
   counted : g.S.Shelf.fault_count l.fn.shelf ≤ g.S.Shelf.fault_count l.shelf;
   stays : g.K.Sink.fault_count l.out ≡ g.K.Sink.fault_count l.fn.out;
-
 }

@@ -1,6 +1,5 @@
-use Rattle.std.proofs.Common.{◌≡◌, ◌≤◌, ◌+◌, ◌-◌, ◌*◌, ℕ}
+use Rattle.std.proofs.Common.{◌≡◌, ◌≤◌, ◌+◌, ◌*◌}
 use Rattle.floppy_session.specs.Session.{IsRunning}
-use Rattle.scripts.specs.Parts.{each, formats}
 use Rattle.scripts.specs.Leading.{world_of, IsAtTurn}
 use Rattle.flat_commands.specs.Workload.{number_after}
 use Rattle.flat_commands.specs.Exercise.{no_work, works_behind}
@@ -16,5 +15,5 @@ invariant-loop-i g l = record {
   stays : g.K.Sink.fault_count l.out ≡ g.K.Sink.fault_count l.fn.out;
   number : l.draws.number ≡ number_after (5 * l._i) l.fn.seed;
   few : l.tally.done + l.tally.refused ≤ l._i;
-  small : l.tally.sum ≤ 130560 * l._i
+  small : l.tally.sum ≤ 130560 * l._i;
 }
