@@ -1,5 +1,2 @@
-mod Carrying
-pub mod Gathering
 mod Working
-mod Ending
-mod Tied
+mod Runs
