@@ -33,6 +33,11 @@ IsLogFound told name sectors (Some lines) = HasText told name (λ text. IsLog se
 abbrev pub lines_found : Option (Vec LogLine Global) → Option (List LogLine)
 lines_found found = option_map (λ lines. lines.items) found
 
+-- so it is with what is answered of a log
+abbrev pub answer_found : Result (Option (Vec LogLine Global)) NoLog → Result (Option (List LogLine)) NoLog
+answer_found (Ok found) = Ok (lines_found found)
+answer_found (Err cause) = Err cause
+
 -- the first line of a log that isn't understood: 0 where the text is too long
 abbrev pub IsBadLog : Option Files → List ℕ → ℕ → ℕ → Type 0
 IsBadLog told name sectors n =
