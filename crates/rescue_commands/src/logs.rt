@@ -1,5 +1,5 @@
 // The log's file.
-ghost use Rattle.std.specs.Prelude.{◌≡◌, ◌≢◌, length, IfOk, IsErrOf, string_bytes};
+ghost use Rattle.std.specs.Prelude.{◌≡◌, ◌≢◌, length, Option, IfOk, IsErrOf, string_bytes};
 ghost use Rattle.flop_base.specs.Shelf.{Files};
 ghost use Rattle.sector_model.specs.Faults.{Blames};
 ghost use Rattle.sector_model.specs.States.{State};

@@ -1,9 +1,12 @@
 // The records that are asked for: each is read, and then written or logged.
-ghost use Rattle.std.specs.Prelude.{◌≡◌, [], ◌∷◌, ◌++◌, IfOk};
+ghost use Rattle.std.specs.Prelude.{◌≡◌, ◌≢◌, [], ◌∷◌, ◌++◌, Option, IfOk};
+ghost use Rattle.flop_base.specs.Shelf.{Files};
+ghost use Rattle.sector_model.specs.States.{State};
+ghost use Rattle.floppy_report.specs.Faults.{BlamesAlone};
 ghost use Rattle.floppy_session.specs.Session.{IsRunning};
 ghost use Rattle.scripts.specs.Parts.{through};
-ghost use Rattle.scripts.specs.Leading.{RanPart, faulty_of};
-ghost use Rattle.rescue_commands.specs.Rescue.{after_answer, HasNextTries, does_next, follows, rescues, LogGoes};
+ghost use Rattle.scripts.specs.Leading.{Finishes, RanPart, faulty_of, with_report};
+ghost use Rattle.rescue_commands.specs.Rescue.{after_answer, gives_up, HasNextTries, does_next, follows, rescues, LogGoes};
 
 use flop_base::{Chrn, NoMemory, Shelf, Sink, Status};
 use floppy_report::put_last_stopped;
@@ -24,6 +27,17 @@ fn next_of(key: Chrn, reply: &Reply) -> Result<AfterRead, Reason>
         Reply::DoneDeleted => Ok(after_read(key, Ok(true))),
         Reply::Done | Reply::Bytes { .. } => Ok(after_read(key, Ok(false))),
     }
+}
+
+/// Tells that the read of a record was refused so that the rescue ends there.
+fn give_up<K: Sink>(alloc: Global, key: Chrn, reason: Reason, out: &mut K) -> Status
+    ensures goes { (state : State) (files : Option Files)
+        → Finishes (gives_up key reason) (with_report state files (K.told out.old)) (with_report state files (K.told out.new)) result }
+    ensures is_form { result ≢ Status.BadWords }
+    ensures no_shelf_fault { result ≢ Status.FileFault }
+    ensures sink_faults { BlamesAlone (result ≡ Status.SinkFault) (K.fault_count out.old) (K.fault_count out.new) }
+{
+    put_last_stopped(alloc, out, &read_request(key), reason)
 }
 
 /// Puts a line behind a log.
@@ -62,7 +76,7 @@ fn do_next<S: Shelf, K: Sink, D: Station>(
             Ok(log) => Ok(log),
             Err(_) => Err(Status::NoMemory),
         },
-        AfterRead::Stop(code) => Err(put_last_stopped(alloc, out, &read_request(key), Reason::Driver(code))),
+        AfterRead::Stop(code) => Err(give_up(alloc, key, Reason::Driver(code), out)),
     }
 }
 
@@ -84,7 +98,7 @@ fn follow<S: Shelf, K: Sink, D: Station>(
 {
     match next_of(key, reply) {
         Ok(next) => do_next(alloc, session, key, next, log, shelf, out),
-        Err(reason) => Err(put_last_stopped(alloc, out, &read_request(key), reason)),
+        Err(reason) => Err(give_up(alloc, key, reason, out)),
     }
 }
 
