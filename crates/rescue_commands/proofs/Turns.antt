@@ -1,13 +1,13 @@
 -- Records, one after the other, and what the answer to each read is followed by.
-use Rattle.std.proofs.Math.Seq.{drop-length}
-use Rattle.std.proofs.Common.{arith, ◌≡◌, ◌<◌, ℕ, suc, ◌+◌, List, [], ◌∷◌, ◌++◌, length, drop, get_or, refl, ap, sym, subst, ◌∙◌, drop-cons, Result, Ok, Err, Vec, Global}
+use Rattle.std.proofs.lemmas.List.{drop_all}
+use Rattle.std.proofs.Common.{arith, ◌≡◌, ◌<◌, ◌≤◌, ℕ, suc, ◌+◌, List, [], ◌∷◌, ◌++◌, length, drop, get_or, refl, ap, sym, subst, ◌∙◌, drop-cons, Ok, Err, Vec, Global}
 use Rattle.flop_base.specs.declared.key.Chrn.{Chrn}
 use Rattle.flop_base.specs.declared.answers.Status.{Status}
 use Rattle.flop_base.specs.declared.answers.Status.TheVariants as status
 use Rattle.sector_model.specs.Plays.{World}
 use Rattle.scripts.specs.Scripts.{Script}
-use Rattle.scripts.specs.Parts.{Part, may_starve, through}
-use Rattle.scripts.specs.Leading.{Leads, IsRunOf, Goes}
+use Rattle.scripts.specs.Parts.{through}
+use Rattle.scripts.specs.Leading.{Leads, Goes}
 use Rattle.scripts.proofs.Running.{fed, starved}
 use Rattle.rescue.specs.declared.line.LogLine.{LogLine}
 use Rattle.rescue.specs.declared.course.AfterRead.TheVariants as next
@@ -69,8 +69,8 @@ key_ends keys i no_key begun found old mid new ended within at goes whole start 
     (subst (λ (s : Script). Leads whole start s mid) (in_front keys i no_key found rest within) (at whole start rest leads))
 
 -- all records were gone through
-pub keys_over : (keys : List Chrn) (begun : List LogLine) (log : Vec LogLine Global) (old now : World) → IsAtKey keys begun old (length keys) log.items now
+pub keys_over : (keys : List Chrn) (i : ℕ) (begun : List LogLine) (log : Vec LogLine Global) (old now : World) → length keys ≤ i → IsAtKey keys begun old i log.items now
     → LogGoes (through rescues keys begun) old (Ok log) now
-keys_over keys begun log old now at whole start rest leads =
-    subst (λ (s : Script). Leads whole start s now) (ap (λ (left : List Chrn). through rescues left log.items rest) (drop-length keys) ∙ none_left log.items rest)
+keys_over keys i begun log old now all at whole start rest leads =
+    subst (λ (s : Script). Leads whole start s now) (ap (λ (left : List Chrn). through rescues left log.items rest) (drop_all i keys all) ∙ none_left log.items rest)
     (at whole start rest leads)

@@ -130,5 +130,12 @@ pub(crate) fn store_log<S: Shelf, K: Sink>(
     };
     let outcome = outcome(asked, lines);
     let status = outcome.status();
-    store_last(name.as_str(), &bytes, last_line(alloc, outcome), status, shelf, out)
+    store_last(
+        name.as_str(),
+        &bytes,
+        last_line(alloc, outcome),
+        status,
+        shelf,
+        out,
+    )
 }

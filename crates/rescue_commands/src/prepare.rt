@@ -45,7 +45,13 @@ fn prepare_old<S: Shelf, K: Sink, D: Station>(
         (faulty_of D.shown S.told S.fault_count K.told K.fault_count session.old shelf.old out.old) result
         (faulty_of D.shown S.told S.fault_count K.told K.fault_count session.new shelf.new out.new) }
 {
-    carry(alloc, session, &Request::Insert { bay: 1, name: to }, shelf, out)?;
+    carry(
+        alloc,
+        session,
+        &Request::Insert { bay: 1, name: to },
+        shelf,
+        out,
+    )?;
     acknowledge_both(alloc, session, shape.rate, shelf, out)
 }
 

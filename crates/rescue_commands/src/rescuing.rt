@@ -73,7 +73,16 @@ fn rescue_found<S: Shelf, K: Sink, D: Station>(
     let Ok(keys) = asked_keys(alloc, shape, found) else {
         return Status::NoMemory;
     };
-    match rescue_all(alloc, session, to, shape, found.is_some(), &keys, shelf, out) {
+    match rescue_all(
+        alloc,
+        session,
+        to,
+        shape,
+        found.is_some(),
+        &keys,
+        shelf,
+        out,
+    ) {
         Ok(lines) => store_log(alloc, log, &keys, &lines, shelf, out),
         Err(ended) => ended,
     }

@@ -1,7 +1,7 @@
 use Rattle.std.proofs.Common.{rules, arith, ◌<◌, length}
 use Rattle.std.proofs.lemmas.Result.{err_from_is_err_and}
 use Rattle.flop_base.specs.declared.key.Chrn.{Chrn}
-use Rattle.rescue_commands.proofs.Turns.{key_begins, key_goes, key_ends, keys_over}
+use Rattle.rescue_commands.proofs.Turns.{key_goes, key_ends, keys_over}
 use Rattle.rescue_commands.proofs.records.rescue_records.Goals as goal
 
 -- what a record past the end would be
@@ -32,7 +32,7 @@ loop-key-preserved g c =
 
 pub returns : goal.returns
 returns g c = record {
-  goes = keys_over c.args.keys.now _ _ _ _ c.loop-key.invariant.at;
+  goes = keys_over _ _ _ c.loop-key.log _ _ (omega arith) c.loop-key.invariant.at;
   running = search rules;
   is_form = search rules;
   shelf_faults = search rules;
