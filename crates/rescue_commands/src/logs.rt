@@ -1,13 +1,17 @@
 // The log's file.
-ghost use Rattle.std.specs.Prelude.{◌≡◌, IfOk, IfErr, OnOk, OnErr, IsErrOf};
-ghost use Rattle.flop_base.specs.Shelf.{stored};
+ghost use Rattle.std.specs.Prelude.{◌≡◌, ◌≢◌, length, Option, IfOk, IsErrOf, string_bytes};
+ghost use Rattle.flop_base.specs.Shelf.{Files};
 ghost use Rattle.sector_model.specs.Faults.{Blames};
-ghost use Rattle.rescue.specs.Log.{log_text};
-ghost use Rattle.rescue_commands.specs.Logs.{IsLogFound, lines_found, IsNoLog, IsStoreFault, NotUnderstood, NotLoaded};
+ghost use Rattle.sector_model.specs.States.{State};
+ghost use Rattle.floppy_report.specs.Faults.{BlamesAlone};
+ghost use Rattle.scripts.specs.Leading.{Finishes, with_report};
+ghost use Rattle.rescue_commands.specs.Logs.{IsFound, answer_found, NotUnderstood, NotLoaded};
+ghost use Rattle.rescue_commands.specs.Rescue.{bad_log_text, last_text, outcome_of, stores_log, tells_no_log};
 
-use flop_base::{LoadError, NoMemory, Shelf, Status, StoreError};
-use rescue::{LogError, LogLine, read_log, write_log};
-use std::alloc::Global;
+use flop_base::{Chrn, LoadError, Name, Shelf, Sink, Status};
+use rescue::{LogError, LogLine, Outcome, read_log, write_log};
+use scripts::{finish, store_last};
+use std::alloc::{AllocError, Global};
 
 /// The longest text of a log, in bytes.
 const MOST_LOG_BYTES: usize = 65_536;
@@ -27,15 +31,14 @@ pub(crate) enum NoLog {
 pub(crate) fn find_log<S: Shelf>(
     alloc: Global,
     shelf: &mut S,
-    name: &str,
+    name: &Name,
     sectors: u8,
 ) -> Result<Option<Vec<LogLine>>, NoLog>
-    ensures found { IfOk result (λ found. IsLogFound (S.told shelf.old) name.now sectors (lines_found found)) }
-    ensures cause { IfErr result (λ cause. IsNoLog (S.told shelf.old) name.now sectors cause) }
+    ensures found { IsFound (S.told shelf.old) name.now sectors (answer_found result) }
     ensures stays { S.told shelf.new ≡ S.told shelf.old }
     ensures faults { Blames (IsErrOf result NoLog.FileFault) (S.fault_count shelf.old) (S.fault_count shelf.new) }
 {
-    match shelf.load(alloc, name, MOST_LOG_BYTES) {
+    match shelf.load(alloc, name.as_str(), MOST_LOG_BYTES) {
         Ok(bytes) => match read_log(alloc, &bytes, sectors) {
             Ok(lines) => Ok(Some(lines)),
             Err(error) => Err(not_understood(error)),
@@ -66,24 +69,73 @@ fn not_loaded(error: LoadError) -> Result<Option<Vec<LogLine>>, NoLog>
     }
 }
 
-/// Stores the new log, also where it is empty.
-pub(crate) fn store_log<S: Shelf>(
+#[tactic(auto, unfolding(crate::specs::Rescue::bad_log_text))]
+fn bad_log_line(alloc: Global, line: usize) -> Result<String, AllocError>
+    ensures { IfOk result (λ made. string_bytes made ≡ bad_log_text line) }
+{
+    format!(in alloc; "log line {line} not understood\n")
+}
+
+/// Tells why a log wasn't had.
+#[tactic(auto, unfolding(crate::specs::Rescue::tells_no_log))]
+pub(crate) fn tell_no_log<K: Sink>(alloc: Global, out: &mut K, cause: NoLog) -> Status
+    ensures goes { (state : State) (files : Option Files)
+        → Finishes (tells_no_log cause) (with_report state files (K.told out.old)) (with_report state files (K.told out.new)) result }
+    ensures is_form { result ≢ Status.BadWords }
+    ensures shelf_fault { result ≡ Status.FileFault → cause ≡ NoLog.FileFault }
+    ensures sink_faults { BlamesAlone (result ≡ Status.SinkFault) (K.fault_count out.old) (K.fault_count out.new) }
+{
+    match cause {
+        NoLog::BadLine { line } => finish(out, bad_log_line(alloc, line), Status::BadJob),
+        NoLog::FileFault => Status::FileFault,
+        NoLog::NoMemory => Status::NoMemory,
+    }
+}
+
+/// How a rescue ended that left these lines.
+fn outcome(asked: &[Chrn], lines: &[LogLine]) -> Outcome
+    ensures { result ≡ outcome_of (length asked.now) lines.now }
+{
+    let asked = asked.len();
+    Outcome {
+        written: asked.saturating_sub(lines.len()),
+        asked,
+    }
+}
+
+fn last_line(alloc: Global, outcome: Outcome) -> Result<String, AllocError>
+    ensures { IfOk result (λ line. string_bytes line ≡ last_text outcome) }
+{
+    format!(in alloc; "{outcome}\n")
+}
+
+/// Stores the new log, also where it is empty, and tells how many records were written.
+pub(crate) fn store_log<S: Shelf, K: Sink>(
     alloc: Global,
-    shelf: &mut S,
-    name: &str,
+    name: &Name,
+    asked: &[Chrn],
     lines: &[LogLine],
-) -> Result<(), Status>
-    ensures ok { OnOk result (S.told shelf.new ≡ stored (S.told shelf.old) name.now (log_text lines.now)) }
-    ensures err { OnErr result (S.told shelf.new ≡ S.told shelf.old) }
-    ensures cause { IfErr result IsStoreFault }
-    ensures faults { Blames (IsErrOf result Status.FileFault) (S.fault_count shelf.old) (S.fault_count shelf.new) }
+    shelf: &mut S,
+    out: &mut K,
+) -> Status
+    ensures goes { (state : State)
+        → Finishes (stores_log name.now (length asked.now) lines.now) (with_report state (S.told shelf.old) (K.told out.old))
+        (with_report state (S.told shelf.new) (K.told out.new)) result }
+    ensures is_form { result ≢ Status.BadWords }
+    ensures shelf_faults { Blames (result ≡ Status.FileFault) (S.fault_count shelf.old) (S.fault_count shelf.new) }
+    ensures sink_faults { BlamesAlone (result ≡ Status.SinkFault) (K.fault_count out.old) (K.fault_count out.new) }
 {
     let Ok(bytes) = write_log(alloc, lines) else {
-        return Err(Status::NoMemory);
+        return Status::NoMemory;
     };
-    match shelf.store(name, &bytes) {
-        Ok(()) => Ok(()),
-        Err(StoreError::Failed) => Err(Status::FileFault),
-        Err(StoreError::NoMemory) => Err(Status::NoMemory),
-    }
+    let outcome = outcome(asked, lines);
+    let status = outcome.status();
+    store_last(
+        name.as_str(),
+        &bytes,
+        last_line(alloc, outcome),
+        status,
+        shelf,
+        out,
+    )
 }
