@@ -10,7 +10,6 @@ use Rattle.sector_model.specs.Plays.{World, Plays, TellsAlone, IsIdle}
 use Rattle.floppy_report.specs.LastLines.{bad_words_text}
 use Rattle.floppy_words.specs.declared.form.Form.{Form}
 use Rattle.floppy_words.specs.declared.form.Form.TheVariants as form
-use Rattle.floppy_report.specs.Faults.{BlamesAlone}
 use Rattle.scripts.specs.Scripts.{RunsScript}
 use Rattle.scripts.specs.Leading.{Faulty}
 use Rattle.disk_commands.specs.Format.{format_script}
