@@ -14,7 +14,8 @@ use Rattle.rescue.specs.declared.line.LogLine.{LogLine}
 use Rattle.rescue_commands.specs.declared.logs.NoLog.{NoLog}
 use Rattle.rescue_commands.specs.declared.logs.NoLog.TheVariants as none
 use Rattle.rescue_commands.specs.Logs.{IsFound, AreFound}
-use Rattle.rescue_commands.specs.Rescue.{rescue_rest, rescue_script, Rescues, FinishesFound}
+use Rattle.rescue_commands.specs.Rescue.{rescue_rest, rescue_script, Rescues}
+use Rattle.rescue_commands.specs.Leading.{FinishesFound}
 
 -- what was found as the log of a disk of one rate; for the other, memory may always be wanting
 abbrev found_at : Rate → Result (Option (List LogLine)) NoLog → Rate → Result (Option (List LogLine)) NoLog

@@ -11,7 +11,8 @@ use Rattle.scripts.specs.Leading.{Leads, Goes}
 use Rattle.scripts.proofs.Running.{fed, starved}
 use Rattle.rescue.specs.declared.line.LogLine.{LogLine}
 use Rattle.rescue.specs.declared.course.AfterRead.TheVariants as next
-use Rattle.rescue_commands.specs.Rescue.{does_next, rescues, LogGoes}
+use Rattle.rescue_commands.specs.Rescue.{does_next, rescues}
+use Rattle.rescue_commands.specs.Leading.{LogGoes}
 
 -- a line came behind the log
 pub line_pushed : (key : Chrn) (log made : List LogLine) (line : LogLine) (now : World) → made ≡ log ++ line ∷ []
