@@ -1,33 +1,15 @@
--- Records, one after the other, and what the answer to each read is followed by.
+-- The turns of a loop over records.
 use Rattle.std.proofs.lemmas.List.{drop_all}
-use Rattle.std.proofs.Common.{arith, ◌≡◌, ◌<◌, ◌≤◌, ℕ, suc, ◌+◌, List, [], ◌∷◌, ◌++◌, length, drop, get_or, refl, ap, sym, subst, ◌∙◌, drop-cons, Ok, Err, Vec, Global}
+use Rattle.std.proofs.Common.{arith, ◌≡◌, ◌<◌, ◌≤◌, ℕ, suc, ◌+◌, List, [], ◌∷◌, length, drop, get_or, refl, ap, subst, ◌∙◌, drop-cons, Ok, Err, Vec, Global}
 use Rattle.flop_base.specs.declared.key.Chrn.{Chrn}
 use Rattle.flop_base.specs.declared.answers.Status.{Status}
-use Rattle.flop_base.specs.declared.answers.Status.TheVariants as status
 use Rattle.sector_model.specs.Plays.{World}
 use Rattle.scripts.specs.Scripts.{Script}
 use Rattle.scripts.specs.Parts.{through}
 use Rattle.scripts.specs.Leading.{Leads, Goes}
-use Rattle.scripts.proofs.Running.{fed, starved}
 use Rattle.rescue.specs.declared.line.LogLine.{LogLine}
-use Rattle.rescue.specs.declared.course.AfterRead.TheVariants as next
-use Rattle.rescue_commands.specs.Rescue.{does_next, rescues}
+use Rattle.rescue_commands.specs.Rescue.{rescues}
 use Rattle.rescue_commands.specs.Leading.{LogGoes}
-
--- a line came behind the log
-pub line_pushed : (key : Chrn) (log made : List LogLine) (line : LogLine) (now : World) → made ≡ log ++ line ∷ []
-    → Goes (does_next key (Ok (next.Log line)) log) now (Ok made) now
-unfolding does_next
-line_pushed key log made line now is whole start rest leads =
-    subst (λ (l : List LogLine). Leads whole start (rest l) now) (sym is) (fed whole start (λ none. rest (log ++ line ∷ [])) now leads)
-
--- memory for it couldn't be had
-pub line_starved : (key : Chrn) (log : List LogLine) (line : LogLine) (now : World)
-    → Goes (does_next key (Ok (next.Log line)) log) now (Err status.NoMemory) now
-unfolding does_next
-line_starved key log line now whole start rest leads = starved whole start (λ none. rest (log ++ line ∷ [])) now leads
-
--- ---- The turns of a loop over records.
 
 -- some records were rescued, and the others are left
 abbrev pub IsAtKey : List Chrn → List LogLine → World → ℕ → List LogLine → World → Type 0

@@ -45,7 +45,7 @@ fn push_line(mut log: Vec<LogLine>, line: LogLine) -> Result<Vec<LogLine>, NoMem
 }
 
 /// Writes a record, or puts its line behind the log, or ends the rescue.
-#[tactic(auto, unfolding(crate::specs::Rescue::does_next))]
+#[tactic(auto, using(scripts::proofs::Running::fed, scripts::proofs::Running::starved), unfolding(crate::specs::Rescue::does_next))]
 fn do_next<S: Shelf, K: Sink, D: Station>(
     alloc: Global,
     session: &mut Session<D>,

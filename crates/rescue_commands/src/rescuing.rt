@@ -72,6 +72,7 @@ fn last_line(alloc: Global, outcome: Outcome) -> Result<String, AllocError>
 }
 
 /// Rescues these records, and stores the new log, also where it is empty, and tells how many were written.
+#[tactic(auto, using(scripts::proofs::Running::starved), unfolding(crate::specs::Rescue::stores_log))]
 fn rescue_keys<S: Shelf, K: Sink, D: Station>(
     alloc: Global,
     session: &mut Session<D>,
@@ -146,6 +147,7 @@ fn rescue_opened<S: Shelf, K: Sink, D: Station>(
 /// Reads the records of the diskette under one name that its log asks for, or all where there is no log, and writes them to the
 /// diskette under another name. That diskette is stored first, and then the new log: a line for each record that wasn't read. It
 /// prints how many were written of how many, or what stopped it.
+#[tactic(auto, using(crate::proofs::Opening::not_opened))]
 pub fn rescue_disk<S: Shelf, K: Sink, D: Station>(
     alloc: Global,
     session: &mut Session<D>,

@@ -2,17 +2,8 @@ use Rattle.std.proofs.Common.{rules, ap, length, ◌∙◌}
 use Rattle.floppy_session.specs.Session.{state_of}
 use Rattle.rescue.specs.Log.{log_text}
 use Rattle.rescue_commands.specs.Rescue.{outcome_of}
-use Rattle.rescue_commands.proofs.Endings.{log_stored, text_starved}
+use Rattle.rescue_commands.proofs.Endings.{log_stored}
 use Rattle.rescue_commands.proofs.rescuing.rescue_keys.Goals as goal
-
-pub returns-in_default : goal.returns-in_default
-returns-in_default g c = record {
-  does = λ whole start leads. text_starved _ _ _ _ whole start (c.in-Ok.ensures.goes whole start _ leads);
-  running = search rules;
-  is_form = search rules;
-  shelf_faults = search rules;
-  sink_faults = search rules;
-}
 
 pub returns : goal.returns
 returns g c = record {
