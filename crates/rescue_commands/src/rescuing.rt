@@ -98,7 +98,14 @@ fn rescue_keys<S: Shelf, K: Sink, D: Station>(
     };
     let outcome = outcome(keys, &lines);
     let status = outcome.status();
-    store_last(log.as_str(), &bytes, last_line(alloc, outcome), status, shelf, out)
+    store_last(
+        log.as_str(),
+        &bytes,
+        last_line(alloc, outcome),
+        status,
+        shelf,
+        out,
+    )
 }
 
 /// Rescues what the log that was found asks for.
@@ -120,7 +127,17 @@ fn rescue_found<S: Shelf, K: Sink, D: Station>(
     let Ok(keys) = asked_keys(alloc, shape, found) else {
         return Status::NoMemory;
     };
-    rescue_keys(alloc, session, to, log, shape, found.is_some(), &keys, shelf, out)
+    rescue_keys(
+        alloc,
+        session,
+        to,
+        log,
+        shape,
+        found.is_some(),
+        &keys,
+        shelf,
+        out,
+    )
 }
 
 /// Rescues the disk that was put in, by its log.
