@@ -12,7 +12,7 @@ use Rattle.scripts.specs.Leading.{Leads, IsRunOf, Goes, Runs}
 use Rattle.scripts.proofs.Running.{leads_itself, tied_run}
 use Rattle.rescue.specs.declared.line.LogLine.{LogLine}
 use Rattle.rescue_commands.specs.declared.logs.NoLog.{NoLog}
-use Rattle.rescue_commands.specs.declared.logs.NoLog.TheVariants as none
+use Rattle.rescue_commands.specs.declared.logs.NoLog.TheVariants as missing
 use Rattle.rescue_commands.specs.Logs.{IsFound, AreFound}
 use Rattle.rescue_commands.specs.Rescue.{rescue_rest, rescue_script, Rescues}
 use Rattle.rescue_commands.specs.Leading.{FinishesFound}
@@ -24,8 +24,8 @@ Answer = Result (Option (List LogLine)) NoLog
 -- what was found as the log of a disk of one rate; for the other, memory may always be wanting
 abbrev found_at : Rate → Answer → Rate → Answer
 found_at R500 answer R500 = answer
-found_at R500 answer R250 = Err none.NoMemory
-found_at R250 answer R500 = Err none.NoMemory
+found_at R500 answer R250 = Err missing.NoMemory
+found_at R250 answer R500 = Err missing.NoMemory
 found_at R250 answer R250 = answer
 
 there : (rate : Rate) (answer : Answer) → found_at rate answer rate ≡ answer
@@ -49,7 +49,7 @@ by_found from to log found old new ended are run =
 pub not_opened : (from to log : List ℕ) (old new : World) (ended : Status) → Goes {Found = Shape} (opens from) old (Err ended) new
     → Runs (Rescues from to log) old new ended
 not_opened from to log old new ended goes =
-    let found : Rate → Answer = λ rate. Err none.NoMemory in
+    let found : Rate → Answer = λ rate. Err missing.NoMemory in
     let whole = rescue_script from to log found in
     by_found from to log found old new ended (λ rate. tt) (goes whole old (λ shape. rescue_rest to log shape (found shape.rate)) (leads_itself whole old))
 

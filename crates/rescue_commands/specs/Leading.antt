@@ -18,7 +18,7 @@ use Rattle.rescue.specs.declared.line.LogLine.{LogLine}
 use Rattle.rescue.specs.declared.course.AfterRead.{AfterRead}
 use Rattle.rescue.specs.declared.course.AfterRead.TheVariants as next
 use Rattle.rescue_commands.specs.declared.logs.NoLog.{NoLog}
-use Rattle.rescue_commands.specs.declared.logs.NoLog.TheVariants as none
+use Rattle.rescue_commands.specs.declared.logs.NoLog.TheVariants as missing
 use Rattle.rescue_commands.specs.Logs.{IsFound, answer_found}
 use Rattle.rescue_commands.specs.Rescue.{rescue_rest}
 
@@ -52,7 +52,7 @@ shelved_of files count shelf = record { files = files shelf; faults = count shel
 pub record Finds (name : List ℕ) (sectors : ℕ) (old new : Shelved) (result : Result (Option (Vec LogLine Global)) NoLog) : Type 0 where
   pub found : IsFound old.files name sectors (answer_found result)
   pub stays : new.files ≡ old.files
-  pub faults : Blames (IsErrOf result none.FileFault) old.faults new.faults
+  pub faults : Blames (IsErrOf result missing.FileFault) old.faults new.faults
 
 -- what comes behind the disk that was put in ended, by what was found under the name of its log
 abbrev pub FinishesFound : List ℕ → List ℕ → Shape → World → World → Status → Type 0
