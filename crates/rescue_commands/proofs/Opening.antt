@@ -12,48 +12,54 @@ use Rattle.scripts.specs.Leading.{Leads, IsRunOf, Goes, Runs}
 use Rattle.scripts.proofs.Running.{leads_itself, tied_run}
 use Rattle.rescue.specs.declared.line.LogLine.{LogLine}
 use Rattle.rescue_commands.specs.declared.logs.NoLog.{NoLog}
-use Rattle.rescue_commands.specs.declared.logs.NoLog.TheVariants as none
+use Rattle.rescue_commands.specs.declared.logs.NoLog.TheVariants as missing
 use Rattle.rescue_commands.specs.Logs.{IsFound, AreFound}
-use Rattle.rescue_commands.specs.Rescue.{rescue_rest, rescue_script, Rescues, FinishesFound}
+use Rattle.rescue_commands.specs.Rescue.{rescue_rest, rescue_script, Rescues}
+use Rattle.rescue_commands.specs.Leading.{FinishesFound}
+
+-- an answer of what is found under the name of a log
+abbrev Answer : Type 0
+Answer = Result (Option (List LogLine)) NoLog
 
 -- what was found as the log of a disk of one rate; for the other, memory may always be wanting
-abbrev found_at : Rate → Result (Option (List LogLine)) NoLog → Rate → Result (Option (List LogLine)) NoLog
+abbrev found_at : Rate → Answer → Rate → Answer
 found_at R500 answer R500 = answer
-found_at R500 answer R250 = Err none.NoMemory
-found_at R250 answer R500 = Err none.NoMemory
+found_at R500 answer R250 = Err missing.NoMemory
+found_at R250 answer R500 = Err missing.NoMemory
 found_at R250 answer R250 = answer
 
-there : (rate : Rate) (answer : Result (Option (List LogLine)) NoLog) → found_at rate answer rate ≡ answer
+there : (rate : Rate) (answer : Answer) → found_at rate answer rate ≡ answer
 there R500 answer = refl
 there R250 answer = refl
 
-are_found : (told : Option Files) (log : List ℕ) (rate : Rate) (answer : Result (Option (List LogLine)) NoLog) → IsFound told log (sectors_at rate) answer
+are_found : (told : Option Files) (log : List ℕ) (rate : Rate) (answer : Answer) → IsFound told log (sectors_at rate) answer
     → (other : Rate) → IsFound told log (sectors_at other) (found_at rate answer other)
 are_found told log R500 answer is R500 = is
 are_found told log R500 answer is R250 = tt
 are_found told log R250 answer is R500 = tt
 are_found told log R250 answer is R250 = is
 
-by_found : (from to log : List ℕ) (found : Rate → Result (Option (List LogLine)) NoLog) (old new : World) (ended : Status) → AreFound old.files log found
+by_found : (from to log : List ℕ) (found : Rate → Answer) (old new : World) (ended : Status) → AreFound old.files log found
     → IsRunOf (rescue_script from to log found) old new ended → Runs (Rescues from to log) old new ended
 by_found from to log found old new ended are run =
     let tied = tied_run (rescue_script from to log found) old new ended run in
     record { course = tied.course; does = (found, are, tied.does); ties = tied.ties }
 
 -- the disk couldn't be put in
-pub not_opened : (from to log : List ℕ) (old new : World) (ended : Status) → Goes {Found = Shape} (opens from) old (Err ended) new → Runs (Rescues from to log) old new ended
+pub not_opened : (from to log : List ℕ) (old new : World) (ended : Status) → Goes {Found = Shape} (opens from) old (Err ended) new
+    → Runs (Rescues from to log) old new ended
 not_opened from to log old new ended goes =
-    let found : Rate → Result (Option (List LogLine)) NoLog = λ rate. Err none.NoMemory in
-    by_found from to log found old new ended (λ rate. tt)
-    (goes (rescue_script from to log found) old (λ shape. rescue_rest to log shape (found shape.rate)) (leads_itself (rescue_script from to log found) old))
+    let found : Rate → Answer = λ rate. Err missing.NoMemory in
+    let whole = rescue_script from to log found in
+    by_found from to log found old new ended (λ rate. tt) (goes whole old (λ shape. rescue_rest to log shape (found shape.rate)) (leads_itself whole old))
 
 -- it was, and the files stayed, and the log was looked for
-pub opened_on : (from to log : List ℕ) (shape : Shape) (old mid new : World) (ended : Status) → Goes {Found = Shape} (opens from) old (Ok shape) mid → mid.files ≡ old.files
-    → FinishesFound to log shape mid new ended → Runs (Rescues from to log) old new ended
-opened_on from to log shape old mid new ended goes stay finishes =
-    let found = found_at shape.rate finishes.0 in
-    let leads = goes (rescue_script from to log found) old (λ opened. rescue_rest to log opened (found opened.rate)) (leads_itself (rescue_script from to log found) old) in
+pub opened_on : (from to log : List ℕ) (shape : Shape) (old mid new : World) (ended : Status) → Goes (opens from) old (Ok shape) mid
+    → mid.files ≡ old.files → FinishesFound to log shape mid new ended → Runs (Rescues from to log) old new ended
+opened_on from to log shape old mid new ended goes stay (answer, is, finishes) =
+    let found = found_at shape.rate answer in
+    let whole = rescue_script from to log found in
+    let leads = goes whole old (λ opened. rescue_rest to log opened (found opened.rate)) (leads_itself whole old) in
     by_found from to log found old new ended
-    (are_found old.files log shape.rate finishes.0 (subst (λ (f : Option Files). IsFound f log (sectors_at shape.rate) finishes.0) stay finishes.1))
-    (finishes.2 (rescue_script from to log found) old
-    (subst (λ (answer : Result (Option (List LogLine)) NoLog). Leads (rescue_script from to log found) old (rescue_rest to log shape answer) mid) (there shape.rate finishes.0) leads))
+    (are_found old.files log shape.rate answer (subst (λ (f : Option Files). IsFound f log (sectors_at shape.rate) answer) stay is))
+    (finishes whole old (subst (λ (a : Answer). Leads whole old (rescue_rest to log shape a) mid) (there shape.rate answer) leads))

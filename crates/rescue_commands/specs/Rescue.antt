@@ -1,8 +1,6 @@
 -- What a rescue asks, prints and stores, by the log that is found under each rate.
-use Rattle.std.specs.Prelude.{ℕ, ◌-◌, Bool, true, false, List, [], ◌∷◌, ◌++◌, length, is_some, Vec, Option, Some, None, Result, Ok, Err, codes}
+use Rattle.std.specs.Prelude.{ℕ, ◌-◌, Bool, true, false, List, [], ◌∷◌, ◌++◌, length, is_some, Option, Some, None, Result, Ok, Err, codes}
 use Rattle.std.specs.Fmt.{decimal}
-use Rattle.std.specs.declared.alloc.Global.{Global}
-use Rattle.flop_base.specs.Standard.{sectors_at}
 use Rattle.flop_base.specs.declared.key.Chrn.{Chrn}
 use Rattle.flop_base.specs.declared.answers.Rate.{Rate}
 use Rattle.flop_base.specs.declared.answers.Status.{Status}
@@ -16,11 +14,9 @@ use Rattle.sector_model.specs.Runs.{Taken}
 use Rattle.sector_model.specs.Plays.{World}
 use Rattle.floppy_report.specs.LastLines.{stopped_text}
 use Rattle.floppy_session.specs.Blanks.{blank_request}
-use Rattle.floppy_session.specs.Tries.{HasTries}
 use Rattle.floppy_session.specs.declared.shape.Shape.{Shape}
 use Rattle.scripts.specs.Scripts.{Script, Ends, Stores, RunsScript}
 use Rattle.scripts.specs.Parts.{Part, asks, carries, may_starve, opens, acknowledges, through, by_track, formats}
-use Rattle.scripts.specs.Leading.{Goes, Finishes}
 use Rattle.rescue.specs.Log.{log_text}
 use Rattle.rescue.specs.Course.{read_of, after_read, standard_keys, logged_keys, outcome_text, outcome_status}
 use Rattle.rescue.specs.declared.line.LogLine.{LogLine}
@@ -28,8 +24,8 @@ use Rattle.rescue.specs.declared.course.AfterRead.{AfterRead}
 use Rattle.rescue.specs.declared.course.AfterRead.TheVariants as next
 use Rattle.rescue.specs.declared.outcome.Outcome.{Outcome}
 use Rattle.rescue_commands.specs.declared.logs.NoLog.{NoLog}
-use Rattle.rescue_commands.specs.declared.logs.NoLog.TheVariants as none
-use Rattle.rescue_commands.specs.Logs.{IsFound, AreFound}
+use Rattle.rescue_commands.specs.declared.logs.NoLog.TheVariants as missing
+use Rattle.rescue_commands.specs.Logs.{AreFound}
 
 -- ---- A record.
 
@@ -110,7 +106,7 @@ stores_log log asked lines =
 unfoldable pub rescue_found : List ℕ → List ℕ → Shape → Option (List LogLine) → Script
 rescue_found to log shape found =
     may_starve (λ none. rescues_all to shape (is_some found) (asked_keys shape found)
-    (λ lines. stores_log log (length (asked_keys shape found)) lines))
+    (stores_log log (length (asked_keys shape found))))
 
 -- the line where a log isn't understood
 unfoldable pub bad_log_text : ℕ → List ℕ
@@ -118,9 +114,9 @@ bad_log_text line = codes "log line " ++ (decimal line ++ codes " not understood
 
 -- what is told where there is no log to go by
 unfoldable pub tells_no_log : NoLog → Script
-tells_no_log (none.BadLine line) = Ends (bad_log_text line) status.BadJob
-tells_no_log none.FileFault = Ends [] status.FileFault
-tells_no_log none.NoMemory = Ends [] status.NoMemory
+tells_no_log (missing.BadLine line) = Ends (bad_log_text line) status.BadJob
+tells_no_log missing.FileFault = Ends [] status.FileFault
+tells_no_log missing.NoMemory = Ends [] status.NoMemory
 
 -- what comes behind the disk that was put in, by what was found under the name of its log
 abbrev pub rescue_rest : List ℕ → List ℕ → Shape → Result (Option (List LogLine)) NoLog → Script
@@ -136,22 +132,3 @@ abbrev pub Rescues : List ℕ → List ℕ → List ℕ → World → List Taken
 Rescues from to log old course new ended =
     (found : Rate → Result (Option (List LogLine)) NoLog) × AreFound old.files log found
     × RunsScript (rescue_script from to log found) old course new ended
-
--- ---- How code goes through it.
-
--- a part was gone through and found the lines of a log, or ended the script
-abbrev pub LogGoes : Part (List LogLine) → World → Result (Vec LogLine Global) Status → World → Type 0
-LogGoes part old (Ok log) new = Goes part old (Ok log.items) new
-LogGoes part old (Err ended) new = Goes part old (Err ended) new
-
--- what is next has as many tries as a request may
-abbrev pub HasNextTries : AfterRead → Type 0
-HasNextTries (next.Write asked) = HasTries asked
-HasNextTries (next.Log line) = Unit {0}
-HasNextTries (next.Stop code) = Unit {0}
-
--- what comes behind the disk that was put in ended, by what was found under the name of its log
-abbrev pub FinishesFound : List ℕ → List ℕ → Shape → World → World → Status → Type 0
-FinishesFound to log shape old new ended =
-    (found : Result (Option (List LogLine)) NoLog) × IsFound old.files log (sectors_at shape.rate) found
-    × Finishes (rescue_rest to log shape found) old new ended

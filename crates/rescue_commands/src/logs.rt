@@ -1,16 +1,13 @@
 // The log's file.
-ghost use Rattle.std.specs.Prelude.{◌≡◌, ◌≢◌, length, Option, IfOk, IsErrOf, string_bytes};
-ghost use Rattle.flop_base.specs.Shelf.{Files};
-ghost use Rattle.sector_model.specs.Faults.{Blames};
-ghost use Rattle.sector_model.specs.States.{State};
-ghost use Rattle.floppy_report.specs.Faults.{BlamesAlone};
-ghost use Rattle.scripts.specs.Leading.{Finishes, with_report};
-ghost use Rattle.rescue_commands.specs.Logs.{IsFound, answer_found, NotUnderstood, NotLoaded};
-ghost use Rattle.rescue_commands.specs.Rescue.{bad_log_text, last_text, outcome_of, stores_log, tells_no_log};
+ghost use Rattle.std.specs.Prelude.{◌≡◌, IfOk, string_bytes};
+ghost use Rattle.scripts.specs.Leading.{printed_of};
+ghost use Rattle.rescue_commands.specs.Logs.{NotUnderstood, NotLoaded};
+ghost use Rattle.rescue_commands.specs.Rescue.{bad_log_text, tells_no_log};
+ghost use Rattle.rescue_commands.specs.Leading.{Finds, Tells, shelved_of};
 
-use flop_base::{Chrn, LoadError, Name, Shelf, Sink, Status};
-use rescue::{LogError, LogLine, Outcome, read_log, write_log};
-use scripts::{finish, store_last};
+use flop_base::{LoadError, Name, Shelf, Sink, Status};
+use rescue::{LogError, LogLine, read_log};
+use scripts::finish;
 use std::alloc::{AllocError, Global};
 
 /// The longest text of a log, in bytes.
@@ -30,13 +27,11 @@ pub(crate) enum NoLog {
 /// The lines of the log under this name, of a diskette with so many sectors on a track; nothing where there is no log.
 pub(crate) fn find_log<S: Shelf>(
     alloc: Global,
-    shelf: &mut S,
     name: &Name,
     sectors: u8,
+    shelf: &mut S,
 ) -> Result<Option<Vec<LogLine>>, NoLog>
-    ensures found { IsFound (S.told shelf.old) name.now sectors (answer_found result) }
-    ensures stays { S.told shelf.new ≡ S.told shelf.old }
-    ensures faults { Blames (IsErrOf result NoLog.FileFault) (S.fault_count shelf.old) (S.fault_count shelf.new) }
+    ensures { Finds name.now sectors (shelved_of S.told S.fault_count shelf.old) (shelved_of S.told S.fault_count shelf.new) result }
 {
     match shelf.load(alloc, name.as_str(), MOST_LOG_BYTES) {
         Ok(bytes) => match read_log(alloc, &bytes, sectors) {
@@ -77,65 +72,14 @@ fn bad_log_line(alloc: Global, line: usize) -> Result<String, AllocError>
 }
 
 /// Tells why a log wasn't had.
-#[tactic(auto, unfolding(crate::specs::Rescue::tells_no_log))]
-pub(crate) fn tell_no_log<K: Sink>(alloc: Global, out: &mut K, cause: NoLog) -> Status
-    ensures goes { (state : State) (files : Option Files)
-        → Finishes (tells_no_log cause) (with_report state files (K.told out.old)) (with_report state files (K.told out.new)) result }
-    ensures is_form { result ≢ Status.BadWords }
-    ensures shelf_fault { result ≡ Status.FileFault → cause ≡ NoLog.FileFault }
-    ensures sink_faults { BlamesAlone (result ≡ Status.SinkFault) (K.fault_count out.old) (K.fault_count out.new) }
+#[tactic(auto, using(crate::proofs::Endings::ends_quietly), unfolding(crate::specs::Rescue::tells_no_log))]
+pub(crate) fn tell_no_log<K: Sink>(alloc: Global, cause: NoLog, out: &mut K) -> Status
+    ensures { Tells (tells_no_log cause) (cause ≡ NoLog.FileFault)
+        (printed_of K.told K.fault_count out.old) (printed_of K.told K.fault_count out.new) result }
 {
     match cause {
         NoLog::BadLine { line } => finish(out, bad_log_line(alloc, line), Status::BadJob),
         NoLog::FileFault => Status::FileFault,
         NoLog::NoMemory => Status::NoMemory,
     }
-}
-
-/// How a rescue ended that left these lines.
-fn outcome(asked: &[Chrn], lines: &[LogLine]) -> Outcome
-    ensures { result ≡ outcome_of (length asked.now) lines.now }
-{
-    let asked = asked.len();
-    Outcome {
-        written: asked.saturating_sub(lines.len()),
-        asked,
-    }
-}
-
-fn last_line(alloc: Global, outcome: Outcome) -> Result<String, AllocError>
-    ensures { IfOk result (λ line. string_bytes line ≡ last_text outcome) }
-{
-    format!(in alloc; "{outcome}\n")
-}
-
-/// Stores the new log, also where it is empty, and tells how many records were written.
-pub(crate) fn store_log<S: Shelf, K: Sink>(
-    alloc: Global,
-    name: &Name,
-    asked: &[Chrn],
-    lines: &[LogLine],
-    shelf: &mut S,
-    out: &mut K,
-) -> Status
-    ensures goes { (state : State)
-        → Finishes (stores_log name.now (length asked.now) lines.now) (with_report state (S.told shelf.old) (K.told out.old))
-        (with_report state (S.told shelf.new) (K.told out.new)) result }
-    ensures is_form { result ≢ Status.BadWords }
-    ensures shelf_faults { Blames (result ≡ Status.FileFault) (S.fault_count shelf.old) (S.fault_count shelf.new) }
-    ensures sink_faults { BlamesAlone (result ≡ Status.SinkFault) (K.fault_count out.old) (K.fault_count out.new) }
-{
-    let Ok(bytes) = write_log(alloc, lines) else {
-        return Status::NoMemory;
-    };
-    let outcome = outcome(asked, lines);
-    let status = outcome.status();
-    store_last(
-        name.as_str(),
-        &bytes,
-        last_line(alloc, outcome),
-        status,
-        shelf,
-        out,
-    )
 }

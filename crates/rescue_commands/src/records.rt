@@ -1,12 +1,10 @@
 // The records that are asked for: each is read, and then written or logged.
-ghost use Rattle.std.specs.Prelude.{◌≡◌, ◌≢◌, [], ◌∷◌, ◌++◌, Option, IfOk};
-ghost use Rattle.flop_base.specs.Shelf.{Files};
-ghost use Rattle.sector_model.specs.States.{State};
-ghost use Rattle.floppy_report.specs.Faults.{BlamesAlone};
+ghost use Rattle.std.specs.Prelude.{◌≡◌, [], ◌∷◌, ◌++◌, IfOk};
 ghost use Rattle.floppy_session.specs.Session.{IsRunning};
 ghost use Rattle.scripts.specs.Parts.{through};
-ghost use Rattle.scripts.specs.Leading.{Finishes, RanPart, faulty_of, with_report};
-ghost use Rattle.rescue_commands.specs.Rescue.{after_answer, gives_up, HasNextTries, does_next, follows, rescues, LogGoes};
+ghost use Rattle.scripts.specs.Leading.{RanPart, faulty_of, printed_of};
+ghost use Rattle.rescue_commands.specs.Rescue.{after_answer, gives_up, does_next, follows, rescues};
+ghost use Rattle.rescue_commands.specs.Leading.{HasNextTries, LogGoes, Tells};
 
 use flop_base::{Chrn, NoMemory, Shelf, Sink, Status};
 use floppy_report::put_last_stopped;
@@ -31,11 +29,7 @@ fn next_of(key: Chrn, reply: &Reply) -> Result<AfterRead, Reason>
 
 /// Tells that the read of a record was refused so that the rescue ends there.
 fn give_up<K: Sink>(alloc: Global, key: Chrn, reason: Reason, out: &mut K) -> Status
-    ensures goes { (state : State) (files : Option Files)
-        → Finishes (gives_up key reason) (with_report state files (K.told out.old)) (with_report state files (K.told out.new)) result }
-    ensures is_form { result ≢ Status.BadWords }
-    ensures no_shelf_fault { result ≢ Status.FileFault }
-    ensures sink_faults { BlamesAlone (result ≡ Status.SinkFault) (K.fault_count out.old) (K.fault_count out.new) }
+    ensures { Tells (gives_up key reason) ⊥ (printed_of K.told K.fault_count out.old) (printed_of K.told K.fault_count out.new) result }
 {
     put_last_stopped(alloc, out, &read_request(key), reason)
 }
@@ -51,7 +45,7 @@ fn push_line(mut log: Vec<LogLine>, line: LogLine) -> Result<Vec<LogLine>, NoMem
 }
 
 /// Writes a record, or puts its line behind the log, or ends the rescue.
-#[tactic(auto, unfolding(crate::specs::Rescue::does_next))]
+#[tactic(auto, using(scripts::proofs::Running::fed, scripts::proofs::Running::starved), unfolding(crate::specs::Rescue::does_next))]
 fn do_next<S: Shelf, K: Sink, D: Station>(
     alloc: Global,
     session: &mut Session<D>,

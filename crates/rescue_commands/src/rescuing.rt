@@ -1,20 +1,21 @@
 // The rescue of a diskette.
-ghost use Rattle.std.specs.Prelude.{◌≡◌, IfOk};
+ghost use Rattle.std.specs.Prelude.{◌≡◌, length, IfOk, string_bytes};
 ghost use Rattle.floppy_session.specs.Session.{IsRunning};
 ghost use Rattle.scripts.specs.Leading.{Runs, Ran, RanPart, Finishes, faulty_of};
 ghost use Rattle.rescue_commands.specs.Logs.{lines_found};
-ghost use Rattle.rescue_commands.specs.Rescue.{asked_keys, rescues_all, rescue_found, Rescues, LogGoes, FinishesFound};
+ghost use Rattle.rescue_commands.specs.Rescue.{asked_keys, rescues_all, outcome_of, last_text, stores_log, rescue_found, Rescues};
+ghost use Rattle.rescue_commands.specs.Leading.{LogGoes, FinishesFound};
 
-use crate::logs::{find_log, store_log, tell_no_log};
+use crate::logs::{find_log, tell_no_log};
 use crate::prepare::prepare;
 use crate::records::rescue_records;
 use flop_base::{Chrn, Name, NoMemory, Shelf, Sink, Status};
 use floppy_requests::Request;
 use floppy_session::{Session, Shape};
-use rescue::{LogLine, logged_keys, standard_keys};
-use scripts::{carry, open_disk};
+use rescue::{LogLine, Outcome, logged_keys, standard_keys, write_log};
+use scripts::{carry, open_disk, store_last};
 use sector_model::Station;
-use std::alloc::Global;
+use std::alloc::{AllocError, Global};
 
 /// The records that are asked for: those of the log, or all where there is none.
 fn asked_keys(
@@ -53,8 +54,61 @@ fn rescue_all<S: Shelf, K: Sink, D: Station>(
     Ok(log)
 }
 
+/// How a rescue ended that left these lines.
+fn outcome(asked: &[Chrn], lines: &[LogLine]) -> Outcome
+    ensures { result ≡ outcome_of (length asked.now) lines.now }
+{
+    let asked = asked.len();
+    Outcome {
+        written: asked.saturating_sub(lines.len()),
+        asked,
+    }
+}
+
+fn last_line(alloc: Global, outcome: Outcome) -> Result<String, AllocError>
+    ensures { IfOk result (λ line. string_bytes line ≡ last_text outcome) }
+{
+    format!(in alloc; "{outcome}\n")
+}
+
+/// Rescues these records, and stores the new log, also where it is empty, and tells how many were written.
+#[tactic(auto, using(scripts::proofs::Running::starved), unfolding(crate::specs::Rescue::stores_log))]
+fn rescue_keys<S: Shelf, K: Sink, D: Station>(
+    alloc: Global,
+    session: &mut Session<D>,
+    to: Name,
+    log: &Name,
+    shape: Shape,
+    logged: bool,
+    keys: &[Chrn],
+    shelf: &mut S,
+    out: &mut K,
+) -> Status
+    requires running { IsRunning D.shown D.is_ready session.old }
+    ensures { Ran (Finishes (rescues_all to shape logged keys.now (stores_log log.now (length keys.now)))) (IsRunning D.shown D.is_ready session.new)
+        (faulty_of D.shown S.told S.fault_count K.told K.fault_count session.old shelf.old out.old)
+        (faulty_of D.shown S.told S.fault_count K.told K.fault_count session.new shelf.new out.new) result }
+{
+    let lines = match rescue_all(alloc, session, to, shape, logged, keys, shelf, out) {
+        Ok(lines) => lines,
+        Err(ended) => return ended,
+    };
+    let Ok(bytes) = write_log(alloc, &lines) else {
+        return Status::NoMemory;
+    };
+    let outcome = outcome(keys, &lines);
+    let status = outcome.status();
+    store_last(
+        log.as_str(),
+        &bytes,
+        last_line(alloc, outcome),
+        status,
+        shelf,
+        out,
+    )
+}
+
 /// Rescues what the log that was found asks for.
-#[tactic(auto, unfolding(crate::specs::Rescue::rescue_found))]
 fn rescue_found<S: Shelf, K: Sink, D: Station>(
     alloc: Global,
     session: &mut Session<D>,
@@ -73,19 +127,17 @@ fn rescue_found<S: Shelf, K: Sink, D: Station>(
     let Ok(keys) = asked_keys(alloc, shape, found) else {
         return Status::NoMemory;
     };
-    match rescue_all(
+    rescue_keys(
         alloc,
         session,
         to,
+        log,
         shape,
         found.is_some(),
         &keys,
         shelf,
         out,
-    ) {
-        Ok(lines) => store_log(alloc, log, &keys, &lines, shelf, out),
-        Err(ended) => ended,
-    }
+    )
 }
 
 /// Rescues the disk that was put in, by its log.
@@ -103,15 +155,16 @@ fn rescue_opened<S: Shelf, K: Sink, D: Station>(
         (faulty_of D.shown S.told S.fault_count K.told K.fault_count session.old shelf.old out.old)
         (faulty_of D.shown S.told S.fault_count K.told K.fault_count session.new shelf.new out.new) result }
 {
-    match find_log(alloc, shelf, &log, shape.rate.sectors()) {
+    match find_log(alloc, &log, shape.rate.sectors(), shelf) {
         Ok(found) => rescue_found(alloc, session, to, &log, shape, &found, shelf, out),
-        Err(cause) => tell_no_log(alloc, out, cause),
+        Err(cause) => tell_no_log(alloc, cause, out),
     }
 }
 
 /// Reads the records of the diskette under one name that its log asks for, or all where there is no log, and writes them to the
 /// diskette under another name. That diskette is stored first, and then the new log: a line for each record that wasn't read. It
 /// prints how many were written of how many, or what stopped it.
+#[tactic(auto, using(crate::proofs::Opening::not_opened))]
 pub fn rescue_disk<S: Shelf, K: Sink, D: Station>(
     alloc: Global,
     session: &mut Session<D>,

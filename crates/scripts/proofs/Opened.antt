@@ -35,7 +35,8 @@ there_is name answer old new told after fine step none =
     absurd (cc)
 
 -- and the files stay
-pub files_stay : (name : List ℕ) (answer : Reply) (old new : State) (told after : Option Files) → is_refusal answer ≡ false → Step (request.Insert 0 name) old told answer new after → after ≡ told
+pub files_stay : (name : List ℕ) (answer : Reply) (old new : State) (told after : Option Files) → is_refusal answer ≡ false
+    → Step (request.Insert 0 name) old told answer new after → after ≡ told
 files_stay name answer old new told after fine step =
     by_refusal (refusal_of old (request.Insert 0 name)) step
     (λ does. does.1)

@@ -1,6 +1,5 @@
-use Rattle.std.proofs.Common.{rules, ◌∙◌, sym}
-use Rattle.floppy_session.specs.Session.{state_of}
-use Rattle.rescue_commands.proofs.Endings.{keys_starved, found_ends, found_stored}
+use Rattle.std.proofs.Common.{rules, ◌∙◌}
+use Rattle.rescue_commands.proofs.Endings.{keys_starved, found_begins}
 use Rattle.rescue_commands.proofs.rescuing.rescue_found.Goals as goal
 
 pub returns-in_default : goal.returns-in_default
@@ -12,21 +11,10 @@ returns-in_default g c = record {
   sink_faults = search rules;
 }
 
-pub returns-in-Ok-rescue_all : goal.returns-in-Ok-rescue_all
-returns-in-Ok-rescue_all g c = record {
-  does =
-      found_stored _ _ _ c.args.found.now _ _ _ _ _ _ _ _ _ c.is_some.ensures (c.deref.ensures.value ∙ c.in-Ok.ensures)
-      (c.deref-in-Ok-rescue_all.ensures.value ∙ sym c.deref.ensures.value) c.deref-in-Ok-rescue_all-2.ensures.value
-      c.in-Ok-rescue_all.ensures.goes (c.store_log.ensures.goes (state_of g.D.Station.shown c.rescue_all.new.session));
-  running = search rules;
-  is_form = search rules;
-  shelf_faults = search rules;
-  sink_faults = search rules;
-}
-
 pub returns : goal.returns
 returns g c = record {
-  does = found_ends _ _ _ c.args.found.now _ _ _ _ _ c.is_some.ensures (c.deref.ensures.value ∙ c.in-Ok.ensures) c.in-Err.ensures.goes;
+  does = λ whole start leads. c.rescue_keys.ensures.does whole start
+      (found_begins whole start _ _ _ c.args.found.now _ _ _ c.is_some.ensures (c.deref.ensures.value ∙ c.in-Ok.ensures) leads);
   running = search rules;
   is_form = search rules;
   shelf_faults = search rules;
