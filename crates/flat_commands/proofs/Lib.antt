@@ -1,2 +1,3 @@
 mod Working
 mod Runs
+mod Turns
