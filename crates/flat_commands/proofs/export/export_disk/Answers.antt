@@ -14,14 +14,9 @@ stores flat rate bytes = Stores flat bytes (export_text (sectors_of rate)) statu
 pub returns-in-Err : goal.returns-in-Err
 returns-in-Err g c =
     let script = export_script c.args.name c.args.flat in
-    record {
-      does = tied_run script _ _ _ (c.in-Err.ensures.goes script _
-          (λ shape. reads_disk shape.rate [] (stores c.args.flat shape.rate)) (leads_itself script _));
-      running = search rules;
-      is_form = search rules;
-      shelf_faults = search rules;
-      sink_faults = search rules;
-    }
+    let does = tied_run script _ _ _ (c.in-Err.ensures.goes script _
+    (λ shape. reads_disk shape.rate [] (stores c.args.flat shape.rate)) (leads_itself script _)) in
+    search rules
 
 pub returns-in-Ok-read_disk : goal.returns-in-Ok-read_disk
 returns-in-Ok-read_disk g c =

@@ -13,7 +13,8 @@ returns-in-Ok-make_disk g c =
     let end = Ends (import_text (sectors_of c.in-Ok.loaded.rate)) status.AllOk in
     let leads = c.in-Ok-make_disk.ensures.goes script _ (λ none. end) (rw c.load_flat.ensures.stays (leads_itself script _)) in
     record {
-      does = imported c.args.flat c.args.name found _ _ _ (rw c.deref.ensures.value c.in-Ok.ensures.flat) (c.finish.ensures.goes _ _ _ c.import_line.ensures script _ leads);
+      does = imported c.args.flat c.args.name found _ _ _ (rw c.deref.ensures.value c.in-Ok.ensures.flat)
+          (c.finish.ensures.goes _ _ _ c.import_line.ensures script _ leads);
       running = search rules;
       is_form = search rules;
       shelf_faults = search rules;
