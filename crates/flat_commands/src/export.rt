@@ -35,7 +35,7 @@ fn gather<D: Station>(
 }
 
 /// Reads a record to its own place, and puts its bytes behind those of the flat file.
-#[tactic(auto, unfolding(crate::specs::Export::reads_record))]
+#[tactic(auto, using(scripts::proofs::Running::starved), unfolding(crate::specs::Export::reads_record))]
 fn read_record<S: Shelf, K: Sink, D: Station>(
     alloc: Global,
     session: &mut Session<D>,
@@ -149,6 +149,7 @@ fn export_line(alloc: Global, rate: Rate) -> Result<String, AllocError>
 
 /// Stores the bytes of all records of a disk, by cylinder, then head, then record, in a flat file. It prints how many there are, or
 /// what stopped it: a record that can't be read, or one that isn't there.
+#[tactic(auto, using(crate::proofs::Runs::finished))]
 pub fn export_disk<S: Shelf, K: Sink, D: Station>(
     alloc: Global,
     session: &mut Session<D>,
