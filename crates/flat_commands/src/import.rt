@@ -192,6 +192,7 @@ fn import_line(alloc: Global, rate: Rate) -> Result<String, AllocError>
 
 /// Makes a disk from the bytes of a flat file, and stores it under the name. It prints how many sectors were written, or what
 /// stopped it. A flat file of 737,280 bytes makes a 720 KB disk, one of 1,474,560 bytes a 1.44 MB disk; no other is taken.
+#[tactic(auto, using(crate::proofs::Runs::imported_flat, crate::proofs::Runs::not_taken))]
 pub fn import_disk<S: Shelf, K: Sink, D: Station>(
     alloc: Global,
     session: &mut Session<D>,

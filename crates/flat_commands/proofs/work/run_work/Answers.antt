@@ -6,7 +6,7 @@ use Rattle.flat_commands.proofs.Working.{first_number, number_more}
 use Rattle.flat_commands.proofs.work.run_work.Goals as goal
 
 pub loop-i-init : goal.loop-i-init
-loop-i-init g c = rw c.none-tally.ensures (search (rules, turn_begins, first_number))
+loop-i-init g c = search (rules, turn_begins, first_number)
 
 pub returns-in_err-tally : goal.returns-in_err-tally
 unfolding works
