@@ -20,29 +20,33 @@ pub finished : (script : Script) (old new : World) (ended : Status) → Finishes
 finished script old new ended goes = tied_run script old new ended (goes script old (leads_itself script old))
 
 -- so was one whose first step takes memory, where that was there
-pub fed_first : (rest : Unit {0} → Script) (old new : World) (ended : Status) → Finishes (rest tt) old new ended → Runs (RunsScript (may_starve rest)) old new ended
+pub fed_first : (rest : Unit {0} → Script) (old new : World) (ended : Status)
+    → Finishes (rest tt) old new ended → Runs (RunsScript (may_starve rest)) old new ended
 fed_first rest old new ended goes =
     finished (may_starve rest) old new ended (λ whole start leads. goes whole start (fed whole start rest old leads))
 
+-- and where it wasn't
 pub starved_first : (rest : Unit {0} → Script) (old : World) → Runs (RunsScript (may_starve rest)) old old status.NoMemory
 starved_first rest old =
     finished (may_starve rest) old old status.NoMemory (λ whole start leads. starved whole start rest old leads)
 
+-- a run behind what was found under the name of a flat file
 imported : (flat name : List ℕ) (found : Result (List ℕ × Rate) Stop) (old new : World) (ended : Status)
     → IsFlatFound old.files flat found → Finishes (import_script found name) old new ended → Runs (Imports flat name) old new ended
 imported flat name found old new ended is goes =
     let ran = finished (import_script found name) old new ended goes in
     record { course = ran.course; does = (found, is, ran.does); ties = ran.ties }
 
--- so was an import, behind the load of its flat file
-pub imported_flat : (flat name bytes : List ℕ) (rate : Rate) (state : State) (files after : Option Files) (report : Option (List ℕ)) (new : World) (ended : Status)
+-- an import was run, behind the load of its flat file
+pub imported_flat : (flat name bytes : List ℕ) (rate : Rate) (state : State) (files after : Option Files)
+    (report : Option (List ℕ)) (new : World) (ended : Status)
     → after ≡ files → IsFlatFile files flat bytes rate → Finishes (import_script (Ok (bytes, rate)) name) (with_report state after report) new ended
     → Runs (Imports flat name) (with_report state files report) new ended
 imported_flat flat name bytes rate state files after report new ended same is goes =
     imported flat name (Ok (bytes, rate)) (with_report state files report) new ended is
     (subst (λ (f : Option Files). Finishes (import_script (Ok (bytes, rate)) name) (with_report state f report) new ended) same goes)
 
--- or it ended with why that isn't taken
+-- or it told why that isn't taken
 pub not_taken : (flat name : List ℕ) (cause : Stop) (state : State) (files after : Option Files) (report told : Option (List ℕ)) (ended : Status)
     → after ≡ files → IsNotTaken files flat cause → Prints (stop_text cause) (stop_status cause) report told ended
     → Runs (Imports flat name) (with_report state files report) (with_report state after told) ended

@@ -11,17 +11,20 @@ use Rattle.scripts.specs.Leading.{Goes}
 abbrev pub of_track : {Found : Type 0} → (ℕ → ℕ → Found → Part Found) → ℕ → Found → Part Found
 of_track part track = part (track / 2) (track % 2)
 
+-- two turns of a loop
 two_more : {Found : Type 0} (i n : ℕ) (part : ℕ → Found → Part Found) (found : Found) (rest : Found → Script)
     → each i (suc (suc n)) part found rest ≡ part i found (λ now. part (i + 1) now (λ then. each (i + 1 + 1) n part then rest))
 unfolding each through
 two_more i n part found rest = refl
 
+-- a cylinder's two tracks
 one_cylinder : {Found : Type 0} (i n : ℕ) (part : ℕ → ℕ → Found → Part Found) (found : Found) (rest : Found → Script)
     → each i (suc n) (λ c. each 0 2 (part c)) found rest
     ≡ part i 0 found (λ now. part i 1 now (λ then. each (i + 1) n (λ c. each 0 2 (part c)) then rest))
 unfolding each through
 one_cylinder i n part found rest = refl
 
+-- by cylinder, then head, is by number
 tracks_are : {Found : Type 0} (i n : ℕ) (part : ℕ → ℕ → Found → Part Found) (found : Found) (rest : Found → Script)
     → each i n (λ c. each 0 2 (part c)) found rest ≡ each (2 * i) (2 * n) (of_track part) found rest
 unfolding each through

@@ -62,7 +62,6 @@ fn fill_track<S: Shelf, K: Sink, D: Station>(
     out: &mut K,
 ) -> Result<(), Status>
     requires running { IsRunning D.shown D.is_ready session.old }
-    requires most { sectors ≤ 18 }
     requires density { IsDensity sectors }
     requires whole { length flat.now ≡ flat_length sectors }
     requires cylinder { c < 80 }
@@ -119,7 +118,6 @@ fn import_track<S: Shelf, K: Sink, D: Station>(
     out: &mut K,
 ) -> Result<(), Status>
     requires running { IsRunning D.shown D.is_ready session.old }
-    requires most { sectors ≤ 18 }
     requires density { IsDensity sectors }
     requires whole { length flat.now ≡ flat_length sectors }
     requires cylinder { c < 80 }
@@ -144,7 +142,6 @@ fn import_tracks<S: Shelf, K: Sink, D: Station>(
     out: &mut K,
 ) -> Result<(), Status>
     requires running { IsRunning D.shown D.is_ready session.old }
-    requires most { sectors ≤ 18 }
     requires density { IsDensity sectors }
     requires whole { length flat.now ≡ flat_length sectors }
     ensures { RanPart (Goes (by_track 80 2 (imports_track flat.now sectors) tt)) (IsRunning D.shown D.is_ready session.new)

@@ -19,7 +19,8 @@ returns-in-Ok g c = record {
   goes = λ whole start rest leads.
       rw (c.in-Ok.ensures, c.record_address-address.ensures)
       (fed whole start (kept c.args.r c.args.flat.now.items rest (state_of g.D.Station.shown c.need.new.session)) _
-      (c.in_ok-need.ensures.ran.goes whole start (λ answer after. may_starve (kept c.args.r c.args.flat.now.items rest after)) (rw c.record_address-address.ensures leads)));
+      (c.in_ok-need.ensures.ran.goes whole start (λ answer after. may_starve (kept c.args.r c.args.flat.now.items rest after))
+      (rw c.record_address-address.ensures leads)));
   running = search rules;
   is_form = search rules;
   shelf_faults = search rules;
