@@ -1,2 +1,4 @@
 mod Working
 mod Runs
+mod Turns
+mod Tracks

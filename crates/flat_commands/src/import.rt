@@ -1,12 +1,11 @@
 // The import of a flat file to a disk.
 ghost use Rattle.std.specs.Prelude.{◌≡◌, ◌+◌, ◌≤◌, ◌<◌, length, IfOk, string_bytes};
 ghost use Rattle.flop_base.specs.Standard.{sectors_at};
-ghost use Rattle.flat_image.specs.Flat.{IsDensity, flat_length, sector_place};
+ghost use Rattle.flat_image.specs.Flat.{IsDensity, flat_length};
 ghost use Rattle.floppy_session.specs.Session.{IsRunning};
-ghost use Rattle.scripts.specs.Parts.{each, by_track};
-ghost use Rattle.scripts.specs.Records.{record_address};
+ghost use Rattle.scripts.specs.Parts.{by_track};
 ghost use Rattle.scripts.specs.Leading.{Goes, RanPart, Ran, Runs, faulty_of};
-ghost use Rattle.flat_commands.specs.Import.{fills_byte, fills_record, fills_track, writes_record, writes_track, imports_track, imports_disk, import_text, sectors_of, Imports};
+ghost use Rattle.flat_commands.specs.Import.{fills_record, fills_track, writes_track, imports_track, imports_disk, import_text, sectors_of, Imports};
 
 use crate::flat_file::load_flat;
 use flat_image::place;
@@ -22,36 +21,7 @@ use std::alloc::{AllocError, Global};
 /// The cylinders of a disk that has the sectors of a flat file.
 pub(crate) const CYLINDERS: u8 = 80;
 
-/// Sets a byte of memory to a byte of a record, which begins at its place in the flat file.
-#[tactic(auto, unfolding(crate::specs::Import::fills_byte))]
-fn fill_byte<S: Shelf, K: Sink, D: Station>(
-    alloc: Global,
-    session: &mut Session<D>,
-    flat: &[u8],
-    place: usize,
-    address: u32,
-    i: u32,
-    shelf: &mut S,
-    out: &mut K,
-) -> Result<(), Status>
-    requires running { IsRunning D.shown D.is_ready session.old }
-    requires inside { place + 512 ≤ length flat.now }
-    requires low { address ≤ 0xF0000 }
-    requires record { i < 512 }
-    ensures { RanPart (Goes (fills_byte flat.now place address i tt)) (IsRunning D.shown D.is_ready session.new)
-        (faulty_of D.shown S.told S.fault_count K.told K.fault_count session.old shelf.old out.old) result
-        (faulty_of D.shown S.told S.fault_count K.told K.fault_count session.new shelf.new out.new) }
-{
-    let fill = Request::Fill {
-        address: address + i,
-        length: 1,
-        byte: flat[place + i as usize],
-    };
-    carry(alloc, session, &fill, shelf, out)
-}
-
-/// Sets memory from the address on to the bytes of a record.
-#[tactic(auto, unfolding(crate::specs::Import::fills_record))]
+/// Sets memory from the address on to the bytes of a record, one request for each byte.
 fn fill_record<S: Shelf, K: Sink, D: Station>(
     alloc: Global,
     session: &mut Session<D>,
@@ -69,41 +39,18 @@ fn fill_record<S: Shelf, K: Sink, D: Station>(
         (faulty_of D.shown S.told S.fault_count K.told K.fault_count session.new shelf.new out.new) }
 {
     for i in 0..512u32 {
-        fill_byte(alloc, session, flat, place, address, i, shelf, out)?;
+        let byte = flat[place + i as usize];
+        let fill = Request::Fill {
+            address: address + i,
+            length: 1,
+            byte,
+        };
+        carry(alloc, session, &fill, shelf, out)?;
     }
     Ok(())
 }
 
-/// Sets memory to the bytes of a record of a track, at its own address.
-fn fill_sector<S: Shelf, K: Sink, D: Station>(
-    alloc: Global,
-    session: &mut Session<D>,
-    flat: &[u8],
-    sectors: u8,
-    c: u8,
-    h: u8,
-    r: u8,
-    shelf: &mut S,
-    out: &mut K,
-) -> Result<(), Status>
-    requires running { IsRunning D.shown D.is_ready session.old }
-    requires most { sectors ≤ 18 }
-    requires density { IsDensity sectors }
-    requires whole { length flat.now ≡ flat_length sectors }
-    requires cylinder { c < 80 }
-    requires head { h < 2 }
-    requires least { 1 ≤ r }
-    requires last { r ≤ sectors }
-    ensures { RanPart (Goes (fills_record flat.now (sector_place sectors c h r) (record_address r) tt)) (IsRunning D.shown D.is_ready session.new)
-        (faulty_of D.shown S.told S.fault_count K.told K.fault_count session.old shelf.old out.old) result
-        (faulty_of D.shown S.told S.fault_count K.told K.fault_count session.new shelf.new out.new) }
-{
-    let from = place(sectors, c, h, r);
-    fill_record(alloc, session, flat, from, record_address(r), shelf, out)
-}
-
-/// Sets memory to the bytes of a track.
-#[tactic(auto, unfolding(crate::specs::Import::fills_track))]
+/// Sets memory to the bytes of a track, each record at its own place.
 fn fill_track<S: Shelf, K: Sink, D: Station>(
     alloc: Global,
     session: &mut Session<D>,
@@ -115,7 +62,6 @@ fn fill_track<S: Shelf, K: Sink, D: Station>(
     out: &mut K,
 ) -> Result<(), Status>
     requires running { IsRunning D.shown D.is_ready session.old }
-    requires most { sectors ≤ 18 }
     requires density { IsDensity sectors }
     requires whole { length flat.now ≡ flat_length sectors }
     requires cylinder { c < 80 }
@@ -125,40 +71,13 @@ fn fill_track<S: Shelf, K: Sink, D: Station>(
         (faulty_of D.shown S.told S.fault_count K.told K.fault_count session.new shelf.new out.new) }
 {
     for r in 1..sectors + 1 {
-        fill_sector(alloc, session, flat, sectors, c, h, r, shelf, out)?;
+        let from = place(sectors, c, h, r);
+        fill_record(alloc, session, flat, from, record_address(r), shelf, out)?;
     }
     Ok(())
 }
 
-/// Writes a record from its own place in memory.
-#[tactic(auto, unfolding(crate::specs::Import::writes_record))]
-fn write_record<S: Shelf, K: Sink, D: Station>(
-    alloc: Global,
-    session: &mut Session<D>,
-    c: u8,
-    h: u8,
-    r: u8,
-    shelf: &mut S,
-    out: &mut K,
-) -> Result<(), Status>
-    requires running { IsRunning D.shown D.is_ready session.old }
-    requires least { 1 ≤ r }
-    requires most { r ≤ 18 }
-    ensures { RanPart (Goes (writes_record c h r tt)) (IsRunning D.shown D.is_ready session.new)
-        (faulty_of D.shown S.told S.fault_count K.told K.fault_count session.old shelf.old out.old) result
-        (faulty_of D.shown S.told S.fault_count K.told K.fault_count session.new shelf.new out.new) }
-{
-    let n = SIZE_CODE;
-    let write = Request::Write {
-        bay: 0,
-        key: Chrn { c, h, r, n },
-        address: record_address(r),
-    };
-    carry(alloc, session, &write, shelf, out)
-}
-
-/// Writes the records of a track.
-#[tactic(auto, unfolding(crate::specs::Import::writes_track))]
+/// Writes the records of a track, each from its own place.
 fn write_track<S: Shelf, K: Sink, D: Station>(
     alloc: Global,
     session: &mut Session<D>,
@@ -174,8 +93,14 @@ fn write_track<S: Shelf, K: Sink, D: Station>(
         (faulty_of D.shown S.told S.fault_count K.told K.fault_count session.old shelf.old out.old) result
         (faulty_of D.shown S.told S.fault_count K.told K.fault_count session.new shelf.new out.new) }
 {
+    let n = SIZE_CODE;
     for r in 1..sectors + 1 {
-        write_record(alloc, session, c, h, r, shelf, out)?;
+        let write = Request::Write {
+            bay: 0,
+            key: Chrn { c, h, r, n },
+            address: record_address(r),
+        };
+        carry(alloc, session, &write, shelf, out)?;
     }
     Ok(())
 }
@@ -193,7 +118,6 @@ fn import_track<S: Shelf, K: Sink, D: Station>(
     out: &mut K,
 ) -> Result<(), Status>
     requires running { IsRunning D.shown D.is_ready session.old }
-    requires most { sectors ≤ 18 }
     requires density { IsDensity sectors }
     requires whole { length flat.now ≡ flat_length sectors }
     requires cylinder { c < 80 }
@@ -208,31 +132,6 @@ fn import_track<S: Shelf, K: Sink, D: Station>(
     write_track(alloc, session, sectors, c, h, shelf, out)
 }
 
-/// Makes the tracks of a cylinder.
-fn import_cylinder<S: Shelf, K: Sink, D: Station>(
-    alloc: Global,
-    session: &mut Session<D>,
-    flat: &[u8],
-    sectors: u8,
-    c: u8,
-    shelf: &mut S,
-    out: &mut K,
-) -> Result<(), Status>
-    requires running { IsRunning D.shown D.is_ready session.old }
-    requires most { sectors ≤ 18 }
-    requires density { IsDensity sectors }
-    requires whole { length flat.now ≡ flat_length sectors }
-    requires cylinder { c < 80 }
-    ensures { RanPart (Goes (each 0 2 (imports_track flat.now sectors c) tt)) (IsRunning D.shown D.is_ready session.new)
-        (faulty_of D.shown S.told S.fault_count K.told K.fault_count session.old shelf.old out.old) result
-        (faulty_of D.shown S.told S.fault_count K.told K.fault_count session.new shelf.new out.new) }
-{
-    for h in 0..2u8 {
-        import_track(alloc, session, flat, sectors, c, h, shelf, out)?;
-    }
-    Ok(())
-}
-
 /// Makes all tracks, by cylinder, then head.
 fn import_tracks<S: Shelf, K: Sink, D: Station>(
     alloc: Global,
@@ -243,15 +142,16 @@ fn import_tracks<S: Shelf, K: Sink, D: Station>(
     out: &mut K,
 ) -> Result<(), Status>
     requires running { IsRunning D.shown D.is_ready session.old }
-    requires most { sectors ≤ 18 }
     requires density { IsDensity sectors }
     requires whole { length flat.now ≡ flat_length sectors }
     ensures { RanPart (Goes (by_track 80 2 (imports_track flat.now sectors) tt)) (IsRunning D.shown D.is_ready session.new)
         (faulty_of D.shown S.told S.fault_count K.told K.fault_count session.old shelf.old out.old) result
         (faulty_of D.shown S.told S.fault_count K.told K.fault_count session.new shelf.new out.new) }
 {
-    for c in 0..CYLINDERS {
-        import_cylinder(alloc, session, flat, sectors, c, shelf, out)?;
+    for track in 0..2 * CYLINDERS {
+        let c = track / 2;
+        let h = track % 2;
+        import_track(alloc, session, flat, sectors, c, h, shelf, out)?;
     }
     Ok(())
 }
@@ -289,6 +189,7 @@ fn import_line(alloc: Global, rate: Rate) -> Result<String, AllocError>
 
 /// Makes a disk from the bytes of a flat file, and stores it under the name. It prints how many sectors were written, or what
 /// stopped it. A flat file of 737,280 bytes makes a 720 KB disk, one of 1,474,560 bytes a 1.44 MB disk; no other is taken.
+#[tactic(auto, using(crate::proofs::Runs::imported_flat, crate::proofs::Runs::not_taken))]
 pub fn import_disk<S: Shelf, K: Sink, D: Station>(
     alloc: Global,
     session: &mut Session<D>,

@@ -1,43 +1,24 @@
 use Rattle.std.proofs.Common.{rules, arith}
-use Rattle.std.proofs.lemmas.Result.{err_from_is_err_and}
 use Rattle.scripts.proofs.Looping.{turn_begins, turn_goes, turn_ends, turns_over}
 use Rattle.flat_commands.specs.Export.{reads_track}
+use Rattle.flat_commands.proofs.Turns.{given_behind}
 use Rattle.flat_commands.proofs.export.read_track.Goals as goal
 
 pub loop-r-init : goal.loop-r-init
-loop-r-init g c = record {
-  turn = turn_begins _ _ _ _ _;
-  running = search rules;
-  counted = search rules;
-  stays = search rules;
-}
+loop-r-init g c = search (rules, turn_begins)
 
 pub returns-in_err-read_record : goal.returns-in_err-read_record
 unfolding reads_track
-returns-in_err-read_record g c = record {
-  goes =
-      let p = err_from_is_err_and c.from_residual.result c.from_residual.ensures.1 in
-      rw (p.1, p.2) (turn_ends _ _ _ _ _ _ _ _ _ _ c.loop-r.invariant.turn c.in_err-read_record.ensures.goes (omega arith));
-  running = search rules;
-  is_form = search rules;
-  shelf_faults = search rules;
-  sink_faults = search rules;
-}
+returns-in_err-read_record g c =
+    let goes = given_behind _ c.read_record.new.flat.items _ _ _ _ c.from_residual.ensures.1
+    (turn_ends _ _ _ _ _ _ _ _ _ _ c.loop-r.invariant.turn c.in_err-read_record.ensures.goes (omega arith)) in
+    search rules
 
 pub loop-r-preserved : goal.loop-r-preserved
-loop-r-preserved g c = record {
-  turn = turn_goes _ _ _ _ _ _ _ _ _ _ c.loop-r.invariant.turn c.in_ok-read_record.ensures.goes (omega arith);
-  running = search rules;
-  counted = search rules;
-  stays = search rules;
-}
+loop-r-preserved g c =
+    let turn = turn_goes _ _ _ _ _ _ _ _ _ _ c.loop-r.invariant.turn c.in_ok-read_record.ensures.goes (omega arith) in
+    search rules
 
 pub returns : goal.returns
 unfolding reads_track
-returns g c = record {
-  goes = turns_over _ _ _ _ _ _ _ _ c.loop-r.invariant.turn (omega arith);
-  running = search rules;
-  is_form = search rules;
-  shelf_faults = search rules;
-  sink_faults = search rules;
-}
+returns g c = let goes = turns_over _ _ _ _ _ _ _ _ c.loop-r.invariant.turn (omega arith) in search rules

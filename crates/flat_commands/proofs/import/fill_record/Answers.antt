@@ -1,43 +1,25 @@
 use Rattle.std.proofs.Common.{rules, arith}
-use Rattle.std.proofs.lemmas.Result.{err_from_is_err_and}
 use Rattle.scripts.proofs.Looping.{turn_begins, turn_goes, turn_ends, turns_over}
-use Rattle.flat_commands.specs.Import.{fills_record}
+use Rattle.flat_commands.specs.Import.{fills_record, fills_byte}
+use Rattle.flat_commands.proofs.Turns.{given_on}
 use Rattle.flat_commands.proofs.import.fill_record.Goals as goal
 
 pub loop-i-init : goal.loop-i-init
-loop-i-init g c = record {
-  turn = turn_begins _ _ _ _ _;
-  running = search rules;
-  counted = search rules;
-  stays = search rules;
-}
+loop-i-init g c = search (rules, turn_begins)
 
-pub returns-in_err-fill_byte : goal.returns-in_err-fill_byte
-unfolding fills_record
-returns-in_err-fill_byte g c = record {
-  goes =
-      let p = err_from_is_err_and c.from_residual.result c.from_residual.ensures.1 in
-      rw (p.1, p.2) (turn_ends _ _ _ _ _ _ _ _ _ _ c.loop-i.invariant.turn c.in_err-fill_byte.ensures.goes (omega arith));
-  running = search rules;
-  is_form = search rules;
-  shelf_faults = search rules;
-  sink_faults = search rules;
-}
+pub returns-in_err-carry : goal.returns-in_err-carry
+unfolding fills_record fills_byte
+returns-in_err-carry g c =
+    let goes = given_on _ _ _ _ _ c.from_residual.ensures.1
+    (turn_ends _ _ _ _ _ _ _ _ _ _ c.loop-i.invariant.turn c.in_err-carry.ensures.goes (omega arith)) in
+    search rules
 
 pub loop-i-preserved : goal.loop-i-preserved
-loop-i-preserved g c = record {
-  turn = turn_goes _ _ _ _ _ _ _ _ _ _ c.loop-i.invariant.turn c.in_ok-fill_byte.ensures.goes (omega arith);
-  running = search rules;
-  counted = search rules;
-  stays = search rules;
-}
+unfolding fills_byte
+loop-i-preserved g c =
+    let turn = turn_goes _ _ _ _ _ _ _ _ _ _ c.loop-i.invariant.turn c.in_ok-carry.ensures.goes (omega arith) in
+    search rules
 
 pub returns : goal.returns
-unfolding fills_record
-returns g c = record {
-  goes = turns_over _ _ _ _ _ _ _ _ c.loop-i.invariant.turn (omega arith);
-  running = search rules;
-  is_form = search rules;
-  shelf_faults = search rules;
-  sink_faults = search rules;
-}
+unfolding fills_record fills_byte
+returns g c = let goes = turns_over _ _ _ _ _ _ _ _ c.loop-i.invariant.turn (omega arith) in search rules

@@ -1,23 +1,17 @@
-use Rattle.std.proofs.Common.{rules, arith}
-use Rattle.std.proofs.lemmas.Result.{err_from_is_err_and}
+use Rattle.std.proofs.Common.{rules, arith, sym}
 use Rattle.scripts.proofs.Looping.{turn_begins, turn_goes, turn_ends, turns_over}
-use Rattle.flat_commands.specs.Import.{writes_track}
+use Rattle.flat_commands.specs.Import.{writes_track, writes_record}
+use Rattle.flat_commands.proofs.Turns.{given_on}
 use Rattle.flat_commands.proofs.import.write_track.Goals as goal
 
 pub loop-r-init : goal.loop-r-init
-loop-r-init g c = record {
-  turn = turn_begins _ _ _ _ _;
-  running = search rules;
-  counted = search rules;
-  stays = search rules;
-}
+loop-r-init g c = search (rules, turn_begins)
 
-pub returns-in_err-write_record : goal.returns-in_err-write_record
-unfolding writes_track
-returns-in_err-write_record g c = record {
-  goes =
-      let p = err_from_is_err_and c.from_residual.result c.from_residual.ensures.1 in
-      rw (p.1, p.2) (turn_ends _ _ _ _ _ _ _ _ _ _ c.loop-r.invariant.turn c.in_err-write_record.ensures.goes (omega arith));
+pub returns-in_err-carry : goal.returns-in_err-carry
+unfolding writes_track writes_record
+returns-in_err-carry g c = record {
+  goes = given_on _ _ _ _ _ c.from_residual.ensures.1
+      (turn_ends _ _ _ _ _ _ _ _ _ _ c.loop-r.invariant.turn (rw (sym c.record_address.ensures) c.in_err-carry.ensures.goes) (omega arith));
   running = search rules;
   is_form = search rules;
   shelf_faults = search rules;
@@ -25,8 +19,9 @@ returns-in_err-write_record g c = record {
 }
 
 pub loop-r-preserved : goal.loop-r-preserved
+unfolding writes_record
 loop-r-preserved g c = record {
-  turn = turn_goes _ _ _ _ _ _ _ _ _ _ c.loop-r.invariant.turn c.in_ok-write_record.ensures.goes (omega arith);
+  turn = turn_goes _ _ _ _ _ _ _ _ _ _ c.loop-r.invariant.turn (rw (sym c.record_address.ensures) c.in_ok-carry.ensures.goes) (omega arith);
   running = search rules;
   counted = search rules;
   stays = search rules;
@@ -34,10 +29,4 @@ loop-r-preserved g c = record {
 
 pub returns : goal.returns
 unfolding writes_track
-returns g c = record {
-  goes = turns_over _ _ _ _ _ _ _ _ c.loop-r.invariant.turn (omega arith);
-  running = search rules;
-  is_form = search rules;
-  shelf_faults = search rules;
-  sink_faults = search rules;
-}
+returns g c = let goes = turns_over _ _ _ _ _ _ _ _ c.loop-r.invariant.turn (omega arith) in search rules
