@@ -313,6 +313,7 @@ fn run_copy<S: Shelf, K: Sink, D: Station>(
 
 /// Copies the sectors of the disk under one name to a new disk, which is stored under another. It prints how many were copied, or
 /// what stopped it.
+#[tactic(auto, using(scripts::proofs::Running::finished), unfolding(crate::specs::Copy::copy_script))]
 pub fn copy_disk<S: Shelf, K: Sink, D: Station>(
     alloc: Global,
     session: &mut Session<D>,

@@ -50,6 +50,7 @@ fn run_format<S: Shelf, K: Sink, D: Station>(
 
 /// Makes a disk of so many cylinders with two heads, formats it at this rate, and stores it under the name. It prints how many tracks
 /// were formatted, or what stopped it.
+#[tactic(auto, using(scripts::proofs::Running::finished), unfolding(crate::specs::Format::format_script))]
 pub fn format_disk<S: Shelf, K: Sink, D: Station>(
     alloc: Global,
     session: &mut Session<D>,

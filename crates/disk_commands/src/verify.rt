@@ -203,6 +203,7 @@ fn read_disk<S: Shelf, K: Sink, D: Station>(
 
 /// Reads every sector of the disk of this name. It prints a line for each that can't be read, with its cylinder, head and record and
 /// why, and at last how many were read.
+#[tactic(auto, using(scripts::proofs::Running::finished), unfolding(crate::specs::Verify::verify_script))]
 pub fn verify_disk<S: Shelf, K: Sink, D: Station>(
     alloc: Global,
     session: &mut Session<D>,

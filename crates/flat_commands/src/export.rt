@@ -149,7 +149,7 @@ fn export_line(alloc: Global, rate: Rate) -> Result<String, AllocError>
 
 /// Stores the bytes of all records of a disk, by cylinder, then head, then record, in a flat file. It prints how many there are, or
 /// what stopped it: a record that can't be read, or one that isn't there.
-#[tactic(auto, using(crate::proofs::Runs::finished))]
+#[tactic(auto, using(scripts::proofs::Running::finished))]
 pub fn export_disk<S: Shelf, K: Sink, D: Station>(
     alloc: Global,
     session: &mut Session<D>,

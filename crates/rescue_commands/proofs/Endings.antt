@@ -1,16 +1,14 @@
 -- How a rescue ends: its new log is stored, or there is no log to go by.
 use Rattle.std.proofs.Common.{◌≡◌, ℕ, List, [], length, refl, ap, sym, subst, append-nil, ◌∙◌, Bool, is_some, Option, Some, None, Vec, Global}
-use Rattle.flop_base.specs.Shelf.{Files}
 use Rattle.flop_base.specs.Sink.{grown}
 use Rattle.flop_base.specs.declared.key.Chrn.{Chrn}
 use Rattle.flop_base.specs.declared.answers.Status.{Status}
 use Rattle.flop_base.specs.declared.answers.Status.TheVariants as status
-use Rattle.sector_model.specs.States.{State}
-use Rattle.sector_model.specs.Plays.{World, Whole}
+use Rattle.sector_model.specs.Plays.{World}
 use Rattle.floppy_session.specs.declared.shape.Shape.{Shape}
-use Rattle.scripts.specs.Scripts.{Script, Ends, Stores}
-use Rattle.scripts.specs.Leading.{Leads, Finishes, with_report}
-use Rattle.scripts.proofs.Running.{ends_here, fed, starved}
+use Rattle.scripts.specs.Scripts.{Script, Stores}
+use Rattle.scripts.specs.Leading.{Leads, Finishes}
+use Rattle.scripts.proofs.Running.{fed, starved}
 use Rattle.rescue.specs.Log.{log_text}
 use Rattle.rescue.specs.Course.{outcome_status}
 use Rattle.rescue.specs.declared.line.LogLine.{LogLine}
@@ -21,12 +19,6 @@ use Rattle.rescue_commands.specs.Rescue.{stores_log, last_text, outcome_of, aske
 nothing_more : (report : Option (List ℕ)) → report ≡ grown report []
 nothing_more None = refl
 nothing_more (Some told) = ap Some (sym (append-nil told))
-
--- nothing is told
-pub ends_quietly : (wanted : Status) (state : State) (files : Option Files) (report : Option (List ℕ))
-    → Finishes (Ends [] wanted) (with_report state files report) (with_report state files report) wanted
-ends_quietly wanted state files report whole start leads =
-    ends_here whole start [] wanted state files report report wanted (Whole (nothing_more report) refl) leads
 
 -- what stores a log that is left
 abbrev stores_last : List ℕ → ℕ → List LogLine → Script

@@ -15,7 +15,7 @@ use Rattle.sector_model.specs.Plays.{World}
 use Rattle.floppy_report.specs.LastLines.{stopped_text}
 use Rattle.floppy_session.specs.Blanks.{blank_request}
 use Rattle.floppy_session.specs.declared.shape.Shape.{Shape}
-use Rattle.scripts.specs.Scripts.{Script, Ends, Stores, RunsScript}
+use Rattle.scripts.specs.Scripts.{Script, Ends, Fails, Stores, RunsScript}
 use Rattle.scripts.specs.Parts.{Part, asks, carries, may_starve, opens, acknowledges, through, by_track, formats}
 use Rattle.rescue.specs.Log.{log_text}
 use Rattle.rescue.specs.Course.{read_of, after_read, standard_keys, logged_keys, outcome_text, outcome_status}
@@ -115,8 +115,8 @@ bad_log_text line = codes "log line " ++ (decimal line ++ codes " not understood
 -- what is told where there is no log to go by
 unfoldable pub tells_no_log : NoLog → Script
 tells_no_log (missing.BadLine line) = Ends (bad_log_text line) status.BadJob
-tells_no_log missing.FileFault = Ends [] status.FileFault
-tells_no_log missing.NoMemory = Ends [] status.NoMemory
+tells_no_log missing.FileFault = Fails status.FileFault
+tells_no_log missing.NoMemory = Fails status.NoMemory
 
 -- what comes behind the disk that was put in, by what was found under the name of its log
 abbrev pub rescue_rest : List ℕ → List ℕ → Shape → Result (Option (List LogLine)) NoLog → Script

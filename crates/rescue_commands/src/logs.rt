@@ -72,7 +72,7 @@ fn bad_log_line(alloc: Global, line: usize) -> Result<String, AllocError>
 }
 
 /// Tells why a log wasn't had.
-#[tactic(auto, using(crate::proofs::Endings::ends_quietly), unfolding(crate::specs::Rescue::tells_no_log))]
+#[tactic(auto, using(scripts::proofs::Running::fails_here), unfolding(crate::specs::Rescue::tells_no_log))]
 pub(crate) fn tell_no_log<K: Sink>(alloc: Global, cause: NoLog, out: &mut K) -> Status
     ensures { Tells (tells_no_log cause) (cause ≡ NoLog.FileFault)
         (printed_of K.told K.fault_count out.old) (printed_of K.told K.fault_count out.new) result }
