@@ -2,7 +2,6 @@
 ghost use Rattle.std.specs.Prelude.{◌≡◌, ◌+◌, ◌≤◌, ◌<◌, length, IfOk, string_bytes};
 ghost use Rattle.flop_base.specs.Standard.{sectors_at};
 ghost use Rattle.flat_image.specs.Flat.{IsDensity, flat_length, sector_place};
-ghost use Rattle.floppy_session.specs.Session.{IsRunning};
 ghost use Rattle.scripts.specs.Parts.{each, by_track};
 ghost use Rattle.scripts.specs.Records.{record_address};
 ghost use Rattle.scripts.specs.Leading.{Goes, RanPart, Ran, Runs, faulty_of};
@@ -34,13 +33,12 @@ fn fill_byte<S: Shelf, K: Sink, D: Station>(
     shelf: &mut S,
     out: &mut K,
 ) -> Result<(), Status>
-    requires running { IsRunning D.shown D.is_ready session.old }
     requires inside { place + 512 ≤ length flat.now }
     requires low { address ≤ 0xF0000 }
     requires record { i < 512 }
-    ensures { RanPart (Goes (fills_byte flat.now place address i tt)) (IsRunning D.shown D.is_ready session.new)
-        (faulty_of D.shown S.told S.fault_count K.told K.fault_count session.old shelf.old out.old) result
-        (faulty_of D.shown S.told S.fault_count K.told K.fault_count session.new shelf.new out.new) }
+    ensures { RanPart (Goes (fills_byte flat.now place address i tt))
+        (faulty_of S.told S.fault_count K.told K.fault_count session.old shelf.old out.old) result
+        (faulty_of S.told S.fault_count K.told K.fault_count session.new shelf.new out.new) }
 {
     let fill = Request::Fill {
         address: address + i,
@@ -61,12 +59,11 @@ fn fill_record<S: Shelf, K: Sink, D: Station>(
     shelf: &mut S,
     out: &mut K,
 ) -> Result<(), Status>
-    requires running { IsRunning D.shown D.is_ready session.old }
     requires inside { place + 512 ≤ length flat.now }
     requires low { address ≤ 0xF0000 }
-    ensures { RanPart (Goes (fills_record flat.now place address tt)) (IsRunning D.shown D.is_ready session.new)
-        (faulty_of D.shown S.told S.fault_count K.told K.fault_count session.old shelf.old out.old) result
-        (faulty_of D.shown S.told S.fault_count K.told K.fault_count session.new shelf.new out.new) }
+    ensures { RanPart (Goes (fills_record flat.now place address tt))
+        (faulty_of S.told S.fault_count K.told K.fault_count session.old shelf.old out.old) result
+        (faulty_of S.told S.fault_count K.told K.fault_count session.new shelf.new out.new) }
 {
     for i in 0..512u32 {
         fill_byte(alloc, session, flat, place, address, i, shelf, out)?;
@@ -86,7 +83,6 @@ fn fill_sector<S: Shelf, K: Sink, D: Station>(
     shelf: &mut S,
     out: &mut K,
 ) -> Result<(), Status>
-    requires running { IsRunning D.shown D.is_ready session.old }
     requires most { sectors ≤ 18 }
     requires density { IsDensity sectors }
     requires whole { length flat.now ≡ flat_length sectors }
@@ -94,9 +90,9 @@ fn fill_sector<S: Shelf, K: Sink, D: Station>(
     requires head { h < 2 }
     requires least { 1 ≤ r }
     requires last { r ≤ sectors }
-    ensures { RanPart (Goes (fills_record flat.now (sector_place sectors c h r) (record_address r) tt)) (IsRunning D.shown D.is_ready session.new)
-        (faulty_of D.shown S.told S.fault_count K.told K.fault_count session.old shelf.old out.old) result
-        (faulty_of D.shown S.told S.fault_count K.told K.fault_count session.new shelf.new out.new) }
+    ensures { RanPart (Goes (fills_record flat.now (sector_place sectors c h r) (record_address r) tt))
+        (faulty_of S.told S.fault_count K.told K.fault_count session.old shelf.old out.old) result
+        (faulty_of S.told S.fault_count K.told K.fault_count session.new shelf.new out.new) }
 {
     let from = place(sectors, c, h, r);
     fill_record(alloc, session, flat, from, record_address(r), shelf, out)
@@ -114,15 +110,14 @@ fn fill_track<S: Shelf, K: Sink, D: Station>(
     shelf: &mut S,
     out: &mut K,
 ) -> Result<(), Status>
-    requires running { IsRunning D.shown D.is_ready session.old }
     requires most { sectors ≤ 18 }
     requires density { IsDensity sectors }
     requires whole { length flat.now ≡ flat_length sectors }
     requires cylinder { c < 80 }
     requires head { h < 2 }
-    ensures { RanPart (Goes (fills_track flat.now sectors c h)) (IsRunning D.shown D.is_ready session.new)
-        (faulty_of D.shown S.told S.fault_count K.told K.fault_count session.old shelf.old out.old) result
-        (faulty_of D.shown S.told S.fault_count K.told K.fault_count session.new shelf.new out.new) }
+    ensures { RanPart (Goes (fills_track flat.now sectors c h))
+        (faulty_of S.told S.fault_count K.told K.fault_count session.old shelf.old out.old) result
+        (faulty_of S.told S.fault_count K.told K.fault_count session.new shelf.new out.new) }
 {
     for r in 1..sectors + 1 {
         fill_sector(alloc, session, flat, sectors, c, h, r, shelf, out)?;
@@ -141,12 +136,11 @@ fn write_record<S: Shelf, K: Sink, D: Station>(
     shelf: &mut S,
     out: &mut K,
 ) -> Result<(), Status>
-    requires running { IsRunning D.shown D.is_ready session.old }
     requires least { 1 ≤ r }
     requires most { r ≤ 18 }
-    ensures { RanPart (Goes (writes_record c h r tt)) (IsRunning D.shown D.is_ready session.new)
-        (faulty_of D.shown S.told S.fault_count K.told K.fault_count session.old shelf.old out.old) result
-        (faulty_of D.shown S.told S.fault_count K.told K.fault_count session.new shelf.new out.new) }
+    ensures { RanPart (Goes (writes_record c h r tt))
+        (faulty_of S.told S.fault_count K.told K.fault_count session.old shelf.old out.old) result
+        (faulty_of S.told S.fault_count K.told K.fault_count session.new shelf.new out.new) }
 {
     let n = SIZE_CODE;
     let write = Request::Write {
@@ -168,11 +162,10 @@ fn write_track<S: Shelf, K: Sink, D: Station>(
     shelf: &mut S,
     out: &mut K,
 ) -> Result<(), Status>
-    requires running { IsRunning D.shown D.is_ready session.old }
     requires most { sectors ≤ 18 }
-    ensures { RanPart (Goes (writes_track sectors c h)) (IsRunning D.shown D.is_ready session.new)
-        (faulty_of D.shown S.told S.fault_count K.told K.fault_count session.old shelf.old out.old) result
-        (faulty_of D.shown S.told S.fault_count K.told K.fault_count session.new shelf.new out.new) }
+    ensures { RanPart (Goes (writes_track sectors c h))
+        (faulty_of S.told S.fault_count K.told K.fault_count session.old shelf.old out.old) result
+        (faulty_of S.told S.fault_count K.told K.fault_count session.new shelf.new out.new) }
 {
     for r in 1..sectors + 1 {
         write_record(alloc, session, c, h, r, shelf, out)?;
@@ -192,15 +185,14 @@ fn import_track<S: Shelf, K: Sink, D: Station>(
     shelf: &mut S,
     out: &mut K,
 ) -> Result<(), Status>
-    requires running { IsRunning D.shown D.is_ready session.old }
     requires most { sectors ≤ 18 }
     requires density { IsDensity sectors }
     requires whole { length flat.now ≡ flat_length sectors }
     requires cylinder { c < 80 }
     requires head { h < 2 }
-    ensures { RanPart (Goes (imports_track flat.now sectors c h tt)) (IsRunning D.shown D.is_ready session.new)
-        (faulty_of D.shown S.told S.fault_count K.told K.fault_count session.old shelf.old out.old) result
-        (faulty_of D.shown S.told S.fault_count K.told K.fault_count session.new shelf.new out.new) }
+    ensures { RanPart (Goes (imports_track flat.now sectors c h tt))
+        (faulty_of S.told S.fault_count K.told K.fault_count session.old shelf.old out.old) result
+        (faulty_of S.told S.fault_count K.told K.fault_count session.new shelf.new out.new) }
 {
     let format = Request::Format { bay: 0, c, h };
     carry(alloc, session, &format, shelf, out)?;
@@ -218,14 +210,13 @@ fn import_cylinder<S: Shelf, K: Sink, D: Station>(
     shelf: &mut S,
     out: &mut K,
 ) -> Result<(), Status>
-    requires running { IsRunning D.shown D.is_ready session.old }
     requires most { sectors ≤ 18 }
     requires density { IsDensity sectors }
     requires whole { length flat.now ≡ flat_length sectors }
     requires cylinder { c < 80 }
-    ensures { RanPart (Goes (each 0 2 (imports_track flat.now sectors c) tt)) (IsRunning D.shown D.is_ready session.new)
-        (faulty_of D.shown S.told S.fault_count K.told K.fault_count session.old shelf.old out.old) result
-        (faulty_of D.shown S.told S.fault_count K.told K.fault_count session.new shelf.new out.new) }
+    ensures { RanPart (Goes (each 0 2 (imports_track flat.now sectors c) tt))
+        (faulty_of S.told S.fault_count K.told K.fault_count session.old shelf.old out.old) result
+        (faulty_of S.told S.fault_count K.told K.fault_count session.new shelf.new out.new) }
 {
     for h in 0..2u8 {
         import_track(alloc, session, flat, sectors, c, h, shelf, out)?;
@@ -242,13 +233,12 @@ fn import_tracks<S: Shelf, K: Sink, D: Station>(
     shelf: &mut S,
     out: &mut K,
 ) -> Result<(), Status>
-    requires running { IsRunning D.shown D.is_ready session.old }
     requires most { sectors ≤ 18 }
     requires density { IsDensity sectors }
     requires whole { length flat.now ≡ flat_length sectors }
-    ensures { RanPart (Goes (by_track 80 2 (imports_track flat.now sectors) tt)) (IsRunning D.shown D.is_ready session.new)
-        (faulty_of D.shown S.told S.fault_count K.told K.fault_count session.old shelf.old out.old) result
-        (faulty_of D.shown S.told S.fault_count K.told K.fault_count session.new shelf.new out.new) }
+    ensures { RanPart (Goes (by_track 80 2 (imports_track flat.now sectors) tt))
+        (faulty_of S.told S.fault_count K.told K.fault_count session.old shelf.old out.old) result
+        (faulty_of S.told S.fault_count K.told K.fault_count session.new shelf.new out.new) }
 {
     for c in 0..CYLINDERS {
         import_cylinder(alloc, session, flat, sectors, c, shelf, out)?;
@@ -266,11 +256,10 @@ fn make_disk<S: Shelf, K: Sink, D: Station>(
     shelf: &mut S,
     out: &mut K,
 ) -> Result<(), Status>
-    requires running { IsRunning D.shown D.is_ready session.old }
     requires whole { length flat.now ≡ flat_length (sectors_at rate) }
-    ensures { RanPart (Goes (imports_disk flat.now name rate)) (IsRunning D.shown D.is_ready session.new)
-        (faulty_of D.shown S.told S.fault_count K.told K.fault_count session.old shelf.old out.old) result
-        (faulty_of D.shown S.told S.fault_count K.told K.fault_count session.new shelf.new out.new) }
+    ensures { RanPart (Goes (imports_disk flat.now name rate))
+        (faulty_of S.told S.fault_count K.told K.fault_count session.old shelf.old out.old) result
+        (faulty_of S.told S.fault_count K.told K.fault_count session.new shelf.new out.new) }
 {
     let blank = blank_request(0, name, CYLINDERS, rate);
     carry(alloc, session, &blank, shelf, out)?;
@@ -297,10 +286,9 @@ pub fn import_disk<S: Shelf, K: Sink, D: Station>(
     shelf: &mut S,
     out: &mut K,
 ) -> Status
-    requires running { IsRunning D.shown D.is_ready session.old }
-    ensures { Ran (Runs (Imports flat name)) (IsRunning D.shown D.is_ready session.new)
-        (faulty_of D.shown S.told S.fault_count K.told K.fault_count session.old shelf.old out.old)
-        (faulty_of D.shown S.told S.fault_count K.told K.fault_count session.new shelf.new out.new) result }
+    ensures { Ran (Runs (Imports flat name))
+        (faulty_of S.told S.fault_count K.told K.fault_count session.old shelf.old out.old)
+        (faulty_of S.told S.fault_count K.told K.fault_count session.new shelf.new out.new) result }
 {
     match load_flat(alloc, shelf, flat) {
         Ok(loaded) => match make_disk(

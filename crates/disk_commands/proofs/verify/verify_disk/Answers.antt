@@ -7,7 +7,6 @@ pub returns-in-Ok : goal.returns-in-Ok
 unfolding verify_script
 returns-in-Ok g c = record {
   does = finished _ _ _ _ (λ whole start leads. c.finish.ensures.goes _ _ _ c.verify_line.ensures whole start (rw c.whole_status-status.ensures.value (c.in-Ok.ensures.goes whole start _ leads)));
-  running = search rules;
   is_form = search rules;
   shelf_faults = search rules;
   sink_faults = search rules;
@@ -17,7 +16,6 @@ pub returns-in-Err : goal.returns-in-Err
 unfolding verify_script
 returns-in-Err g c = record {
   does = finished _ _ _ _ (λ whole start leads. c.in-Err.ensures.goes whole start _ leads);
-  running = search rules;
   is_form = search rules;
   shelf_faults = search rules;
   sink_faults = search rules;

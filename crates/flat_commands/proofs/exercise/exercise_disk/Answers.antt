@@ -8,7 +8,6 @@ returns-in-Err g c =
     let script = exercise_script c.args.seed c.args.count in
     record {
       does = tied_run script _ _ _ (starved script _ (λ none. exercises c.args.seed c.args.count (exercise_end c.args.seed c.args.count)) _ (leads_itself script _));
-      running = search rules;
       is_form = search rules;
       shelf_faults = search rules;
       sink_faults = search rules;
@@ -21,7 +20,6 @@ returns-in-Ok-run_exercise g c =
     let leads = c.in-Ok-run_exercise.ensures.goes script _ end (fed script _ (λ none. exercises c.args.seed c.args.count end) _ (leads_itself script _)) in
     record {
       does = tied_run script _ _ _ (c.finish.ensures.goes _ _ _ c.exercise_line-line.ensures script _ (rw c.whole_status.ensures.value leads));
-      running = search rules;
       is_form = search rules;
       shelf_faults = search rules;
       sink_faults = search rules;
@@ -34,7 +32,6 @@ returns-in-Err-run_exercise g c =
     record {
       does = tied_run script _ _ _ (c.in-Err-run_exercise.ensures.goes script _ end
           (fed script _ (λ none. exercises c.args.seed c.args.count end) _ (leads_itself script _)));
-      running = search rules;
       is_form = search rules;
       shelf_faults = search rules;
       sink_faults = search rules;

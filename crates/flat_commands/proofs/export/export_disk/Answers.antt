@@ -17,7 +17,6 @@ returns-in-Err g c =
     record {
       does = tied_run script _ _ _ (c.in-Err.ensures.goes script _
           (λ shape. reads_disk shape.rate [] (stores c.args.flat shape.rate)) (leads_itself script _));
-      running = search rules;
       is_form = search rules;
       shelf_faults = search rules;
       sink_faults = search rules;
@@ -30,7 +29,6 @@ returns-in-Ok-read_disk g c =
     let read = c.in-Ok-read_disk.ensures.goes script _ (stores c.args.flat c.in-Ok.shape.rate) (rw c.new-bytes.ensures.items opened) in
     record {
       does = tied_run script _ _ _ (c.store_last.ensures.goes _ _ c.export_line-line.ensures script _ (rw (c.as_str.ensures, c.deref.ensures.value) read));
-      running = search rules;
       is_form = search rules;
       shelf_faults = search rules;
       sink_faults = search rules;
@@ -43,7 +41,6 @@ returns g c =
     record {
       does = tied_run script _ _ _ (c.in-Err-read_disk.ensures.goes script _ (stores c.args.flat c.in-Ok.shape.rate)
           (rw c.new-bytes.ensures.items opened));
-      running = search rules;
       is_form = search rules;
       shelf_faults = search rules;
       sink_faults = search rules;

@@ -1,7 +1,6 @@
 use Rattle.std.proofs.Common.{rules, ℕ, List, ◌++◌}
 use Rattle.std.proofs.lemmas.Result.{err_from_is_err_and}
 use Rattle.bay_model.specs.Memory.{bytes_from}
-use Rattle.floppy_session.specs.Session.{state_of}
 use Rattle.sector_model.specs.States.{State}
 use Rattle.scripts.specs.Scripts.{Script}
 use Rattle.scripts.specs.Parts.{may_starve}
@@ -21,7 +20,6 @@ returns-in_err-need g c = record {
       let p = err_from_is_err_and c.from_residual.result c.from_residual.ensures.1 in
       rw (p.1, p.2) (λ whole start rest leads. c.in_err-need.ensures.ran.goes whole start
       (λ answer after. may_starve (kept c.args.r c.args.flat.now.items rest after)) (rw c.record_address-address.ensures leads));
-  running = search rules;
   is_form = search rules;
   shelf_faults = search rules;
   sink_faults = search rules;
@@ -32,10 +30,9 @@ unfolding reads_record
 returns-in-Ok g c = record {
   goes = λ whole start rest leads.
       rw (c.in-Ok.ensures, c.record_address-address.ensures)
-      (fed whole start (kept c.args.r c.args.flat.now.items rest (state_of g.D.Station.shown c.need.new.session)) _
+      (fed whole start (kept c.args.r c.args.flat.now.items rest c.need.new.session) _
       (c.in_ok-need.ensures.ran.goes whole start (λ answer after. may_starve (kept c.args.r c.args.flat.now.items rest after))
       (rw c.record_address-address.ensures leads)));
-  running = search rules;
   is_form = search rules;
   shelf_faults = search rules;
   sink_faults = search rules;
@@ -45,10 +42,9 @@ pub returns : goal.returns
 unfolding reads_record
 returns g c = record {
   goes = λ whole start rest leads.
-      starved whole start (kept c.args.r c.args.flat.now.items rest (state_of g.D.Station.shown c.need.new.session)) _
+      starved whole start (kept c.args.r c.args.flat.now.items rest c.need.new.session) _
       (c.in_ok-need.ensures.ran.goes whole start (λ answer after. may_starve (kept c.args.r c.args.flat.now.items rest after))
       (rw c.record_address-address.ensures leads));
-  running = search rules;
   is_form = search rules;
   shelf_faults = search rules;
   sink_faults = search rules;

@@ -7,7 +7,6 @@ use Rattle.flat_commands.proofs.import.fill_track.Goals as goal
 pub loop-r-init : goal.loop-r-init
 loop-r-init g c = record {
   turn = turn_begins _ _ _ _ _;
-  running = search rules;
   counted = search rules;
   stays = search rules;
 }
@@ -18,7 +17,6 @@ returns-in_err-fill_sector g c = record {
   goes =
       let p = err_from_is_err_and c.from_residual.result c.from_residual.ensures.1 in
       rw (p.1, p.2) (turn_ends _ _ _ _ _ _ _ _ _ _ c.loop-r.invariant.turn c.in_err-fill_sector.ensures.goes (omega arith));
-  running = search rules;
   is_form = search rules;
   shelf_faults = search rules;
   sink_faults = search rules;
@@ -27,7 +25,6 @@ returns-in_err-fill_sector g c = record {
 pub loop-r-preserved : goal.loop-r-preserved
 loop-r-preserved g c = record {
   turn = turn_goes _ _ _ _ _ _ _ _ _ _ c.loop-r.invariant.turn c.in_ok-fill_sector.ensures.goes (omega arith);
-  running = search rules;
   counted = search rules;
   stays = search rules;
 }
@@ -36,7 +33,6 @@ pub returns : goal.returns
 unfolding fills_track
 returns g c = record {
   goes = turns_over _ _ _ _ _ _ _ _ c.loop-r.invariant.turn (omega arith);
-  running = search rules;
   is_form = search rules;
   shelf_faults = search rules;
   sink_faults = search rules;

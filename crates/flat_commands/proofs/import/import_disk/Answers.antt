@@ -14,7 +14,6 @@ returns-in-Ok-make_disk g c =
     let leads = c.in-Ok-make_disk.ensures.goes script _ (λ none. end) (rw c.load_flat.ensures.stays (leads_itself script _)) in
     record {
       does = imported c.args.flat c.args.name found _ _ _ (rw c.deref.ensures.value c.in-Ok.ensures.flat) (c.finish.ensures.goes _ _ _ c.import_line.ensures script _ leads);
-      running = search rules;
       is_form = search rules;
       shelf_faults = search rules;
       sink_faults = search rules;
@@ -28,7 +27,6 @@ returns-in-Ok g c =
     record {
       does = imported c.args.flat c.args.name found _ _ _ (rw c.deref.ensures.value c.in-Ok.ensures.flat)
           (c.in-Err-make_disk.ensures.goes script _ (λ none. end) (rw c.load_flat.ensures.stays (leads_itself script _)));
-      running = search rules;
       is_form = search rules;
       shelf_faults = search rules;
       sink_faults = search rules;
@@ -40,7 +38,6 @@ returns g c =
     record {
       does = imported c.args.flat c.args.name (Err c.in-Err.stop) _ _ _ c.in-Err.ensures.cause
           (rw c.load_flat.ensures.stays (ends_here script _ _ _ _ _ _ _ _ c.put_last.ensures.prints (leads_itself script _)));
-      running = search rules;
       is_form = search rules;
       shelf_faults = search rules;
       sink_faults = search rules;

@@ -8,7 +8,6 @@ use Rattle.flat_commands.proofs.work.run_work.Goals as goal
 pub loop-i-init : goal.loop-i-init
 loop-i-init g c = record {
   turn = rw c.none-tally.ensures (turn_begins _ _ _ _ _);
-  running = search rules;
   counted = search rules;
   stays = search rules;
   number = first_number c.args.seed;
@@ -22,7 +21,6 @@ returns-in_err-tally g c = record {
   goes =
       let p = err_from_is_err_and c.from_residual.result c.from_residual.ensures.1 in
       rw (p.1, p.2) (turn_ends _ _ _ _ _ _ _ _ _ _ c.loop-i.invariant.turn (rw (sym c.loop-i.invariant.number) c.in_err-tally.ensures.ran.goes) (omega arith));
-  running = search rules;
   is_form = search rules;
   shelf_faults = search rules;
   sink_faults = search rules;
@@ -31,7 +29,6 @@ returns-in_err-tally g c = record {
 pub loop-i-preserved : goal.loop-i-preserved
 loop-i-preserved g c = record {
   turn = turn_goes _ _ _ _ _ _ _ _ _ _ c.loop-i.invariant.turn (rw (sym c.loop-i.invariant.number) c.in_ok-tally.ensures.ran.goes) (omega arith);
-  running = search rules;
   counted = search rules;
   stays = search rules;
   number = number_more c.args.seed c.loop-i._i _ _ c.loop-i.invariant.number c.in_ok-tally.ensures.number;
@@ -43,7 +40,6 @@ pub returns : goal.returns
 unfolding works
 returns g c = record {
   goes = turns_over _ _ _ _ _ _ _ _ c.loop-i.invariant.turn (omega arith);
-  running = search rules;
   is_form = search rules;
   shelf_faults = search rules;
   sink_faults = search rules;

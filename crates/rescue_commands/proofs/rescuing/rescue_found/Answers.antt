@@ -1,12 +1,10 @@
 use Rattle.std.proofs.Common.{rules, ◌∙◌, sym}
-use Rattle.floppy_session.specs.Session.{state_of}
 use Rattle.rescue_commands.proofs.Endings.{keys_starved, found_ends, found_stored}
 use Rattle.rescue_commands.proofs.rescuing.rescue_found.Goals as goal
 
 pub returns-in_default : goal.returns-in_default
 returns-in_default g c = record {
   does = keys_starved _ _ _ _ _;
-  running = search rules;
   is_form = search rules;
   shelf_faults = search rules;
   sink_faults = search rules;
@@ -17,8 +15,7 @@ returns-in-Ok-rescue_all g c = record {
   does =
       found_stored _ _ _ c.args.found.now _ _ _ _ _ _ _ _ _ c.is_some.ensures (c.deref.ensures.value ∙ c.in-Ok.ensures)
       (c.deref-in-Ok-rescue_all.ensures.value ∙ sym c.deref.ensures.value) c.deref-in-Ok-rescue_all-2.ensures.value
-      c.in-Ok-rescue_all.ensures.goes (c.store_log.ensures.goes (state_of g.D.Station.shown c.rescue_all.new.session));
-  running = search rules;
+      c.in-Ok-rescue_all.ensures.goes (c.store_log.ensures.goes c.rescue_all.new.session);
   is_form = search rules;
   shelf_faults = search rules;
   sink_faults = search rules;
@@ -27,7 +24,6 @@ returns-in-Ok-rescue_all g c = record {
 pub returns : goal.returns
 returns g c = record {
   does = found_ends _ _ _ c.args.found.now _ _ _ _ _ c.is_some.ensures (c.deref.ensures.value ∙ c.in-Ok.ensures) c.in-Err.ensures.goes;
-  running = search rules;
   is_form = search rules;
   shelf_faults = search rules;
   sink_faults = search rules;
