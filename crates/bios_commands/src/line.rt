@@ -34,7 +34,7 @@ fn ask<S: Shelf, K: Sink, D: Station>(
     shelf: &mut S,
     out: &mut K,
 ) -> Result<bool, Status>
-    requires tries { HasTries request.now }
+    requires { HasTries request.now }
     ensures { RanPart (AskGoes request.now)
         (faulty_of S.told S.fault_count K.told K.fault_count session.old shelf.old out.old) result
         (faulty_of S.told S.fault_count K.told K.fault_count session.new shelf.new out.new) }
@@ -78,7 +78,7 @@ pub(crate) fn serve_line<S: Shelf, K: Sink, D: Station>(
     shelf: &mut S,
     out: &mut K,
 ) -> Result<bool, Status>
-    requires tries { LineHasTries line.now }
+    requires { LineHasTries line.now }
     ensures { RanPart (LineGoes front.old front.new line.now)
         (faulty_of S.told S.fault_count K.told K.fault_count session.old shelf.old out.old) result
         (faulty_of S.told S.fault_count K.told K.fault_count session.new shelf.new out.new) }

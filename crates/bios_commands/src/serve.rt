@@ -34,7 +34,7 @@ fn serve_lines<S: Shelf, K: Sink, D: Station>(
     shelf: &mut S,
     out: &mut K,
 ) -> Result<bool, Status>
-    requires tries { All LineHasTries lines.now }
+    requires { All LineHasTries lines.now }
     ensures { RanPart (LinesGo lines.now)
         (faulty_of S.told S.fault_count K.told K.fault_count session.old shelf.old out.old) result
         (faulty_of S.told S.fault_count K.told K.fault_count session.new shelf.new out.new) }
@@ -83,7 +83,7 @@ fn serve_all<S: Shelf, K: Sink, D: Station>(
     shelf: &mut S,
     out: &mut K,
 ) -> Status
-    requires tries { All LineHasTries lines.now }
+    requires { All LineHasTries lines.now }
     ensures { Ran (Serving lines.now)
         (faulty_of S.told S.fault_count K.told K.fault_count session.old shelf.old out.old)
         (faulty_of S.told S.fault_count K.told K.fault_count session.new shelf.new out.new) result }

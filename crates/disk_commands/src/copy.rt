@@ -185,7 +185,7 @@ fn copy_track<S: Shelf, K: Sink, D: Station>(
     shelf: &mut S,
     out: &mut K,
 ) -> Result<(), Status>
-    requires most { sectors ≤ 18 }
+    requires { sectors ≤ 18 }
     ensures { RanPart (Goes (copies_track sectors c h tt))
         (faulty_of S.told S.fault_count K.told K.fault_count session.old shelf.old out.old) result
         (faulty_of S.told S.fault_count K.told K.fault_count session.new shelf.new out.new) }
@@ -211,7 +211,7 @@ fn copy_cylinder<S: Shelf, K: Sink, D: Station>(
     shelf: &mut S,
     out: &mut K,
 ) -> Result<(), Status>
-    requires most { sectors ≤ 18 }
+    requires { sectors ≤ 18 }
     ensures { RanPart (Goes (each 0 heads (copies_track sectors c) tt))
         (faulty_of S.told S.fault_count K.told K.fault_count session.old shelf.old out.old) result
         (faulty_of S.told S.fault_count K.told K.fault_count session.new shelf.new out.new) }
@@ -232,7 +232,7 @@ fn copy_tracks<S: Shelf, K: Sink, D: Station>(
     shelf: &mut S,
     out: &mut K,
 ) -> Result<(), Status>
-    requires most { sectors ≤ 18 }
+    requires { sectors ≤ 18 }
     ensures { RanPart (Goes (by_track cylinders heads (copies_track sectors) tt))
         (faulty_of S.told S.fault_count K.told K.fault_count session.old shelf.old out.old) result
         (faulty_of S.told S.fault_count K.told K.fault_count session.new shelf.new out.new) }

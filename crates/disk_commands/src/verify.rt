@@ -59,7 +59,7 @@ fn verify_record<S: Shelf, K: Sink, D: Station>(
     shelf: &mut S,
     out: &mut K,
 ) -> Result<Tally, Status>
-    requires room { tally.well + 1 ≤ 4294967295 }
+    requires { tally.well + 1 ≤ 4294967295 }
     ensures ran { RanPart (Goes (verifies_record c h r tally))
         (faulty_of S.told S.fault_count K.told K.fault_count session.old shelf.old out.old) result
         (faulty_of S.told S.fault_count K.told K.fault_count session.new shelf.new out.new) }

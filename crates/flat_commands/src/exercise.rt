@@ -25,7 +25,7 @@ fn run_exercise<S: Shelf, K: Sink, D: Station>(
     shelf: &mut S,
     out: &mut K,
 ) -> Result<Tally, Status>
-    requires name { name ≡ codes "exercise" }
+    requires { name ≡ codes "exercise" }
     ensures { RanPart (Goes (exercises seed count))
         (faulty_of S.told S.fault_count K.told K.fault_count session.old shelf.old out.old) result
         (faulty_of S.told S.fault_count K.told K.fault_count session.new shelf.new out.new) }

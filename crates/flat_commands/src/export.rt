@@ -77,7 +77,7 @@ fn read_track<S: Shelf, K: Sink, D: Station>(
     shelf: &mut S,
     out: &mut K,
 ) -> Result<(), Status>
-    requires most { sectors ≤ 18 }
+    requires { sectors ≤ 18 }
     ensures { RanPart (GoesOn (reads_track sectors c h flat.old.items) flat.new.items)
         (faulty_of S.told S.fault_count K.told K.fault_count session.old shelf.old out.old) result
         (faulty_of S.told S.fault_count K.told K.fault_count session.new shelf.new out.new) }
@@ -98,7 +98,7 @@ fn read_cylinder<S: Shelf, K: Sink, D: Station>(
     shelf: &mut S,
     out: &mut K,
 ) -> Result<(), Status>
-    requires most { sectors ≤ 18 }
+    requires { sectors ≤ 18 }
     ensures { RanPart (GoesOn (each 0 2 (reads_track sectors c) flat.old.items) flat.new.items)
         (faulty_of S.told S.fault_count K.told K.fault_count session.old shelf.old out.old) result
         (faulty_of S.told S.fault_count K.told K.fault_count session.new shelf.new out.new) }
@@ -118,7 +118,7 @@ fn read_tracks<S: Shelf, K: Sink, D: Station>(
     shelf: &mut S,
     out: &mut K,
 ) -> Result<(), Status>
-    requires most { sectors ≤ 18 }
+    requires { sectors ≤ 18 }
     ensures { RanPart (GoesOn (by_track 80 2 (reads_track sectors) flat.old.items) flat.new.items)
         (faulty_of S.told S.fault_count K.told K.fault_count session.old shelf.old out.old) result
         (faulty_of S.told S.fault_count K.told K.fault_count session.new shelf.new out.new) }

@@ -162,7 +162,7 @@ fn write_track<S: Shelf, K: Sink, D: Station>(
     shelf: &mut S,
     out: &mut K,
 ) -> Result<(), Status>
-    requires most { sectors ≤ 18 }
+    requires { sectors ≤ 18 }
     ensures { RanPart (Goes (writes_track sectors c h))
         (faulty_of S.told S.fault_count K.told K.fault_count session.old shelf.old out.old) result
         (faulty_of S.told S.fault_count K.told K.fault_count session.new shelf.new out.new) }
@@ -256,7 +256,7 @@ fn make_disk<S: Shelf, K: Sink, D: Station>(
     shelf: &mut S,
     out: &mut K,
 ) -> Result<(), Status>
-    requires whole { length flat.now ≡ flat_length (sectors_at rate) }
+    requires { length flat.now ≡ flat_length (sectors_at rate) }
     ensures { RanPart (Goes (imports_disk flat.now name rate))
         (faulty_of S.told S.fault_count K.told K.fault_count session.old shelf.old out.old) result
         (faulty_of S.told S.fault_count K.told K.fault_count session.new shelf.new out.new) }

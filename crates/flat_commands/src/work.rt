@@ -44,7 +44,7 @@ fn read<S: Shelf, K: Sink, D: Station>(
     shelf: &mut S,
     out: &mut K,
 ) -> Result<Tally, Status>
-    requires room { HasRoom tally }
+    requires { HasRoom tally }
     ensures ran { RanPart (Goes (reads_work key tally))
         (faulty_of S.told S.fault_count K.told K.fault_count session.old shelf.old out.old) result
         (faulty_of S.told S.fault_count K.told K.fault_count session.new shelf.new out.new) }
@@ -96,7 +96,7 @@ fn write<S: Shelf, K: Sink, D: Station>(
     shelf: &mut S,
     out: &mut K,
 ) -> Result<Tally, Status>
-    requires room { HasRoom tally }
+    requires { HasRoom tally }
     ensures ran { RanPart (Goes (writes_work deleted key byte tally))
         (faulty_of S.told S.fault_count K.told K.fault_count session.old shelf.old out.old) result
         (faulty_of S.told S.fault_count K.told K.fault_count session.new shelf.new out.new) }
@@ -126,7 +126,7 @@ fn run_drawn<S: Shelf, K: Sink, D: Station>(
     shelf: &mut S,
     out: &mut K,
 ) -> Result<Tally, Status>
-    requires room { HasRoom tally }
+    requires { HasRoom tally }
     ensures ran { RanPart (Goes (works_drawn work.kind work.key work.byte tally))
         (faulty_of S.told S.fault_count K.told K.fault_count session.old shelf.old out.old) result
         (faulty_of S.told S.fault_count K.told K.fault_count session.new shelf.new out.new) }
@@ -153,7 +153,7 @@ fn run_next<S: Shelf, K: Sink, D: Station>(
     shelf: &mut S,
     out: &mut K,
 ) -> Result<Tally, Status>
-    requires room { HasRoom tally }
+    requires { HasRoom tally }
     ensures ran { RanPart (Goes (works_behind draws.old.number tally))
         (faulty_of S.told S.fault_count K.told K.fault_count session.old shelf.old out.old) result
         (faulty_of S.told S.fault_count K.told K.fault_count session.new shelf.new out.new) }

@@ -25,7 +25,7 @@ fn run_one<S: Shelf, K: Sink, D: Station>(
     shelf: &mut S,
     out: &mut K,
 ) -> Result<bool, Status>
-    requires tries { HasTries request.now }
+    requires { HasTries request.now }
     ensures { RanPart (RoundGoes request.now)
         (faulty_of S.told S.fault_count K.told K.fault_count session.old shelf.old out.old) result
         (faulty_of S.told S.fault_count K.told K.fault_count session.new shelf.new out.new) }
@@ -63,7 +63,7 @@ fn run_requests<S: Shelf, K: Sink, D: Station>(
     shelf: &mut S,
     out: &mut K,
 ) -> Result<bool, Status>
-    requires tries { All HasTries requests.now }
+    requires { All HasTries requests.now }
     ensures { RanPart (RoundsGo requests.now)
         (faulty_of S.told S.fault_count K.told K.fault_count session.old shelf.old out.old) result
         (faulty_of S.told S.fault_count K.told K.fault_count session.new shelf.new out.new) }
@@ -111,7 +111,7 @@ fn play_requests<S: Shelf, K: Sink, D: Station>(
     shelf: &mut S,
     out: &mut K,
 ) -> Status
-    requires tries { All HasTries requests.now }
+    requires { All HasTries requests.now }
     ensures { Ran (HasPlayed requests.now)
         (faulty_of S.told S.fault_count K.told K.fault_count session.old shelf.old out.old)
         (faulty_of S.told S.fault_count K.told K.fault_count session.new shelf.new out.new) result }

@@ -60,7 +60,7 @@ fn do_next<S: Shelf, K: Sink, D: Station>(
     shelf: &mut S,
     out: &mut K,
 ) -> Result<Vec<LogLine>, Status>
-    requires tries { HasNextTries next }
+    requires { HasNextTries next }
     ensures { RanPart (LogGoes (does_next key (Ok next) log.items))
         (faulty_of S.told S.fault_count K.told K.fault_count session.old shelf.old out.old) result
         (faulty_of S.told S.fault_count K.told K.fault_count session.new shelf.new out.new) }

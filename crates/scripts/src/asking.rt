@@ -21,7 +21,7 @@ pub fn ask<S: Shelf, K: Sink, D: Station>(
     shelf: &mut S,
     out: &mut K,
 ) -> Result<Reply, Status>
-    requires tries { HasTries request.now }
+    requires { HasTries request.now }
     ensures ran { RanPart (Answers (asks request.now))
         (faulty_of S.told S.fault_count K.told K.fault_count session.old shelf.old out.old) result
         (faulty_of S.told S.fault_count K.told K.fault_count session.new shelf.new out.new) }
@@ -62,7 +62,7 @@ pub fn need<S: Shelf, K: Sink, D: Station>(
     shelf: &mut S,
     out: &mut K,
 ) -> Result<Reply, Status>
-    requires tries { HasTries request.now }
+    requires { HasTries request.now }
     ensures ran { RanPart (Answers (needs request.now))
         (faulty_of S.told S.fault_count K.told K.fault_count session.old shelf.old out.old) result
         (faulty_of S.told S.fault_count K.told K.fault_count session.new shelf.new out.new) }
@@ -88,7 +88,7 @@ pub fn carry<S: Shelf, K: Sink, D: Station>(
     shelf: &mut S,
     out: &mut K,
 ) -> Result<(), Status>
-    requires tries { HasTries request.now }
+    requires { HasTries request.now }
     ensures { RanPart (Goes (carries request.now))
         (faulty_of S.told S.fault_count K.told K.fault_count session.old shelf.old out.old) result
         (faulty_of S.told S.fault_count K.told K.fault_count session.new shelf.new out.new) }

@@ -15,7 +15,7 @@ pub returns-in-Err : goal.returns-in-Err
 returns-in-Err g c =
     let script = export_script c.args.name c.args.flat in
     record {
-      does = tied_run script _ _ _ (c.in-Err.ensures.goes script _
+      does = tied_run script _ _ _ (c.in-Err.ensures.ran.goes script _
           (λ shape. reads_disk shape.rate [] (stores c.args.flat shape.rate)) (leads_itself script _));
       is_form = search rules;
       shelf_faults = search rules;
@@ -25,7 +25,7 @@ returns-in-Err g c =
 pub returns-in-Ok-read_disk : goal.returns-in-Ok-read_disk
 returns-in-Ok-read_disk g c =
     let script = export_script c.args.name c.args.flat in
-    let opened = c.in-Ok.ensures.goes script _ (λ shape. reads_disk shape.rate [] (stores c.args.flat shape.rate)) (leads_itself script _) in
+    let opened = c.in-Ok.ensures.ran.goes script _ (λ shape. reads_disk shape.rate [] (stores c.args.flat shape.rate)) (leads_itself script _) in
     let read = c.in-Ok-read_disk.ensures.goes script _ (stores c.args.flat c.in-Ok.shape.rate) (rw c.new-bytes.ensures.items opened) in
     record {
       does = tied_run script _ _ _ (c.store_last.ensures.goes _ _ c.export_line-line.ensures script _ (rw (c.as_str.ensures, c.deref.ensures.value) read));
@@ -37,7 +37,7 @@ returns-in-Ok-read_disk g c =
 pub returns : goal.returns
 returns g c =
     let script = export_script c.args.name c.args.flat in
-    let opened = c.in-Ok.ensures.goes script _ (λ shape. reads_disk shape.rate [] (stores c.args.flat shape.rate)) (leads_itself script _) in
+    let opened = c.in-Ok.ensures.ran.goes script _ (λ shape. reads_disk shape.rate [] (stores c.args.flat shape.rate)) (leads_itself script _) in
     record {
       does = tied_run script _ _ _ (c.in-Err-read_disk.ensures.goes script _ (stores c.args.flat c.in-Ok.shape.rate)
           (rw c.new-bytes.ensures.items opened));

@@ -45,8 +45,8 @@ returns g c = record {
   sink_faults = search rules;
 }
 
-pub run_next-requires-clause-room : goal.run_next-requires-clause-room
-run_next-requires-clause-room g c = record {
+pub run_next-requires : goal.run_next-requires
+run_next-requires g c = record {
   few = omega (arith, c.loop-i.invariant.few);
   small = omega (arith, c.loop-i.invariant.small);
 }
