@@ -9,8 +9,8 @@ use Rattle.bios_commands.proofs.Parsed.{all_tries}
 use Rattle.bios_commands.proofs.Served.{parsed_serves, read_bad, unparsed_tells}
 use Rattle.bios_commands.proofs.serve.serve_text.Goals as goal
 
-pub serve_all-requires-clause-tries : goal.serve_all-requires-clause-tries
-serve_all-requires-clause-tries g c = subst (λ (l : List CallLine). All LineHasTries l) (sym c.deref.ensures.value) (all_tries c.args.text.now c.in-Ok.lines.items c.in-Ok.ensures)
+pub serve_all-requires : goal.serve_all-requires
+serve_all-requires g c = subst (λ (l : List CallLine). All LineHasTries l) (sym c.deref.ensures.value) (all_tries c.args.text.now c.in-Ok.lines.items c.in-Ok.ensures)
 
 pub returns-in-Ok : goal.returns-in-Ok
 returns-in-Ok g c = record {

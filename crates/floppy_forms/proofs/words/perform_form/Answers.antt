@@ -1,8 +1,9 @@
 use Rattle.std.proofs.Common.{rules, subst, List, ℕ}
 use Rattle.flop_base.specs.declared.answers.Rate.TheVariants.{R500, R250}
 use Rattle.floppy_words.specs.declared.form.Form.TheVariants as form
-use Rattle.disk_commands.specs.Commands.{Runs, Formats}
-use Rattle.scripts.specs.Leading.{world_of}
+use Rattle.scripts.specs.Scripts.{RunsScript}
+use Rattle.scripts.specs.Leading.{Runs, world_of}
+use Rattle.disk_commands.specs.Format.{format_script}
 use Rattle.floppy_forms.specs.Programs.{DoesForm}
 use Rattle.archive_commands.specs.Files.{desk_of}
 use Rattle.archive_commands.specs.Making.{FromImd, ToImd, Remaster}
@@ -25,7 +26,7 @@ pub returns-in-Format : goal.returns-in-Format
 returns-in-Format g c = record {
   does =
       form_runs c.args.form (form.Format c.in-Format.name c.in-Format.cylinders) (world_of g.S.Shelf.told g.K.Sink.told c.args.session.now c.args.shelf.now c.args.out.now) (world_of g.S.Shelf.told g.K.Sink.told c.format_disk.new.session c.format_disk.new.shelf c.format_disk.new.out) c.format_disk.result c.in-Format.is
-      (subst (λ (n : ℕ). Runs (Formats c.in-Format.name n R500) (world_of g.S.Shelf.told g.K.Sink.told c.args.session.now c.args.shelf.now c.args.out.now) (world_of g.S.Shelf.told g.K.Sink.told c.format_disk.new.session c.format_disk.new.shelf c.format_disk.new.out) c.format_disk.result) c.count.ensures.value c.format_disk.ensures.does);
+      (subst (λ (n : ℕ). Runs (RunsScript (format_script c.in-Format.name n R500)) (world_of g.S.Shelf.told g.K.Sink.told c.args.session.now c.args.shelf.now c.args.out.now) (world_of g.S.Shelf.told g.K.Sink.told c.format_disk.new.session c.format_disk.new.shelf c.format_disk.new.out) c.format_disk.result) c.count.ensures.value c.format_disk.ensures.does);
   is_form = search rules;
   shelf_faults = search rules;
   sink_faults = search rules;
@@ -35,7 +36,7 @@ pub returns-in-FormatDd : goal.returns-in-FormatDd
 returns-in-FormatDd g c = record {
   does =
       form_runs c.args.form (form.FormatDd c.in-FormatDd.name c.in-FormatDd.cylinders) (world_of g.S.Shelf.told g.K.Sink.told c.args.session.now c.args.shelf.now c.args.out.now) (world_of g.S.Shelf.told g.K.Sink.told c.format_disk-in-FormatDd.new.session c.format_disk-in-FormatDd.new.shelf c.format_disk-in-FormatDd.new.out) c.format_disk-in-FormatDd.result c.in-FormatDd.is
-      (subst (λ (n : ℕ). Runs (Formats c.in-FormatDd.name n R250) (world_of g.S.Shelf.told g.K.Sink.told c.args.session.now c.args.shelf.now c.args.out.now) (world_of g.S.Shelf.told g.K.Sink.told c.format_disk-in-FormatDd.new.session c.format_disk-in-FormatDd.new.shelf c.format_disk-in-FormatDd.new.out) c.format_disk-in-FormatDd.result) c.count-in-FormatDd.ensures.value c.format_disk-in-FormatDd.ensures.does);
+      (subst (λ (n : ℕ). Runs (RunsScript (format_script c.in-FormatDd.name n R250)) (world_of g.S.Shelf.told g.K.Sink.told c.args.session.now c.args.shelf.now c.args.out.now) (world_of g.S.Shelf.told g.K.Sink.told c.format_disk-in-FormatDd.new.session c.format_disk-in-FormatDd.new.shelf c.format_disk-in-FormatDd.new.out) c.format_disk-in-FormatDd.result) c.count-in-FormatDd.ensures.value c.format_disk-in-FormatDd.ensures.does);
   is_form = search rules;
   shelf_faults = search rules;
   sink_faults = search rules;
