@@ -2,7 +2,6 @@
 ghost use Rattle.std.specs.Prelude.{◌≡◌, ◌≢◌, ◌||◌, All, Err};
 ghost use Rattle.sector_model.specs.Faults.{Blames};
 ghost use Rattle.sector_model.specs.Plays.{whole_status};
-ghost use Rattle.floppy_session.specs.Session.{state_of, IsRunning};
 ghost use Rattle.scripts.specs.Leading.{Runs};
 ghost use Rattle.scripts.specs.Leading.{faulty_of, Ran, RanPart, printed_of, Told};
 ghost use Rattle.bios_commands.specs.Courses.{ServesCalls};
@@ -35,11 +34,10 @@ fn serve_lines<S: Shelf, K: Sink, D: Station>(
     shelf: &mut S,
     out: &mut K,
 ) -> Result<bool, Status>
-    requires running { IsRunning D.shown D.is_ready session.old }
-    requires tries { All LineHasTries lines.now }
-    ensures { RanPart (LinesGo lines.now) (IsRunning D.shown D.is_ready session.new)
-        (faulty_of D.shown S.told S.fault_count K.told K.fault_count session.old shelf.old out.old) result
-        (faulty_of D.shown S.told S.fault_count K.told K.fault_count session.new shelf.new out.new) }
+    requires { All LineHasTries lines.now }
+    ensures { RanPart (LinesGo lines.now)
+        (faulty_of S.told S.fault_count K.told K.fault_count session.old shelf.old out.old) result
+        (faulty_of S.told S.fault_count K.told K.fault_count session.new shelf.new out.new) }
 {
     let mut front = Int13::new();
     let mut refused = false;
@@ -64,10 +62,8 @@ fn whole_status(refused: bool) -> Status
 
 /// Stores what is left in the bays of a session, and gives the status of a run to the end.
 fn finish<S: Shelf, D: Station>(session: &mut Session<D>, shelf: &mut S, refused: bool) -> Status
-    requires running { IsRunning D.shown D.is_ready session.old }
-    ensures ends { EndsAs refused (state_of D.shown session.old) (S.told shelf.old)
-        (state_of D.shown session.new) (S.told shelf.new) result }
-    ensures running { IsRunning D.shown D.is_ready session.new }
+    ensures ends { EndsAs refused session.old (S.told shelf.old)
+        session.new (S.told shelf.new) result }
     ensures is_form { result ≢ Status.BadWords }
     ensures shelf_faults { Blames (result ≡ Status.FileFault) (S.fault_count shelf.old)
         (S.fault_count shelf.new) }
@@ -87,11 +83,10 @@ fn serve_all<S: Shelf, K: Sink, D: Station>(
     shelf: &mut S,
     out: &mut K,
 ) -> Status
-    requires running { IsRunning D.shown D.is_ready session.old }
-    requires tries { All LineHasTries lines.now }
-    ensures { Ran (Serving lines.now) (IsRunning D.shown D.is_ready session.new)
-        (faulty_of D.shown S.told S.fault_count K.told K.fault_count session.old shelf.old out.old)
-        (faulty_of D.shown S.told S.fault_count K.told K.fault_count session.new shelf.new out.new) result }
+    requires { All LineHasTries lines.now }
+    ensures { Ran (Serving lines.now)
+        (faulty_of S.told S.fault_count K.told K.fault_count session.old shelf.old out.old)
+        (faulty_of S.told S.fault_count K.told K.fault_count session.new shelf.new out.new) result }
 {
     match serve_lines(alloc, session, lines, shelf, out) {
         Ok(refused) => finish(session, shelf, refused),
@@ -107,10 +102,9 @@ fn serve_text<S: Shelf, K: Sink, D: Station>(
     shelf: &mut S,
     out: &mut K,
 ) -> Status
-    requires running { IsRunning D.shown D.is_ready session.old }
-    ensures { Ran (ServesOrStarves text.now) (IsRunning D.shown D.is_ready session.new)
-        (faulty_of D.shown S.told S.fault_count K.told K.fault_count session.old shelf.old out.old)
-        (faulty_of D.shown S.told S.fault_count K.told K.fault_count session.new shelf.new out.new) result }
+    ensures { Ran (ServesOrStarves text.now)
+        (faulty_of S.told S.fault_count K.told K.fault_count session.old shelf.old out.old)
+        (faulty_of S.told S.fault_count K.told K.fault_count session.new shelf.new out.new) result }
 {
     match parse_calls(alloc, text) {
         Ok(lines) => serve_all(alloc, session, &lines, shelf, out),
@@ -141,10 +135,9 @@ pub fn serve_calls<S: Shelf, K: Sink, D: Station>(
     shelf: &mut S,
     out: &mut K,
 ) -> Status
-    requires running { IsRunning D.shown D.is_ready session.old }
-    ensures { Ran (Runs (ServesCalls name)) (IsRunning D.shown D.is_ready session.new)
-        (faulty_of D.shown S.told S.fault_count K.told K.fault_count session.old shelf.old out.old)
-        (faulty_of D.shown S.told S.fault_count K.told K.fault_count session.new shelf.new out.new) result }
+    ensures { Ran (Runs (ServesCalls name))
+        (faulty_of S.told S.fault_count K.told K.fault_count session.old shelf.old out.old)
+        (faulty_of S.told S.fault_count K.told K.fault_count session.new shelf.new out.new) result }
 {
     match shelf.load(alloc, name.as_str(), MOST_CALLS_BYTES) {
         Ok(text) => serve_text(alloc, session, &text, shelf, out),

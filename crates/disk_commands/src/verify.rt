@@ -4,7 +4,6 @@ ghost use Rattle.flop_base.specs.Shelf.{Files};
 ghost use Rattle.sector_model.specs.States.{State};
 ghost use Rattle.floppy_report.specs.Faults.{BlamesAlone};
 ghost use Rattle.flop_base.specs.Standard.{sectors_at};
-ghost use Rattle.floppy_session.specs.Session.{IsRunning};
 ghost use Rattle.scripts.specs.Scripts.{RunsScript};
 ghost use Rattle.scripts.specs.Parts.{each, by_track};
 ghost use Rattle.scripts.specs.Leading.{Goes, Finishes, Runs, Ran, RanPart, faulty_of, with_report};
@@ -60,11 +59,10 @@ fn verify_record<S: Shelf, K: Sink, D: Station>(
     shelf: &mut S,
     out: &mut K,
 ) -> Result<Tally, Status>
-    requires running { IsRunning D.shown D.is_ready session.old }
-    requires room { tally.well + 1 ≤ 4294967295 }
-    ensures ran { RanPart (Goes (verifies_record c h r tally)) (IsRunning D.shown D.is_ready session.new)
-        (faulty_of D.shown S.told S.fault_count K.told K.fault_count session.old shelf.old out.old) result
-        (faulty_of D.shown S.told S.fault_count K.told K.fault_count session.new shelf.new out.new) }
+    requires { tally.well + 1 ≤ 4294967295 }
+    ensures ran { RanPart (Goes (verifies_record c h r tally))
+        (faulty_of S.told S.fault_count K.told K.fault_count session.old shelf.old out.old) result
+        (faulty_of S.told S.fault_count K.told K.fault_count session.new shelf.new out.new) }
     ensures few { IfOk result (λ now. now.well ≤ tally.well + 1) }
 {
     let key = Chrn {
@@ -95,12 +93,11 @@ fn verify_track<S: Shelf, K: Sink, D: Station>(
     shelf: &mut S,
     out: &mut K,
 ) -> Result<Tally, Status>
-    requires running { IsRunning D.shown D.is_ready session.old }
     requires most { sectors ≤ 18 }
     requires room { tally.well + 18 ≤ 4294967295 }
-    ensures ran { RanPart (Goes (verifies_track sectors c h tally)) (IsRunning D.shown D.is_ready session.new)
-        (faulty_of D.shown S.told S.fault_count K.told K.fault_count session.old shelf.old out.old) result
-        (faulty_of D.shown S.told S.fault_count K.told K.fault_count session.new shelf.new out.new) }
+    ensures ran { RanPart (Goes (verifies_track sectors c h tally))
+        (faulty_of S.told S.fault_count K.told K.fault_count session.old shelf.old out.old) result
+        (faulty_of S.told S.fault_count K.told K.fault_count session.new shelf.new out.new) }
     ensures few { IfOk result (λ now. now.well ≤ tally.well + 18) }
 {
     let mut now = tally;
@@ -121,12 +118,11 @@ fn verify_cylinder<S: Shelf, K: Sink, D: Station>(
     shelf: &mut S,
     out: &mut K,
 ) -> Result<Tally, Status>
-    requires running { IsRunning D.shown D.is_ready session.old }
     requires most { sectors ≤ 18 }
     requires room { tally.well + 4590 ≤ 4294967295 }
-    ensures ran { RanPart (Goes (each 0 heads (verifies_track sectors c) tally)) (IsRunning D.shown D.is_ready session.new)
-        (faulty_of D.shown S.told S.fault_count K.told K.fault_count session.old shelf.old out.old) result
-        (faulty_of D.shown S.told S.fault_count K.told K.fault_count session.new shelf.new out.new) }
+    ensures ran { RanPart (Goes (each 0 heads (verifies_track sectors c) tally))
+        (faulty_of S.told S.fault_count K.told K.fault_count session.old shelf.old out.old) result
+        (faulty_of S.told S.fault_count K.told K.fault_count session.new shelf.new out.new) }
     ensures few { IfOk result (λ now. now.well ≤ tally.well + 4590) }
 {
     let mut now = tally;
@@ -147,12 +143,11 @@ fn verify_tracks<S: Shelf, K: Sink, D: Station>(
     shelf: &mut S,
     out: &mut K,
 ) -> Result<Tally, Status>
-    requires running { IsRunning D.shown D.is_ready session.old }
     requires most { sectors ≤ 18 }
     requires room { tally.well + 1170450 ≤ 4294967295 }
-    ensures { RanPart (Goes (by_track cylinders heads (verifies_track sectors) tally)) (IsRunning D.shown D.is_ready session.new)
-        (faulty_of D.shown S.told S.fault_count K.told K.fault_count session.old shelf.old out.old) result
-        (faulty_of D.shown S.told S.fault_count K.told K.fault_count session.new shelf.new out.new) }
+    ensures { RanPart (Goes (by_track cylinders heads (verifies_track sectors) tally))
+        (faulty_of S.told S.fault_count K.told K.fault_count session.old shelf.old out.old) result
+        (faulty_of S.told S.fault_count K.told K.fault_count session.new shelf.new out.new) }
 {
     let mut now = tally;
     for c in 0..cylinders {
@@ -179,10 +174,9 @@ fn read_disk<S: Shelf, K: Sink, D: Station>(
     shelf: &mut S,
     out: &mut K,
 ) -> Result<(Shape, Tally), Status>
-    requires running { IsRunning D.shown D.is_ready session.old }
-    ensures { RanPart (Goes (reads_disk name)) (IsRunning D.shown D.is_ready session.new)
-        (faulty_of D.shown S.told S.fault_count K.told K.fault_count session.old shelf.old out.old) result
-        (faulty_of D.shown S.told S.fault_count K.told K.fault_count session.new shelf.new out.new) }
+    ensures { RanPart (Goes (reads_disk name))
+        (faulty_of S.told S.fault_count K.told K.fault_count session.old shelf.old out.old) result
+        (faulty_of S.told S.fault_count K.told K.fault_count session.new shelf.new out.new) }
 {
     let shape = open_disk(alloc, session, name, shelf, out)?;
     acknowledge(alloc, session, 0, shape.rate, shelf, out)?;
@@ -211,10 +205,9 @@ pub fn verify_disk<S: Shelf, K: Sink, D: Station>(
     shelf: &mut S,
     out: &mut K,
 ) -> Status
-    requires running { IsRunning D.shown D.is_ready session.old }
-    ensures { Ran (Runs (RunsScript (verify_script name))) (IsRunning D.shown D.is_ready session.new)
-        (faulty_of D.shown S.told S.fault_count K.told K.fault_count session.old shelf.old out.old)
-        (faulty_of D.shown S.told S.fault_count K.told K.fault_count session.new shelf.new out.new) result }
+    ensures { Ran (Runs (RunsScript (verify_script name)))
+        (faulty_of S.told S.fault_count K.told K.fault_count session.old shelf.old out.old)
+        (faulty_of S.told S.fault_count K.told K.fault_count session.new shelf.new out.new) result }
 {
     match read_disk(alloc, session, name, shelf, out) {
         Ok((shape, tally)) => {

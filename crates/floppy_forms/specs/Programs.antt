@@ -60,10 +60,9 @@ abbrev pub Does : Option Form → World → List Taken → World → Status → 
 Does (Some asked) old course new ended = DoesOrStarves asked old course new ended
 Does None old course new ended = TellsAlone bad_words_text status.BadWords old course new ended
 
--- what words ask for was done, the session still runs, the words are no form where the status says so, and each fault that it tells was counted
-pub record Performed (Does : World → World → Status → Type 0) (Running NoForm : Type 0) (old new : Faulty) (ended : Status) : Type 0 where
+-- what words ask for was done, the words are no form where the status says so, and each fault that it tells was counted
+pub record Performed (Does : World → World → Status → Type 0) (NoForm : Type 0) (old new : Faulty) (ended : Status) : Type 0 where
   pub runs : Does old.world new.world ended
-  pub running : Running
   pub bad_words : ended ≡ status.BadWords → NoForm
   pub shelf_faults : Blames (ended ≡ status.FileFault) old.shelf_faults new.shelf_faults
   pub sink_faults : BlamesAlone (ended ≡ status.SinkFault) old.sink_faults new.sink_faults

@@ -3,7 +3,6 @@ ghost use Rattle.std.specs.Prelude.{◌≡◌, ◌≢◌, ◌||◌, All, Err};
 ghost use Rattle.sector_model.specs.Faults.{Blames};
 ghost use Rattle.sector_model.specs.Texts.{is_refusal};
 ghost use Rattle.sector_model.specs.Plays.{whole_status};
-ghost use Rattle.floppy_session.specs.Session.{state_of, IsRunning};
 ghost use Rattle.floppy_session.specs.Tries.{HasTries};
 ghost use Rattle.scripts.specs.Leading.{faulty_of, Ran, RanPart, printed_of, Told};
 ghost use Rattle.floppy_forms.specs.Rounds.{RoundGoes, RoundsGo, HasPlayed, PlaysJob, EndsAs, PlaysOrStarves, Misses};
@@ -26,11 +25,10 @@ fn run_one<S: Shelf, K: Sink, D: Station>(
     shelf: &mut S,
     out: &mut K,
 ) -> Result<bool, Status>
-    requires running { IsRunning D.shown D.is_ready session.old }
-    requires tries { HasTries request.now }
-    ensures { RanPart (RoundGoes request.now) (IsRunning D.shown D.is_ready session.new)
-        (faulty_of D.shown S.told S.fault_count K.told K.fault_count session.old shelf.old out.old) result
-        (faulty_of D.shown S.told S.fault_count K.told K.fault_count session.new shelf.new out.new) }
+    requires { HasTries request.now }
+    ensures { RanPart (RoundGoes request.now)
+        (faulty_of S.told S.fault_count K.told K.fault_count session.old shelf.old out.old) result
+        (faulty_of S.told S.fault_count K.told K.fault_count session.new shelf.new out.new) }
 {
     match session.run(shelf, request) {
         Ok(reply) => match put_reply(alloc, out, request, &reply) {
@@ -65,11 +63,10 @@ fn run_requests<S: Shelf, K: Sink, D: Station>(
     shelf: &mut S,
     out: &mut K,
 ) -> Result<bool, Status>
-    requires running { IsRunning D.shown D.is_ready session.old }
-    requires tries { All HasTries requests.now }
-    ensures { RanPart (RoundsGo requests.now) (IsRunning D.shown D.is_ready session.new)
-        (faulty_of D.shown S.told S.fault_count K.told K.fault_count session.old shelf.old out.old) result
-        (faulty_of D.shown S.told S.fault_count K.told K.fault_count session.new shelf.new out.new) }
+    requires { All HasTries requests.now }
+    ensures { RanPart (RoundsGo requests.now)
+        (faulty_of S.told S.fault_count K.told K.fault_count session.old shelf.old out.old) result
+        (faulty_of S.told S.fault_count K.told K.fault_count session.new shelf.new out.new) }
 {
     let mut refused = false;
     for request in requests {
@@ -83,10 +80,8 @@ fn run_requests<S: Shelf, K: Sink, D: Station>(
 
 /// Stores what is left in the bays of a session, and gives the status of a run to the end.
 fn finish<S: Shelf, D: Station>(session: &mut Session<D>, shelf: &mut S, refused: bool) -> Status
-    requires running { IsRunning D.shown D.is_ready session.old }
-    ensures ends { EndsAs refused (state_of D.shown session.old) (S.told shelf.old)
-        (state_of D.shown session.new) (S.told shelf.new) result }
-    ensures running { IsRunning D.shown D.is_ready session.new }
+    ensures ends { EndsAs refused session.old (S.told shelf.old)
+        session.new (S.told shelf.new) result }
     ensures is_form { result ≢ Status.BadWords }
     ensures shelf_faults { Blames (result ≡ Status.FileFault) (S.fault_count shelf.old)
         (S.fault_count shelf.new) }
@@ -116,11 +111,10 @@ fn play_requests<S: Shelf, K: Sink, D: Station>(
     shelf: &mut S,
     out: &mut K,
 ) -> Status
-    requires running { IsRunning D.shown D.is_ready session.old }
-    requires tries { All HasTries requests.now }
-    ensures { Ran (HasPlayed requests.now) (IsRunning D.shown D.is_ready session.new)
-        (faulty_of D.shown S.told S.fault_count K.told K.fault_count session.old shelf.old out.old)
-        (faulty_of D.shown S.told S.fault_count K.told K.fault_count session.new shelf.new out.new) result }
+    requires { All HasTries requests.now }
+    ensures { Ran (HasPlayed requests.now)
+        (faulty_of S.told S.fault_count K.told K.fault_count session.old shelf.old out.old)
+        (faulty_of S.told S.fault_count K.told K.fault_count session.new shelf.new out.new) result }
 {
     match run_requests(alloc, session, requests, shelf, out) {
         Ok(refused) => finish(session, shelf, refused),
@@ -136,10 +130,9 @@ fn play_text<S: Shelf, K: Sink, D: Station>(
     shelf: &mut S,
     out: &mut K,
 ) -> Status
-    requires running { IsRunning D.shown D.is_ready session.old }
-    ensures { Ran (PlaysOrStarves text.now) (IsRunning D.shown D.is_ready session.new)
-        (faulty_of D.shown S.told S.fault_count K.told K.fault_count session.old shelf.old out.old)
-        (faulty_of D.shown S.told S.fault_count K.told K.fault_count session.new shelf.new out.new) result }
+    ensures { Ran (PlaysOrStarves text.now)
+        (faulty_of S.told S.fault_count K.told K.fault_count session.old shelf.old out.old)
+        (faulty_of S.told S.fault_count K.told K.fault_count session.new shelf.new out.new) result }
 {
     match parse_job(alloc, text) {
         Ok(requests) => play_requests(alloc, session, &requests, shelf, out),
@@ -169,10 +162,9 @@ pub(crate) fn play<S: Shelf, K: Sink, D: Station>(
     shelf: &mut S,
     out: &mut K,
 ) -> Status
-    requires running { IsRunning D.shown D.is_ready session.old }
-    ensures { Ran (PlaysJob job.now) (IsRunning D.shown D.is_ready session.new)
-        (faulty_of D.shown S.told S.fault_count K.told K.fault_count session.old shelf.old out.old)
-        (faulty_of D.shown S.told S.fault_count K.told K.fault_count session.new shelf.new out.new) result }
+    ensures { Ran (PlaysJob job.now)
+        (faulty_of S.told S.fault_count K.told K.fault_count session.old shelf.old out.old)
+        (faulty_of S.told S.fault_count K.told K.fault_count session.new shelf.new out.new) result }
 {
     match shelf.load(alloc, job, MOST_JOB_BYTES) {
         Ok(text) => play_text(alloc, session, &text, shelf, out),

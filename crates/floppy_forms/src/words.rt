@@ -7,7 +7,6 @@ ghost use Rattle.floppy_report.specs.Faults.{BlamesAlone};
 ghost use Rattle.sector_model.specs.Ties.{IsJob, accesses_of_job};
 ghost use Rattle.sector_model.specs.Stations.{IsFresh};
 ghost use Rattle.sector_model.specs.States.{start_of};
-ghost use Rattle.floppy_session.specs.Session.{state_of, IsRunning};
 ghost use Rattle.floppy_words.specs.declared.form.Form.TheVariants as form;
 ghost use Rattle.floppy_words.specs.declared.form.Form.{Form};
 ghost use Rattle.floppy_words.specs.Forms.{form_of, Reads};
@@ -74,15 +73,14 @@ fn perform<S: Shelf, K: Sink, D: Station>(
     shelf: &mut S,
     out: &mut K,
 ) -> Status
-    requires running { IsRunning D.shown D.is_ready session.old }
-    ensures performed { Performed (Runs (Does (form_of (map string_bytes words.now)))) (IsRunning D.shown D.is_ready session.new)
+    ensures performed { Performed (Runs (Does (form_of (map string_bytes words.now))))
         (form_of (map string_bytes words.now) ≡ None)
-        (faulty_of D.shown S.told S.fault_count K.told K.fault_count session.old shelf.old out.old)
-        (faulty_of D.shown S.told S.fault_count K.told K.fault_count session.new shelf.new out.new) result }
+        (faulty_of S.told S.fault_count K.told K.fault_count session.old shelf.old out.old)
+        (faulty_of S.told S.fault_count K.told K.fault_count session.new shelf.new out.new) result }
     ensures accesses { (job : List ℕ) (requests : List Request)
         → form_of (map string_bytes words.now) ≡ Some (form.Play job) → IsJob (S.told shelf.old) job requests
-        → (state_of D.shown session.new).station.counters.direct
-        ≤ (state_of D.shown session.old).station.counters.direct + accesses_of_job requests }
+        → session.new.station.counters.direct
+        ≤ session.old.station.counters.direct + accesses_of_job requests }
 {
     run_asked(alloc, session, form_named(alloc, words), shelf, out)
 }
@@ -95,12 +93,10 @@ pub fn run_asked<S: Shelf, K: Sink, D: Station>(
     shelf: &mut S,
     out: &mut K,
 ) -> Status
-    requires running { IsRunning D.shown D.is_ready session.old }
     ensures runs { (spelled : Option Form) → Reads asked spelled → Runs (Does spelled)
-        (world_of D.shown S.told K.told session.old shelf.old out.old)
-        (world_of D.shown S.told K.told session.new shelf.new out.new) result }
+        (world_of S.told K.told session.old shelf.old out.old)
+        (world_of S.told K.told session.new shelf.new out.new) result }
     ensures bad_words { result ≡ Status.BadWords → asked ≡ Ok None }
-    ensures running { IsRunning D.shown D.is_ready session.new }
     ensures shelf_faults { Blames (result ≡ Status.FileFault) (S.fault_count shelf.old) (S.fault_count shelf.new) }
     ensures sink_faults { BlamesAlone (result ≡ Status.SinkFault) (K.fault_count out.old) (K.fault_count out.new) }
 {
@@ -118,10 +114,9 @@ fn perform_any<S: Shelf, K: Sink, D: Station>(
     shelf: &mut S,
     out: &mut K,
 ) -> Status
-    requires running { IsRunning D.shown D.is_ready session.old }
-    ensures { Performed (Runs (Does form)) (IsRunning D.shown D.is_ready session.new) (form ≡ None)
-        (faulty_of D.shown S.told S.fault_count K.told K.fault_count session.old shelf.old out.old)
-        (faulty_of D.shown S.told S.fault_count K.told K.fault_count session.new shelf.new out.new) result }
+    ensures { Performed (Runs (Does form)) (form ≡ None)
+        (faulty_of S.told S.fault_count K.told K.fault_count session.old shelf.old out.old)
+        (faulty_of S.told S.fault_count K.told K.fault_count session.new shelf.new out.new) result }
 {
     match form {
         Some(form) => perform_form(alloc, session, form, shelf, out),
@@ -137,10 +132,9 @@ fn perform_form<S: Shelf, K: Sink, D: Station>(
     shelf: &mut S,
     out: &mut K,
 ) -> Status
-    requires running { IsRunning D.shown D.is_ready session.old }
-    ensures { Ran (Runs (DoesForm form)) (IsRunning D.shown D.is_ready session.new)
-        (faulty_of D.shown S.told S.fault_count K.told K.fault_count session.old shelf.old out.old)
-        (faulty_of D.shown S.told S.fault_count K.told K.fault_count session.new shelf.new out.new) result }
+    ensures { Ran (Runs (DoesForm form))
+        (faulty_of S.told S.fault_count K.told K.fault_count session.old shelf.old out.old)
+        (faulty_of S.told S.fault_count K.told K.fault_count session.new shelf.new out.new) result }
 {
     match form {
         Form::Play { job } => play(alloc, session, job.as_str(), shelf, out),

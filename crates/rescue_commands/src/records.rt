@@ -1,6 +1,5 @@
 // The records that are asked for: each is read, and then written or logged.
 ghost use Rattle.std.specs.Prelude.{◌≡◌, [], ◌∷◌, ◌++◌, IfOk};
-ghost use Rattle.floppy_session.specs.Session.{IsRunning};
 ghost use Rattle.scripts.specs.Parts.{through};
 ghost use Rattle.scripts.specs.Leading.{RanPart, faulty_of, printed_of};
 ghost use Rattle.rescue_commands.specs.Rescue.{after_answer, gives_up, does_next, follows, rescues};
@@ -55,11 +54,10 @@ fn do_next<S: Shelf, K: Sink, D: Station>(
     shelf: &mut S,
     out: &mut K,
 ) -> Result<Vec<LogLine>, Status>
-    requires running { IsRunning D.shown D.is_ready session.old }
     requires tries { HasNextTries next }
-    ensures { RanPart (LogGoes (does_next key (Ok next) log.items)) (IsRunning D.shown D.is_ready session.new)
-        (faulty_of D.shown S.told S.fault_count K.told K.fault_count session.old shelf.old out.old) result
-        (faulty_of D.shown S.told S.fault_count K.told K.fault_count session.new shelf.new out.new) }
+    ensures { RanPart (LogGoes (does_next key (Ok next) log.items))
+        (faulty_of S.told S.fault_count K.told K.fault_count session.old shelf.old out.old) result
+        (faulty_of S.told S.fault_count K.told K.fault_count session.new shelf.new out.new) }
 {
     match next {
         AfterRead::Write(request) => {
@@ -85,10 +83,9 @@ fn follow<S: Shelf, K: Sink, D: Station>(
     shelf: &mut S,
     out: &mut K,
 ) -> Result<Vec<LogLine>, Status>
-    requires running { IsRunning D.shown D.is_ready session.old }
-    ensures { RanPart (LogGoes (follows key reply.now log.items)) (IsRunning D.shown D.is_ready session.new)
-        (faulty_of D.shown S.told S.fault_count K.told K.fault_count session.old shelf.old out.old) result
-        (faulty_of D.shown S.told S.fault_count K.told K.fault_count session.new shelf.new out.new) }
+    ensures { RanPart (LogGoes (follows key reply.now log.items))
+        (faulty_of S.told S.fault_count K.told K.fault_count session.old shelf.old out.old) result
+        (faulty_of S.told S.fault_count K.told K.fault_count session.new shelf.new out.new) }
 {
     match next_of(key, reply) {
         Ok(next) => do_next(alloc, session, key, next, log, shelf, out),
@@ -106,10 +103,9 @@ fn rescue_record<S: Shelf, K: Sink, D: Station>(
     shelf: &mut S,
     out: &mut K,
 ) -> Result<Vec<LogLine>, Status>
-    requires running { IsRunning D.shown D.is_ready session.old }
-    ensures { RanPart (LogGoes (rescues key log.items)) (IsRunning D.shown D.is_ready session.new)
-        (faulty_of D.shown S.told S.fault_count K.told K.fault_count session.old shelf.old out.old) result
-        (faulty_of D.shown S.told S.fault_count K.told K.fault_count session.new shelf.new out.new) }
+    ensures { RanPart (LogGoes (rescues key log.items))
+        (faulty_of S.told S.fault_count K.told K.fault_count session.old shelf.old out.old) result
+        (faulty_of S.told S.fault_count K.told K.fault_count session.new shelf.new out.new) }
 {
     let reply = ask(alloc, session, &read_request(key), shelf, out)?;
     follow(alloc, session, key, &reply, log, shelf, out)
@@ -123,10 +119,9 @@ pub(crate) fn rescue_records<S: Shelf, K: Sink, D: Station>(
     shelf: &mut S,
     out: &mut K,
 ) -> Result<Vec<LogLine>, Status>
-    requires running { IsRunning D.shown D.is_ready session.old }
-    ensures { RanPart (LogGoes (through rescues keys.now [])) (IsRunning D.shown D.is_ready session.new)
-        (faulty_of D.shown S.told S.fault_count K.told K.fault_count session.old shelf.old out.old) result
-        (faulty_of D.shown S.told S.fault_count K.told K.fault_count session.new shelf.new out.new) }
+    ensures { RanPart (LogGoes (through rescues keys.now []))
+        (faulty_of S.told S.fault_count K.told K.fault_count session.old shelf.old out.old) result
+        (faulty_of S.told S.fault_count K.told K.fault_count session.new shelf.new out.new) }
 {
     let mut log = Vec::new(alloc);
     for key in keys {

@@ -1,6 +1,5 @@
 // The rescue of a diskette.
 ghost use Rattle.std.specs.Prelude.{◌≡◌, length, IfOk, string_bytes};
-ghost use Rattle.floppy_session.specs.Session.{IsRunning};
 ghost use Rattle.scripts.specs.Leading.{Runs, Ran, RanPart, Finishes, faulty_of};
 ghost use Rattle.rescue_commands.specs.Logs.{lines_found};
 ghost use Rattle.rescue_commands.specs.Rescue.{asked_keys, rescues_all, outcome_of, last_text, stores_log, rescue_found, Rescues};
@@ -43,10 +42,9 @@ fn rescue_all<S: Shelf, K: Sink, D: Station>(
     shelf: &mut S,
     out: &mut K,
 ) -> Result<Vec<LogLine>, Status>
-    requires running { IsRunning D.shown D.is_ready session.old }
-    ensures { RanPart (LogGoes (rescues_all to shape logged keys.now)) (IsRunning D.shown D.is_ready session.new)
-        (faulty_of D.shown S.told S.fault_count K.told K.fault_count session.old shelf.old out.old) result
-        (faulty_of D.shown S.told S.fault_count K.told K.fault_count session.new shelf.new out.new) }
+    ensures { RanPart (LogGoes (rescues_all to shape logged keys.now))
+        (faulty_of S.told S.fault_count K.told K.fault_count session.old shelf.old out.old) result
+        (faulty_of S.told S.fault_count K.told K.fault_count session.new shelf.new out.new) }
 {
     prepare(alloc, session, to, shape, logged, shelf, out)?;
     let log = rescue_records(alloc, session, keys, shelf, out)?;
@@ -84,10 +82,9 @@ fn rescue_keys<S: Shelf, K: Sink, D: Station>(
     shelf: &mut S,
     out: &mut K,
 ) -> Status
-    requires running { IsRunning D.shown D.is_ready session.old }
-    ensures { Ran (Finishes (rescues_all to shape logged keys.now (stores_log log.now (length keys.now)))) (IsRunning D.shown D.is_ready session.new)
-        (faulty_of D.shown S.told S.fault_count K.told K.fault_count session.old shelf.old out.old)
-        (faulty_of D.shown S.told S.fault_count K.told K.fault_count session.new shelf.new out.new) result }
+    ensures { Ran (Finishes (rescues_all to shape logged keys.now (stores_log log.now (length keys.now))))
+        (faulty_of S.told S.fault_count K.told K.fault_count session.old shelf.old out.old)
+        (faulty_of S.told S.fault_count K.told K.fault_count session.new shelf.new out.new) result }
 {
     let lines = match rescue_all(alloc, session, to, shape, logged, keys, shelf, out) {
         Ok(lines) => lines,
@@ -119,10 +116,9 @@ fn rescue_found<S: Shelf, K: Sink, D: Station>(
     shelf: &mut S,
     out: &mut K,
 ) -> Status
-    requires running { IsRunning D.shown D.is_ready session.old }
-    ensures { Ran (Finishes (rescue_found to log.now shape (lines_found found.now))) (IsRunning D.shown D.is_ready session.new)
-        (faulty_of D.shown S.told S.fault_count K.told K.fault_count session.old shelf.old out.old)
-        (faulty_of D.shown S.told S.fault_count K.told K.fault_count session.new shelf.new out.new) result }
+    ensures { Ran (Finishes (rescue_found to log.now shape (lines_found found.now)))
+        (faulty_of S.told S.fault_count K.told K.fault_count session.old shelf.old out.old)
+        (faulty_of S.told S.fault_count K.told K.fault_count session.new shelf.new out.new) result }
 {
     let Ok(keys) = asked_keys(alloc, shape, found) else {
         return Status::NoMemory;
@@ -150,10 +146,9 @@ fn rescue_opened<S: Shelf, K: Sink, D: Station>(
     shelf: &mut S,
     out: &mut K,
 ) -> Status
-    requires running { IsRunning D.shown D.is_ready session.old }
-    ensures { Ran (FinishesFound to log shape) (IsRunning D.shown D.is_ready session.new)
-        (faulty_of D.shown S.told S.fault_count K.told K.fault_count session.old shelf.old out.old)
-        (faulty_of D.shown S.told S.fault_count K.told K.fault_count session.new shelf.new out.new) result }
+    ensures { Ran (FinishesFound to log shape)
+        (faulty_of S.told S.fault_count K.told K.fault_count session.old shelf.old out.old)
+        (faulty_of S.told S.fault_count K.told K.fault_count session.new shelf.new out.new) result }
 {
     match find_log(alloc, &log, shape.rate.sectors(), shelf) {
         Ok(found) => rescue_found(alloc, session, to, &log, shape, &found, shelf, out),
@@ -174,10 +169,9 @@ pub fn rescue_disk<S: Shelf, K: Sink, D: Station>(
     shelf: &mut S,
     out: &mut K,
 ) -> Status
-    requires running { IsRunning D.shown D.is_ready session.old }
-    ensures { Ran (Runs (Rescues from to log)) (IsRunning D.shown D.is_ready session.new)
-        (faulty_of D.shown S.told S.fault_count K.told K.fault_count session.old shelf.old out.old)
-        (faulty_of D.shown S.told S.fault_count K.told K.fault_count session.new shelf.new out.new) result }
+    ensures { Ran (Runs (Rescues from to log))
+        (faulty_of S.told S.fault_count K.told K.fault_count session.old shelf.old out.old)
+        (faulty_of S.told S.fault_count K.told K.fault_count session.new shelf.new out.new) result }
 {
     match open_disk(alloc, session, from, shelf, out) {
         Ok(shape) => rescue_opened(alloc, session, to, log, shape, shelf, out),

@@ -6,7 +6,6 @@ use Rattle.disk_commands.proofs.copy.write_records.Goals as goal
 pub loop-r-init : goal.loop-r-init
 loop-r-init g c = record {
   turn = turn_begins _ _ _ _ _;
-  running = search rules;
   counted = search rules;
   stays = search rules;
 }
@@ -16,7 +15,6 @@ returns-in_err-write_record g c = record {
   goes =
       let p = err_from_is_err_and c.from_residual.result c.from_residual.ensures.1 in
       rw (p.1, p.2) (turn_ends _ _ _ _ _ _ _ _ _ _ c.loop-r.invariant.turn c.in_err-write_record.ensures.goes (omega arith));
-  running = search rules;
   is_form = search rules;
   shelf_faults = search rules;
   sink_faults = search rules;
@@ -25,7 +23,6 @@ returns-in_err-write_record g c = record {
 pub loop-r-preserved : goal.loop-r-preserved
 loop-r-preserved g c = record {
   turn = turn_goes _ _ _ _ _ _ _ _ _ _ c.loop-r.invariant.turn c.in_ok-write_record.ensures.goes (omega arith);
-  running = search rules;
   counted = search rules;
   stays = search rules;
 }
@@ -33,7 +30,6 @@ loop-r-preserved g c = record {
 pub returns : goal.returns
 returns g c = record {
   goes = turns_over _ _ _ _ _ _ _ _ c.loop-r.invariant.turn (omega arith);
-  running = search rules;
   is_form = search rules;
   shelf_faults = search rules;
   sink_faults = search rules;

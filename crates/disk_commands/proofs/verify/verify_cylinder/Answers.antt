@@ -6,7 +6,6 @@ use Rattle.disk_commands.proofs.verify.verify_cylinder.Goals as goal
 pub loop-h-init : goal.loop-h-init
 loop-h-init g c = record {
   turn = turn_begins _ _ _ _ _;
-  running = search rules;
   counted = search rules;
   stays = search rules;
   few = search rules;
@@ -18,7 +17,6 @@ returns-in_err-now g c = record {
     goes =
         let p = err_from_is_err_and c.from_residual.result c.from_residual.ensures.1 in
         rw (p.1, p.2) (turn_ends _ _ _ _ _ _ _ _ _ _ c.loop-h.invariant.turn c.in_err-now.ensures.ran.goes (omega arith));
-    running = search rules;
     is_form = search rules;
     shelf_faults = search rules;
     sink_faults = search rules;
@@ -29,7 +27,6 @@ returns-in_err-now g c = record {
 pub loop-h-preserved : goal.loop-h-preserved
 loop-h-preserved g c = record {
   turn = turn_goes _ _ _ _ _ _ _ _ _ _ c.loop-h.invariant.turn c.in_ok-now.ensures.ran.goes (omega arith);
-  running = search rules;
   counted = search rules;
   stays = search rules;
   few = search rules;
@@ -39,7 +36,6 @@ pub returns : goal.returns
 returns g c = record {
   ran = record {
     goes = turns_over _ _ _ _ _ _ _ _ c.loop-h.invariant.turn (omega arith);
-    running = search rules;
     is_form = search rules;
     shelf_faults = search rules;
     sink_faults = search rules;

@@ -7,7 +7,6 @@ use Rattle.disk_commands.proofs.verify.verify_track.Goals as goal
 pub loop-r-init : goal.loop-r-init
 loop-r-init g c = record {
   turn = turn_begins _ _ _ _ _;
-  running = search rules;
   counted = search rules;
   stays = search rules;
   few = search rules;
@@ -20,7 +19,6 @@ returns-in_err-now g c = record {
     goes =
         let p = err_from_is_err_and c.from_residual.result c.from_residual.ensures.1 in
         rw (p.1, p.2) (turn_ends _ _ _ _ _ _ _ _ _ _ c.loop-r.invariant.turn c.in_err-now.ensures.ran.goes (omega arith));
-    running = search rules;
     is_form = search rules;
     shelf_faults = search rules;
     sink_faults = search rules;
@@ -31,7 +29,6 @@ returns-in_err-now g c = record {
 pub loop-r-preserved : goal.loop-r-preserved
 loop-r-preserved g c = record {
   turn = turn_goes _ _ _ _ _ _ _ _ _ _ c.loop-r.invariant.turn c.in_ok-now.ensures.ran.goes (omega arith);
-  running = search rules;
   counted = search rules;
   stays = search rules;
   few = search rules;
@@ -42,7 +39,6 @@ unfolding verifies_track
 returns g c = record {
   ran = record {
     goes = turns_over _ _ _ _ _ _ _ _ c.loop-r.invariant.turn (omega arith);
-    running = search rules;
     is_form = search rules;
     shelf_faults = search rules;
     sink_faults = search rules;

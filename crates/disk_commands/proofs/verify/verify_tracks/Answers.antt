@@ -6,7 +6,6 @@ use Rattle.disk_commands.proofs.verify.verify_tracks.Goals as goal
 pub loop-c-init : goal.loop-c-init
 loop-c-init g c = record {
   turn = turn_begins _ _ _ _ _;
-  running = search rules;
   counted = search rules;
   stays = search rules;
   few = search rules;
@@ -17,7 +16,6 @@ returns-in_err-now g c = record {
   goes =
       let p = err_from_is_err_and c.from_residual.result c.from_residual.ensures.1 in
       rw (p.1, p.2) (turn_ends _ _ _ _ _ _ _ _ _ _ c.loop-c.invariant.turn c.in_err-now.ensures.ran.goes (omega arith));
-  running = search rules;
   is_form = search rules;
   shelf_faults = search rules;
   sink_faults = search rules;
@@ -26,7 +24,6 @@ returns-in_err-now g c = record {
 pub loop-c-preserved : goal.loop-c-preserved
 loop-c-preserved g c = record {
   turn = turn_goes _ _ _ _ _ _ _ _ _ _ c.loop-c.invariant.turn c.in_ok-now.ensures.ran.goes (omega arith);
-  running = search rules;
   counted = search rules;
   stays = search rules;
   few = search rules;
@@ -35,7 +32,6 @@ loop-c-preserved g c = record {
 pub returns : goal.returns
 returns g c = record {
   goes = turns_over _ _ _ _ _ _ _ _ c.loop-c.invariant.turn (omega arith);
-  running = search rules;
   is_form = search rules;
   shelf_faults = search rules;
   sink_faults = search rules;

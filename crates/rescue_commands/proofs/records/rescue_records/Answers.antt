@@ -14,7 +14,6 @@ returns-in_err-log g c = record {
       let within : c.loop-key.key-index < length c.args.keys.now = omega arith in
       let p = err_from_is_err_and c.from_residual.result c.from_residual.ensures.1 in
       rw (p.1, p.2) (key_ends _ _ no_key _ _ _ _ _ _ within c.loop-key.invariant.at c.in_err-log.ensures.goes);
-  running = search rules;
   is_form = search rules;
   shelf_faults = search rules;
   sink_faults = search rules;
@@ -25,7 +24,6 @@ loop-key-preserved g c =
     let within : c.loop-key.key-index < length c.args.keys.now = omega arith in
     record {
       at = key_goes _ _ no_key _ _ _ _ _ _ within c.loop-key.invariant.at c.in_ok-log.ensures.goes;
-      running = search rules;
       counted = search rules;
       stays = search rules;
     }
@@ -33,7 +31,6 @@ loop-key-preserved g c =
 pub returns : goal.returns
 returns g c = record {
   goes = keys_over _ _ _ c.loop-key.log _ _ (omega arith) c.loop-key.invariant.at;
-  running = search rules;
   is_form = search rules;
   shelf_faults = search rules;
   sink_faults = search rules;
