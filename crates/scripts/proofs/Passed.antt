@@ -1,5 +1,6 @@
 -- Parts of a script that were gone through, and what is known of each.
-use Rattle.std.proofs.Common.{◌≡◌, ◌∙◌, ℕ, false, Bool, true, List, [], ◌∷◌, ◌++◌, inl, inr, refl, sym, ap, subst, append-nil, append_assoc, Option, Some, None}
+use Rattle.std.proofs.Math.Path.{fun_ext}
+use Rattle.std.proofs.Common.{◌+◌, zero, suc, map, ◌≡◌, ◌∙◌, ℕ, false, Bool, true, List, [], ◌∷◌, ◌++◌, map, inl, inr, refl, sym, ap, subst, append-nil, append_assoc, Option, Some, None}
 use Rattle.std.specs.Prelude.{◌||◌}
 use Rattle.std.specs.List.{flat_map, range_with_len}
 use Rattle.std.proofs.lemmas.List.{map-append}
@@ -23,7 +24,7 @@ use Rattle.floppy_session.specs.Shapes.{shape_in}
 use Rattle.scripts.specs.Scripts.{Script, Ends, Stores, RunsScript, StoresLast}
 use Rattle.scripts.specs.Parts.{Part, asks, needs, carries, says, may_starve, with_shape, opens, sets_rate, acknowledges, through, each, by_track, rate_requests}
 use Rattle.scripts.proofs.Opened.{there_is}
-use Rattle.scripts.proofs.Reading.{IsAnswered, IsWhole, ask_run, ask_answered, need_run, need_done, last_run, last_stored}
+use Rattle.scripts.proofs.Reading.{IsAnswered, IsRefused, IsWhole, ok_is_whole, ask_run, ask_answered, need_run, need_taken, refused_is_not_ok, last_run, last_stored}
 
 -- what is known of a part that was gone through: by the world before it, its course, what it found, and the world behind it
 abbrev pub Known : Type 0 → Type 1
@@ -45,21 +46,32 @@ Passes {Found = Found} ended part Knows =
     (rest : Found → Script) (old : World) (course : List Taken) (new : World)
     → RunsScript (part rest) old course new ended → Passed Knows rest old course new ended
 
--- so it did, where more is known than is asked
+-- so it was, where more is known than is asked
+passed_known : {Found : Type 0} (Knows Wanted : Known Found)
+    → ((old : World) (course : List Taken) (found : Found) (mid : World) → Knows old course found mid → Wanted old course found mid)
+    → (rest : Found → Script) (old : World) (course : List Taken) (new : World) (ended : Status)
+    → Passed Knows rest old course new ended → Passed Wanted rest old course new ended
+passed_known Knows Wanted more rest old course new ended p = record {
+  one = p.one;
+  two = p.two;
+  found = p.found;
+  mid = p.mid;
+  course_is = p.course_is;
+  knows = more old p.one p.found p.mid p.knows;
+  left = p.left;
+}
+
 pub known : {Found : Type 0} (ended : Status) (part : Part Found) (Knows Wanted : Known Found)
     → ((old : World) (course : List Taken) (found : Found) (mid : World) → Knows old course found mid → Wanted old course found mid)
     → Passes ended part Knows → Passes ended part Wanted
 known ended part Knows Wanted more passes rest old course new runs =
-    let p = passes rest old course new runs in
-    record {
-      one = p.one;
-      two = p.two;
-      found = p.found;
-      mid = p.mid;
-      course_is = p.course_is;
-      knows = more old p.one p.found p.mid p.knows;
-      left = p.left;
-    }
+    passed_known Knows Wanted more rest old course new ended (passes rest old course new runs)
+
+-- the same part in other words
+pub same_part : {Found : Type 0} (ended : Status) (part other : Part Found) (Knows : Known Found)
+    → ((rest : Found → Script) → part rest ≡ other rest) → Passes ended other Knows → Passes ended part Knows
+same_part ended part other Knows same passes rest old course new runs =
+    passes rest old course new (subst (λ (s : Script). RunsScript s old course new ended) (same rest) runs)
 
 -- ---- Requests.
 
@@ -91,12 +103,13 @@ answer_passed asked finds rest old course new ended run = record {
   report = refl;
 }
 
--- a request that a script which ended well can't go on without
-pub needs_passes : {Found : Type 0} (asked : Request) (finds : Reply → State → Found)
-    → Passes status.AllOk (λ (rest : Found → Script). needs asked (λ answer after. rest (finds answer after))) (IsTaken asked finds)
-needs_passes asked finds rest old course new runs =
+-- a request that the script can't go on without, where it can't have been refused
+pub needs_passed : {Found : Type 0} (asked : Request) (finds : Reply → State → Found) (rest : Found → Script) (old : World) (course : List Taken) (new : World) (ended : Status)
+    → IsWhole ended → (IsRefused asked old course new ended → ⊥)
+    → RunsScript (needs asked (λ answer after. rest (finds answer after))) old course new ended → Passed (IsTaken asked finds) rest old course new ended
+needs_passed asked finds rest old course new ended whole fine runs =
     let next = λ (answer : Reply) (after : State). rest (finds answer after) in
-    let done = need_done asked next old course new (need_run asked next old course new status.AllOk runs) in
+    let done = need_taken asked next old course new ended whole fine (need_run asked next old course new ended runs) in
     let run = done.run in
     record {
       one = run.taken ∷ [];
@@ -104,9 +117,15 @@ needs_passes asked finds rest old course new runs =
       found = finds run.taken.answer run.taken.after;
       mid = record old { state = run.taken.after; files = run.files };
       course_is = run.course_is;
-      knows = record { is = answer_passed asked finds rest old course new status.AllOk run; fine = done.fine };
+      knows = record { is = answer_passed asked finds rest old course new ended run; fine = done.fine };
       left = run.left;
     }
+
+-- so it was in a script that ended well
+pub needs_passes : {Found : Type 0} (asked : Request) (finds : Reply → State → Found)
+    → Passes status.AllOk (λ (rest : Found → Script). needs asked (λ answer after. rest (finds answer after))) (IsTaken asked finds)
+needs_passes asked finds rest old course new runs =
+    needs_passed asked finds rest old course new status.AllOk ok_is_whole (refused_is_not_ok asked old course new) runs
 
 -- a request whose answer may be a refusal, where nothing stopped the script
 pub asks_passes : {Found : Type 0} (ended : Status) → IsWhole ended → (asked : Request) (finds : Reply → State → Found)
@@ -148,9 +167,17 @@ taken_did asked finds old course found mid it =
       report = is.report;
     })
 
-pub carries_passes : (asked : Request) → Passes status.AllOk (carries asked) (Does (asked ∷ []))
+pub carries_passed : (asked : Request) (rest : Unit {0} → Script) (old : World) (course : List Taken) (new : World) (ended : Status)
+    → IsWhole ended → (IsRefused asked old course new ended → ⊥) → RunsScript (carries asked rest) old course new ended
+    → Passed (Does (asked ∷ [])) rest old course new ended
 unfolding carries
-carries_passes asked = known status.AllOk _ (IsTaken asked (λ answer after. tt)) (Does (asked ∷ [])) (taken_did asked (λ answer after. tt)) (needs_passes asked (λ answer after. tt))
+carries_passed asked rest old course new ended whole fine runs =
+    passed_known (IsTaken asked (λ answer after. tt)) (Does (asked ∷ [])) (taken_did asked (λ answer after. tt)) rest old course new ended
+    (needs_passed asked (λ answer after. tt) rest old course new ended whole fine runs)
+
+pub carries_passes : (asked : Request) → Passes status.AllOk (carries asked) (Does (asked ∷ []))
+carries_passes asked rest old course new runs =
+    carries_passed asked rest old course new status.AllOk ok_is_whole (refused_is_not_ok asked old course new) runs
 
 -- two runs, one after the other
 pub run_both : (old mid new : State) (told files after : Option Files) (one two : List Taken) → Run old told one mid files → Run mid files two new after → Run old told (one ++ two) new after
@@ -262,6 +289,36 @@ pub each_passes : {Found : Type 0} (ended : Status) (start count : ℕ) (part : 
 unfolding each
 each_passes ended start count part found Knows passes = passes
 
+-- what is known of no numbers, and of one more in front, is known of all from one on
+pub numbers_pass : {Found : Type 0} (ended : Status) (part : ℕ → Found → Part Found) (One : ℕ → Found → Known Found) (All : ℕ → ℕ → Found → Known Found)
+    → ((i : ℕ) (found : Found) (now : World) → All i 0 found now [] found now)
+    → ((i n : ℕ) (begun found last : Found) (old mid new : World) (one two : List Taken)
+    → One i begun old one found mid → All (i + 1) n found mid two last new → All i (suc n) begun old (one ++ two) last new)
+    → ((i : ℕ) (found : Found) → Passes ended (part i found) (One i found))
+    → (count start : ℕ) (found : Found) → Passes ended (each start count part found) (All start count found)
+unfolding each through
+numbers_pass ended part One All none more passes zero start found rest old course new runs = record {
+  one = [];
+  two = course;
+  found = found;
+  mid = old;
+  course_is = refl;
+  knows = none start found old;
+  left = runs;
+}
+numbers_pass ended part One All none more passes (suc n) start found rest old course new runs =
+    let a = passes start found (λ now. each (start + 1) n part now rest) old course new runs in
+    let b = numbers_pass ended part One All none more passes n (start + 1) a.found rest a.mid a.two new a.left in
+    record {
+      one = a.one ++ b.one;
+      two = b.two;
+      found = b.found;
+      mid = b.mid;
+      course_is = a.course_is ∙ ap (λ (l : List Taken). a.one ++ l) b.course_is ∙ sym (append_assoc a.one b.one b.two);
+      knows = more start n found a.found b.found old a.mid b.mid a.one b.one a.knows b.knows;
+      left = b.left;
+    }
+
 pub each_does : (ended : Status) (start count : ℕ) (part : ℕ → Unit {0} → Part (Unit {0})) (requests : ℕ → List Request)
     → ((i : ℕ) → Passes ended (part i tt) (Does (requests i))) → Passes ended (each start count part tt) (Does (flat_map requests (range_with_len start count)))
 each_does ended start count part requests passes =
@@ -274,6 +331,47 @@ pub tracks_do : (ended : Status) (cylinders heads : ℕ) (part : ℕ → ℕ →
 tracks_do ended cylinders heads part requests passes =
     each_does ended 0 cylinders (λ c. each 0 heads (part c)) (λ c. flat_map (requests c) (range_with_len 0 heads))
     (λ c. each_does ended 0 heads (part c) (requests c) (passes c))
+
+-- ---- Loops in other words.
+
+through_both : {Thing Found : Type 0} (part : Thing → Found → Part Found) (xs ys : List Thing) (found : Found) (rest : Found → Script)
+    → through part (xs ++ ys) found rest ≡ through part xs found (λ now. through part ys now rest)
+unfolding through
+through_both part [] ys found rest = refl
+through_both part (x ∷ xs) ys found rest = ap (part x found) (fun_ext (λ now. through_both part xs ys now rest))
+
+-- a loop within a loop is one loop
+pub nested : {X Thing Found : Type 0} (outer : X → Found → Part Found) (part : Thing → Found → Part Found) (things : X → List Thing)
+    → ((x : X) (found : Found) (rest : Found → Script) → outer x found rest ≡ through part (things x) found rest)
+    → (xs : List X) (found : Found) (rest : Found → Script) → through outer xs found rest ≡ through part (flat_map things xs) found rest
+unfolding through
+nested outer part things same [] found rest = refl
+nested outer part things same (x ∷ xs) found rest =
+    ap (outer x found) (fun_ext (λ now. nested outer part things same xs now rest))
+    ∙ same x found (λ now. through part (flat_map things xs) now rest)
+    ∙ sym (through_both part (things x) (flat_map things xs) found rest)
+
+-- a loop over numbers is one over the things that they name
+pub named : {X Thing Found : Type 0} (outer : X → Found → Part Found) (part : Thing → Found → Part Found) (thing : X → Thing)
+    → ((x : X) (found : Found) (rest : Found → Script) → outer x found rest ≡ part (thing x) found rest)
+    → (xs : List X) (found : Found) (rest : Found → Script) → through outer xs found rest ≡ through part (map thing xs) found rest
+unfolding through
+named outer part thing same [] found rest = refl
+named outer part thing same (x ∷ xs) found rest =
+    ap (outer x found) (fun_ext (λ now. named outer part thing same xs now rest))
+    ∙ same x found (λ now. through part (map thing xs) now rest)
+
+pub each_named : {Thing Found : Type 0} (part : Thing → Found → Part Found) (start count : ℕ) (outer : ℕ → Found → Part Found) (thing : ℕ → Thing)
+    → ((i : ℕ) (found : Found) (rest : Found → Script) → outer i found rest ≡ part (thing i) found rest)
+    → (found : Found) (rest : Found → Script) → each start count outer found rest ≡ through part (map thing (range_with_len start count)) found rest
+unfolding each
+each_named part start count outer thing same found rest = named outer part thing same (range_with_len start count) found rest
+
+pub each_nested : {Thing Found : Type 0} (part : Thing → Found → Part Found) (start count : ℕ) (outer : ℕ → Found → Part Found) (things : ℕ → List Thing)
+    → ((i : ℕ) (found : Found) (rest : Found → Script) → outer i found rest ≡ through part (things i) found rest)
+    → (found : Found) (rest : Found → Script) → each start count outer found rest ≡ through part (flat_map things (range_with_len start count)) found rest
+unfolding each
+each_nested part start count outer things same found rest = nested outer part things same (range_with_len start count) found rest
 
 -- ---- Parts that many scripts have.
 

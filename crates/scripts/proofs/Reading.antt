@@ -161,7 +161,7 @@ need_taken asked rest old course new ended whole fine (Refused run) = absurd (fi
 need_taken asked rest old course new ended whole fine (Halted run) = absurd (whole.stop run.cause (prints_status _ _ (stop_status run.cause) ended _ whole.put run.prints).1)
 
 -- so it was where the script ended well
-refused_is_not_ok : (asked : Request) (old : World) (course : List Taken) (new : World) → IsRefused asked old course new status.AllOk → ⊥
+pub refused_is_not_ok : (asked : Request) (old : World) (course : List Taken) (new : World) → IsRefused asked old course new status.AllOk → ⊥
 refused_is_not_ok asked old course new run = let told = prints_status _ _ status.SomeRefused status.AllOk _ (λ fault. fault) run.prints in let same = told.1 in cc same
 
 pub need_done : (asked : Request) (rest : Reply → State → Script) (old : World) (course : List Taken) (new : World) → NeedRun asked rest old course new status.AllOk → IsDone asked rest old course new status.AllOk
