@@ -1,5 +1,5 @@
 -- The command that copies asks the requests of a copy, and stores one.
-use Rattle.std.proofs.Common.{arith, ◌≡◌, ◌∙◌, ◌≤◌, ◌+◌, ℕ, Bool, true, false, List, [], ◌∷◌, ◌++◌, length, take, drop, refl, sym, ap, subst, Option, Some}
+use Rattle.std.proofs.Common.{arith, ◌≡◌, ◌∙◌, ◌≤◌, ◌+◌, ℕ, Bool, true, false, List, [], ◌∷◌, ◌++◌, length, take, drop, refl, sym, ap, subst, append_assoc, Option, Some}
 use Rattle.std.specs.List.{list_all}
 use Rattle.std.proofs.lemmas.List.{append-nil, length-replicate, take_at, drop_at}
 use Rattle.flop_base.specs.Shelf.{Files}
@@ -37,7 +37,7 @@ use Rattle.disk_laws.proofs.Marks.{is_no_read, marks-append, no_marks, writes_ar
 use Rattle.disk_laws.proofs.Records.{keys_from}
 use Rattle.disk_laws.proofs.Sectors.{few_sectors}
 use Rattle.disk_laws.proofs.PutIn.{opened_shape}
-use Rattle.disk_laws.proofs.TrackParts.{tracks_part}
+use Rattle.disk_laws.proofs.TrackParts.{tracks_part, over_all}
 
 -- ---- a track
 
@@ -122,3 +122,71 @@ tracks_pass rate cylinders heads =
     (tracks_part cylinders heads (copies_track (sectors_at rate)) tt)
     (through_passes status.AllOk on (λ track begun. CopiedTrack rate track) (CopiesEach rate) (λ found now. did_nothing now) (one_more rate)
     (λ track begun. track_passes rate track) (tracks_of cylinders heads) tt)
+
+-- ---- the whole copy
+
+-- the new disk is made, and both are acknowledged
+abbrev preparing : List ℕ → ℕ → Rate → List Request
+preparing to cylinders rate = blank_request 1 to cylinders rate ∷ request.Ack 0 ∷ (rate_requests rate 0 ++ (request.Ack 1 ∷ rate_requests rate 1))
+
+-- what comes behind the disk that was put in
+abbrev copies_rest : List ℕ → Shape → Part (Unit {0})
+copies_rest to shape rest =
+    carries (blank_request 1 to shape.cylinders shape.rate) (λ none.
+    acknowledges 0 shape.rate (λ none.
+    acknowledges 1 shape.rate (λ none.
+    by_track shape.cylinders shape.heads (copies_track (sectors_at shape.rate)) tt (λ none. carries (request.Eject 1) rest))))
+
+abbrev CopiesRest : List ℕ → Shape → Known (Unit {0})
+CopiesRest to shape =
+    Then {First = Unit {0}} (Does (preparing to shape.cylinders shape.rate))
+    (λ none. Then {First = Unit {0}} (CopiesEach shape.rate (tracks_of shape.cylinders shape.heads) tt) (λ none. Does (request.Eject 1 ∷ [])))
+
+rest_passes : (to : List ℕ) (shape : Shape) → Passes status.AllOk (copies_rest to shape) (CopiesRest to shape)
+rest_passes to shape =
+    let rate = shape.rate in
+    let blank = blank_request 1 to shape.cylinders rate in
+    let first = request.Ack 0 ∷ rate_requests rate 0 in
+    let second = request.Ack 1 ∷ rate_requests rate 1 in
+    let Each = CopiesEach rate (tracks_of shape.cylinders shape.heads) tt in
+    let Ejects : Known (Unit {0}) = Does (request.Eject 1 ∷ []) in
+    both_pass status.AllOk _ _ (Does (preparing to shape.cylinders rate)) (λ none. Then Each (λ none. Ejects))
+    (does_both status.AllOk (carries blank) _ (blank ∷ []) (first ++ second) (carries_passes blank)
+    (does_both status.AllOk (acknowledges 0 rate) (acknowledges 1 rate) first second (acknowledges_passes 0 rate) (acknowledges_passes 1 rate)))
+    (λ none. both_pass status.AllOk (by_track shape.cylinders shape.heads (copies_track (sectors_at rate)) tt) (λ none. carries (request.Eject 1)) Each (λ none. Ejects)
+    (tracks_pass rate shape.cylinders shape.heads) (λ none. carries_passes (request.Eject 1)))
+
+all_did : (from to : List ℕ) (disk : Disk) (old mid new : World) (one two course : List Taken) → Did (request.Insert 0 from ∷ []) old one mid → CopiesRest to (shape_of disk) mid two tt new
+    → course ≡ one ++ two → Did (copy_requests from to disk (marks_read course)) old course new
+all_did from to disk old mid new one two course insert rest is =
+    let opening = copy_opening from to disk in
+    let tracks = tracks_of disk.cylinders disk.heads in
+    let last = rest.behind in
+    let opens = did_both (request.Insert 0 from ∷ []) (preparing to disk.cylinders disk.rate) old mid rest.mid one rest.one insert rest.before in
+    let parts : course ≡ (one ++ rest.one) ++ (last.one ++ last.two) =
+    is ∙ ap (λ (l : List Taken). one ++ l) rest.course_is ∙ ap (λ (l : List Taken). one ++ (rest.one ++ l)) last.course_is ∙ sym (append_assoc one rest.one (last.one ++ last.two)) in
+    let told = ap marks_read parts ∙ middle_marks (one ++ rest.one) last.one last.two (silent opening old rest.mid (one ++ rest.one) opens (opening_reads_none disk.rate to disk.cylinders from)) (silent _ last.mid new last.two last.behind refl) in
+    subst (λ (l : List Taken). Did (copy_requests from to disk (marks_read course)) old l new) (sym parts)
+    (subst (λ (row : List Bool). Did (copy_requests from to disk row) old ((one ++ rest.one) ++ (last.one ++ last.two)) new) (sym told)
+    (three_did opening (copy_each disk.rate tracks (marks_read last.one)) (request.Eject 1 ∷ []) old rest.mid last.mid new (one ++ rest.one) last.one last.two opens last.before last.behind))
+
+pub copy_done : (from to : List ℕ) (old new : World) (course : List Taken) (files : Files) (disk : Disk) → RunsScript (copy_script from to) old course new status.AllOk → old.files ≡ Some files → IsImageOf (Some files) from disk
+    → CopiesDisk from to disk old.state files course new.state new.files
+unfolding copy_script
+copy_done from to old new course files disk runs there image =
+    let put = opens_passes from _ old course new runs in
+    let same = opened_shape from disk files old put.mid put.one put.found image there put.knows in
+    let rest = over status.AllOk (copies_rest to put.found) (CopiesRest to put.found) _ _ (rest_passes to put.found) put.mid put.two new put.left in
+    let knows = subst (λ (s : Shape). CopiesRest to s put.mid put.two tt rest.mid) same rest.knows in
+    let did = all_did from to disk old put.mid rest.mid put.one put.two course put.knows.did knows put.course_is in
+    let requests = copy_requests from to disk (marks_read course) in
+    record {
+      image = image;
+      all = subst (λ (f : Option Files). DoesAll requests old.state f course new.state new.files) there
+          (over_all requests old course rest.mid did new rest.state rest.files);
+    }
+
+-- a copy that succeeds stores a copy
+pub copy_stores : (from to : List ℕ) (old new : World) (course : List Taken) (files : Files) (disk : Disk) → RunsScript (copy_script from to) old course new status.AllOk → old.files ≡ Some files → IsImageOf (Some files) from disk → length old.state.station.memory ≡ user_bytes → IsFaultless 1 old.state.station.counters new.state.station.counters → StoresCopy disk to old.state.station.counters (Some files) course new.state.station.counters new.files
+copy_stores from to old new course files disk runs there image size faultless =
+    copies_disk laid_tidy from to disk files old.state new.state new.files course (copy_done from to old new course files disk runs there image) size faultless

@@ -33,8 +33,8 @@ format_passes name cylinders rate =
 pub format_done : (rate : Rate) (name : List ℕ) (cylinders : ℕ) (old new : World) (course : List Taken) → RunsScript (format_script name cylinders rate) old course new status.AllOk → DoesAll (format_requests rate name cylinders) old.state old.files course new.state new.files
 unfolding format_script
 format_done rate name cylinders old new course runs =
-    over_all (format_requests rate name cylinders) _ _ old course new status.AllOk
-    (over status.AllOk (formats_disk name cylinders rate) _ (λ none. format_text (cylinders * 2)) (λ none. status.AllOk) (format_passes name cylinders rate) old course new runs)
+    let all = over status.AllOk (formats_disk name cylinders rate) _ (λ none. format_text (cylinders * 2)) (λ none. status.AllOk) (format_passes name cylinders rate) old course new runs in
+    over_all (format_requests rate name cylinders) old course all.mid all.knows new all.state all.files
 
 -- a format that succeeds stores a formatted disk
 pub format_stores : (rate : Rate) (name : List ℕ) (cylinders : ℕ) (old new : World) (course : List Taken) → RunsScript (format_script name cylinders rate) old course new status.AllOk → IsFaultless 0 old.state.station.counters new.state.station.counters → StoresFormatted rate name cylinders old.files new.files

@@ -42,12 +42,12 @@ formats_pass bay cylinders heads =
     (tracks_part cylinders heads (formats bay) tt)
     (through_does status.AllOk (λ (track : Track). formats bay track.0 track.1) one (λ track. carries_passes (request.Format bay track.0 track.1)) tracks))
 
--- the requests of a part, and of a whole script
+-- the requests of a part, and of one that the last line follows
 pub did_all : (requests : List Request) (old : World) (course : List Taken) (new : World) → Did requests old course new → DoesAll requests old.state old.files course new.state new.files
 did_all requests old course new did = record { run = did.run; all = did.all; done = did.fine }
 
-pub over_all : {Found : Type 0} (requests : List Request) (line : Found → List ℕ) (wanted : Found → Status) (old : World) (course : List Taken) (new : World) (ended : Status)
-    → Over (Does requests) line wanted old course new ended → DoesAll requests old.state old.files course new.state new.files
-over_all requests line wanted old course new ended over =
-    subst (λ s. DoesAll requests old.state old.files course s new.files) (sym over.state)
-    (subst (λ f. DoesAll requests old.state old.files course over.mid.state f) (sym over.files) (did_all requests old course over.mid over.knows))
+pub over_all : (requests : List Request) (old : World) (course : List Taken) (mid : World) → Did requests old course mid
+    → (new : World) → new.state ≡ mid.state → new.files ≡ mid.files → DoesAll requests old.state old.files course new.state new.files
+over_all requests old course mid did new state files =
+    subst (λ s. DoesAll requests old.state old.files course s new.files) (sym state)
+    (subst (λ f. DoesAll requests old.state old.files course mid.state f) (sym files) (did_all requests old course mid did))
