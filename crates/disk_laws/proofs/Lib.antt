@@ -14,7 +14,6 @@ pub mod Opening
 pub mod Prepared
 pub mod PutIn
 pub mod Ranges
-pub mod ReadTold
 pub mod Reading
 pub mod Records
 pub mod Sectors
@@ -23,6 +22,7 @@ pub mod TrackParts
 pub mod Tracks
 pub mod UserMemory
 pub mod Verified
+pub mod VerifiedKeys
 pub mod VerifyRun
 pub mod WholeWindow
 pub mod Written
