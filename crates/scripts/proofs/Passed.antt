@@ -375,9 +375,11 @@ each_nested part start count outer things same found rest = nested outer part th
 
 -- ---- Parts that many scripts have.
 
-pub sets_rate_passes : (bay : ℕ) (rate : Rate) → Passes status.AllOk (sets_rate bay rate) (Does (rate_requests rate bay))
+pub sets_rate_passed : (bay : ℕ) (rate : Rate) (rest : Unit {0} → Script) (old : World) (course : List Taken) (new : World) (ended : Status)
+    → IsWhole ended → (IsRefused (request.SetRate bay R250) old course new ended → ⊥) → RunsScript (sets_rate bay rate rest) old course new ended
+    → Passed (Does (rate_requests rate bay)) rest old course new ended
 unfolding sets_rate
-sets_rate_passes bay R500 rest old course new runs = record {
+sets_rate_passed bay R500 rest old course new ended whole fine runs = record {
   one = [];
   two = course;
   found = tt;
@@ -386,7 +388,11 @@ sets_rate_passes bay R500 rest old course new runs = record {
   knows = did_nothing old;
   left = runs;
 }
-sets_rate_passes bay R250 rest old course new runs = carries_passes (request.SetRate bay R250) rest old course new runs
+sets_rate_passed bay R250 rest old course new ended whole fine runs = carries_passed (request.SetRate bay R250) rest old course new ended whole fine runs
+
+pub sets_rate_passes : (bay : ℕ) (rate : Rate) → Passes status.AllOk (sets_rate bay rate) (Does (rate_requests rate bay))
+sets_rate_passes bay rate rest old course new runs =
+    sets_rate_passed bay rate rest old course new status.AllOk ok_is_whole (refused_is_not_ok (request.SetRate bay R250) old course new) runs
 
 pub acknowledges_passes : (bay : ℕ) (rate : Rate) → Passes status.AllOk (acknowledges bay rate) (Does (request.Ack bay ∷ rate_requests rate bay))
 unfolding acknowledges
@@ -397,16 +403,22 @@ pub record Opened (name : List ℕ) (old : World) (course : List Taken) (shape :
   pub did : Did (request.Insert 0 name ∷ []) old course mid
   pub there : shape_in (bay_of mid.state.station 0) ≡ Some shape
 
-pub opens_passes : (name : List ℕ) → Passes status.AllOk (opens name) (Opened name)
+pub opens_passed : (name : List ℕ) (rest : Shape → Script) (old : World) (course : List Taken) (new : World) (ended : Status)
+    → IsWhole ended → (IsRefused (request.Insert 0 name) old course new ended → ⊥) → RunsScript (opens name rest) old course new ended
+    → Passed (Opened name) rest old course new ended
 unfolding opens
-opens_passes name rest old course new runs =
-    let a = needs_passes (request.Insert 0 name) (λ answer after. shape_in (bay_of after.station 0)) (λ found. with_shape found rest) old course new runs in
-    go a.found a refl
+opens_passed name rest old course new ended whole fine runs = let a = needs_passed asked finds next old course new ended whole fine runs in go a.found a refl
   where
-    Inserted : Known (Option Shape)
-    Inserted = IsTaken (request.Insert 0 name) (λ answer after. shape_in (bay_of after.station 0))
+    asked : Request
+    asked = request.Insert 0 name
 
-    go : (found : Option Shape) → (a : Passed Inserted (λ found. with_shape found rest) old course new status.AllOk) → a.found ≡ found → Passed (Opened name) rest old course new status.AllOk
+    finds : Reply → State → Option Shape
+    finds answer after = shape_in (bay_of after.station 0)
+
+    next : Option Shape → Script
+    next found = with_shape found rest
+
+    go : (found : Option Shape) → (a : Passed (IsTaken asked finds) next old course new ended) → a.found ≡ found → Passed (Opened name) rest old course new ended
     go (Some shape) a is = record {
       one = a.one;
       two = a.two;
@@ -414,14 +426,18 @@ opens_passes name rest old course new runs =
       mid = a.mid;
       course_is = a.course_is;
       knows = record {
-        did = taken_did (request.Insert 0 name) (λ answer after. shape_in (bay_of after.station 0)) old a.one a.found a.mid a.knows;
+        did = taken_did asked finds old a.one a.found a.mid a.knows;
         there = ap (λ (s : State). shape_in (bay_of s.station 0)) a.knows.is.after ∙ sym a.knows.is.found_is ∙ is;
       };
-      left = subst (λ (f : Option Shape). RunsScript (with_shape f rest) a.mid a.two new status.AllOk) is a.left;
+      left = subst (λ (f : Option Shape). RunsScript (with_shape f rest) a.mid a.two new ended) is a.left;
     }
     go None a is =
         let taken = a.knows.is.taken in
         absurd (there_is name taken.answer old.state taken.after old.files a.mid.files a.knows.fine a.knows.is.step (sym a.knows.is.found_is ∙ is))
+
+pub opens_passes : (name : List ℕ) → Passes status.AllOk (opens name) (Opened name)
+opens_passes name rest old course new runs =
+    opens_passed name rest old course new status.AllOk ok_is_whole (refused_is_not_ok (request.Insert 0 name) old course new) runs
 
 -- a line, put whole
 pub record Said (line : List ℕ) (old : World) (course : List Taken) (none : Unit {0}) (mid : World) : Type 0 where
