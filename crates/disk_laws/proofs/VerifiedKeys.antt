@@ -1,9 +1,11 @@
 -- The reads of a verify: what they print, and how many are refused.
-use Rattle.std.proofs.Common.{arith, ◌≡◌, ◌∙◌, ◌+◌, ℕ, nat_le, Bool, true, false, List, [], ◌∷◌, ◌++◌, length, refl, sym, ap, subst, append_assoc, Option, Some, None, Result, Ok, Err, le-leb}
+use Rattle.std.proofs.Common.{arith, ◌≡◌, ◌∙◌, ◌+◌, ◌*◌, ℕ, nat_le, Bool, true, false, List, [], ◌∷◌, ◌++◌, length, refl, sym, ap, subst, append_assoc, Option, Some, None, Result, Ok, Err, le-leb}
 use Rattle.std.specs.Prelude.{◌||◌, if◌then◌else◌}
-use Rattle.std.specs.List.{flat_map}
+use Rattle.std.specs.List.{flat_map, range_with_len}
 use Rattle.std.proofs.lemmas.Grind.{flat_map-append}
-use Rattle.std.proofs.lemmas.List.{append-nil, length-append, map-append}
+use Rattle.std.proofs.lemmas.List.{append-nil, length-append, length-map, map-append}
+use Rattle.std.proofs.lemmas.List.FromFn.{length-range_with_len}
+use Rattle.std.proofs.Math.Nat.{suc-mul, mul_assoc}
 use Rattle.flop_base.specs.Shelf.{Files}
 use Rattle.flop_base.specs.Sink.{grown}
 use Rattle.flop_base.specs.Standard.{sectors_at}
@@ -11,7 +13,7 @@ use Rattle.flop_base.specs.declared.key.Chrn.{Chrn}
 use Rattle.flop_base.specs.declared.answers.Code.{Code}
 use Rattle.flop_base.specs.declared.answers.Status.{Status}
 use Rattle.raw_image.specs.Disk.{Disk}
-use Rattle.sector_map.specs.Standard.{track_keys, cylinder_keys, standard_keys}
+use Rattle.sector_map.specs.Standard.{key_of, track_keys, cylinder_keys, standard_keys}
 use Rattle.floppy_requests.specs.declared.request.Request.{Request}
 use Rattle.floppy_requests.specs.declared.request.Request.TheVariants as request
 use Rattle.sector_model.specs.declared.reply.Reply.{Reply}
@@ -23,11 +25,13 @@ use Rattle.sector_model.specs.Steps.{Step, read_reply}
 use Rattle.sector_model.specs.Texts.{is_refusal}
 use Rattle.sector_model.specs.Runs.{Taken, Run, requests_of}
 use Rattle.sector_model.specs.Plays.{World}
+use Rattle.floppy_session.specs.Shapes.{shape_of}
 use Rattle.scripts.specs.Scripts.{Script, RunsScript}
 use Rattle.scripts.specs.Parts.{Part, asks, through, each, by_track}
 use Rattle.scripts.proofs.Reading.{IsWhole}
 use Rattle.scripts.proofs.Passed.{Known, Passes, Passed, IsAsked, asks_passes, Then, both_pass, known, Said, says_passes, through_passes, run_both, same_part, each_named, each_nested}
 use Rattle.disk_commands.specs.Verify.{failure_line, tells_failure, no_reads, one_more, verifies_record, verifies_track}
+use Rattle.disk_commands.specs.Disks.{sectors_of}
 use Rattle.disk_laws.specs.Requests.{read_each}
 use Rattle.disk_laws.specs.Verified.{refused_read, refused_reads}
 use Rattle.disk_laws.specs.VerifyRuns.{failing_line}
@@ -190,3 +194,23 @@ keys_pass ended whole disk =
     same_part ended (by_track disk.cylinders disk.heads (verifies_track sectors) no_reads) (through verifies_key (standard_keys disk) no_reads) (Verifies (standard_keys disk) no_reads)
     (disk_part disk no_reads)
     (through_passes ended verifies_key (λ key. Verifies (key ∷ [])) Verifies none_verified one_verified (key_passes ended whole) (standard_keys disk) no_reads)
+
+-- how many keys there are
+length_same : {X Y : Type 0} (f : X → List Y) (k : ℕ) (xs : List X) → ((x : X) → length (f x) ≡ k) → length (flat_map f xs) ≡ length xs * k
+length_same f k [] each = let none : length (flat_map f []) ≡ 0 = refl in omega (arith, none)
+length_same f k (x ∷ xs) each =
+    let here = each x in
+    let rest = length_same f k xs each in
+    let size = length-append (f x) (flat_map f xs) in
+    let product = suc-mul (length xs) k in
+    omega (arith, here, rest, size, product)
+
+pub standard_count : (disk : Disk) → length (standard_keys disk) ≡ sectors_of (shape_of disk)
+unfolding standard_keys cylinder_keys track_keys
+standard_count disk =
+    let sectors = sectors_at disk.rate in
+    let track : (c h : ℕ) → length (track_keys sectors c h) ≡ sectors = λ c h. length-map (range_with_len 1 sectors) (key_of c h) ∙ length-range_with_len 1 sectors in
+    let cylinder : (c : ℕ) → length (cylinder_keys sectors disk.heads c) ≡ disk.heads * sectors = λ c. length_same (track_keys sectors c) sectors (range_with_len 0 disk.heads) (track c) ∙ ap (λ (n : ℕ). n * sectors) (length-range_with_len 0 disk.heads) in
+    length_same (cylinder_keys sectors disk.heads) (disk.heads * sectors) (range_with_len 0 disk.cylinders) cylinder
+    ∙ ap (λ (n : ℕ). n * (disk.heads * sectors)) (length-range_with_len 0 disk.cylinders)
+    ∙ sym (mul_assoc disk.cylinders disk.heads sectors)
