@@ -1,5 +1,5 @@
 -- The command that copies asks the requests of a copy, and stores one.
-use Rattle.std.proofs.Common.{arith, ◌≡◌, ◌∙◌, ◌≤◌, ◌+◌, ℕ, Bool, true, false, List, [], ◌∷◌, ◌++◌, length, take, drop, refl, sym, ap, subst, append_assoc, Option, Some}
+use Rattle.std.proofs.Common.{arith, ◌≡◌, ◌∙◌, ℕ, Bool, true, false, List, [], ◌∷◌, ◌++◌, length, take, drop, refl, sym, ap, subst, append_assoc, Option, Some}
 use Rattle.std.specs.List.{list_all}
 use Rattle.std.proofs.lemmas.List.{append-nil, length-replicate, take_at, drop_at}
 use Rattle.flop_base.specs.Shelf.{Files}
@@ -21,11 +21,10 @@ use Rattle.floppy_session.specs.Blanks.{blank_request}
 use Rattle.floppy_session.specs.declared.shape.Shape.{Shape}
 use Rattle.floppy_session.specs.Shapes.{shape_of}
 use Rattle.scripts.specs.Scripts.{RunsScript}
-use Rattle.scripts.specs.Parts.{Part, carries, acknowledges, through, each, by_track, opens, rate_requests}
-use Rattle.scripts.proofs.Passed.{Known, Passes, Passed, Does, Did, Then, did_both, did_nothing, both_pass, does_both, known, same_part, through_passes, carries_passes, acknowledges_passes, opens_passes, Opened, over, Over}
+use Rattle.scripts.specs.Parts.{Part, carries, acknowledges, through, each, by_track, rate_requests}
+use Rattle.scripts.proofs.Passed.{Known, Passes, Does, Did, Then, did_both, did_nothing, both_pass, does_both, known, same_part, through_passes, carries_passes, acknowledges_passes, opens_passes, over}
 use Rattle.disk_commands.specs.Copy.{reads_record, writes_record, copies_track, copy_text, copy_script}
 use Rattle.disk_commands.specs.Copy as copy
-use Rattle.disk_commands.specs.Disks.{sectors_of}
 use Rattle.disk_laws.specs.Requests.{Track, tracks_of, read_records, write_records, copy_track, copy_each, copy_opening, copy_requests, marks_read}
 use Rattle.disk_laws.specs.Done.{DoesAll}
 use Rattle.disk_laws.specs.Copied.{CopiesDisk, StoresCopy}
@@ -34,7 +33,6 @@ use Rattle.disk_laws.proofs.CopiedTrack.{track_keys_from}
 use Rattle.disk_laws.proofs.CopyOpened.{opening_reads_none}
 use Rattle.disk_laws.proofs.KeptMarks.{ReadsMarks, reads_pass, writes_of, writes_are, writes_pass}
 use Rattle.disk_laws.proofs.Marks.{is_no_read, marks-append, no_marks, writes_are_none}
-use Rattle.disk_laws.proofs.Records.{keys_from}
 use Rattle.disk_laws.proofs.Sectors.{few_sectors}
 use Rattle.disk_laws.proofs.PutIn.{opened_shape}
 use Rattle.disk_laws.proofs.TrackParts.{tracks_part, over_all}

@@ -18,9 +18,6 @@ use Rattle.floppy_requests.specs.declared.request.Request.{Request}
 use Rattle.floppy_requests.specs.declared.request.Request.TheVariants as request
 use Rattle.sector_model.specs.declared.reply.Reply.{Reply}
 use Rattle.sector_model.specs.declared.reply.Reply.TheVariants as reply
-use Rattle.sector_model.specs.declared.reply.Reason.{Reason}
-use Rattle.sector_model.specs.declared.reply.Reason.TheVariants as reason
-use Rattle.sector_model.specs.States.{State}
 use Rattle.sector_model.specs.Steps.{Step, read_reply}
 use Rattle.sector_model.specs.Texts.{is_refusal}
 use Rattle.sector_model.specs.Runs.{Taken, Run, requests_of}
@@ -29,7 +26,7 @@ use Rattle.floppy_session.specs.Shapes.{shape_of}
 use Rattle.scripts.specs.Scripts.{Script, RunsScript}
 use Rattle.scripts.specs.Parts.{Part, asks, through, each, by_track}
 use Rattle.scripts.proofs.Reading.{IsWhole}
-use Rattle.scripts.proofs.Passed.{Known, Passes, Passed, IsAsked, asks_passes, Then, both_pass, known, Said, says_passes, through_passes, run_both, same_part, each_named, each_nested}
+use Rattle.scripts.proofs.Passed.{Known, Passes, Passed, IsAsked, asks_passes, Then, both_pass, known, Said, says_passes, through_passes, run_both, same_part, each_nested}
 use Rattle.disk_commands.specs.Verify.{failure_line, tells_failure, no_reads, one_more, verifies_record, verifies_track}
 use Rattle.disk_commands.specs.Disks.{sectors_of}
 use Rattle.disk_laws.specs.Requests.{read_each}

@@ -1,5 +1,5 @@
 -- The command that verifies tells of the keys that aren't found.
-use Rattle.std.proofs.Common.{arith, ◌≡◌, ◌∙◌, ◌-◌, ℕ, nat_le, List, [], ◌++◌, length, refl, sym, ap, subst, append_assoc, Option, Some, None}
+use Rattle.std.proofs.Common.{arith, ◌≡◌, ◌∙◌, ◌-◌, ℕ, nat_le, List, ◌++◌, length, sym, ap, subst, Option, Some, None}
 use Rattle.std.specs.List.{flat_map}
 use Rattle.std.proofs.lemmas.Grind.{flat_map-append}
 use Rattle.std.proofs.lemmas.List.{take_at, length-map, map-append}
@@ -23,7 +23,6 @@ use Rattle.sector_model.specs.Steps.{IsImageOf}
 use Rattle.sector_model.specs.Texts.{stop_status}
 use Rattle.sector_model.specs.Runs.{Taken, Run, requests_of, has_refusal}
 use Rattle.sector_model.specs.Plays.{World, Prints, IsPutFault, whole_status}
-use Rattle.floppy_session.specs.declared.shape.Shape.{Shape}
 use Rattle.floppy_session.specs.Shapes.{shape_of}
 use Rattle.scripts.specs.Scripts.{RunsScript}
 use Rattle.scripts.proofs.Reading.{IsWhole, prints_status}
