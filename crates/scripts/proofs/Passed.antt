@@ -47,7 +47,7 @@ Passes {Found = Found} ended part Knows =
     → RunsScript (part rest) old course new ended → Passed Knows rest old course new ended
 
 -- two parts that were gone through, one behind the other, are one
-pub joined : {First Found : Type 0} {Before : Known First} {Behind Knows : Known Found} {next : First → Script} {rest : Found → Script}
+abbrev pub joined : {First Found : Type 0} {Before : Known First} {Behind Knows : Known Found} {next : First → Script} {rest : Found → Script}
     {old : World} {course : List Taken} {new : World} {ended : Status}
     → (a : Passed Before next old course new ended) (b : Passed Behind rest a.mid a.two new ended) → Knows old (a.one ++ b.one) b.found b.mid → Passed Knows rest old course new ended
 joined a b knows = record {
@@ -247,7 +247,7 @@ both_pass ended part next Before Behind passes then rest old course new runs =
     (record { one = a.one; two = b.one; first = a.found; mid = a.mid; course_is = refl; before = a.knows; behind = b.knows })
 
 -- two parts that asked requests
-pub joined_did : {First Found : Type 0} (first second : List Request) {next : First → Script} {rest : Found → Script}
+abbrev pub joined_did : {First Found : Type 0} (first second : List Request) {next : First → Script} {rest : Found → Script}
     {old : World} {course : List Taken} {new : World} {ended : Status}
     → (a : Passed (Does first) next old course new ended) → Passed (Does second) rest a.mid a.two new ended → Passed (Does (first ++ second)) rest old course new ended
 joined_did first second {old = old} a b = joined a b (did_both first second old a.mid b.mid a.one b.one a.knows b.knows)
