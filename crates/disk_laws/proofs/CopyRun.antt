@@ -19,9 +19,8 @@ use Rattle.sector_model.specs.Runs.{Taken}
 use Rattle.sector_model.specs.Plays.{World}
 use Rattle.floppy_session.specs.Blanks.{blank_request}
 use Rattle.floppy_session.specs.declared.shape.Shape.{Shape}
-use Rattle.floppy_session.specs.Shapes.{shape_of}
 use Rattle.scripts.specs.Scripts.{RunsScript}
-use Rattle.scripts.specs.Parts.{Part, carries, acknowledges, through, each, by_track, rate_requests}
+use Rattle.scripts.specs.Parts.{Part, through, by_track, rate_requests}
 use Rattle.scripts.proofs.Reading.{last_run}
 use Rattle.scripts.proofs.Passed.{Known, Passes, Did, joined, joined_did, did_both, did_nothing, same_part, through_passes, carries_passes, acknowledges_passes, opens_passes}
 use Rattle.disk_commands.specs.Copy.{reads_record, writes_record, copies_track, copy_text, copy_script}

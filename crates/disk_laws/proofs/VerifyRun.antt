@@ -16,8 +16,9 @@ use Rattle.flop_base.specs.declared.answers.Status.TheVariants as status
 use Rattle.raw_image.specs.Disk.{Disk}
 use Rattle.bay_model.specs.Counters.{IsUndisturbed}
 use Rattle.track_model.specs.declared.Look.{Look}
-use Rattle.sector_map.specs.Standard.{key_of, track_keys, cylinder_keys, standard_keys}
+use Rattle.sector_map.specs.Standard.{track_keys, cylinder_keys, standard_keys}
 use Rattle.sector_map.specs.Failing.{AreFailing}
+use Rattle.sector_map.proofs.Laid.{length-track_keys}
 use Rattle.floppy_requests.specs.declared.request.Request.{Request}
 use Rattle.floppy_requests.specs.declared.request.Request.TheVariants as request
 use Rattle.sector_model.specs.declared.reply.Reply.{Reply}
@@ -183,11 +184,10 @@ length_same f k (x ∷ xs) each =
     omega (arith, here, rest, size, product)
 
 pub standard_count : (disk : Disk) → length (standard_keys disk) ≡ sectors_of (shape_of disk)
-unfolding standard_keys cylinder_keys track_keys
+unfolding standard_keys cylinder_keys
 standard_count disk =
     let sectors = sectors_at disk.rate in
-    let track : (c h : ℕ) → length (track_keys sectors c h) ≡ sectors = λ c h. length-map (range_with_len 1 sectors) (key_of c h) ∙ length-range_with_len 1 sectors in
-    let cylinder : (c : ℕ) → length (cylinder_keys sectors disk.heads c) ≡ disk.heads * sectors = λ c. length_same (track_keys sectors c) sectors (range_with_len 0 disk.heads) (track c) ∙ ap (λ (n : ℕ). n * sectors) (length-range_with_len 0 disk.heads) in
+    let cylinder : (c : ℕ) → length (cylinder_keys sectors disk.heads c) ≡ disk.heads * sectors = λ c. length_same (track_keys sectors c) sectors (range_with_len 0 disk.heads) (length-track_keys sectors c) ∙ ap (λ (n : ℕ). n * sectors) (length-range_with_len 0 disk.heads) in
     length_same (cylinder_keys sectors disk.heads) (disk.heads * sectors) (range_with_len 0 disk.cylinders) cylinder
     ∙ ap (λ (n : ℕ). n * (disk.heads * sectors)) (length-range_with_len 0 disk.cylinders)
     ∙ sym (mul_assoc disk.cylinders disk.heads sectors)
