@@ -28,11 +28,9 @@ use Rattle.disk_commands.specs.Copy as copy
 use Rattle.disk_laws.specs.Requests.{Track, tracks_of, read_records, write_records, copy_track, copy_each, copy_opening, copy_requests, marks_read}
 use Rattle.disk_laws.specs.Done.{DoesAll}
 use Rattle.disk_laws.specs.Copied.{CopiesDisk, StoresCopy}
-use Rattle.disk_laws.proofs.CopiedDisk.{copies_disk}
+use Rattle.disk_laws.proofs.CopiedDisk.{opening_reads_none, copies_disk}
 use Rattle.disk_laws.proofs.CopiedTrack.{track_keys_from}
-use Rattle.disk_laws.proofs.CopyOpened.{opening_reads_none}
-use Rattle.disk_laws.proofs.KeptMarks.{ReadsMarks, reads_pass, writes_of, writes_are, writes_pass}
-use Rattle.disk_laws.proofs.Marks.{is_no_read, marks-append, no_marks, writes_are_none}
+use Rattle.disk_laws.proofs.Marks.{is_no_read, marks-append, no_marks, writes_are_none, ReadsMarks, reads_pass, writes_of, writes_are, writes_pass}
 use Rattle.disk_laws.proofs.Sectors.{few_sectors}
 use Rattle.disk_laws.proofs.PutIn.{opened_shape}
 use Rattle.disk_laws.proofs.TrackParts.{tracks_part, over_all}
