@@ -84,7 +84,8 @@ opens_copy from to disk files old new after course image all size =
     let put = are_in from to disk files (request.Ack 0 ∷ (rate_requests disk.rate 0 ++ second)) old new after course image all size in
     let one = readies 0 disk second put.mid new put.mid_files after put.course put.behind put.first in
     let medium = ap (λ (b : Two Bay). (in_bay b 1).medium) one.bays ∙ put.second in
-    let whole = subst (λ (requests : List Request). DoesAll (request.Ack 1 ∷ requests) one.mid one.files one.course new after) (sym (append-nil (rate_requests disk.rate 1))) one.behind in
+    let whole = subst (λ (requests : List Request). DoesAll (request.Ack 1 ∷ requests) one.mid one.files one.course new after)
+    (sym (append-nil (rate_requests disk.rate 1))) one.behind in
     let two = readies 1 (blank_of disk.cylinders disk.rate) [] one.mid new one.files after one.course whole medium in
     let end = ends_there two.mid new two.files after two.course two.behind in
     record {

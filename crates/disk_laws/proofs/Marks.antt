@@ -82,7 +82,9 @@ called_mark bay key address (Ok true) done = refl
 called_mark bay key address (Ok false) done = refl
 called_mark bay key address (Err code) done = absurd (true≢false done)
 
-read_mark : (bay : ℕ) (key : Chrn) (address : ℕ) (old new : State) (told after : Option Files) (answer : Reply) → Step (request.Read bay key address) old told answer new after → is_refusal answer ≡ false → mark_of (request.Read bay key address) answer ≡ tells_deleted answer ∷ []
+read_mark : (bay : ℕ) (key : Chrn) (address : ℕ) (old new : State) (told after : Option Files) (answer : Reply)
+    → Step (request.Read bay key address) old told answer new after → is_refusal answer ≡ false
+    → mark_of (request.Read bay key address) answer ≡ tells_deleted answer ∷ []
 read_mark bay key address old new told after answer step done =
     let fine = subst (λ (r : Reply). is_refusal r ≡ false) step.1.1 done in
     subst (λ (r : Reply). mark_of (request.Read bay key address) r ≡ tells_deleted r ∷ []) (sym step.1.1) (called_mark bay key address step.1.0 fine)
@@ -109,7 +111,8 @@ module _ (c h : ℕ) where
   none_read : (i : ℕ) (found : List Bool) (now : World) → ReadsMarks c h i 0 found now [] found now
   none_read i found now = record { did = did_nothing now; count_is = refl; kept = λ least most. tt; still = λ k below. refl }
 
-  one_mark : (r : ℕ) (begun found : List Bool) (old mid : World) (course : List Taken) (taken : IsTaken (request.Read 0 (key_of c h r) (record_address r)) (finds begun r) old course found mid)
+  one_mark : (r : ℕ) (begun found : List Bool) (old mid : World) (course : List Taken)
+      (taken : IsTaken (request.Read 0 (key_of c h r) (record_address r)) (finds begun r) old course found mid)
       → marks_read course ≡ tells_deleted taken.is.taken.answer ∷ []
   one_mark r begun found old mid course taken =
       let is = taken.is in
@@ -119,16 +122,19 @@ module _ (c h : ℕ) where
       ∙ ap (λ (q : Request). mark_of q answer ++ []) is.asked_is
       ∙ ap (λ (row : List Bool). row ++ []) told
 
-  one_more : (r n : ℕ) (begun found last : List Bool) (old mid new : World) (one two : List Taken) → IsTaken (request.Read 0 (key_of c h r) (record_address r)) (finds begun r) old one found mid
+  one_more : (r n : ℕ) (begun found last : List Bool) (old mid new : World) (one two : List Taken)
+      → IsTaken (request.Read 0 (key_of c h r) (record_address r)) (finds begun r) old one found mid
       → ReadsMarks c h (r + 1) n found mid two last new → ReadsMarks c h r (suc n) begun old (one ++ two) last new
   one_more r n begun found last old mid new one two taken rest =
       let asked = request.Read 0 (key_of c h r) (record_address r) in
       let deleted = tells_deleted taken.is.taken.answer in
-      let all : marks_read (one ++ two) ≡ deleted ∷ marks_read two = marks-append one two ∙ ap (λ (row : List Bool). row ++ marks_read two) (one_mark r begun found old mid one taken) in
+      let all : marks_read (one ++ two) ≡ deleted ∷ marks_read two = marks-append one two
+      ∙ ap (λ (row : List Bool). row ++ marks_read two) (one_mark r begun found old mid one taken) in
       let size : length found ≡ length begun = ap length taken.is.found_is ∙ length-set begun (r - 1) deleted in
       let more = rest.count_is in
       record {
-        did = did_both (asked ∷ []) (read_records 0 (keys_from c h (r + 1) n)) old mid new one two (taken_did asked (finds begun r) old one found mid taken) rest.did;
+        did = did_both (asked ∷ []) (read_records 0 (keys_from c h (r + 1) n)) old mid new one two
+            (taken_did asked (finds begun r) old one found mid taken) rest.did;
         count_is = let whole = ap length all in omega (arith, whole, more);
         kept = λ least most.
             let here = rest.still (r - 1) (omega (arith, least))
@@ -144,7 +150,8 @@ module _ (c h : ℕ) where
   pub reads_pass : (count first : ℕ) (begun : List Bool) → Passes status.AllOk (each first count (reads_record c h) begun) (ReadsMarks c h first count begun)
   unfolding reads_record
   reads_pass count first begun =
-      numbers_pass status.AllOk (reads_record c h) (λ r marks. IsTaken (request.Read 0 (key_of c h r) (record_address r)) (finds marks r)) (ReadsMarks c h) none_read one_more
+      numbers_pass status.AllOk (reads_record c h) (λ r marks. IsTaken (request.Read 0 (key_of c h r) (record_address r)) (finds marks r))
+      (ReadsMarks c h) none_read one_more
       (λ r marks. needs_passes (request.Read 0 (key_of c h r) (record_address r)) (finds marks r)) count first begun
 
 -- ---- the writes
@@ -158,18 +165,21 @@ abbrev pub writes_of : List Bool → ℕ → ℕ → ℕ → ℕ → List Reques
 writes_of found c h first count =
     flat_map (λ r. write_request (get_or found (r - 1) false) (key_of c h r) (record_address r) ∷ []) (range_with_len first count)
 
-writes_kept : (found : List Bool) (c h r : ℕ) (marks : List Bool) → AreKept found r marks → writes_of found c h r (length marks) ≡ write_records 1 (keys_from c h r (length marks)) marks
+writes_kept : (found : List Bool) (c h r : ℕ) (marks : List Bool) → AreKept found r marks
+    → writes_of found c h r (length marks) ≡ write_records 1 (keys_from c h r (length marks)) marks
 writes_kept found c h r [] kept = refl
 writes_kept found c h r (deleted ∷ marks) kept =
     ap (λ (mark : Bool). write_request mark (key_of c h r) (record_address r) ∷ writes_of found c h (r + 1) (length marks)) kept.0
     ∙ ap (λ (q : Request). q ∷ writes_of found c h (r + 1) (length marks)) (write_is deleted (key_of c h r))
     ∙ ap (λ (row : List Request). write_record 1 (key_of c h r) deleted ∷ row) (writes_kept found c h (r + 1) marks kept.1)
 
-pub writes_are : (found : List Bool) (c h first count : ℕ) (marks : List Bool) → length marks ≡ count → AreKept found first marks → writes_of found c h first count ≡ write_records 1 (keys_from c h first count) marks
+pub writes_are : (found : List Bool) (c h first count : ℕ) (marks : List Bool) → length marks ≡ count → AreKept found first marks
+    → writes_of found c h first count ≡ write_records 1 (keys_from c h first count) marks
 writes_are found c h first count marks size kept =
     subst (λ (n : ℕ). writes_of found c h first n ≡ write_records 1 (keys_from c h first n) marks) size (writes_kept found c h first marks kept)
 
-pub writes_pass : (found : List Bool) (c h first count : ℕ) → Passes status.AllOk (each first count (writes_record found c h) tt) (Does (writes_of found c h first count))
+pub writes_pass : (found : List Bool) (c h first count : ℕ)
+    → Passes status.AllOk (each first count (writes_record found c h) tt) (Does (writes_of found c h first count))
 unfolding writes_record
 writes_pass found c h first count =
     each_does status.AllOk first count (writes_record found c h) (λ r. write_request (get_or found (r - 1) false) (key_of c h r) (record_address r) ∷ [])

@@ -71,7 +71,8 @@ record IsIn (disk : Disk) (old mid : World) : Type 0 where
   pub medium : (bay_of mid.state.station 0).medium ≡ Some disk
   pub fell : NeverFell old.state.station.counters mid.state.station.counters
 
-put_in : (name : List ℕ) (disk : Disk) (files : Files) (old mid : World) (course : List Taken) → old.files ≡ Some files → IsImageOf (Some files) name disk → Did (request.Insert 0 name ∷ []) old course mid → IsIn disk old mid
+put_in : (name : List ℕ) (disk : Disk) (files : Files) (old mid : World) (course : List Taken) → old.files ≡ Some files → IsImageOf (Some files) name disk
+    → Did (request.Insert 0 name ∷ []) old course mid → IsIn disk old mid
 put_in name disk files old mid course there image did =
     let step = did_step (request.Insert 0 name) old course mid did in
     let put = (done_does old.state mid.state old.files mid.files (request.Insert 0 name) step.0 step.1 step.2).2 in
@@ -81,7 +82,9 @@ put_in name disk files old mid course there image did =
       fell = step_never_fell old.state mid.state old.files mid.files (request.Insert 0 name) step.0 step.1 refl;
     }
 
-module _ (name : List ℕ) (disk : Disk) (files : Files) (rest : Shape → Unit {0} → Script) (old : World) (course : List Taken) (new : World) (ended : Status) (whole : IsWhole ended) (there : old.files ≡ Some files) (image : IsImageOf (Some files) name disk) (empty : (bay_of old.state.station 0).medium ≡ None) (quiet : IsUndisturbed 0 old.state.station.counters new.state.station.counters) where
+module _ (name : List ℕ) (disk : Disk) (files : Files) (rest : Shape → Unit {0} → Script) (old : World) (course : List Taken) (new : World) (ended : Status)
+    (whole : IsWhole ended) (there : old.files ≡ Some files) (image : IsImageOf (Some files) name disk) (empty : (bay_of old.state.station 0).medium ≡ None)
+    (quiet : IsUndisturbed 0 old.state.station.counters new.state.station.counters) where
   no_insert : IsRefused (request.Insert 0 name) old course new ended → ⊥
   no_insert run = not_done run.cause (insert_taken name old.state new.state old.files new.files (reply.Refused run.cause) empty run.step)
 
@@ -91,14 +94,16 @@ module _ (name : List ℕ) (disk : Disk) (files : Files) (rest : Shape → Unit 
       let calm = (quiet_parts old.state.station.counters mid.state.station.counters new.state.station.counters is.fell last quiet).1 in
       not_done run.cause (ack_taken disk mid.state new.state mid.files new.files (reply.Refused run.cause) is.medium calm last run.step)
 
-  no_rate : (mid end : World) (between left : List Taken) → IsIn disk old mid → Did (request.Ack 0 ∷ []) mid between end → IsRefused (request.SetRate 0 R250) end left new ended → ⊥
+  no_rate : (mid end : World) (between left : List Taken) → IsIn disk old mid → Did (request.Ack 0 ∷ []) mid between end
+      → IsRefused (request.SetRate 0 R250) end left new ended → ⊥
   no_rate mid end between left is did run =
       let step = did_step (request.Ack 0) mid between end did in
       let kept = (acks 0 disk mid.state end.state mid.files end.files step.0 step.1 step.2 is.medium).kept in
       not_done run.cause (rate_taken _ end.state new.state end.files new.files (reply.Refused run.cause) kept run.step)
 
   -- the disk is put in, and the bay made ready
-  pub opening_passed : RunsScript (opens name (λ shape. acknowledges 0 shape.rate (rest shape))) old course new ended → Passed (Does (verify_opening name disk)) (rest (shape_of disk)) old course new ended
+  pub opening_passed : RunsScript (opens name (λ shape. acknowledges 0 shape.rate (rest shape))) old course new ended
+      → Passed (Does (verify_opening name disk)) (rest (shape_of disk)) old course new ended
   unfolding acknowledges
   opening_passed runs =
       let a = opens_passed name (λ shape. acknowledges 0 shape.rate (rest shape)) old course new ended whole no_insert runs in
@@ -108,4 +113,5 @@ module _ (name : List ℕ) (disk : Disk) (files : Files) (rest : Shape → Unit 
       let b = carries_passed (request.Ack 0) (λ none. sets_rate 0 disk.rate (rest (shape_of disk))) a.mid a.two new ended whole (no_ack a.mid a.two is) left in
       let c = sets_rate_passed 0 disk.rate (rest (shape_of disk)) b.mid b.two new ended whole (no_rate a.mid b.mid b.one b.two is b.knows) b.left in
       let ready = joined_did (request.Ack 0 ∷ []) (rate_requests disk.rate 0) b c in
-      joined a ready (did_both (request.Insert 0 name ∷ []) (request.Ack 0 ∷ rate_requests disk.rate 0) old a.mid ready.mid a.one ready.one a.knows.did ready.knows)
+      joined a ready
+      (did_both (request.Insert 0 name ∷ []) (request.Ack 0 ∷ rate_requests disk.rate 0) old a.mid ready.mid a.one ready.one a.knows.did ready.knows)

@@ -28,7 +28,9 @@ put_shape name disk files old new after answer shape image step done there =
     cc (told, there)
 
 -- so it has in a script that opens it
-pub opened_shape : (name : List ℕ) (disk : Disk) (files : Files) (old mid : World) (course : List Taken) (shape : Shape) → IsImageOf (Some files) name disk → old.files ≡ Some files → Opened name old course shape mid → shape ≡ shape_of disk
+pub opened_shape : (name : List ℕ) (disk : Disk) (files : Files) (old mid : World) (course : List Taken) (shape : Shape) → IsImageOf (Some files) name disk
+    → old.files ≡ Some files → Opened name old course shape mid → shape ≡ shape_of disk
 opened_shape name disk files old mid course shape image there opened =
     let put = did_step (request.Insert 0 name) old course mid opened.did in
-    put_shape name disk files old.state mid.state mid.files put.0 shape image (subst (λ (f : Option Files). Step (request.Insert 0 name) old.state f put.0 mid.state mid.files) there put.1) put.2 opened.there
+    put_shape name disk files old.state mid.state mid.files put.0 shape image
+    (subst (λ (f : Option Files). Step (request.Insert 0 name) old.state f put.0 mid.state mid.files) there put.1) put.2 opened.there

@@ -36,17 +36,21 @@ unfolding track_keys
 records_part sectors c h part on same found rest = each_named on 1 sectors part (key_of c h) same found rest
 
 -- the formats of all tracks
-pub formats_pass : (bay cylinders heads : ℕ) → Passes status.AllOk (by_track cylinders heads (formats bay) tt) (Does (format_each bay (tracks_of cylinders heads)))
+pub formats_pass : (bay cylinders heads : ℕ)
+    → Passes status.AllOk (by_track cylinders heads (formats bay) tt) (Does (format_each bay (tracks_of cylinders heads)))
 formats_pass bay cylinders heads =
     let tracks = tracks_of cylinders heads in
     let one : Track → List Request = λ track. request.Format bay track.0 track.1 ∷ [] in
-    subst (λ (l : List Request). Passes status.AllOk (by_track cylinders heads (formats bay) tt) (Does l)) (flat_map_single (λ (track : Track). request.Format bay track.0 track.1) tracks)
-    (same_part status.AllOk (by_track cylinders heads (formats bay) tt) (through (λ (track : Track). formats bay track.0 track.1) tracks tt) (Does (flat_map one tracks))
+    subst (λ (l : List Request). Passes status.AllOk (by_track cylinders heads (formats bay) tt) (Does l))
+    (flat_map_single (λ (track : Track). request.Format bay track.0 track.1) tracks)
+    (same_part status.AllOk (by_track cylinders heads (formats bay) tt) (through (λ (track : Track). formats bay track.0 track.1) tracks tt)
+    (Does (flat_map one tracks))
     (tracks_part cylinders heads (formats bay) tt)
     (through_does status.AllOk (λ (track : Track). formats bay track.0 track.1) one (λ track. carries_passes (request.Format bay track.0 track.1)) tracks))
 
 -- the requests of a part, and of one that the last line follows
-pub did_all : (requests : List Request) (old : World) (course : List Taken) (new : World) → Did requests old course new → DoesAll requests old.state old.files course new.state new.files
+pub did_all : (requests : List Request) (old : World) (course : List Taken) (new : World) → Did requests old course new
+    → DoesAll requests old.state old.files course new.state new.files
 did_all requests old course new did = record { run = did.run; all = did.all; done = did.fine }
 
 pub over_all : (requests : List Request) (old : World) (course : List Taken) (mid : World) → Did requests old course mid
@@ -56,8 +60,13 @@ over_all requests old course mid did new state files =
     (subst (λ f. DoesAll requests old.state old.files course mid.state f) (sym files) (did_all requests old course mid did))
 
 -- a part with one request
-pub did_step : (asked : Request) (old : World) (course : List Taken) (mid : World) → Did (asked ∷ []) old course mid → (answer : Reply) × Step asked old.state old.files answer mid.state mid.files × (is_refusal answer ≡ false)
+pub did_step : (asked : Request) (old : World) (course : List Taken) (mid : World) → Did (asked ∷ []) old course mid
+    → (answer : Reply) × Step asked old.state old.files answer mid.state mid.files × (is_refusal answer ≡ false)
 did_step asked old course mid did =
     let one = begins old.state mid.state old.files mid.files asked [] course (did_all (asked ∷ []) old course mid did) in
-    let end = ends_there one.mid mid.state one.files mid.files one.later one.behind in
-    (one.answer, subst (λ s. Step asked old.state old.files one.answer s mid.files) (sym end.0) (subst (λ f. Step asked old.state old.files one.answer one.mid f) (sym end.1) one.step), one.done)
+    let end = ends_there one.mid mid.state one.files mid.files one.later one.behind in (
+      one.answer,
+      subst (λ s. Step asked old.state old.files one.answer s mid.files) (sym end.0)
+          (subst (λ f. Step asked old.state old.files one.answer one.mid f) (sym end.1) one.step),
+      one.done,
+    )

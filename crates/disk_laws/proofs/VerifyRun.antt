@@ -88,9 +88,12 @@ module _ (ended : Status) (whole : IsWhole ended) (rest : Tally → Script) (new
   KeysPassed keys tally old course = Passed (Verifies keys tally) rest old course new ended
 
   -- behind a read that was answered, and what was told of it
-  more : (key : Chrn) (keys : List Chrn) (tally : Tally) (old mid : World) (taken : Taken) (later : List Taken) (refused : Bool) (failed : List (Chrn × Code)) → taken.asked ≡ request.Read 0 key 0x10000
-      → Step taken.asked old.state old.files taken.answer taken.after mid.files → mid.state ≡ taken.after → refused_read (request.Read 0 key 0x10000) taken.answer ≡ failed → mid.report ≡ grown old.report (flat_map failing_line failed)
-      → (if refused then 0 else 1) + length failed ≡ 1 → ((before : ℕ) → tally.refused ≡ nat_le 1 before → (tally.refused || refused) ≡ nat_le 1 (before + length failed))
+  more : (key : Chrn) (keys : List Chrn) (tally : Tally) (old mid : World) (taken : Taken) (later : List Taken) (refused : Bool) (failed : List (Chrn × Code))
+      → taken.asked ≡ request.Read 0 key 0x10000
+      → Step taken.asked old.state old.files taken.answer taken.after mid.files → mid.state ≡ taken.after → refused_read
+      (request.Read 0 key 0x10000) taken.answer ≡ failed → mid.report ≡ grown old.report (flat_map failing_line failed)
+      → (if refused then 0 else 1) + length failed ≡ 1 →
+      ((before : ℕ) → tally.refused ≡ nat_le 1 before → (tally.refused || refused) ≡ nat_le 1 (before + length failed))
       → KeysPassed keys (one_more tally refused) mid later → KeysPassed (key ∷ keys) tally old (taken ∷ later)
   more key keys tally old mid taken later refused failed asked step state failing report well next b =
       let told : refused_reads (taken ∷ b.one) ≡ failed ++ refused_reads b.one =
@@ -111,33 +114,42 @@ module _ (ended : Status) (whole : IsWhole ended) (rest : Tally → Script) (new
               ∙ ap (grown old.report) (sym (ap (flat_map failing_line) told ∙ flat_map-append failing_line failed (refused_reads b.one)));
           well = let rest = b.knows.well in omega (arith, rest, size, well);
           refused = λ before is. b.knows.refused (before + length failed) (next before is)
-              ∙ ap (nat_le 1) (let all : before + length failed + length (refused_reads b.one) ≡ before + length (refused_reads (taken ∷ b.one)) = omega (arith, size) in all);
+              ∙ ap (nat_le 1) (let all : before + length failed + length (refused_reads b.one) ≡ before + length (refused_reads (taken ∷ b.one)) = omega
+              (arith, size) in all);
         };
         left = b.left;
       }
 
-  by_answer : (key : Chrn) (keys : List Chrn) (tally : Tally) (old : World) (taken : Taken) (later : List Taken) (files : Option Files) (called : Result Bool Code) → taken.asked ≡ request.Read 0 key 0x10000
+  by_answer : (key : Chrn) (keys : List Chrn) (tally : Tally) (old : World) (taken : Taken) (later : List Taken) (files : Option Files)
+      (called : Result Bool Code) → taken.asked ≡ request.Read 0 key 0x10000
       → Step taken.asked old.state old.files taken.answer taken.after files → taken.answer ≡ read_reply called
-      → RunsScript (tells_failure key (read_reply called) (λ none. through verifies_key keys (one_more tally (is_refusal (read_reply called))) rest)) (with_report taken.after files old.report) later new ended
+      → RunsScript (tells_failure key (read_reply called) (λ none. through verifies_key keys (one_more tally (is_refusal (read_reply called))) rest))
+      (with_report taken.after files old.report) later new ended
       → ((t : Tally) (mid : World) (course : List Taken) → RunsScript (through verifies_key keys t rest) mid course new ended → KeysPassed keys t mid course)
       → KeysPassed (key ∷ keys) tally old (taken ∷ later)
   unfolding tells_failure
   by_answer key keys tally old taken later files (Ok true) asked step is left next =
-      more key keys tally old (with_report taken.after files old.report) taken later false [] asked step refl (ap (refused_read (request.Read 0 key 0x10000)) is) (grown_none old.report) refl (λ before. well_more before tally.refused)
+      more key keys tally old (with_report taken.after files old.report) taken later false [] asked step refl
+      (ap (refused_read (request.Read 0 key 0x10000)) is) (grown_none old.report) refl (λ before. well_more before tally.refused)
       (next (one_more tally false) (with_report taken.after files old.report) later left)
   by_answer key keys tally old taken later files (Ok false) asked step is left next =
-      more key keys tally old (with_report taken.after files old.report) taken later false [] asked step refl (ap (refused_read (request.Read 0 key 0x10000)) is) (grown_none old.report) refl (λ before. well_more before tally.refused)
+      more key keys tally old (with_report taken.after files old.report) taken later false [] asked step refl
+      (ap (refused_read (request.Read 0 key 0x10000)) is) (grown_none old.report) refl (λ before. well_more before tally.refused)
       (next (one_more tally false) (with_report taken.after files old.report) later left)
   by_answer key keys tally old taken later files (Err cause) asked step is left next =
       let line = failure_line key (reason.Driver cause) in
-      let b = says_passes ended whole line (λ none. through verifies_key keys (one_more tally true) rest) (with_report taken.after files old.report) later new left in
+      let b = says_passes ended whole line (λ none. through verifies_key keys (one_more tally true) rest)
+      (with_report taken.after files old.report) later new left in
       let is_later = b.course_is ∙ ap (λ (l : List Taken). l ++ b.two) b.knows.nothing in
       subst (λ (l : List Taken). KeysPassed (key ∷ keys) tally old (taken ∷ l)) (sym is_later)
-      (more key keys tally old b.mid taken b.two true ((key, cause) ∷ []) asked (subst (λ (f : Option Files). Step taken.asked old.state old.files taken.answer taken.after f) (sym b.knows.files) step) b.knows.state
-      (ap (refused_read (request.Read 0 key 0x10000)) is) (b.knows.report ∙ ap (grown old.report) (sym (append-nil line))) refl (λ before was. bad_more before tally.refused)
+      (more key keys tally old b.mid taken b.two true ((key, cause) ∷ []) asked
+      (subst (λ (f : Option Files). Step taken.asked old.state old.files taken.answer taken.after f) (sym b.knows.files) step) b.knows.state
+      (ap (refused_read (request.Read 0 key 0x10000)) is) (b.knows.report ∙ ap (grown old.report) (sym (append-nil line))) refl
+      (λ before was. bad_more before tally.refused)
       (next (one_more tally true) b.mid b.two b.left))
 
-  keys_run : (keys : List Chrn) (tally : Tally) (old : World) (course : List Taken) → RunsScript (through verifies_key keys tally rest) old course new ended → KeysPassed keys tally old course
+  keys_run : (keys : List Chrn) (tally : Tally) (old : World) (course : List Taken) → RunsScript (through verifies_key keys tally rest) old course new ended
+      → KeysPassed keys tally old course
   unfolding through
   keys_run [] tally old course runs = at_once tally runs (record {
     run = (refl, refl);
@@ -157,18 +169,21 @@ module _ (ended : Status) (whole : IsWhole ended) (rest : Tally → Script) (new
 
 -- ---- all keys
 
-track_part : (sectors c h : ℕ) (tally : Tally) (rest : Tally → Script) → verifies_track sectors c h tally rest ≡ through verifies_key (track_keys sectors c h) tally rest
+track_part : (sectors c h : ℕ) (tally : Tally) (rest : Tally → Script)
+    → verifies_track sectors c h tally rest ≡ through verifies_key (track_keys sectors c h) tally rest
 unfolding verifies_track verifies_record
 track_part sectors c h tally rest = records_part sectors c h (verifies_record c h) verifies_key (λ r now next. refl) tally rest
 
-disk_part : (disk : Disk) (tally : Tally) (rest : Tally → Script) → by_track disk.cylinders disk.heads (verifies_track (sectors_at disk.rate)) tally rest ≡ through verifies_key (standard_keys disk) tally rest
+disk_part : (disk : Disk) (tally : Tally) (rest : Tally → Script)
+    → by_track disk.cylinders disk.heads (verifies_track (sectors_at disk.rate)) tally rest ≡ through verifies_key (standard_keys disk) tally rest
 unfolding standard_keys cylinder_keys
 disk_part disk tally rest =
     let sectors = sectors_at disk.rate in
     each_nested verifies_key 0 disk.cylinders (λ c. each 0 disk.heads (verifies_track sectors c)) (cylinder_keys sectors disk.heads)
     (λ c now next. each_nested verifies_key 0 disk.heads (verifies_track sectors c) (track_keys sectors c) (track_part sectors c) now next) tally rest
 
-pub keys_pass : (ended : Status) → IsWhole ended → (disk : Disk) → Passes ended (by_track disk.cylinders disk.heads (verifies_track (sectors_at disk.rate)) no_reads) (Verifies (standard_keys disk) no_reads)
+pub keys_pass : (ended : Status) → IsWhole ended → (disk : Disk)
+    → Passes ended (by_track disk.cylinders disk.heads (verifies_track (sectors_at disk.rate)) no_reads) (Verifies (standard_keys disk) no_reads)
 keys_pass ended whole disk rest old course new runs =
     keys_run ended whole rest new (standard_keys disk) no_reads old course
     (subst (λ (s : Script). RunsScript s old course new ended) (disk_part disk no_reads rest) runs)
@@ -187,7 +202,8 @@ pub standard_count : (disk : Disk) → length (standard_keys disk) ≡ sectors_o
 unfolding standard_keys cylinder_keys
 standard_count disk =
     let sectors = sectors_at disk.rate in
-    let cylinder : (c : ℕ) → length (cylinder_keys sectors disk.heads c) ≡ disk.heads * sectors = λ c. length_same (track_keys sectors c) sectors (range_with_len 0 disk.heads) (length-track_keys sectors c) ∙ ap (λ (n : ℕ). n * sectors) (length-range_with_len 0 disk.heads) in
+    let cylinder : (c : ℕ) → length (cylinder_keys sectors disk.heads c) ≡ disk.heads * sectors = λ c. length_same (track_keys sectors c) sectors
+    (range_with_len 0 disk.heads) (length-track_keys sectors c) ∙ ap (λ (n : ℕ). n * sectors) (length-range_with_len 0 disk.heads) in
     length_same (cylinder_keys sectors disk.heads) (disk.heads * sectors) (range_with_len 0 disk.cylinders) cylinder
     ∙ ap (λ (n : ℕ). n * (disk.heads * sectors)) (length-range_with_len 0 disk.cylinders)
     ∙ sym (mul_assoc disk.cylinders disk.heads sectors)
@@ -212,45 +228,59 @@ not_stop (stop.Absent name) whole = whole
 not_stop stop.FileFault whole = whole
 not_stop stop.NoMemory whole = whole
 
-
 pub end_is_whole : (ended : Status) → IsEndStatus ended → IsWhole ended
 end_is_whole ended is = record { put = not_put ended is; stop = λ cause same. not_stop cause (subst IsEndStatus same is) }
 
 -- ---- a verify that went on to its end
 
-module _ (name : List ℕ) (disk : Disk) (files : Files) (old : World) (course : List Taken) (new : World) (ended : Status) (there : old.files ≡ Some files) (image : IsImageOf (Some files) name disk) (ends : IsEndStatus ended) where
+module _ (name : List ℕ) (disk : Disk) (files : Files) (old : World) (course : List Taken) (new : World) (ended : Status) (there : old.files ≡ Some files)
+    (image : IsImageOf (Some files) name disk) (ends : IsEndStatus ended) where
   whole : IsWhole ended
   whole = end_is_whole ended ends
 
   -- what was asked
-  all_read : (mid last : World) (one two : List Taken) (found : Tally) → Did (verify_opening name disk) old one mid → Verifies (standard_keys disk) no_reads mid two found last → new.state ≡ last.state → ReadsDisk name disk old.state files (one ++ two) new.state last.files
+  all_read : (mid last : World) (one two : List Taken) (found : Tally) → Did (verify_opening name disk) old one mid
+      → Verifies (standard_keys disk) no_reads mid two found last → new.state ≡ last.state
+      → ReadsDisk name disk old.state files (one ++ two) new.state last.files
   all_read mid last one two found opening reads state =
-      let same_length : length one ≡ length (verify_opening name disk) = sym (length-map one (λ (taken : Taken). taken.asked)) ∙ ap (λ (l : List Request). length l) opening.all in
+      let same_length : length one ≡ length (verify_opening name disk) = sym (length-map one (λ (taken : Taken). taken.asked))
+      ∙ ap (λ (l : List Request). length l) opening.all in
       let run = run_both old.state mid.state last.state old.files mid.files last.files one two opening.run reads.run in
       record {
         image = image;
-        run = subst (λ (s : State). Run old.state (Some files) (one ++ two) s last.files) (sym state) (subst (λ (f : Option Files). Run old.state f (one ++ two) last.state last.files) there run);
-        all = map-append (λ (taken : Taken). taken.asked) one two ∙ ap (λ (l : List Request). l ++ requests_of two) opening.all ∙ ap (λ (l : List Request). verify_opening name disk ++ l) reads.all;
+        run = subst (λ (s : State). Run old.state (Some files) (one ++ two) s last.files) (sym state)
+            (subst (λ (f : Option Files). Run old.state f (one ++ two) last.state last.files) there run);
+        all = map-append (λ (taken : Taken). taken.asked) one two ∙ ap (λ (l : List Request). l ++ requests_of two) opening.all
+            ∙ ap (λ (l : List Request). verify_opening name disk ++ l) reads.all;
         opened = ap has_refusal (take_at one two (length (verify_opening name disk)) same_length) ∙ opening.fine;
       }
 
   -- what was told
-  all_told : (failed : List (Chrn × Code)) (mid last : World) (two : List Taken) (found : Tally) → mid.report ≡ old.report → Verifies (standard_keys disk) no_reads mid two found last → refused_reads two ≡ failed
-      → Prints (verify_text found.well (sectors_of (shape_of disk))) (whole_status found.refused) last.report new.report ended → TellsFailing disk failed old new ended
+  all_told : (failed : List (Chrn × Code)) (mid last : World) (two : List Taken) (found : Tally) → mid.report ≡ old.report
+      → Verifies (standard_keys disk) no_reads mid two found last → refused_reads two ≡ failed
+      → Prints (verify_text found.well (sectors_of (shape_of disk)))
+      (whole_status found.refused) last.report new.report ended → TellsFailing disk failed old new ended
   all_told failed mid last two found kept reads refused prints =
       let sectors = sectors_of (shape_of disk) in
       let count = standard_count disk in
-      let well : found.well ≡ sectors - length failed = let sum = reads.well in let size = ap (λ (row : List (Chrn × Code)). length row) refused in omega (arith, sum, count, size) in
+      let well : found.well ≡ sectors - length failed = let sum = reads.well in let size = ap (λ (row : List (Chrn × Code)). length row) refused in omega
+      (arith, sum, count, size) in
       let printed = prints_status _ _ (whole_status found.refused) ended _ whole.put prints in
       record {
-        report = printed.0 ∙ ap (λ r. grown r (verify_text found.well sectors)) (reads.report ∙ ap (λ r. grown r (flat_map failing_line (refused_reads two))) kept)
+        report = printed.0 ∙ ap (λ r. grown r (verify_text found.well sectors))
+            (reads.report ∙ ap (λ r. grown r (flat_map failing_line (refused_reads two))) kept)
             ∙ grown_twice old.report (flat_map failing_line (refused_reads two)) (verify_text found.well sectors)
             ∙ ap (λ (row : List (Chrn × Code)). grown old.report (flat_map failing_line row ++ verify_text found.well sectors)) refused
             ∙ ap (λ (n : ℕ). grown old.report (flat_map failing_line failed ++ verify_text n sectors)) well;
-        status = printed.1 ∙ ap whole_status (reads.refused 0 refl) ∙ ap (λ (n : ℕ). whole_status (nat_le 1 n)) (let size = ap (λ (row : List (Chrn × Code)). length row) refused in let count : 0 + length (refused_reads two) ≡ length failed = omega (arith, size) in count);
+        status = printed.1 ∙ ap whole_status (reads.refused 0 refl)
+            ∙ ap (λ (n : ℕ). whole_status (nat_le 1 n)) (let size = ap (λ (row : List (Chrn × Code)). length row) refused in let count : 0 + length
+            (refused_reads two) ≡ length failed = omega (arith, size) in count);
       }
 
-pub verify_tells : (name : List ℕ) (old new : World) (course : List Taken) (ended : Status) (files : Files) (disk : Disk) (failed : List (Chrn × Look)) → RunsScript (verify_script name) old course new ended → IsEndStatus ended → old.files ≡ Some files → IsImageOf (Some files) name disk → (bay_of old.state.station 0).medium ≡ None → IsUndisturbed 0 old.state.station.counters new.state.station.counters → IsUnmistaken disk → AreFailing disk (standard_keys disk) failed → TellsFailing disk (all_told_of failed) old new ended
+pub verify_tells : (name : List ℕ) (old new : World) (course : List Taken) (ended : Status) (files : Files) (disk : Disk) (failed : List (Chrn × Look))
+    → RunsScript (verify_script name) old course new ended → IsEndStatus ended → old.files ≡ Some files → IsImageOf (Some files) name disk
+    → (bay_of old.state.station 0).medium ≡ None → IsUndisturbed 0 old.state.station.counters new.state.station.counters → IsUnmistaken disk
+    → AreFailing disk (standard_keys disk) failed → TellsFailing disk (all_told_of failed) old new ended
 unfolding verify_script
 verify_tells name old new course ended files disk failed runs ends there image empty quiet unmistaken failing =
     let whole = end_is_whole ended ends in
@@ -261,4 +291,5 @@ verify_tells name old new course ended files disk failed runs ends there image e
     let refused : refused_reads opened.two ≡ all_told_of failed =
     sym (ap (λ (row : List (Chrn × Code)). row ++ refused_reads opened.two) (opening_tells name disk opened.one opened.knows.all))
     ∙ sym (flat_map-append (λ (taken : Taken). refused_read taken.asked taken.answer) opened.one opened.two) ∙ tells in
-    all_told name disk files old course new ended there image ends (all_told_of failed) opened.mid over.mid opened.two over.found opened.knows.report over.knows refused over.prints
+    all_told name disk files old course new ended there image ends
+    (all_told_of failed) opened.mid over.mid opened.two over.found opened.knows.report over.knows refused over.prints
