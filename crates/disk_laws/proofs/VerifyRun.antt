@@ -1,6 +1,6 @@
 -- The command that verifies tells of the keys that aren't found.
 use Rattle.std.proofs.Common.{arith, ◌≡◌, ◌∙◌, ◌+◌, ◌*◌, ℕ, nat_le, Bool, true, false, List, [], ◌∷◌, ◌++◌, length, refl, sym, ap, subst, append_assoc, Option, Some, None, Result, Ok, Err, le-leb, ◌-◌}
-use Rattle.std.specs.Prelude.{◌||◌, if◌then◌else◌}
+use Rattle.std.specs.Prelude.{◌||◌}
 use Rattle.std.specs.List.{flat_map, range_with_len}
 use Rattle.std.proofs.lemmas.Grind.{flat_map-append}
 use Rattle.std.proofs.lemmas.List.{append-nil, length-append, length-map, map-append, take_at}
@@ -53,13 +53,17 @@ type_of {T = T} value = T
 abbrev pub Tally : Type 0
 Tally = type_of no_reads
 
+-- so it is after so many reads, so many of which were refused
+pub record IsTally (reads refused : ℕ) (tally : Tally) : Type 0 where
+  pub well : tally.well + refused ≡ reads
+  pub some : tally.refused ≡ nat_le 1 refused
+
 -- keys were read, each that was refused was told, and the others were counted
 pub record Verifies (keys : List Chrn) (begun : Tally) (old : World) (course : List Taken) (found : Tally) (mid : World) : Type 0 where
   pub run : Run old.state old.files course mid.state mid.files
   pub all : requests_of course ≡ read_each 0 keys
   pub report : mid.report ≡ grown old.report (flat_map failing_line (refused_reads course))
-  pub well : found.well + length (refused_reads course) ≡ begun.well + length keys
-  pub refused : (before : ℕ) → begun.refused ≡ nat_le 1 before → found.refused ≡ nat_le 1 (before + length (refused_reads course))
+  pub tally : (n before : ℕ) → IsTally n before begun → IsTally (n + length keys) (before + length (refused_reads course)) found
 
 grown_none : (report : Option (List ℕ)) → report ≡ grown report []
 grown_none None = refl
@@ -69,14 +73,20 @@ pub grown_twice : (report : Option (List ℕ)) (one two : List ℕ) → grown (g
 grown_twice None one two = refl
 grown_twice (Some told) one two = ap (λ (l : List ℕ). Some l) (append_assoc told one two)
 
--- the tally after one more read
-well_more : (before : ℕ) (refused : Bool) → refused ≡ nat_le 1 before → (refused || false) ≡ nat_le 1 (before + 0)
-well_more before true is = is ∙ ap (nat_le 1) (let same : before ≡ before + 0 = omega arith in same)
-well_more before false is = is ∙ ap (nat_le 1) (let same : before ≡ before + 0 = omega arith in same)
+-- after one more read
+one_well : (tally : Tally) (n before : ℕ) → IsTally n before tally → IsTally (n + 1) (before + 0) (one_more tally false)
+one_well tally n before is = record { well = let well = is.well in omega (arith, well); some = go tally.refused ∙ is.some ∙ ap (nat_le 1) (let same : before ≡ before + 0 = omega arith in same) }
+  where
+    go : (b : Bool) → (b || false) ≡ b
+    go true = refl
+    go false = refl
 
-bad_more : (before : ℕ) (refused : Bool) → (refused || true) ≡ nat_le 1 (before + 1)
-bad_more before true = sym (le-leb 1 (before + 1) (omega arith))
-bad_more before false = sym (le-leb 1 (before + 1) (omega arith))
+one_bad : (tally : Tally) (n before : ℕ) → IsTally n before tally → IsTally (n + 1) (before + 1) (one_more tally true)
+one_bad tally n before is = record { well = let well = is.well in omega (arith, well); some = go tally.refused ∙ sym (le-leb 1 (before + 1) (omega arith)) }
+  where
+    go : (b : Bool) → (b || true) ≡ true
+    go true = refl
+    go false = refl
 
 -- a record is read, and told where it can't be
 abbrev verifies_key : Chrn → Tally → Part Tally
@@ -89,13 +99,11 @@ module _ (ended : Status) (whole : IsWhole ended) (rest : Tally → Script) (new
 
   -- behind a read that was answered, and what was told of it
   more : (key : Chrn) (keys : List Chrn) (tally : Tally) (old mid : World) (taken : Taken) (later : List Taken) (refused : Bool) (failed : List (Chrn × Code))
-      → taken.asked ≡ request.Read 0 key 0x10000
-      → Step taken.asked old.state old.files taken.answer taken.after mid.files → mid.state ≡ taken.after → refused_read
-      (request.Read 0 key 0x10000) taken.answer ≡ failed → mid.report ≡ grown old.report (flat_map failing_line failed)
-      → (if refused then 0 else 1) + length failed ≡ 1 →
-      ((before : ℕ) → tally.refused ≡ nat_le 1 before → (tally.refused || refused) ≡ nat_le 1 (before + length failed))
+      → taken.asked ≡ request.Read 0 key 0x10000 → Step taken.asked old.state old.files taken.answer taken.after mid.files → mid.state ≡ taken.after
+      → refused_read (request.Read 0 key 0x10000) taken.answer ≡ failed → mid.report ≡ grown old.report (flat_map failing_line failed)
+      → ((n before : ℕ) → IsTally n before tally → IsTally (n + 1) (before + length failed) (one_more tally refused))
       → KeysPassed keys (one_more tally refused) mid later → KeysPassed (key ∷ keys) tally old (taken ∷ later)
-  more key keys tally old mid taken later refused failed asked step state failing report well next b =
+  more key keys tally old mid taken later refused failed asked step state failing report next b =
       let told : refused_reads (taken ∷ b.one) ≡ failed ++ refused_reads b.one =
       ap (λ (q : Request). refused_read q taken.answer ++ refused_reads b.one) asked ∙ ap (λ (row : List (Chrn × Code)). row ++ refused_reads b.one) failing in
       let size = ap length told ∙ length-append failed (refused_reads b.one) in
@@ -112,10 +120,11 @@ module _ (ended : Status) (whole : IsWhole ended) (rest : Tally → Script) (new
           all = ap (λ (q : Request). q ∷ requests_of b.one) asked ∙ ap (λ (l : List Request). request.Read 0 key 0x10000 ∷ l) b.knows.all;
           report = b.knows.report ∙ ap (λ r. grown r lines) report ∙ grown_twice old.report (flat_map failing_line failed) lines
               ∙ ap (grown old.report) (sym (ap (flat_map failing_line) told ∙ flat_map-append failing_line failed (refused_reads b.one)));
-          well = let rest = b.knows.well in omega (arith, rest, size, well);
-          refused = λ before is. b.knows.refused (before + length failed) (next before is)
-              ∙ ap (nat_le 1) (let all : before + length failed + length (refused_reads b.one) ≡ before + length (refused_reads (taken ∷ b.one)) = omega
-              (arith, size) in all);
+          tally = λ n before is.
+              let all : before + length failed + length (refused_reads b.one) ≡ before + length (refused_reads (taken ∷ b.one)) = omega (arith, size) in
+              let count : n + 1 + length keys ≡ n + length (key ∷ keys) = omega arith in
+              subst (λ (k : ℕ). IsTally k (before + length (refused_reads (taken ∷ b.one))) b.found) count
+              (subst (λ (k : ℕ). IsTally (n + 1 + length keys) k b.found) all (b.knows.tally (n + 1) (before + length failed) (next n before is)));
         };
         left = b.left;
       }
@@ -130,11 +139,11 @@ module _ (ended : Status) (whole : IsWhole ended) (rest : Tally → Script) (new
   unfolding tells_failure
   by_answer key keys tally old taken later files (Ok true) asked step is left next =
       more key keys tally old (with_report taken.after files old.report) taken later false [] asked step refl
-      (ap (refused_read (request.Read 0 key 0x10000)) is) (grown_none old.report) refl (λ before. well_more before tally.refused)
+      (ap (refused_read (request.Read 0 key 0x10000)) is) (grown_none old.report) (one_well tally)
       (next (one_more tally false) (with_report taken.after files old.report) later left)
   by_answer key keys tally old taken later files (Ok false) asked step is left next =
       more key keys tally old (with_report taken.after files old.report) taken later false [] asked step refl
-      (ap (refused_read (request.Read 0 key 0x10000)) is) (grown_none old.report) refl (λ before. well_more before tally.refused)
+      (ap (refused_read (request.Read 0 key 0x10000)) is) (grown_none old.report) (one_well tally)
       (next (one_more tally false) (with_report taken.after files old.report) later left)
   by_answer key keys tally old taken later files (Err cause) asked step is left next =
       let line = failure_line key (reason.Driver cause) in
@@ -144,8 +153,7 @@ module _ (ended : Status) (whole : IsWhole ended) (rest : Tally → Script) (new
       subst (λ (l : List Taken). KeysPassed (key ∷ keys) tally old (taken ∷ l)) (sym is_later)
       (more key keys tally old b.mid taken b.two true ((key, cause) ∷ []) asked
       (subst (λ (f : Option Files). Step taken.asked old.state old.files taken.answer taken.after f) (sym b.knows.files) step) b.knows.state
-      (ap (refused_read (request.Read 0 key 0x10000)) is) (b.knows.report ∙ ap (grown old.report) (sym (append-nil line))) refl
-      (λ before was. bad_more before tally.refused)
+      (ap (refused_read (request.Read 0 key 0x10000)) is) (b.knows.report ∙ ap (grown old.report) (sym (append-nil line))) (one_bad tally)
       (next (one_more tally true) b.mid b.two b.left))
 
   keys_run : (keys : List Chrn) (tally : Tally) (old : World) (course : List Taken) → RunsScript (through verifies_key keys tally rest) old course new ended
@@ -155,8 +163,8 @@ module _ (ended : Status) (whole : IsWhole ended) (rest : Tally → Script) (new
     run = (refl, refl);
     all = refl;
     report = grown_none old.report;
-    well = omega arith;
-    refused = λ before is. is ∙ ap (nat_le 1) (let same : before ≡ before + 0 = omega arith in same);
+    tally = λ n before is. subst (λ (k : ℕ). IsTally k (before + 0) tally) (let same : n ≡ n + 0 = omega arith in same)
+        (subst (λ (k : ℕ). IsTally n k tally) (let same : before ≡ before + 0 = omega arith in same) is);
   })
   keys_run (key ∷ keys) tally old course runs =
       let read = request.Read 0 key 0x10000 in
@@ -263,7 +271,8 @@ module _ (name : List ℕ) (disk : Disk) (files : Files) (old : World) (course :
   all_told failed mid last two found kept reads refused prints =
       let sectors = sectors_of (shape_of disk) in
       let count = standard_count disk in
-      let well : found.well ≡ sectors - length failed = let sum = reads.well in let size = ap (λ (row : List (Chrn × Code)). length row) refused in omega
+      let tally = reads.tally 0 0 (record { well = refl; some = refl }) in
+      let well : found.well ≡ sectors - length failed = let sum = tally.well in let size = ap (λ (row : List (Chrn × Code)). length row) refused in omega
       (arith, sum, count, size) in
       let printed = prints_status _ _ (whole_status found.refused) ended _ whole.put prints in
       record {
@@ -272,7 +281,7 @@ module _ (name : List ℕ) (disk : Disk) (files : Files) (old : World) (course :
             ∙ grown_twice old.report (flat_map failing_line (refused_reads two)) (verify_text found.well sectors)
             ∙ ap (λ (row : List (Chrn × Code)). grown old.report (flat_map failing_line row ++ verify_text found.well sectors)) refused
             ∙ ap (λ (n : ℕ). grown old.report (flat_map failing_line failed ++ verify_text n sectors)) well;
-        status = printed.1 ∙ ap whole_status (reads.refused 0 refl)
+        status = printed.1 ∙ ap whole_status tally.some
             ∙ ap (λ (n : ℕ). whole_status (nat_le 1 n)) (let size = ap (λ (row : List (Chrn × Code)). length row) refused in let count : 0 + length
             (refused_reads two) ≡ length failed = omega (arith, size) in count);
       }
