@@ -128,8 +128,8 @@ tracks_pass rate cylinders heads =
 
 all_did : (from to : List ℕ) (disk : Disk) (old mid last new : World) (one two three : List Taken) → Did (copy_opening from to disk) old one mid
     → CopiesEach disk.rate (tracks_of disk.cylinders disk.heads) tt mid two tt last
-    → Did (request.Eject 1 ∷ []) last three new → (course : List Taken) → course ≡ one ++ (two ++ three) → Did
-    (copy_requests from to disk (marks_read course)) old course new
+    → Did (request.Eject 1 ∷ []) last three new → (course : List Taken) → course ≡ one ++ (two ++ three)
+    → Did (copy_requests from to disk (marks_read course)) old course new
 all_did from to disk old mid last new one two three opening tracks eject course is =
     let told = ap marks_read is ∙ middle_marks one two three (silent _ old mid one opening (opening_reads_none disk.rate to disk.cylinders from))
     (silent _ last new three eject refl) in
@@ -164,8 +164,8 @@ copy_done from to old new course files disk runs there image =
     ∙ sym (append_assoc put.one ready.one (tracks.one ++ eject.one)) in
     let did = all_did from to disk old second.mid tracks.mid eject.mid (put.one ++ ready.one) tracks.one eject.one
     (subst (λ (s : Shape). Did (request.Insert 0 from ∷ preparing to s) old (put.one ++ ready.one) second.mid) same opens)
-    (subst
-    (λ (s : Shape). CopiesEach s.rate (tracks_of s.cylinders s.heads) tt second.mid tracks.one tt tracks.mid) same tracks.knows) eject.knows course parts in
+    (subst (λ (s : Shape). CopiesEach s.rate (tracks_of s.cylinders s.heads) tt second.mid tracks.one tt tracks.mid) same tracks.knows)
+    eject.knows course parts in
     let requests = copy_requests from to disk (marks_read course) in
     record {
       image = image;

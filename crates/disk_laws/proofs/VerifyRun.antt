@@ -75,7 +75,10 @@ grown_twice (Some told) one two = ap (λ (l : List ℕ). Some l) (append_assoc t
 
 -- after one more read
 one_well : (tally : Tally) (n before : ℕ) → IsTally n before tally → IsTally (n + 1) (before + 0) (one_more tally false)
-one_well tally n before is = record { well = let well = is.well in omega (arith, well); some = go tally.refused ∙ is.some ∙ ap (nat_le 1) (let same : before ≡ before + 0 = omega arith in same) }
+one_well tally n before is = record {
+  well = let well = is.well in omega (arith, well);
+  some = go tally.refused ∙ is.some ∙ ap (nat_le 1) (let same : before ≡ before + 0 = omega arith in same);
+}
   where
     go : (b : Bool) → (b || false) ≡ b
     go true = refl
@@ -295,7 +298,8 @@ verify_tells name old new course ended files disk failed runs ends there image e
     let whole = end_is_whole ended ends in
     let opened = opening_passed name disk files _ old course new ended whole there image empty quiet runs in
     let over = over ended _ (Verifies (standard_keys disk) no_reads) _ _ (keys_pass ended whole disk) opened.mid opened.two new opened.left in
-    let all = all_read name disk files old course new ended there image ends opened.mid over.mid opened.one opened.two over.found opened.knows over.knows over.state in
+    let all = all_read name disk files old course new ended there image ends opened.mid over.mid opened.one opened.two over.found opened.knows
+    over.knows over.state in
     let tells = disk_tells old.state new.state files name disk (opened.one ++ opened.two) over.mid.files failed all quiet unmistaken failing in
     let refused : refused_reads opened.two ≡ all_told_of failed =
     sym (ap (λ (row : List (Chrn × Code)). row ++ refused_reads opened.two) (opening_tells name disk opened.one opened.knows.all))

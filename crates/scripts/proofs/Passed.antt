@@ -1,6 +1,6 @@
 -- Parts of a script that were gone through, and what is known of each.
 use Rattle.std.proofs.Math.Path.{fun_ext}
-use Rattle.std.proofs.Common.{◌+◌, zero, suc, map, ◌≡◌, ◌∙◌, ℕ, false, Bool, true, List, [], ◌∷◌, ◌++◌, map, inl, inr, refl, sym, ap, subst, append-nil, append_assoc, Option, Some, None}
+use Rattle.std.proofs.Common.{◌+◌, zero, suc, ◌≡◌, ◌∙◌, ℕ, false, Bool, true, List, [], ◌∷◌, ◌++◌, map, inl, inr, refl, sym, ap, subst, append-nil, append_assoc, Option, Some, None}
 use Rattle.std.specs.Prelude.{◌||◌}
 use Rattle.std.specs.List.{flat_map, range_with_len}
 use Rattle.std.proofs.lemmas.List.{map-append}
@@ -229,8 +229,8 @@ pub did_both : (first second : List Request) (old mid new : World) (one two : Li
     → Did (first ++ second) old (one ++ two) new
 did_both first second old mid new one two a b = record {
   run = run_both old.state mid.state new.state old.files mid.files new.files one two a.run b.run;
-  all = map-append (λ (taken : Taken). taken.asked) one two ∙ ap (λ (l : List Request). l ++ requests_of two) a.all ∙ ap
-      (λ (l : List Request). first ++ l) b.all;
+  all = map-append (λ (taken : Taken). taken.asked) one two ∙ ap (λ (l : List Request). l ++ requests_of two) a.all
+      ∙ ap (λ (l : List Request). first ++ l) b.all;
   fine = both_fine one two a.fine b.fine;
   report = b.report ∙ a.report;
 }
@@ -263,8 +263,8 @@ both_pass ended part next Before Behind passes then rest old course new runs =
 -- two parts that asked requests
 abbrev pub joined_did : {First Found : Type 0} (first second : List Request) {next : First → Script} {rest : Found → Script}
     {old : World} {course : List Taken} {new : World} {ended : Status}
-    → (a : Passed (Does first) next old course new ended) → Passed (Does second) rest a.mid a.two new ended → Passed
-    (Does (first ++ second)) rest old course new ended
+    → (a : Passed (Does first) next old course new ended) → Passed (Does second) rest a.mid a.two new ended
+    → Passed (Does (first ++ second)) rest old course new ended
 joined_did first second {old = old} a b = joined a b (did_both first second old a.mid b.mid a.one b.one a.knows b.knows)
 
 -- where each asks requests, both do
@@ -478,8 +478,8 @@ pub record Over {Found : Type 0} (Knows : Known Found) (line : Found → List �
 
 pub over : {Found : Type 0} (ended : Status) (part : Part Found) (Knows : Known Found) (line : Found → List ℕ) (wanted : Found → Status)
     → Passes ended part Knows
-    → (old : World) (course : List Taken) (new : World) → RunsScript
-    (part (λ found. Ends (line found) (wanted found))) old course new ended → Over Knows line wanted old course new ended
+    → (old : World) (course : List Taken) (new : World)
+    → RunsScript (part (λ found. Ends (line found) (wanted found))) old course new ended → Over Knows line wanted old course new ended
 over ended part Knows line wanted passes old course new runs =
     let a = passes (λ found. Ends (line found) (wanted found)) old course new runs in
     let b = last_run (line a.found) (wanted a.found) a.mid a.two new ended a.left in
@@ -502,8 +502,8 @@ pub record StoredOver {Found : Type 0} (Knows : Known Found) (name : List ℕ) (
 
 pub stored_over : {Found : Type 0} (ended : Status) (part : Part Found) (Knows : Known Found) (name : List ℕ) (bytes line : Found → List ℕ)
     (wanted : Found → Status) → Passes ended part Knows
-    → (old : World) (course : List Taken) (new : World) → RunsScript
-    (part (λ found. Stores name (bytes found) (line found) (wanted found))) old course new ended
+    → (old : World) (course : List Taken) (new : World)
+    → RunsScript (part (λ found. Stores name (bytes found) (line found) (wanted found))) old course new ended
     → StoredOver Knows name bytes line wanted old course new ended
 stored_over ended part Knows name bytes line wanted passes old course new runs =
     let a = passes (λ found. Stores name (bytes found) (line found) (wanted found)) old course new runs in
