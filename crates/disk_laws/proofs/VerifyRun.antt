@@ -275,8 +275,10 @@ module _ (name : List ℕ) (disk : Disk) (files : Files) (old : World) (course :
       let sectors = sectors_of (shape_of disk) in
       let count = standard_count disk in
       let tally = reads.tally 0 0 (record { well = refl; some = refl }) in
-      let well : found.well ≡ sectors - length failed = let sum = tally.well in let size = ap (λ (row : List (Chrn × Code)). length row) refused in omega
-      (arith, sum, count, size) in
+      let sum = tally.well in
+      let size = ap (λ (row : List (Chrn × Code)). length row) refused in
+      let well : found.well ≡ sectors - length failed = omega (arith, sum, count, size) in
+      let some : 0 + length (refused_reads two) ≡ length failed = omega (arith, size) in
       let printed = prints_status _ _ (whole_status found.refused) ended _ whole.put prints in
       record {
         report = printed.0 ∙ ap (λ r. grown r (verify_text found.well sectors))
@@ -284,9 +286,7 @@ module _ (name : List ℕ) (disk : Disk) (files : Files) (old : World) (course :
             ∙ grown_twice old.report (flat_map failing_line (refused_reads two)) (verify_text found.well sectors)
             ∙ ap (λ (row : List (Chrn × Code)). grown old.report (flat_map failing_line row ++ verify_text found.well sectors)) refused
             ∙ ap (λ (n : ℕ). grown old.report (flat_map failing_line failed ++ verify_text n sectors)) well;
-        status = printed.1 ∙ ap whole_status tally.some
-            ∙ ap (λ (n : ℕ). whole_status (nat_le 1 n)) (let size = ap (λ (row : List (Chrn × Code)). length row) refused in let count : 0 + length
-            (refused_reads two) ≡ length failed = omega (arith, size) in count);
+        status = printed.1 ∙ ap whole_status tally.some ∙ ap (λ (n : ℕ). whole_status (nat_le 1 n)) some;
       }
 
 pub verify_tells : (name : List ℕ) (old new : World) (course : List Taken) (ended : Status) (files : Files) (disk : Disk) (failed : List (Chrn × Look))
