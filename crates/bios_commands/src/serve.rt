@@ -3,7 +3,8 @@ ghost use Rattle.std.specs.Prelude.{◌≡◌, ◌≢◌, ◌||◌, All, Err};
 ghost use Rattle.sector_model.specs.Faults.{Blames};
 ghost use Rattle.sector_model.specs.Plays.{whole_status};
 ghost use Rattle.scripts.specs.Leading.{Runs};
-ghost use Rattle.scripts.specs.Leading.{faulty_of, Ran, RanPart, printed_of, Told};
+ghost use Rattle.floppy_report.specs.Puts.{printed_of};
+ghost use Rattle.scripts.specs.Leading.{faulty_of, Ran, RanPart, Told};
 ghost use Rattle.bios_commands.specs.Courses.{ServesCalls};
 ghost use Rattle.bios_commands.specs.Lines.{LineHasTries, LinesGo, EndsAs, ServesOrStarves, Misses, Serving};
 

@@ -4,7 +4,8 @@ ghost use Rattle.sector_model.specs.Faults.{Blames};
 ghost use Rattle.sector_model.specs.Texts.{is_refusal};
 ghost use Rattle.sector_model.specs.Plays.{whole_status};
 ghost use Rattle.floppy_session.specs.Tries.{HasTries};
-ghost use Rattle.scripts.specs.Leading.{faulty_of, Ran, RanPart, printed_of, Told};
+ghost use Rattle.floppy_report.specs.Puts.{printed_of};
+ghost use Rattle.scripts.specs.Leading.{faulty_of, Ran, RanPart, Told};
 ghost use Rattle.floppy_forms.specs.Rounds.{RoundGoes, RoundsGo, HasPlayed, PlaysJob, EndsAs, PlaysOrStarves, Misses};
 
 use flop_base::{LoadError, Shelf, Sink, Status};
