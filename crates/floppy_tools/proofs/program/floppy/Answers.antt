@@ -11,7 +11,7 @@ use Rattle.floppy_tools.proofs.program.floppy.Goals as goal
 pub returns-in-Ok-Some-clause-ports : goal.returns-in-Ok-Some-clause-ports
 returns-in-Ok-Some-clause-ports g c = λ file named.
     let is : c.as_str.result.now ≡ file = c.as_str.ensures ∙ named_file c.in-Ok-Some.field-0 (ports_file_of (map string_bytes c.args.words.now)) c.in-Ok-Some.file file c.in-Ok-Some.field-0-is c.in-Ok-Some.ensures.file named in
-    subst (λ (f : List ℕ). (names : Names) × RunsPorts f (world_of g.D.Drive.state g.S.Shelf.told g.K.Sink.told c.args.machine no_names c.args.shelf.now c.args.out.now) (world_of g.D.Drive.state g.S.Shelf.told g.K.Sink.told c.at_ports.result.1 names c.at_ports.new.shelf c.at_ports.new.out) c.at_ports.result.0) is c.at_ports.ensures.ports
+    subst (λ (f : List ℕ). (names : Names) × RunsPorts f (world_of g.D.Drive.state g.S.Shelf.told g.K.Sink.told c.args.machine no_names c.args.shelf.now c.args.out.now) (world_of g.D.Drive.state g.S.Shelf.told g.K.Sink.told c.at_ports.result.1 names c.at_ports.new.shelf c.at_ports.new.out) c.at_ports.result.0) is c.at_ports.ensures.does
 
 pub returns-in-Ok-Some-clause-runs : goal.returns-in-Ok-Some-clause-runs
 returns-in-Ok-Some-clause-runs g c = λ none. absurd (wants_file (ports_file_of (map string_bytes c.args.words.now)) (subst (λ (o : Option (List ℕ)). IsSome o) (sym c.in-Ok-Some.field-0-is ∙ c.in-Ok-Some.ensures.file) refl) none)
