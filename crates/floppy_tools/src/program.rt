@@ -1,5 +1,5 @@
 // The top call.
-ghost use Rattle.std.specs.Prelude.{◌≡◌, ◌≢◌, ◌≤◌, ◌+◌, All, List, ℕ, None, Some, map, string_bytes};
+ghost use Rattle.std.specs.Prelude.{◌≡◌, ◌≤◌, ◌+◌, All, List, ℕ, None, Some, map, string_bytes};
 ghost use Rattle.floppy_requests.specs.declared.request.Request.{Request};
 ghost use Rattle.pc_bus.specs.Boards.{board, IsEmpty};
 ghost use Rattle.sector_model.specs.Faults.{Blames};
@@ -11,7 +11,8 @@ ghost use Rattle.archive_commands.specs.Files.{desk_of};
 ghost use Rattle.machine_station.specs.Shown.{all_counts};
 ghost use Rattle.machine_station.specs.Started.{IsFreshBoard};
 ghost use Rattle.port_commands.specs.Benches.{Names, no_names};
-ghost use Rattle.port_commands.specs.Guards.{RunsPorts};
+ghost use Rattle.port_commands.specs.Faults.{Ran, faulty_of};
+ghost use Rattle.port_commands.specs.Guards.{RunsBare, RunsPorts};
 ghost use Rattle.port_commands.specs.Plays.{world_of};
 ghost use Rattle.floppy_tools.specs.Machines.{RunsOver};
 ghost use Rattle.floppy_tools.specs.Performed.{Performed, stand_of};
@@ -64,12 +65,9 @@ fn at_ports<S: Shelf, K: Sink, D: Drive>(
     machine: MachineOf<D>,
 ) -> (Status, MachineOf<D>)
     requires { IsFreshBoard (board D.state machine) }
-    ensures ports { (names : Names)
-        × RunsPorts file.now (world_of D.state S.told K.told machine no_names shelf.old out.old)
-        (world_of D.state S.told K.told result.1 names shelf.new out.new) result.0 }
-    ensures is_form { result.0 ≢ Status.BadWords }
-    ensures shelf_faults { Blames (result.0 ≡ Status.FileFault) (S.fault_count shelf.old) (S.fault_count shelf.new) }
-    ensures sink_faults { BlamesAlone (result.0 ≡ Status.SinkFault) (K.fault_count out.old) (K.fault_count out.new) }
+    ensures { Ran (RunsBare file.now)
+        (faulty_of D.state S.told S.fault_count K.told K.fault_count machine no_names shelf.old out.old)
+        (faulty_of D.state S.told S.fault_count K.told K.fault_count result.1 no_names shelf.new out.new) result.0 }
 {
     let mut machine = machine;
     let status = run_ports(alloc, &mut machine, file, shelf, out);

@@ -47,6 +47,11 @@ pub data Breaks (asked : PortLine) (old new : World) (ended : Status) : Type 0 w
   AtPut : (said : Answer) → said ≢ answer.Nothing → DoesLine asked old.bench said new.bench
       → GrowsByPart old.report (answer_text asked said) new.report → IsPutFault ended → Breaks asked old new ended
 
+-- a line was done and told whole, or broke off
+abbrev pub RoundGoes : PortLine → World → Result Bool Status → World → Type 0
+RoundGoes asked old (Ok refused) new = IsRound asked old refused new
+RoundGoes asked old (Err ended) new = Breaks asked old new ended
+
 -- ---- all lines
 
 -- some lines were done and told whole
@@ -114,6 +119,11 @@ pub data PlaysLines (lines : List PortLine) (old : World) (course : List Taken) 
 abbrev pub HasPlayed : List PortLine → World → World → Status → Type 0
 HasPlayed lines old new ended = (course : List Taken) × PlaysLines lines old course new ended
 
+-- lines were done and told whole, or played up to what stopped them
+abbrev pub RoundsGo : List PortLine → World → Result Bool Status → World → Type 0
+RoundsGo lines old (Ok refused) new = HasRun lines old refused new
+RoundsGo lines old (Err ended) new = HasPlayed lines old new ended
+
 -- the end of a run: what was left in was stored, or a stop came at a store
 pub data EndsAs (refused : Bool) (old new : Bench) (ended : Status) : Type 0 where
   InWhole : Ends old new → ended ≡ whole_status refused → EndsAs refused old new ended
@@ -146,6 +156,10 @@ PlaysParsed (Err line) old course new ended = TellsAlone (bad_line_text line) st
 pub data PlaysOrStarves (text : List ℕ) (old : World) (course : List Taken) (new : World) (ended : Status) : Type 0 where
   AsParsed : PlaysParsed (ports_of text) old course new ended → PlaysOrStarves text old course new ended
   Starving : IsIdle old course new status.NoMemory ended → PlaysOrStarves text old course new ended
+
+-- a text is played so, by some course
+abbrev pub PlaysGiven : List ℕ → World → World → Status → Type 0
+PlaysGiven text old new ended = (course : List Taken) × PlaysOrStarves text old course new ended
 
 -- the text is there, and is played as it is parsed
 pub record PlaysText (name : List ℕ) (old : World) (course : List Taken) (new : World) (ended : Status) : Type 0 where

@@ -1,14 +1,14 @@
 // A text of port accesses is read and run to its end, or up to what stops it.
-ghost use Rattle.std.specs.Prelude.{◌≡◌, ◌≢◌, ◌||◌, List, IfOk, IfErr, IsErrOf, Err};
+ghost use Rattle.std.specs.Prelude.{◌≡◌, ◌≢◌, ◌||◌};
 ghost use Rattle.sector_model.specs.Faults.{Blames};
 ghost use Rattle.floppy_report.specs.Faults.{BlamesAlone};
 ghost use Rattle.sector_model.specs.Plays.{whole_status};
 ghost use Rattle.pc_bus.specs.Boards.{board};
-ghost use Rattle.port_commands.specs.Benches.{AreNamed, IsBare, Names as NamesOfMedia, bench_of, no_names};
-ghost use Rattle.port_commands.specs.Courses.{Taken};
-ghost use Rattle.port_commands.specs.Guards.{RunsPorts};
+ghost use Rattle.port_commands.specs.Benches.{AreNamed, IsBare, bench_of, no_names};
+ghost use Rattle.port_commands.specs.Faults.{Ran, RanPart, faulty_of};
+ghost use Rattle.port_commands.specs.Guards.{RunsBare};
 ghost use Rattle.port_commands.specs.Lines.{is_refusal};
-ghost use Rattle.port_commands.specs.Plays.{world_of, IsRound, Breaks, HasRun, HasPlayed, EndsAs, PlaysOrStarves, Misses};
+ghost use Rattle.port_commands.specs.Plays.{RoundGoes, RoundsGo, HasPlayed, EndsAs, PlaysGiven, Misses};
 
 use crate::answer::Answer;
 use crate::doing::do_line;
@@ -35,18 +35,9 @@ fn run_one<S: Shelf, K: Sink, D: Drive>(
     out: &mut K,
 ) -> Result<bool, Status>
     requires { AreNamed names.old (board D.state machine.old) }
-    ensures round { IfOk result (λ refused. IsRound
-        line.now (world_of D.state S.told K.told machine.old names.old shelf.old out.old) refused
-        (world_of D.state S.told K.told machine.new names.new shelf.new out.new)) }
-    ensures breaks { IfErr result (λ ended. Breaks
-        line.now (world_of D.state S.told K.told machine.old names.old shelf.old out.old)
-        (world_of D.state S.told K.told machine.new names.new shelf.new out.new) ended) }
-    ensures named { AreNamed names.new (board D.state machine.new) }
-    ensures is_form { result ≢ Err Status.BadWords }
-    ensures shelf_faults { Blames (IsErrOf result Status.FileFault) (S.fault_count shelf.old)
-        (S.fault_count shelf.new) }
-    ensures sink_faults { BlamesAlone (IsErrOf result Status.SinkFault) (K.fault_count out.old)
-        (K.fault_count out.new) }
+    ensures { RanPart (RoundGoes line.now)
+        (faulty_of D.state S.told S.fault_count K.told K.fault_count machine.old names.old shelf.old out.old) result
+        (faulty_of D.state S.told S.fault_count K.told K.fault_count machine.new names.new shelf.new out.new) }
 {
     match do_line(alloc, machine, names, line, shelf) {
         Ok(answer) => match put_answer(alloc, out, line, &answer) {
@@ -82,18 +73,9 @@ fn run_lines<S: Shelf, K: Sink, D: Drive>(
     out: &mut K,
 ) -> Result<bool, Status>
     requires { AreNamed names.old (board D.state machine.old) }
-    ensures run { IfOk result (λ refused. HasRun
-        lines.now (world_of D.state S.told K.told machine.old names.old shelf.old out.old) refused
-        (world_of D.state S.told K.told machine.new names.new shelf.new out.new)) }
-    ensures plays { IfErr result (λ ended. HasPlayed
-        lines.now (world_of D.state S.told K.told machine.old names.old shelf.old out.old)
-        (world_of D.state S.told K.told machine.new names.new shelf.new out.new) ended) }
-    ensures named { AreNamed names.new (board D.state machine.new) }
-    ensures is_form { result ≢ Err Status.BadWords }
-    ensures shelf_faults { Blames (IsErrOf result Status.FileFault) (S.fault_count shelf.old)
-        (S.fault_count shelf.new) }
-    ensures sink_faults { BlamesAlone (IsErrOf result Status.SinkFault) (K.fault_count out.old)
-        (K.fault_count out.new) }
+    ensures { RanPart (RoundsGo lines.now)
+        (faulty_of D.state S.told S.fault_count K.told K.fault_count machine.old names.old shelf.old out.old) result
+        (faulty_of D.state S.told S.fault_count K.told K.fault_count machine.new names.new shelf.new out.new) }
 {
     let mut refused = false;
     for line in lines {
@@ -147,14 +129,9 @@ fn play_lines<S: Shelf, K: Sink, D: Drive>(
     out: &mut K,
 ) -> Status
     requires { AreNamed names.old (board D.state machine.old) }
-    ensures plays { HasPlayed
-        lines.now (world_of D.state S.told K.told machine.old names.old shelf.old out.old)
-        (world_of D.state S.told K.told machine.new names.new shelf.new out.new) result }
-    ensures is_form { result ≢ Status.BadWords }
-    ensures shelf_faults { Blames (result ≡ Status.FileFault) (S.fault_count shelf.old)
-        (S.fault_count shelf.new) }
-    ensures sink_faults { BlamesAlone (result ≡ Status.SinkFault) (K.fault_count out.old)
-        (K.fault_count out.new) }
+    ensures { Ran (HasPlayed lines.now)
+        (faulty_of D.state S.told S.fault_count K.told K.fault_count machine.old names.old shelf.old out.old)
+        (faulty_of D.state S.told S.fault_count K.told K.fault_count machine.new names.new shelf.new out.new) result }
 {
     match run_lines(alloc, machine, names, lines, shelf, out) {
         Ok(refused) => finish(alloc, machine, names, shelf, refused),
@@ -172,14 +149,9 @@ fn play_text<S: Shelf, K: Sink, D: Drive>(
     out: &mut K,
 ) -> Status
     requires { AreNamed names.old (board D.state machine.old) }
-    ensures plays { (course : List Taken) × PlaysOrStarves
-        text.now (world_of D.state S.told K.told machine.old names.old shelf.old out.old) course
-        (world_of D.state S.told K.told machine.new names.new shelf.new out.new) result }
-    ensures is_form { result ≢ Status.BadWords }
-    ensures shelf_faults { Blames (result ≡ Status.FileFault) (S.fault_count shelf.old)
-        (S.fault_count shelf.new) }
-    ensures sink_faults { BlamesAlone (result ≡ Status.SinkFault) (K.fault_count out.old)
-        (K.fault_count out.new) }
+    ensures { Ran (PlaysGiven text.now)
+        (faulty_of D.state S.told S.fault_count K.told K.fault_count machine.old names.old shelf.old out.old)
+        (faulty_of D.state S.told S.fault_count K.told K.fault_count machine.new names.new shelf.new out.new) result }
 {
     match parse_ports(alloc, text) {
         Ok(lines) => play_lines(alloc, machine, names, &lines, shelf, out),
@@ -213,14 +185,9 @@ pub fn run_ports<S: Shelf, K: Sink, D: Drive>(
     out: &mut K,
 ) -> Status
     requires { IsBare (board D.state machine.old) }
-    ensures runs { (names : NamesOfMedia) × RunsPorts
-        text_name.now (world_of D.state S.told K.told machine.old no_names shelf.old out.old)
-        (world_of D.state S.told K.told machine.new names shelf.new out.new) result }
-    ensures is_form { result ≢ Status.BadWords }
-    ensures shelf_faults { Blames (result ≡ Status.FileFault) (S.fault_count shelf.old)
-        (S.fault_count shelf.new) }
-    ensures sink_faults { BlamesAlone (result ≡ Status.SinkFault) (K.fault_count out.old)
-        (K.fault_count out.new) }
+    ensures { Ran (RunsBare text_name.now)
+        (faulty_of D.state S.told S.fault_count K.told K.fault_count machine.old no_names shelf.old out.old)
+        (faulty_of D.state S.told S.fault_count K.told K.fault_count machine.new no_names shelf.new out.new) result }
 {
     let mut names = Names::new();
     match shelf.load(alloc, text_name, MOST_TEXT_BYTES) {

@@ -21,7 +21,7 @@ returns-in-Ok-Some g c =
             subst (λ (f : List ℕ). (names : Names) × RunsPorts f
             (world_of g.D.Drive.state g.S.Shelf.told g.K.Sink.told c.args.machine no_names c.args.shelf.now c.args.out.now)
             (world_of g.D.Drive.state g.S.Shelf.told g.K.Sink.told c.at_ports.result.1 names c.at_ports.new.shelf c.at_ports.new.out)
-            c.at_ports.result.0) is c.at_ports.ensures.ports;
+            c.at_ports.result.0) is c.at_ports.ensures.does;
         bad_words = search rules;
       };
       accesses = λ job requests plays is.
