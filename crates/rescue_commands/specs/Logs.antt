@@ -3,8 +3,8 @@ use Rattle.std.specs.Prelude.{◌≡◌, ℕ, ◌≤◌, ◌⊎◌, List, length
 use Rattle.std.specs.Option.{option_map}
 use Rattle.std.specs.declared.alloc.Global.{Global}
 use Rattle.flop_base.specs.Shelf.{Files, file_at}
-use Rattle.flop_base.specs.declared.answers.Status.{Status}
-use Rattle.flop_base.specs.declared.answers.Status.TheVariants as status
+use Rattle.flop_base.specs.Standard.{sectors_at}
+use Rattle.flop_base.specs.declared.answers.Rate.{Rate}
 use Rattle.flop_base.specs.declared.answers.LoadError.{LoadError}
 use Rattle.flop_base.specs.declared.answers.LoadError.TheVariants as load
 use Rattle.sector_model.specs.Steps.{IsAbsent, IsLonger}
@@ -44,6 +44,15 @@ IsNoLog told name sectors (none.BadLine n) = IsBadLog told name sectors n
 IsNoLog told name sectors none.FileFault = Unit {0}
 IsNoLog told name sectors none.NoMemory = Unit {0}
 
+-- what is found under the name of a log: a log or nothing, or why there is none to go by
+abbrev pub IsFound : Option Files → List ℕ → ℕ → Result (Option (List LogLine)) NoLog → Type 0
+IsFound told name sectors (Ok found) = IsLogFound told name sectors found
+IsFound told name sectors (Err cause) = IsNoLog told name sectors cause
+
+-- so it is found as the log of a disk of each rate
+abbrev pub AreFound : Option Files → List ℕ → (Rate → Result (Option (List LogLine)) NoLog) → Type 0
+AreFound told name found = (rate : Rate) → IsFound told name (sectors_at rate) (found rate)
+
 -- a text that isn't a log
 abbrev pub NotUnderstood : LogError → NoLog → Type 0
 NotUnderstood (bad.BadLine n) cause = cause ≡ none.BadLine n
@@ -55,9 +64,3 @@ NotLoaded load.Absent answer = answer ≡ Ok None
 NotLoaded load.TooLong answer = answer ≡ Err (none.BadLine 0)
 NotLoaded load.Failed answer = answer ≡ Err none.FileFault
 NotLoaded load.NoMemory answer = answer ≡ Err none.NoMemory
-
--- what ends a rescue at the store of its log: a fault of the shelf, or want of memory
-abbrev pub IsStoreFault : Status → Type 0
-IsStoreFault status.FileFault = Unit {0}
-IsStoreFault status.NoMemory = Unit {0}
-IsStoreFault _ = ⊥
