@@ -16,7 +16,7 @@ use Rattle.rescue.specs.Log.{IsLogLine, IsLog, log_text}
 use Rattle.rescue.specs.declared.line.LogLine.{LogLine}
 use Rattle.rescue.proofs.OrderLemmas.{standard_rises, logged_rises}
 use Rattle.rescue_commands.specs.Logs.{IsLogFound, most_log_bytes}
-use Rattle.rescue_commands.specs.Tasks.{asked_keys}
+use Rattle.rescue_commands.specs.Rescue.{asked_keys}
 use Rattle.rescue_laws.proofs.Once.{AreDistinct, rising_distinct}
 use Rattle.rescue_laws.proofs.Records.{CanAsk}
 

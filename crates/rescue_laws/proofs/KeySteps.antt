@@ -8,7 +8,7 @@ use Rattle.sector_model.specs.Texts.{is_refusal}
 use Rattle.sector_model.specs.Runs.{Taken}
 use Rattle.disk_laws.specs.Copied.{SomeStep, Gave}
 use Rattle.rescue.specs.Course.{read_of, write_of}
-use Rattle.rescue_commands.specs.Tasks.{line_at, log_of}
+use Rattle.rescue_laws.specs.Logged.{line_at, log_of}
 use Rattle.rescue_laws.specs.Rescued.{WasRefused, is_write, count_writes}
 use Rattle.rescue_laws.proofs.Once.{IsAmong}
 use Rattle.rescue_laws.proofs.Reading.{gave_nothing, line_of_refused, line_of_done, read_done, write_no_read, write_writes}

@@ -1,33 +1,31 @@
 -- What comes before the records of a rescue: both diskettes are put in and made ready.
-use Rattle.std.proofs.Common.{◌≡◌, ◌∙◌, ℕ, Bool, true, false, List, [], ◌∷◌, ◌++◌, map, refl, sym, ap, subst, Option, Some}
+use Rattle.std.proofs.Common.{◌≡◌, ◌∙◌, ℕ, Bool, true, false, List, [], ◌∷◌, ◌++◌, refl, sym, ap, subst, Option, Some}
 use Rattle.std.specs.List.{flat_map, range_with_len}
 use Rattle.flop_base.specs.Shelf.{Files}
 use Rattle.flop_base.specs.declared.answers.Rate.{Rate}
 use Rattle.flop_base.specs.declared.answers.Rate.TheVariants.{R500, R250}
-use Rattle.flop_base.specs.declared.key.Chrn.{Chrn}
 use Rattle.raw_image.specs.Disk.{Disk, IsDisk}
 use Rattle.bay_model.specs.Bays.{Two, in_bay}
 use Rattle.floppy_requests.specs.declared.request.Request.{Request}
 use Rattle.floppy_requests.specs.declared.request.Request.TheVariants as request
 use Rattle.sector_model.specs.Stations.{StationState, bay_of}
 use Rattle.sector_model.specs.States.{State}
-use Rattle.sector_model.specs.Steps.{Step, IsImageOf, blank_of}
-use Rattle.sector_model.specs.Texts.{is_refusal}
-use Rattle.sector_model.specs.Runs.{Taken, has_refusal}
+use Rattle.sector_model.specs.Steps.{IsImageOf, blank_of}
+use Rattle.sector_model.specs.Runs.{Taken}
 use Rattle.floppy_session.specs.Blanks.{blank_request}
 use Rattle.floppy_session.specs.declared.shape.Shape.{Shape}
-use Rattle.floppy_session.specs.Shapes.{shape_of}
-use Rattle.disk_commands.specs.Commands.{IsShapePutIn}
+use Rattle.scripts.specs.Scripts.{Script}
+use Rattle.scripts.specs.Parts.{carries, sets_rate, acknowledges, through, each, formats}
 use Rattle.disk_laws.specs.Done.{DoesAll}
 use Rattle.disk_laws.specs.Requests.{tracks_of, format_each}
 use Rattle.disk_laws.proofs.CopiedTrack.{both_fell}
 use Rattle.disk_laws.proofs.Formatted.{blank_keeps}
-use Rattle.disk_laws.proofs.Nested.{map-flat_map, flat_map-same, formats_nested}
+use Rattle.disk_laws.proofs.Nested.{formats_nested}
 use Rattle.disk_laws.proofs.Prepared.{blanks}
-use Rattle.disk_laws.proofs.PutIn.{put_shape}
-use Rattle.disk_laws.proofs.Steps.{NeverFell, begins, step_never_fell, or_false}
+use Rattle.disk_laws.proofs.Steps.{NeverFell, begins, step_never_fell}
 use Rattle.disk_laws.proofs.Verified.{one_image}
-use Rattle.rescue_commands.specs.Tasks.{Task, Ask, Rescue, by_track, format_task, both_tasks, prepare_tasks, rescue_tasks, open_tasks}
+use Rattle.rescue_commands.specs.Rescue.{acknowledges_both, prepares_old, prepares_new, prepares}
+use Rattle.rescue_laws.proofs.Going.{carries_all, carries_join}
 use Rattle.rescue_laws.proofs.Ready.{AreReady, ready_requests, makes_ready}
 
 -- ---- its requests
@@ -46,45 +44,39 @@ abbrev pub opening : List ℕ → List ℕ → Shape → Bool → List Request
 opening from to shape logged =
     request.Insert 0 from ∷ second_request to shape logged ∷ ready_requests shape.rate (formats_for shape logged)
 
-formats_ask : (cylinders heads : ℕ) → by_track cylinders heads format_task ≡ map Ask (format_each 1 (tracks_of cylinders heads))
-formats_ask cylinders heads =
-    let sides = range_with_len 0 heads in
-    let all = range_with_len 0 cylinders in
-    let one : ℕ → List Request = λ c. flat_map (λ h. request.Format 1 c h ∷ []) sides in
-    sym (ap (λ (requests : List Request). map Ask requests) (formats_nested 1 cylinders heads)
-    ∙ map-flat_map Ask one all
-    ∙ flat_map-same (λ c. map Ask (one c)) (λ c. flat_map (λ h. format_task c h) sides) all
-    (λ c. map-flat_map Ask (λ h. request.Format 1 c h ∷ []) sides))
+-- the script carries them
 
-both_ask : (rate : Rate) (tasks : List Task) (requests : List Request) → tasks ≡ map Ask requests → both_tasks rate ++ tasks ≡ map Ask (ready_requests rate requests)
-both_ask R500 tasks requests is = ap (λ (t : List Task). Ask (request.Ack 0) ∷ Ask (request.Ack 1) ∷ t) is
-both_ask R250 tasks requests is = ap (λ (t : List Task). Ask (request.Ack 0) ∷ Ask (request.SetRate 0 R250) ∷ Ask (request.Ack 1) ∷ Ask (request.SetRate 1 R250) ∷ t) is
+formats_heads : (c : ℕ) (sides : List ℕ) (rest : Unit {0} → Script) → through (formats 1 c) sides tt rest ≡ carries_all (flat_map (λ h. request.Format 1 c h ∷ []) sides) (rest tt)
+unfolding through carries
+formats_heads c [] rest = refl
+formats_heads c (h ∷ sides) rest = ap (λ (s : Script). carries (request.Format 1 c h) (λ none. s)) (formats_heads c sides rest)
 
-both_alone : (rate : Rate) → both_tasks rate ≡ map Ask (ready_requests rate [])
-both_alone R500 = refl
-both_alone R250 = refl
+formats_cylinders : (sides cylinders : List ℕ) (rest : Unit {0} → Script) → through (λ c. through (formats 1 c) sides) cylinders tt rest ≡ carries_all (flat_map (λ c. flat_map (λ h. request.Format 1 c h ∷ []) sides) cylinders) (rest tt)
+unfolding through
+formats_cylinders sides [] rest = refl
+formats_cylinders sides (c ∷ cylinders) rest =
+    let here = flat_map (λ h. request.Format 1 c h ∷ []) sides in
+    formats_heads c sides (λ now. through (λ b. through (formats 1 b) sides) cylinders now rest)
+    ∙ ap (λ (s : Script). carries_all here s) (formats_cylinders sides cylinders rest)
+    ∙ carries_join here (flat_map (λ b. flat_map (λ h. request.Format 1 b h ∷ []) sides) cylinders) (rest tt)
 
-prepare_asks : (to : List ℕ) (shape : Shape) (logged : Bool) → prepare_tasks to shape logged ≡ map Ask (second_request to shape logged ∷ ready_requests shape.rate (formats_for shape logged))
-prepare_asks to shape true = ap (λ (t : List Task). Ask (request.Insert 1 to) ∷ t) (both_alone shape.rate)
-prepare_asks to shape false =
-    ap (λ (t : List Task). Ask (blank_request 1 to shape.cylinders shape.rate) ∷ t)
-    (both_ask shape.rate (by_track shape.cylinders shape.heads format_task) (format_each 1 (tracks_of shape.cylinders shape.heads)) (formats_ask shape.cylinders shape.heads))
+both_carried : (rate : Rate) (rest : Unit {0} → Script) (requests : List Request) (more : Script) → rest tt ≡ carries_all requests more → acknowledges_both rate rest ≡ carries_all (ready_requests rate requests) more
+unfolding acknowledges_both acknowledges sets_rate
+both_carried R500 rest requests more is = ap (λ (s : Script). carries (request.Ack 0) (λ none. carries (request.Ack 1) (λ still. s))) is
+both_carried R250 rest requests more is =
+    ap (λ (s : Script). carries (request.Ack 0) (λ none. carries (request.SetRate 0 R250) (λ now. carries (request.Ack 1) (λ still. carries (request.SetRate 1 R250) (λ yet. s))))) is
 
--- all tasks: those requests, the records, and the last one
-pub rescue_asks : (from to : List ℕ) (shape : Shape) (logged : Bool) (keys : List Chrn) → open_tasks from ++ rescue_tasks to shape logged keys ≡ map Ask (opening from to shape logged) ++ (map Rescue keys ++ Ask (request.Eject 1) ∷ [])
-rescue_asks from to shape logged keys =
-    ap (λ (t : List Task). Ask (request.Insert 0 from) ∷ (t ++ (map Rescue keys ++ Ask (request.Eject 1) ∷ []))) (prepare_asks to shape logged)
+pub prepares_carried : (to : List ℕ) (shape : Shape) (logged : Bool) (rest : Unit {0} → Script) → prepares to shape logged rest ≡ carries_all (second_request to shape logged ∷ ready_requests shape.rate (formats_for shape logged)) (rest tt)
+unfolding prepares prepares_old prepares_new each
+prepares_carried to shape true rest = ap (λ (s : Script). carries (request.Insert 1 to) (λ none. s)) (both_carried shape.rate rest [] (rest tt) refl)
+prepares_carried to shape false rest =
+    let sides = range_with_len 0 shape.heads in
+    let tracks = range_with_len 0 shape.cylinders in
+    let formats_all = formats_cylinders sides tracks rest ∙ ap (λ (row : List Request). carries_all row (rest tt)) (sym (formats_nested 1 shape.cylinders shape.heads)) in
+    ap (λ (s : Script). carries (blank_request 1 to shape.cylinders shape.rate) (λ none. s))
+    (both_carried shape.rate (λ still. through (λ c. through (formats 1 c) sides) tracks tt rest) (format_each 1 (tracks_of shape.cylinders shape.heads)) (rest tt) formats_all)
 
--- ---- the disk that was put in
-
-pub opened_shape : (from : List ℕ) (disk : Disk) (files : Files) (requests : List Request) (old new : State) (after : Option Files) (course : List Taken) (shape : Shape) → IsImageOf (Some files) from disk → DoesAll (request.Insert 0 from ∷ requests) old (Some files) course new after → IsShapePutIn course shape → shape ≡ shape_of disk
-opened_shape from disk files requests old new after [] shape image all put = let e = all.all in absurd (cc e)
-opened_shape from disk files requests old new after (taken ∷ later) shape image all put =
-    let e = all.all in
-    let asked : taken.asked ≡ request.Insert 0 from = cc e in
-    let done = (or_false (is_refusal taken.answer) (has_refusal later) all.done).0 in
-    let step = subst (λ (q : Request). Step q old (Some files) taken.answer taken.after all.run.0) asked all.run.1 in
-    put_shape from disk files old taken.after all.run.0 taken.answer shape image step done (put done)
+-- ---- the disks that were put in
 
 -- both diskettes are in, and ready
 pub record AreOpen (disk target : Disk) (to : List ℕ) (files : Files) (formats : List Request) (old new : State) (after : Option Files) : Type 0 where

@@ -23,7 +23,7 @@ use Rattle.disk_laws.proofs.Records.{length-bytes_at}
 use Rattle.disk_laws.proofs.Steps.{NeverFell, either, keeps_drives}
 use Rattle.track_model.proofs.Splices.{length-with_items}
 use Rattle.rescue.specs.Course.{read_of, write_of}
-use Rattle.rescue_commands.specs.Tasks.{line_at}
+use Rattle.rescue_laws.specs.Logged.{line_at}
 use Rattle.rescue_laws.specs.Rescued.{is_write}
 
 -- ---- what a read leaves

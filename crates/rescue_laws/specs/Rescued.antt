@@ -28,8 +28,9 @@ use Rattle.rescue.specs.Log.{log_text}
 use Rattle.rescue.specs.declared.line.LogLine.{LogLine}
 use Rattle.rescue.specs.declared.outcome.Outcome.{Outcome}
 use Rattle.rescue_commands.specs.Logs.{IsLogFound}
-use Rattle.rescue_commands.specs.Tasks.{asked_keys, log_of}
-use Rattle.rescue_commands.specs.Commands.{last_text}
+use Rattle.rescue_commands.specs.Rescue.{asked_keys}
+use Rattle.rescue_laws.specs.Logged.{log_of}
+use Rattle.rescue_commands.specs.Rescue.{last_text}
 use Rattle.rescue_laws.specs.Tidy.{AreTidy}
 
 -- no refusal stopped the run: its last answer is none
