@@ -47,6 +47,14 @@ pub carries_join : (one two : List Request) (rest : Script) → carries_all one 
 carries_join [] two rest = refl
 carries_join (asked ∷ one) two rest = ap (λ (s : Script). carries asked (λ none. s)) (carries_join one two rest)
 
+-- one was done, and then others
+pub does_more : (asked : Request) (requests : List Request) (old new : State) (told files after : Option Files) (taken : Taken) (later : List Taken) → taken.asked ≡ asked → Step asked old told taken.answer taken.after files → is_refusal taken.answer ≡ false → DoesAll requests taken.after files later new after → DoesAll (asked ∷ requests) old told (taken ∷ later) new after
+does_more asked requests old new told files after taken later is step done all = record {
+  run = (files, subst (λ (q : Request). Step q old told taken.answer taken.after files) (sym is) step, all.run);
+  all = ap (λ (q : Request). q ∷ requests_of later) is ∙ ap (λ (row : List Request). asked ∷ row) all.all;
+  done = rw done all.done;
+}
+
 -- they were done, and then what follows was run
 pub record Carried (requests : List Request) (rest : Script) (old : World) (course : List Taken) (new : World) (ended : Status) : Type 0 where
   pub mid : State
@@ -73,18 +81,12 @@ carried (asked ∷ requests) rest old course new ended whole fine runs =
     let taken = run.taken in
     let later = later_fine (taken ∷ []) run.later course run.course_is fine in
     let tail = carried requests rest (with_report taken.after run.files old.report) run.later new ended whole later run.left in
-    let step = subst (λ (q : Request). Step q old.state old.files taken.answer taken.after run.files) (sym run.asked_is) run.step in
-    let done = one.fine in
     record {
       mid = tail.mid;
       files = tail.files;
       one = taken ∷ tail.one;
       two = tail.two;
       is = run.course_is ∙ ap (λ (row : List Taken). taken ∷ row) tail.is;
-      before = record {
-        run = (run.files, step, tail.before.run);
-        all = ap (λ (q : Request). q ∷ requests_of tail.one) run.asked_is ∙ ap (λ (row : List Request). asked ∷ row) tail.before.all;
-        done = rw done tail.before.done;
-      };
+      before = does_more asked requests old.state tail.mid old.files run.files tail.files taken tail.one run.asked_is run.step one.fine tail.before;
       left = tail.left;
     }

@@ -12,3 +12,5 @@ pub mod Asked
 pub mod Exactly
 pub mod Records
 pub mod Telling
+pub mod Plain
+pub mod Through

@@ -8,9 +8,11 @@ use Rattle.raw_image.specs.Disk.{Disk, IsDisk}
 use Rattle.bay_model.specs.Bays.{Two, in_bay}
 use Rattle.floppy_requests.specs.declared.request.Request.{Request}
 use Rattle.floppy_requests.specs.declared.request.Request.TheVariants as request
+use Rattle.sector_model.specs.declared.reply.Reply.{Reply}
 use Rattle.sector_model.specs.Stations.{StationState, bay_of}
 use Rattle.sector_model.specs.States.{State}
-use Rattle.sector_model.specs.Steps.{IsImageOf, blank_of}
+use Rattle.sector_model.specs.Steps.{Step, IsImageOf, blank_of}
+use Rattle.sector_model.specs.Texts.{is_refusal}
 use Rattle.sector_model.specs.Runs.{Taken}
 use Rattle.floppy_session.specs.Blanks.{blank_request}
 use Rattle.floppy_session.specs.declared.shape.Shape.{Shape}
@@ -22,7 +24,7 @@ use Rattle.disk_laws.proofs.CopiedTrack.{both_fell}
 use Rattle.disk_laws.proofs.Formatted.{blank_keeps}
 use Rattle.disk_laws.proofs.Nested.{formats_nested}
 use Rattle.disk_laws.proofs.Prepared.{blanks}
-use Rattle.disk_laws.proofs.Steps.{NeverFell, begins, step_never_fell}
+use Rattle.disk_laws.proofs.Steps.{NeverFell, begins, done_does, step_never_fell}
 use Rattle.disk_laws.proofs.Verified.{one_image}
 use Rattle.rescue_commands.specs.Rescue.{acknowledges_both, prepares_old, prepares_new, prepares}
 use Rattle.rescue_laws.proofs.Going.{carries_all, carries_join}
@@ -88,7 +90,13 @@ pub record AreOpen (disk target : Disk) (to : List ℕ) (files : Files) (formats
   pub same_files : start_files ≡ Some files
   pub fell : NeverFell old.station.counters start.station.counters
 
--- the disk of the first name is in
+-- the disk of the first name is in bay 0
+pub disk_in : (from : List ℕ) (disk : Disk) (files : Files) (old new : State) (after : Option Files) (answer : Reply) → IsImageOf (Some files) from disk → Step (request.Insert 0 from) old (Some files) answer new after → is_refusal answer ≡ false → (bay_of new.station 0).medium ≡ Some disk
+disk_in from disk files old new after answer image step done =
+    let put = (done_does old new (Some files) after (request.Insert 0 from) answer step done).2 in
+    ap (λ (s : StationState). (bay_of s 0).medium) put.2.exchanged.becomes ∙ ap (λ (d : Disk). Some d) (one_image files from put.0 disk put.1 image)
+
+-- so it is, and these requests are left
 record IsIn (disk : Disk) (files : Files) (rest : List Request) (old new : State) (after : Option Files) : Type 0 where
   pub mid : State
   pub mid_files : Option Files
@@ -103,12 +111,11 @@ is_in : (from : List ℕ) (disk : Disk) (files : Files) (rest : List Request) (o
 is_in from disk files rest old new after course image all =
     let one = begins old new (Some files) after (request.Insert 0 from) rest course all in
     let put = one.does.2 in
-    let same : put.0 ≡ disk = one_image files from put.0 disk put.1 image in
     record {
       mid = one.mid;
       mid_files = one.files;
       course = one.later;
-      medium = ap (λ (s : StationState). (bay_of s 0).medium) put.2.exchanged.becomes ∙ ap (λ (d : Disk). Some d) same;
+      medium = disk_in from disk files old one.mid one.files one.answer image one.step one.done;
       memory = ap (λ (s : StationState). s.memory) put.2.exchanged.becomes;
       same_files = one.does.1;
       fell = step_never_fell old one.mid (Some files) one.files (request.Insert 0 from) one.answer one.step refl;
