@@ -18,7 +18,7 @@ use Rattle.sector_model.specs.Plays.{World}
 use Rattle.scripts.specs.Scripts.{Script, RunsScript}
 use Rattle.scripts.specs.Parts.{carries, may_starve, through}
 use Rattle.scripts.specs.Leading.{with_report}
-use Rattle.scripts.proofs.Reading.{IsAnswered, AskRun, Answered, Stopped, ask_run, carry_run}
+use Rattle.scripts.proofs.Reading.{IsAnswered, AskRun, ask_answered, ask_run, carry_run}
 use Rattle.disk_laws.specs.VerifyRuns.{IsEndStatus}
 use Rattle.disk_laws.proofs.CopiedTrack.{both_fell}
 use Rattle.disk_laws.proofs.Steps.{NeverFell, step_never_fell}
@@ -27,7 +27,7 @@ use Rattle.rescue.specs.declared.line.LogLine.{LogLine}
 use Rattle.rescue_commands.specs.Rescue.{gives_up, does_next, follows, rescues}
 use Rattle.rescue_laws.specs.Logged.{line_at, log_of}
 use Rattle.rescue_laws.specs.Rescued.{IsNotStopped}
-use Rattle.rescue_laws.proofs.Going.{later_fine, stops_not, need_went}
+use Rattle.rescue_laws.proofs.Going.{later_fine, went_on, need_went}
 use Rattle.rescue_laws.proofs.Reading.{call_fell, line_of_refused, line_of_done, read_done, write_keeps}
 
 -- ---- what follows the read of a record
@@ -228,12 +228,12 @@ module _ (rest : List LogLine → Script) (new : World) (ended : Status) (whole 
       by_next called answered reads (Starves same starved) = absurd (subst IsEndStatus starved whole)
 
     by_read : AskRun (read_of key) (λ answer after. follows key answer lines Rest) old course new ended → KeysGone (key ∷ keys) lines rest old course new ended
-    by_read (Answered run) =
+    by_read asked =
+        let run = ask_answered (read_of key) (λ answer after. follows key answer lines Rest) old course new ended (went_on ended whole) asked in
         let called = run.step.1.0 in
         let answered = run.step.1.1 in
         let runs = subst (λ (r : Reply). RunsScript (follows key r lines Rest) (mid run) run.later new ended) answered run.left in
         by_next run called answered run.step.1.2 (follow_run key called lines Rest (mid run) run.later new ended runs)
-    by_read (Stopped run) = absurd (stops_not run.cause old.report new.report ended whole run.prints)
 
 pub keys_gone : (keys : List Chrn) (lines : List LogLine) (rest : List LogLine → Script) (old : World) (course : List Taken) (new : World) (ended : Status) → IsEndStatus ended → IsNotStopped course → RunsScript (through rescues keys lines rest) old course new ended → KeysGone keys lines rest old course new ended
 unfolding through rescues

@@ -17,17 +17,17 @@ use Rattle.sector_model.specs.Runs.{Taken}
 use Rattle.floppy_session.specs.Blanks.{blank_request}
 use Rattle.floppy_session.specs.declared.shape.Shape.{Shape}
 use Rattle.scripts.specs.Scripts.{Script}
-use Rattle.scripts.specs.Parts.{carries, sets_rate, acknowledges, through, each, formats}
+use Rattle.scripts.specs.Parts.{Part, carries, sets_rate, acknowledges, through, each, by_track, formats}
+use Rattle.scripts.proofs.Passed.{each_named, each_nested}
 use Rattle.disk_laws.specs.Done.{DoesAll}
-use Rattle.disk_laws.specs.Requests.{tracks_of, format_each}
+use Rattle.disk_laws.specs.Requests.{Track, heads_of, tracks_of, format_each}
 use Rattle.disk_laws.proofs.CopiedTrack.{both_fell}
 use Rattle.disk_laws.proofs.Formatted.{blank_keeps}
-use Rattle.disk_laws.proofs.Nested.{formats_nested}
 use Rattle.disk_laws.proofs.Prepared.{blanks}
 use Rattle.disk_laws.proofs.Steps.{NeverFell, begins, done_does, step_never_fell}
 use Rattle.disk_laws.proofs.Verified.{one_image}
 use Rattle.rescue_commands.specs.Rescue.{acknowledges_both, prepares_old, prepares_new, prepares}
-use Rattle.rescue_laws.proofs.Going.{carries_all, carries_join}
+use Rattle.rescue_laws.proofs.Going.{carries_all}
 use Rattle.rescue_laws.proofs.Ready.{AreReady, ready_requests, makes_ready}
 
 -- ---- its requests
@@ -46,21 +46,23 @@ abbrev pub opening : List ℕ → List ℕ → Shape → Bool → List Request
 opening from to shape logged =
     request.Insert 0 from ∷ second_request to shape logged ∷ ready_requests shape.rate (formats_for shape logged)
 
--- the script carries them
+-- ---- the script carries them
 
-formats_heads : (c : ℕ) (sides : List ℕ) (rest : Unit {0} → Script) → through (formats 1 c) sides tt rest ≡ carries_all (flat_map (λ h. request.Format 1 c h ∷ []) sides) (rest tt)
+-- a track is formatted
+abbrev formats_track : Track → Unit {0} → Part (Unit {0})
+formats_track track none rest = carries (request.Format 1 track.0 track.1) rest
+
+formats_carried : (tracks : List Track) (rest : Unit {0} → Script) → through formats_track tracks tt rest ≡ carries_all (format_each 1 tracks) (rest tt)
 unfolding through carries
-formats_heads c [] rest = refl
-formats_heads c (h ∷ sides) rest = ap (λ (s : Script). carries (request.Format 1 c h) (λ none. s)) (formats_heads c sides rest)
+formats_carried [] rest = refl
+formats_carried (track ∷ tracks) rest = ap (λ (s : Script). carries (request.Format 1 track.0 track.1) (λ none. s)) (formats_carried tracks rest)
 
-formats_cylinders : (sides cylinders : List ℕ) (rest : Unit {0} → Script) → through (λ c. through (formats 1 c) sides) cylinders tt rest ≡ carries_all (flat_map (λ c. flat_map (λ h. request.Format 1 c h ∷ []) sides) cylinders) (rest tt)
-unfolding through
-formats_cylinders sides [] rest = refl
-formats_cylinders sides (c ∷ cylinders) rest =
-    let here = flat_map (λ h. request.Format 1 c h ∷ []) sides in
-    formats_heads c sides (λ now. through (λ b. through (formats 1 b) sides) cylinders now rest)
-    ∙ ap (λ (s : Script). carries_all here s) (formats_cylinders sides cylinders rest)
-    ∙ carries_join here (flat_map (λ b. flat_map (λ h. request.Format 1 b h ∷ []) sides) cylinders) (rest tt)
+tracks_carried : (cylinders heads : ℕ) (rest : Unit {0} → Script) → by_track cylinders heads (formats 1) tt rest ≡ carries_all (format_each 1 (tracks_of cylinders heads)) (rest tt)
+unfolding tracks_of
+tracks_carried cylinders heads rest =
+    each_nested formats_track 0 cylinders (λ c. each 0 heads (formats 1 c)) (heads_of heads)
+    (λ c found next. each_named formats_track 0 heads (formats 1 c) (λ h. (c, h)) (λ h now more. refl) found next) tt rest
+    ∙ formats_carried (flat_map (heads_of heads) (range_with_len 0 cylinders)) rest
 
 both_carried : (rate : Rate) (rest : Unit {0} → Script) (requests : List Request) (more : Script) → rest tt ≡ carries_all requests more → acknowledges_both rate rest ≡ carries_all (ready_requests rate requests) more
 unfolding acknowledges_both acknowledges sets_rate
@@ -69,14 +71,11 @@ both_carried R250 rest requests more is =
     ap (λ (s : Script). carries (request.Ack 0) (λ none. carries (request.SetRate 0 R250) (λ now. carries (request.Ack 1) (λ still. carries (request.SetRate 1 R250) (λ yet. s))))) is
 
 pub prepares_carried : (to : List ℕ) (shape : Shape) (logged : Bool) (rest : Unit {0} → Script) → prepares to shape logged rest ≡ carries_all (second_request to shape logged ∷ ready_requests shape.rate (formats_for shape logged)) (rest tt)
-unfolding prepares prepares_old prepares_new each
+unfolding prepares prepares_old prepares_new
 prepares_carried to shape true rest = ap (λ (s : Script). carries (request.Insert 1 to) (λ none. s)) (both_carried shape.rate rest [] (rest tt) refl)
 prepares_carried to shape false rest =
-    let sides = range_with_len 0 shape.heads in
-    let tracks = range_with_len 0 shape.cylinders in
-    let formats_all = formats_cylinders sides tracks rest ∙ ap (λ (row : List Request). carries_all row (rest tt)) (sym (formats_nested 1 shape.cylinders shape.heads)) in
     ap (λ (s : Script). carries (blank_request 1 to shape.cylinders shape.rate) (λ none. s))
-    (both_carried shape.rate (λ still. through (λ c. through (formats 1 c) sides) tracks tt rest) (format_each 1 (tracks_of shape.cylinders shape.heads)) (rest tt) formats_all)
+    (both_carried shape.rate (λ still. by_track shape.cylinders shape.heads (formats 1) tt rest) (formats_for shape false) (rest tt) (tracks_carried shape.cylinders shape.heads rest))
 
 -- ---- the disks that were put in
 

@@ -13,7 +13,7 @@ use Rattle.sector_model.specs.Orders.{rate_refusal}
 use Rattle.sector_model.specs.States.{State}
 use Rattle.sector_model.specs.Runs.{Taken}
 use Rattle.disk_laws.specs.Done.{DoesAll}
-use Rattle.disk_laws.specs.Requests.{rate_requests}
+use Rattle.scripts.specs.Parts.{rate_requests}
 use Rattle.disk_laws.proofs.CopiedTrack.{both_fell}
 use Rattle.disk_laws.proofs.Prepared.{acks, rates}
 use Rattle.disk_laws.proofs.Steps.{NeverFell, begins, step_never_fell, ok_called, reached}
