@@ -14,3 +14,6 @@ pub mod Records
 pub mod Telling
 pub mod Plain
 pub mod Through
+pub mod Begun
+pub mod Settled
+pub mod Whole
