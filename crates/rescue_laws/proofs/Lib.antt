@@ -17,3 +17,4 @@ pub mod Through
 pub mod Begun
 pub mod Settled
 pub mod Whole
+pub mod Order
