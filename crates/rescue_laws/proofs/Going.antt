@@ -1,5 +1,5 @@
 -- Scripts that went on to their ends: each request that they couldn't go on without was done.
-use Rattle.std.proofs.Common.{◌≡◌, ◌∙◌, ℕ, Bool, true, false, true≢false, List, [], ◌∷◌, ◌++◌, refl, sym, ap, subst, append_assoc, Option}
+use Rattle.std.proofs.Common.{◌≡◌, ◌∙◌, true≢false, List, [], ◌∷◌, ◌++◌, refl, sym, ap, subst, append_assoc, Option}
 use Rattle.flop_base.specs.Shelf.{Files}
 use Rattle.flop_base.specs.declared.answers.Status.{Status}
 use Rattle.floppy_requests.specs.declared.request.Request.{Request}

@@ -1,5 +1,5 @@
 -- What comes before the records of a rescue: both diskettes are put in and made ready.
-use Rattle.std.proofs.Common.{◌≡◌, ◌∙◌, ℕ, Bool, true, false, List, [], ◌∷◌, ◌++◌, refl, sym, ap, subst, Option, Some}
+use Rattle.std.proofs.Common.{◌≡◌, ◌∙◌, ℕ, Bool, true, false, List, [], ◌∷◌, refl, ap, subst, Option, Some}
 use Rattle.std.specs.List.{flat_map, range_with_len}
 use Rattle.flop_base.specs.Shelf.{Files}
 use Rattle.flop_base.specs.declared.answers.Rate.{Rate}

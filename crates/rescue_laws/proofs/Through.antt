@@ -1,5 +1,5 @@
 -- A rescue that went on to its end went through its opening and its records, and stored the other diskette and the new log.
-use Rattle.std.proofs.Common.{◌≡◌, ◌∙◌, Bool, false, List, [], ◌∷◌, ◌++◌, ℕ, length, refl, sym, ap, subst, inl, inr, append-nil, Option, Some, Result, Ok, Err}
+use Rattle.std.proofs.Common.{◌≡◌, ◌∙◌, Bool, List, [], ◌∷◌, ◌++◌, ℕ, length, sym, ap, subst, inl, inr, append-nil, Option, Some, Result, Ok, Err}
 use Rattle.std.specs.Prelude.{is_some}
 use Rattle.std.specs.Option.{option_map}
 use Rattle.flop_base.specs.Shelf.{Files, stored}
@@ -19,7 +19,7 @@ use Rattle.sector_model.specs.Runs.{Taken}
 use Rattle.sector_model.specs.Plays.{World}
 use Rattle.floppy_session.specs.declared.shape.Shape.{Shape}
 use Rattle.floppy_session.specs.Shapes.{shape_of, shape_in}
-use Rattle.scripts.specs.Scripts.{Script, Ends, Stores, RunsScript, StoresLast, IsStored, NotStored, IsStoreFault}
+use Rattle.scripts.specs.Scripts.{Script, Ends, RunsScript, StoresLast, IsStored, NotStored, IsStoreFault}
 use Rattle.scripts.specs.Parts.{carries, may_starve, with_shape, opens, through}
 use Rattle.scripts.specs.Leading.{with_report}
 use Rattle.scripts.proofs.Reading.{need_run, last_run, last_stored, prints_status}
@@ -32,7 +32,7 @@ use Rattle.rescue.specs.declared.line.LogLine.{LogLine}
 use Rattle.rescue_commands.specs.declared.logs.NoLog.{NoLog}
 use Rattle.rescue_commands.specs.declared.logs.NoLog.TheVariants as none
 use Rattle.rescue_commands.specs.Logs.{IsLogFound, IsFound}
-use Rattle.rescue_commands.specs.Rescue.{rescues, asked_keys, outcome_of, last_text, prepares, rescues_all, stores_log, rescue_found, bad_log_text, tells_no_log, rescue_rest, Rescues}
+use Rattle.rescue_commands.specs.Rescue.{rescues, asked_keys, outcome_of, last_text, rescues_all, stores_log, rescue_found, bad_log_text, tells_no_log, rescue_rest, Rescues}
 use Rattle.rescue_laws.specs.Logged.{log_of}
 use Rattle.rescue_laws.specs.Rescued.{IsNotStopped}
 use Rattle.rescue_laws.proofs.Going.{later_fine, need_went, Carried, carried, more_carried}

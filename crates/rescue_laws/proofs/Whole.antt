@@ -1,5 +1,5 @@
 -- Rescues, by the status with which they end: what is stored and told, and when the log is exactly the keys that aren't found.
-use Rattle.std.proofs.Common.{arith, ◌≡◌, ◌≢◌, ◌∙◌, ◌+◌, ◌-◌, ◌≤◌, ℕ, Bool, true, false, List, [], ◌∷◌, ◌++◌, map, length, refl, sym, ap, subst, append-nil, Option, Some, None}
+use Rattle.std.proofs.Common.{arith, ◌≡◌, ◌≢◌, ◌∙◌, ◌+◌, ◌-◌, ◌≤◌, ℕ, Bool, true, false, List, [], ◌∷◌, length, refl, sym, ap, subst, Option, Some, None}
 use Rattle.std.specs.Prelude.{is_some, IfSome}
 use Rattle.std.specs.FinMap as fin
 use Rattle.flop_base.specs.Shelf.{Files, file_at, stored}
@@ -17,7 +17,7 @@ use Rattle.floppy_requests.specs.declared.request.Request.TheVariants as request
 use Rattle.sector_model.specs.Stations.{Bay, bay_of}
 use Rattle.sector_model.specs.States.{State}
 use Rattle.sector_model.specs.Steps.{IsImageOf}
-use Rattle.sector_model.specs.Runs.{Taken, Run}
+use Rattle.sector_model.specs.Runs.{Taken}
 use Rattle.sector_model.specs.Plays.{World}
 use Rattle.floppy_session.specs.declared.shape.Shape.{Shape}
 use Rattle.floppy_session.specs.Shapes.{shape_of}
@@ -27,7 +27,7 @@ use Rattle.disk_laws.specs.VerifyRuns.{IsEndStatus}
 use Rattle.disk_laws.specs.Verified.{IsUnmistaken}
 use Rattle.disk_laws.proofs.CopiedTrack.{both_fell}
 use Rattle.disk_laws.proofs.Reading.{Holds}
-use Rattle.disk_laws.proofs.Steps.{NeverFell, never_fell, run_never_fell}
+use Rattle.disk_laws.proofs.Steps.{NeverFell, never_fell}
 use Rattle.disk_laws.proofs.Verified.{image_ranges}
 use Rattle.rescue.specs.Course.{outcome_status}
 use Rattle.rescue.specs.Log.{log_text}
@@ -44,7 +44,7 @@ use Rattle.rescue_laws.proofs.Gone.{keys_fell}
 use Rattle.rescue_laws.proofs.Laying.{first_stays, formats_keep}
 use Rattle.rescue_laws.proofs.Opening.{AreOpen, opening, formats_for, opens_blank, opens_other}
 use Rattle.rescue_laws.proofs.Plain.{opening_plain}
-use Rattle.rescue_laws.proofs.Settled.{Settles, parts, fell_later, settles_new, settles_again}
+use Rattle.rescue_laws.proofs.Settled.{Settles, parts, settles_new, settles_again}
 use Rattle.rescue_laws.proofs.Through.{GoesThrough, goes_through}
 
 -- ---- what is stored and told
