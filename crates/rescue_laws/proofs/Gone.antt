@@ -1,4 +1,4 @@
--- Records of a rescue that were gone through: each was read, and written where it was read.
+-- Parts of a rescue that went on to its end: requests that were done, and records that were read, and written where they were read.
 use Rattle.std.proofs.Common.{arith, ◌≡◌, ◌∙◌, Bool, true, false, true≢false, List, [], ◌∷◌, ◌++◌, refl, sym, ap, subst, inl, inr, append-nil, append_assoc, Option, Result, Ok, Err}
 use Rattle.flop_base.specs.Shelf.{Files}
 use Rattle.flop_base.specs.declared.key.Chrn.{Chrn}
@@ -6,28 +6,105 @@ use Rattle.flop_base.specs.declared.answers.Code.{Code}
 use Rattle.flop_base.specs.declared.answers.Code.TheVariants as code
 use Rattle.flop_base.specs.declared.answers.Status.{Status}
 use Rattle.flop_base.specs.declared.answers.Status.TheVariants as status
+use Rattle.floppy_requests.specs.declared.request.Request.{Request}
 use Rattle.sector_model.specs.declared.reply.Reply.{Reply}
 use Rattle.sector_model.specs.declared.reply.Reason.TheVariants as reason
 use Rattle.sector_model.specs.States.{State}
 use Rattle.sector_model.specs.Reads.{Reads}
 use Rattle.sector_model.specs.Steps.{Step, IsDriverCall, read_reply}
 use Rattle.sector_model.specs.Texts.{is_refusal}
-use Rattle.sector_model.specs.Runs.{Taken}
+use Rattle.sector_model.specs.Runs.{Taken, requests_of}
 use Rattle.sector_model.specs.Plays.{World}
 use Rattle.scripts.specs.Scripts.{Script, RunsScript}
 use Rattle.scripts.specs.Parts.{carries, may_starve, through}
 use Rattle.scripts.specs.Leading.{with_report}
-use Rattle.scripts.proofs.Reading.{IsAnswered, AskRun, ask_answered, ask_run, carry_run}
+use Rattle.scripts.proofs.Reading.{NeedRun, IsDone, IsAnswered, last_run, ask_answered, need_taken, ask_run, carry_run}
+use Rattle.disk_laws.specs.Done.{DoesAll}
 use Rattle.disk_laws.specs.VerifyRuns.{IsEndStatus}
 use Rattle.disk_laws.proofs.CopiedTrack.{both_fell}
 use Rattle.disk_laws.proofs.Steps.{NeverFell, step_never_fell}
+use Rattle.disk_laws.proofs.VerifyRun.{end_is_whole}
 use Rattle.rescue.specs.Course.{read_of, write_of}
 use Rattle.rescue.specs.declared.line.LogLine.{LogLine}
 use Rattle.rescue_commands.specs.Rescue.{gives_up, does_next, follows, rescues}
 use Rattle.rescue_laws.specs.Logged.{line_at, log_of}
 use Rattle.rescue_laws.specs.Rescued.{IsNotStopped}
-use Rattle.rescue_laws.proofs.Going.{later_fine, went_on, need_went}
 use Rattle.rescue_laws.proofs.Reading.{call_fell, line_of_refused, line_of_done, read_done, write_keeps}
+
+-- ---- requests
+
+-- a run that no refusal stopped has none at the end of its later part
+pub later_fine : (one two course : List Taken) → course ≡ one ++ two → IsNotStopped course → IsNotStopped two
+later_fine one two course whole fine before last is =
+    fine (one ++ before) last (whole ∙ ap (λ (row : List Taken). one ++ row) is ∙ sym (append_assoc one before (last ∷ [])))
+
+-- a request that the script couldn't go on without was done
+pub need_went : (asked : Request) (rest : Reply → State → Script) (old : World) (course : List Taken) (new : World) (ended : Status)
+    → IsEndStatus ended → IsNotStopped course → NeedRun asked rest old course new ended → IsDone asked rest old course new ended
+need_went asked rest old course new ended whole fine run =
+    need_taken asked rest old course new ended (end_is_whole ended whole)
+    (λ refused. true≢false (sym (ap is_refusal refused.answered) ∙ fine [] refused.taken refused.course_is)) run
+
+-- requests that a script can't go on without, one after the other
+abbrev pub carries_all : List Request → Script → Script
+carries_all [] rest = rest
+carries_all (asked ∷ requests) rest = carries asked (λ none. carries_all requests rest)
+
+-- requests were done
+abbrev pub Done : List Request → World → List Taken → World → Type 0
+Done requests old course new = DoesAll requests old.state old.files course new.state new.files
+
+-- they were, by the first part of a course, and then what follows was run
+pub record Carried (requests : List Request) (rest : Script) (old : World) (course : List Taken) (new : World) (ended : Status) : Type 0 where
+  pub mid : World
+  pub one : List Taken
+  pub two : List Taken
+  pub is : course ≡ one ++ two
+  pub before : Done requests old one mid
+  pub report : mid.report ≡ old.report
+  pub left : RunsScript rest mid two new ended
+
+-- the world behind a step
+abbrev pub behind : {asked : Request} {rest : Reply → State → Script} {old new : World} {course : List Taken} {ended : Status} → IsAnswered asked rest old course new ended → World
+behind {old = old} run = with_report run.taken.after run.files old.report
+
+-- one more before them
+pub more_carried : (asked : Request) (requests : List Request) (next : Reply → State → Script) (rest : Script) (old : World) (course : List Taken) (new : World)
+    → (ended : Status) (one : IsDone asked next old course new ended)
+    → Carried requests rest (behind one.run) one.run.later new ended → Carried (asked ∷ requests) rest old course new ended
+more_carried asked requests next rest old course new ended one tail =
+    let run = one.run in
+    let done = one.fine in
+    record {
+      mid = tail.mid;
+      one = run.taken ∷ tail.one;
+      two = tail.two;
+      is = run.course_is ∙ ap (λ (row : List Taken). run.taken ∷ row) tail.is;
+      before = record {
+        run = (run.files, subst (λ (q : Request). Step q old.state old.files run.taken.answer run.taken.after run.files) (sym run.asked_is) run.step, tail.before.run);
+        all = ap (λ (q : Request). q ∷ requests_of tail.one) run.asked_is ∙ ap (λ (row : List Request). asked ∷ row) tail.before.all;
+        done = rw done tail.before.done;
+      };
+      report = tail.report;
+      left = tail.left;
+    }
+
+pub carried : (requests : List Request) (rest : Script) (old : World) (course : List Taken) (new : World) (ended : Status)
+    → IsEndStatus ended → IsNotStopped course → RunsScript (carries_all requests rest) old course new ended → Carried requests rest old course new ended
+carried [] rest old course new ended whole fine runs = record {
+  mid = old;
+  one = [];
+  two = course;
+  is = refl;
+  before = record { run = (refl, refl); all = refl; done = refl };
+  report = refl;
+  left = runs;
+}
+carried (asked ∷ requests) rest old course new ended whole fine runs =
+    let later = carries_all requests rest in
+    let one = need_went asked (λ answer after. later) old course new ended whole fine (carry_run asked (λ none. later) old course new ended runs) in
+    more_carried asked requests (λ answer after. later) rest old course new ended one
+    (carried requests rest (behind one.run) one.run.later new ended whole (later_fine (one.run.taken ∷ []) one.run.later course one.run.course_is fine) one.run.left)
 
 -- ---- what follows the read of a record
 
@@ -40,100 +117,98 @@ pub data FollowRun (key : Chrn) (called : Result Bool Code) (lines : List LogLin
   GivesUp : (cause : Code) → called ≡ Err cause → course ≡ [] → new.files ≡ old.files → FollowRun key called lines rest old course new ended
   Starves : new.files ≡ old.files → ended ≡ status.NoMemory → FollowRun key called lines rest old course new ended
 
-logs_run : (key : Chrn) (cause : Code) (lines : List LogLine) (rest : List LogLine → Script) (old : World) (course : List Taken) (new : World) (ended : Status) → RunsScript (may_starve (λ none. rest (lines ++ (record { key = key; code = cause }) ∷ []))) old course new ended → FollowRun key (Err cause) lines rest old course new ended
-unfolding may_starve
-logs_run key cause lines rest old course new ended (inl runs) = Logs cause refl runs
-logs_run key cause lines rest old course new ended (inr none) = Starves (ap (λ (w : World). w.files) none.1) none.2
+module _ (key : Chrn) (lines : List LogLine) (rest : List LogLine → Script) (old : World) (course : List Taken) (new : World) (ended : Status) where
+  logs : (cause : Code) → RunsScript (may_starve (λ none. rest (lines ++ (record { key = key; code = cause }) ∷ []))) old course new ended
+      → FollowRun key (Err cause) lines rest old course new ended
+  unfolding may_starve
+  logs cause (inl runs) = Logs cause refl runs
+  logs cause (inr none) = Starves (ap (λ (w : World). w.files) none.1) none.2
 
-gives_up_run : (key : Chrn) (cause : Code) (lines : List LogLine) (rest : List LogLine → Script) (old : World) (course : List Taken) (new : World) (ended : Status) → RunsScript (gives_up key (reason.Driver cause)) old course new ended → FollowRun key (Err cause) lines rest old course new ended
-gives_up_run key cause lines rest old [] new ended runs = GivesUp cause refl refl runs.files
-gives_up_run key cause lines rest old (taken ∷ later) new ended runs = absurd runs
+  gives : (cause : Code) → RunsScript (gives_up key (reason.Driver cause)) old course new ended → FollowRun key (Err cause) lines rest old course new ended
+  gives cause runs = let last = last_run _ _ old course new ended runs in GivesUp cause refl last.0 last.1.files
 
-pub follow_run : (key : Chrn) (called : Result Bool Code) (lines : List LogLine) (rest : List LogLine → Script) (old : World) (course : List Taken) (new : World) (ended : Status) → RunsScript (follows key (read_reply called) lines rest) old course new ended → FollowRun key called lines rest old course new ended
-unfolding follows does_next
-follow_run key (Ok true) lines rest old course new ended runs = Writes true refl runs
-follow_run key (Ok false) lines rest old course new ended runs = Writes false refl runs
-follow_run key (Err code.NoMark) lines rest old course new ended runs = logs_run key code.NoMark lines rest old course new ended runs
-follow_run key (Err code.NotFound) lines rest old course new ended runs = logs_run key code.NotFound lines rest old course new ended runs
-follow_run key (Err code.Overrun) lines rest old course new ended runs = logs_run key code.Overrun lines rest old course new ended runs
-follow_run key (Err code.BadCrc) lines rest old course new ended runs = logs_run key code.BadCrc lines rest old course new ended runs
-follow_run key (Err code.Seek) lines rest old course new ended runs = logs_run key code.Seek lines rest old course new ended runs
-follow_run key (Err code.BadRequest) lines rest old course new ended runs = gives_up_run key code.BadRequest lines rest old course new ended runs
-follow_run key (Err code.Protected) lines rest old course new ended runs = gives_up_run key code.Protected lines rest old course new ended runs
-follow_run key (Err code.Changed) lines rest old course new ended runs = gives_up_run key code.Changed lines rest old course new ended runs
-follow_run key (Err code.Page) lines rest old course new ended runs = gives_up_run key code.Page lines rest old course new ended runs
-follow_run key (Err code.NotReady) lines rest old course new ended runs = gives_up_run key code.NotReady lines rest old course new ended runs
+  pub follow_run : (called : Result Bool Code) → RunsScript (follows key (read_reply called) lines rest) old course new ended
+      → FollowRun key called lines rest old course new ended
+  unfolding follows does_next
+  follow_run (Ok true) runs = Writes true refl runs
+  follow_run (Ok false) runs = Writes false refl runs
+  follow_run (Err code.NoMark) runs = logs code.NoMark runs
+  follow_run (Err code.NotFound) runs = logs code.NotFound runs
+  follow_run (Err code.Overrun) runs = logs code.Overrun runs
+  follow_run (Err code.BadCrc) runs = logs code.BadCrc runs
+  follow_run (Err code.Seek) runs = logs code.Seek runs
+  follow_run (Err code.BadRequest) runs = gives code.BadRequest runs
+  follow_run (Err code.Protected) runs = gives code.Protected runs
+  follow_run (Err code.Changed) runs = gives code.Changed runs
+  follow_run (Err code.Page) runs = gives code.Page runs
+  follow_run (Err code.NotReady) runs = gives code.NotReady runs
 
 -- ---- records that were gone through
 
--- how a course goes on
-abbrev pub Behind : Type 1
-Behind = State → Option Files → List Taken → State → Option Files → Type 0
-
--- a record was read and written, and then the course went on
-pub record KeyWritten (key : Chrn) (rest : Behind) (old : State) (told : Option Files) (course : List Taken) (new : State) (after : Option Files) : Type 0 where
-  pub deleted : Bool
-  pub read : Taken
-  pub write : Taken
-  pub later : List Taken
-  pub is : course ≡ read ∷ write ∷ later
-  pub files : Option Files
-  pub more : Option Files
+-- a record was read, with this outcome
+pub record IsRead (key : Chrn) (called : Result Bool Code) (old : World) (read : Taken) (files : Option Files) : Type 0 where
   pub asked : read.asked ≡ read_of key
-  pub answered : read.answer ≡ read_reply (Ok deleted)
-  pub call : IsDriverCall old told read.after files
-  pub reads : Reads 0 key 0x10000 old.station (Ok deleted) read.after.station
-  pub writes : write.asked ≡ write_of key deleted
+  pub answered : read.answer ≡ read_reply called
+  pub call : IsDriverCall old.state old.files read.after files
+  pub reads : Reads 0 key 0x10000 old.state.station called read.after.station
+
+-- it was written, with this mark
+pub record IsWrite (key : Chrn) (deleted : Bool) (old : World) (write : Taken) (files : Option Files) : Type 0 where
+  pub asked : write.asked ≡ write_of key deleted
   pub done : is_refusal write.answer ≡ false
-  pub stores : Step (write_of key deleted) read.after files write.answer write.after more
-  pub goes : rest write.after more later new after
+  pub step : Step (write_of key deleted) old.state old.files write.answer write.after files
 
--- it was read, the drive refused it, and then the course went on
-pub record KeyLogged (key : Chrn) (rest : Behind) (old : State) (told : Option Files) (course : List Taken) (new : State) (after : Option Files) : Type 0 where
-  pub cause : Code
-  pub read : Taken
-  pub later : List Taken
-  pub is : course ≡ read ∷ later
-  pub files : Option Files
-  pub asked : read.asked ≡ read_of key
-  pub answered : read.answer ≡ read_reply (Err cause)
-  pub call : IsDriverCall old told read.after files
-  pub reads : Reads 0 key 0x10000 old.station (Err cause) read.after.station
-  pub goes : rest read.after files later new after
-
-pub data GoesKey (key : Chrn) (rest : Behind) (old : State) (told : Option Files) (course : List Taken) (new : State) (after : Option Files) : Type 0 where
-  IsWritten : KeyWritten key rest old told course new after → GoesKey key rest old told course new after
-  IsLogged : KeyLogged key rest old told course new after → GoesKey key rest old told course new after
+-- a record that was read was written, and one that was refused wasn't; and then the course went on
+abbrev pub GoesAfter : Chrn → Result Bool Code → (World → List Taken → World → Type 0) → World → List Taken → World → Type 0
+GoesAfter key (Err cause) rest old course new = rest old course new
+GoesAfter key (Ok deleted) rest old [] new = ⊥
+GoesAfter key (Ok deleted) rest old (write ∷ later) new =
+    (files : Option Files) × IsWrite key deleted old write files × rest (with_report write.after files old.report) later new
 
 -- a course goes through the records of these keys
-abbrev pub GoesKeys : List Chrn → Behind
-GoesKeys [] old told course new after = (course ≡ []) × (new ≡ old) × (after ≡ told)
-GoesKeys (key ∷ keys) old told course new after = GoesKey key (GoesKeys keys) old told course new after
+abbrev pub GoesKeys : List Chrn → World → List Taken → World → Type 0
+GoesKeys [] old course new = (course ≡ []) × (new ≡ old)
+GoesKeys (key ∷ keys) old [] new = ⊥
+GoesKeys (key ∷ keys) old (read ∷ later) new =
+    (called : Result Bool Code) × (files : Option Files) × IsRead key called old read files
+    × GoesAfter key called (GoesKeys keys) (with_report read.after files old.report) later new
 
--- no count falls in them
-pub keys_fell : (keys : List Chrn) (old new : State) (told after : Option Files) (course : List Taken) → GoesKeys keys old told course new after → NeverFell old.station.counters new.station.counters
-keys_fell [] old new told after course goes =
-    subst (λ (s : State). NeverFell old.station.counters s.station.counters) (sym goes.1) (record { first = omega arith; second = omega arith; stalls = omega arith })
-keys_fell (key ∷ keys) old new told after course (IsWritten took) =
-    let read = took.read.after.station.counters in
-    let wrote = step_never_fell took.read.after took.write.after took.files took.more (write_of key took.deleted) took.write.answer took.stores (write_keeps key took.deleted) in
-    both_fell old.station.counters read new.station.counters (call_fell old took.read.after told took.files took.call)
-    (both_fell read took.write.after.station.counters new.station.counters wrote (keys_fell keys took.write.after new took.more after took.later took.goes))
-keys_fell (key ∷ keys) old new told after course (IsLogged took) =
-    both_fell old.station.counters took.read.after.station.counters new.station.counters (call_fell old took.read.after told took.files took.call)
-    (keys_fell keys took.read.after new took.files after took.later took.goes)
+-- no count falls between two worlds
+abbrev pub Fell : World → World → Type 0
+Fell old new = NeverFell old.state.station.counters new.state.station.counters
+
+pub fell_both : (old mid new : World) → Fell old mid → Fell mid new → Fell old new
+fell_both old mid new one two = both_fell old.state.station.counters mid.state.station.counters new.state.station.counters one two
+
+pub write_fell : (key : Chrn) (deleted : Bool) (old new : World) (write : Taken) (files : Option Files) → new.state ≡ write.after → IsWrite key deleted old write files → Fell old new
+write_fell key deleted old new write files is wrote =
+    subst (λ (s : State). NeverFell old.state.station.counters s.station.counters) (sym is)
+    (step_never_fell old.state write.after old.files files (write_of key deleted) write.answer wrote.step (write_keeps key deleted))
+
+pub keys_fell : (keys : List Chrn) (old : World) (course : List Taken) (new : World) → GoesKeys keys old course new → Fell old new
+keys_fell [] old course new goes = subst (Fell old) (sym goes.1) (record { first = omega arith; second = omega arith; stalls = omega arith })
+keys_fell (key ∷ keys) old [] new goes = absurd goes
+keys_fell (key ∷ keys) old (read ∷ later) new (Err cause, files, is, goes) =
+    let mid = with_report read.after files old.report in
+    fell_both old mid new (call_fell old.state read.after old.files files is.call) (keys_fell keys mid later new goes)
+keys_fell (key ∷ keys) old (read ∷ []) new (Ok deleted, files, is, goes) = absurd goes
+keys_fell (key ∷ keys) old (read ∷ write ∷ later) new (Ok deleted, files, is, (more, wrote, goes)) =
+    let mid = with_report read.after files old.report in
+    let next = with_report write.after more old.report in
+    fell_both old mid new (call_fell old.state read.after old.files files is.call)
+    (fell_both mid next new (write_fell key deleted mid next write more refl wrote) (keys_fell keys next later new goes))
 
 -- ---- by a script that went on to its end
 
--- the records were gone through, and then what follows their lines was run
+-- the records were gone through by the first part of a course, and then what follows their lines was run
 pub record KeysGone (keys : List Chrn) (lines : List LogLine) (rest : List LogLine → Script) (old : World) (course : List Taken) (new : World) (ended : Status) : Type 0 where
-  pub mid : State
-  pub files : Option Files
+  pub mid : World
   pub one : List Taken
   pub two : List Taken
   pub is : course ≡ one ++ two
-  pub goes : GoesKeys keys old.state old.files one mid files
-  pub left : RunsScript (rest (lines ++ log_of one)) (with_report mid files old.report) two new ended
+  pub goes : GoesKeys keys old one mid
+  pub report : mid.report ≡ old.report
+  pub left : RunsScript (rest (lines ++ log_of one)) mid two new ended
 
 module _ (rest : List LogLine → Script) (new : World) (ended : Status) (whole : IsEndStatus ended) where
   -- how the keys behind the first one go on
@@ -145,106 +220,77 @@ module _ (rest : List LogLine → Script) (new : World) (ended : Status) (whole 
     abbrev Rest : List LogLine → Script
     Rest now = through rescues keys now rest
 
-    module _ (run : IsAnswered (read_of key) (λ answer after. follows key answer lines Rest) old course new ended) where
-      abbrev mid : World
-      mid = with_report run.taken.after run.files old.report
+    abbrev Run : Type 0
+    Run = IsAnswered (read_of key) (λ answer after. follows key answer lines Rest) old course new ended
 
-      fine_later : IsNotStopped run.later
-      fine_later = later_fine (run.taken ∷ []) run.later course run.course_is fine
+    -- it was written
+    wrote : (run : Run) (deleted : Bool) → IsRead key (Ok deleted) old run.taken run.files → IsNotStopped run.later
+        → RunsScript (carries (write_of key deleted) (λ none. Rest lines)) (behind run) run.later new ended → KeysGone (key ∷ keys) lines rest old course new ended
+    wrote run deleted is later runs =
+        let asked = write_of key deleted in
+        let one = need_went asked (λ answer after. Rest lines) (behind run) run.later new ended whole later (carry_run asked (λ none. Rest lines) (behind run) run.later new ended runs) in
+        let write = one.run in
+        let all = next lines (behind write) write.later (later_fine (write.taken ∷ []) write.later run.later write.course_is later) write.left in
+        let none : line_at run.taken.asked run.taken.answer ≡ [] = line_of_done run.taken.asked run.taken.answer (ap is_refusal is.answered ∙ read_done deleted) in
+        let also : line_at write.taken.asked write.taken.answer ≡ [] = line_of_done write.taken.asked write.taken.answer one.fine in
+        let same : log_of (run.taken ∷ write.taken ∷ all.one) ≡ log_of all.one = rw (none, also) refl in
+        record {
+          mid = all.mid;
+          one = run.taken ∷ write.taken ∷ all.one;
+          two = all.two;
+          is = run.course_is ∙ ap (λ (row : List Taken). run.taken ∷ row) (write.course_is ∙ ap (λ (row : List Taken). write.taken ∷ row) all.is);
+          goes = (Ok deleted, run.files, is, (write.files, record { asked = write.asked_is; done = one.fine; step = write.step }, all.goes));
+          report = all.report;
+          left = subst (λ (row : List LogLine). RunsScript (rest (lines ++ row)) all.mid all.two new ended) (sym same) all.left;
+        }
 
-      -- it was written
-      wrote : (deleted : Bool) → run.taken.answer ≡ read_reply (Ok deleted) → Reads 0 key 0x10000 old.state.station (Ok deleted) run.taken.after.station → RunsScript (carries (write_of key deleted) (λ none. Rest lines)) mid run.later new ended → KeysGone (key ∷ keys) lines rest old course new ended
-      wrote deleted answered reads runs =
-          let one = need_went (write_of key deleted) (λ answer after. Rest lines) mid run.later new ended whole fine_later (carry_run (write_of key deleted) (λ none. Rest lines) mid run.later new ended runs) in
-          let write = one.run in
-          let all = next lines (with_report write.taken.after write.files old.report) write.later (later_fine (write.taken ∷ []) write.later run.later write.course_is fine_later) write.left in
-          let none : line_at run.taken.asked run.taken.answer ≡ [] = line_of_done run.taken.asked run.taken.answer (ap is_refusal answered ∙ read_done deleted) in
-          let also : line_at write.taken.asked write.taken.answer ≡ [] = line_of_done write.taken.asked write.taken.answer one.fine in
-          let same : log_of (run.taken ∷ write.taken ∷ all.one) ≡ log_of all.one = rw (none, also) refl in
-          record {
-            mid = all.mid;
-            files = all.files;
-            one = run.taken ∷ write.taken ∷ all.one;
-            two = all.two;
-            is = run.course_is ∙ ap (λ (row : List Taken). run.taken ∷ row) (write.course_is ∙ ap (λ (row : List Taken). write.taken ∷ row) all.is);
-            goes = IsWritten (record {
-              deleted = deleted;
-              read = run.taken;
-              write = write.taken;
-              later = all.one;
-              is = refl;
-              files = run.files;
-              more = write.files;
-              asked = run.asked_is;
-              answered = answered;
-              call = run.step.0;
-              reads = reads;
-              writes = write.asked_is;
-              done = one.fine;
-              stores = write.step;
-              goes = all.goes;
-            });
-            left = subst (λ (row : List LogLine). RunsScript (rest (lines ++ row)) (with_report all.mid all.files old.report) all.two new ended) (sym same) all.left;
-          }
+    -- its line came behind the log
+    logged : (run : Run) (cause : Code) → IsRead key (Err cause) old run.taken run.files → IsNotStopped run.later
+        → RunsScript (Rest (lines ++ (record { key = key; code = cause }) ∷ [])) (behind run) run.later new ended → KeysGone (key ∷ keys) lines rest old course new ended
+    logged run cause is later runs =
+        let line : LogLine = record { key = key; code = cause } in
+        let all = next (lines ++ line ∷ []) (behind run) run.later later runs in
+        let same : (lines ++ line ∷ []) ++ log_of all.one ≡ lines ++ log_of (run.taken ∷ all.one) =
+            append_assoc lines (line ∷ []) (log_of all.one)
+            ∙ ap (λ (row : List LogLine). lines ++ (row ++ log_of all.one)) (sym (line_of_refused key cause run.taken is.asked is.answered)) in
+        record {
+          mid = all.mid;
+          one = run.taken ∷ all.one;
+          two = all.two;
+          is = run.course_is ∙ ap (λ (row : List Taken). run.taken ∷ row) all.is;
+          goes = (Err cause, run.files, is, all.goes);
+          report = all.report;
+          left = subst (λ (row : List LogLine). RunsScript (rest row) all.mid all.two new ended) same all.left;
+        }
 
-      -- its line came behind the log
-      logged : (cause : Code) → run.taken.answer ≡ read_reply (Err cause) → Reads 0 key 0x10000 old.state.station (Err cause) run.taken.after.station → RunsScript (Rest (lines ++ (record { key = key; code = cause }) ∷ [])) mid run.later new ended → KeysGone (key ∷ keys) lines rest old course new ended
-      logged cause answered reads runs =
-          let line : LogLine = record { key = key; code = cause } in
-          let all = next (lines ++ line ∷ []) mid run.later fine_later runs in
-          let here = line_of_refused key cause run.taken run.asked_is answered in
-          let same : (lines ++ line ∷ []) ++ log_of all.one ≡ lines ++ log_of (run.taken ∷ all.one) =
-              append_assoc lines (line ∷ []) (log_of all.one) ∙ ap (λ (row : List LogLine). lines ++ (row ++ log_of all.one)) (sym here) in
-          record {
-            mid = all.mid;
-            files = all.files;
-            one = run.taken ∷ all.one;
-            two = all.two;
-            is = run.course_is ∙ ap (λ (row : List Taken). run.taken ∷ row) all.is;
-            goes = IsLogged (record {
-              cause = cause;
-              read = run.taken;
-              later = all.one;
-              is = refl;
-              files = run.files;
-              asked = run.asked_is;
-              answered = answered;
-              call = run.step.0;
-              reads = reads;
-              goes = all.goes;
-            });
-            left = subst (λ (row : List LogLine). RunsScript (rest row) (with_report all.mid all.files old.report) all.two new ended) same all.left;
-          }
+    by_next : (run : Run) (called : Result Bool Code) → IsRead key called old run.taken run.files → FollowRun key called lines Rest (behind run) run.later new ended
+        → IsNotStopped run.later → KeysGone (key ∷ keys) lines rest old course new ended
+    by_next run called is (Writes deleted same runs) later = wrote run deleted (subst (λ (c : Result Bool Code). IsRead key c old run.taken run.files) same is) later runs
+    by_next run called is (Logs cause same runs) later = logged run cause (subst (λ (c : Result Bool Code). IsRead key c old run.taken run.files) same is) later runs
+    by_next run called is (GivesUp cause same nothing stays) later =
+        absurd (true≢false (sym (ap is_refusal (is.answered ∙ ap read_reply same)) ∙ fine [] run.taken (run.course_is ∙ ap (λ (row : List Taken). run.taken ∷ row) nothing)))
+    by_next run called is (Starves stays starved) later = absurd (subst IsEndStatus starved whole)
 
-      by_next : (called : Result Bool Code) → run.taken.answer ≡ read_reply called → Reads 0 key 0x10000 old.state.station called run.taken.after.station → FollowRun key called lines Rest mid run.later new ended → KeysGone (key ∷ keys) lines rest old course new ended
-      by_next called answered reads (Writes deleted is runs) =
-          wrote deleted (answered ∙ ap read_reply is) (subst (λ (c : Result Bool Code). Reads 0 key 0x10000 old.state.station c run.taken.after.station) is reads) runs
-      by_next called answered reads (Logs cause is runs) =
-          logged cause (answered ∙ ap read_reply is) (subst (λ (c : Result Bool Code). Reads 0 key 0x10000 old.state.station c run.taken.after.station) is reads) runs
-      by_next called answered reads (GivesUp cause is nothing same) =
-          let last = fine [] run.taken (run.course_is ∙ ap (λ (row : List Taken). run.taken ∷ row) nothing) in
-          absurd (true≢false (sym (ap is_refusal (answered ∙ ap read_reply is)) ∙ last))
-      by_next called answered reads (Starves same starved) = absurd (subst IsEndStatus starved whole)
-
-    by_read : AskRun (read_of key) (λ answer after. follows key answer lines Rest) old course new ended → KeysGone (key ∷ keys) lines rest old course new ended
-    by_read asked =
-        let run = ask_answered (read_of key) (λ answer after. follows key answer lines Rest) old course new ended (went_on ended whole) asked in
+    by_read : Run → KeysGone (key ∷ keys) lines rest old course new ended
+    by_read run =
         let called = run.step.1.0 in
-        let answered = run.step.1.1 in
-        let runs = subst (λ (r : Reply). RunsScript (follows key r lines Rest) (mid run) run.later new ended) answered run.left in
-        by_next run called answered run.step.1.2 (follow_run key called lines Rest (mid run) run.later new ended runs)
+        let runs = subst (λ (r : Reply). RunsScript (follows key r lines Rest) (behind run) run.later new ended) run.step.1.1 run.left in
+        by_next run called (record { asked = run.asked_is; answered = run.step.1.1; call = run.step.0; reads = run.step.1.2 })
+        (follow_run key lines Rest (behind run) run.later new ended called runs) (later_fine (run.taken ∷ []) run.later course run.course_is fine)
 
-pub keys_gone : (keys : List Chrn) (lines : List LogLine) (rest : List LogLine → Script) (old : World) (course : List Taken) (new : World) (ended : Status) → IsEndStatus ended → IsNotStopped course → RunsScript (through rescues keys lines rest) old course new ended → KeysGone keys lines rest old course new ended
+pub keys_gone : (keys : List Chrn) (lines : List LogLine) (rest : List LogLine → Script) (old : World) (course : List Taken) (new : World) (ended : Status)
+    → IsEndStatus ended → IsNotStopped course → RunsScript (through rescues keys lines rest) old course new ended → KeysGone keys lines rest old course new ended
 unfolding through rescues
 keys_gone [] lines rest old course new ended whole fine runs = record {
-  mid = old.state;
-  files = old.files;
+  mid = old;
   one = [];
   two = course;
   is = refl;
-  goes = (refl, refl, refl);
+  goes = (refl, refl);
+  report = refl;
   left = subst (λ (row : List LogLine). RunsScript (rest row) old course new ended) (sym (append-nil lines)) runs;
 }
 keys_gone (key ∷ keys) lines rest old course new ended whole fine runs =
+    let follow = λ (answer : Reply) (after : State). follows key answer lines (λ now. through rescues keys now rest) in
     by_read rest new ended whole key keys (λ more now later sound next. keys_gone keys more rest now later new ended whole sound next) lines old course fine
-    (ask_run (read_of key) (λ answer after. follows key answer lines (λ now. through rescues keys now rest)) old course new ended runs)
+    (ask_answered (read_of key) follow old course new ended (end_is_whole ended whole) (ask_run (read_of key) follow old course new ended runs))

@@ -1,34 +1,49 @@
 -- What comes before the records of a rescue: both diskettes are put in and made ready.
-use Rattle.std.proofs.Common.{◌≡◌, ◌∙◌, ℕ, Bool, true, false, List, [], ◌∷◌, refl, ap, subst, Option, Some}
-use Rattle.std.specs.List.{flat_map, range_with_len}
+use Rattle.std.proofs.Common.{arith, ◌≡◌, ◌∙◌, ◌≤◌, ℕ, List, ◌∷◌, ◌++◌, refl, ap, Option, Some, Bool, true, false, [], subst, sym, inl, inr, length, ◌<◌}
+use Rattle.std.specs.List.{flat_map, range_with_len, list_all}
+use Rattle.std.specs.Prelude.{◌⊎◌}
 use Rattle.flop_base.specs.Shelf.{Files}
 use Rattle.flop_base.specs.declared.answers.Rate.{Rate}
 use Rattle.flop_base.specs.declared.answers.Rate.TheVariants.{R500, R250}
-use Rattle.raw_image.specs.Disk.{Disk, IsDisk}
+use Rattle.flop_base.specs.Standard.{gap_at, words_at}
+use Rattle.raw_image.specs.Disk.{Disk, IsDisk, HasTrack, track_of}
 use Rattle.bay_model.specs.Bays.{Two, in_bay}
+use Rattle.bay_model.specs.Counters.{faults_of, IsFaultless, IsUndisturbed}
+use Rattle.bay_model.specs.Memory.{user_bytes}
+use Rattle.track_model.specs.Laid.{IsLaid}
 use Rattle.floppy_requests.specs.declared.request.Request.{Request}
 use Rattle.floppy_requests.specs.declared.request.Request.TheVariants as request
-use Rattle.sector_model.specs.declared.reply.Reply.{Reply}
-use Rattle.sector_model.specs.Stations.{StationState, bay_of}
+use Rattle.sector_map.specs.KeptDisks.{AreAlike}
+use Rattle.sector_map.proofs.KeptTracks.{alike_itself, alike_both, alike_tracks}
+use Rattle.sector_map.specs.Disks.{IsRegularDisk}
+use Rattle.sector_model.specs.Stations.{StationState, Bay, bay_of}
+use Rattle.sector_model.specs.Orders.{rate_refusal, format_refusal}
 use Rattle.sector_model.specs.States.{State}
+use Rattle.sector_model.specs.Runs.{Taken}
+use Rattle.sector_model.specs.declared.reply.Reply.{Reply}
 use Rattle.sector_model.specs.Steps.{Step, IsImageOf, blank_of}
 use Rattle.sector_model.specs.Texts.{is_refusal}
-use Rattle.sector_model.specs.Runs.{Taken}
 use Rattle.floppy_session.specs.Blanks.{blank_request}
 use Rattle.floppy_session.specs.declared.shape.Shape.{Shape}
+use Rattle.floppy_session.specs.Shapes.{shape_of}
+use Rattle.scripts.specs.Parts.{rate_requests, Part, carries, sets_rate, acknowledges, through, each, by_track, formats}
 use Rattle.scripts.specs.Scripts.{Script}
-use Rattle.scripts.specs.Parts.{Part, carries, sets_rate, acknowledges, through, each, by_track, formats}
 use Rattle.scripts.proofs.Passed.{each_named, each_nested}
 use Rattle.disk_laws.specs.Done.{DoesAll}
+use Rattle.disk_laws.proofs.CopiedTrack.{IsReady, formats_it, small}
+use Rattle.disk_laws.proofs.Prepared.{acks, rates, blanks}
+use Rattle.disk_laws.proofs.Steps.{NeverFell, begins, step_never_fell, ok_called, reached, done_does, ends_there, never_fell, keeps_drives, splits}
 use Rattle.disk_laws.specs.Requests.{Track, heads_of, tracks_of, format_each}
-use Rattle.disk_laws.proofs.CopiedTrack.{both_fell}
 use Rattle.disk_laws.proofs.Formatted.{blank_keeps}
-use Rattle.disk_laws.proofs.Prepared.{blanks}
-use Rattle.disk_laws.proofs.Steps.{NeverFell, begins, done_does, step_never_fell}
-use Rattle.disk_laws.proofs.Verified.{one_image}
+use Rattle.disk_laws.proofs.Verified.{one_image, image_ranges}
+use Rattle.disk_laws.proofs.Copied.{laid_still}
+use Rattle.disk_laws.proofs.Sectors.{track_laid}
+use Rattle.disk_laws.proofs.Tracks.{Among, among_all, among_only}
+use Rattle.disk_laws.proofs.BlankDisk.{blank_regular}
+use Rattle.disk_laws.proofs.Reading.{Holds}
 use Rattle.rescue_commands.specs.Rescue.{acknowledges_both, prepares_old, prepares_new, prepares}
-use Rattle.rescue_laws.proofs.Going.{carries_all}
-use Rattle.rescue_laws.proofs.Ready.{AreReady, ready_requests, makes_ready}
+use Rattle.rescue_laws.proofs.Gone.{carries_all}
+use Rattle.rescue_laws.proofs.Records.{AreLaid}
 
 -- ---- its requests
 
@@ -41,6 +56,11 @@ formats_for shape false = format_each 1 (tracks_of shape.cylinders shape.heads)
 abbrev pub second_request : List ℕ → Shape → Bool → Request
 second_request to shape true = request.Insert 1 to
 second_request to shape false = blank_request 1 to shape.cylinders shape.rate
+
+-- both bays are acknowledged, and set to the rate of the first disk
+abbrev pub ready_requests : Rate → List Request → List Request
+ready_requests rate rest =
+    request.Ack 0 ∷ (rate_requests rate 0 ++ (request.Ack 1 ∷ (rate_requests rate 1 ++ rest)))
 
 abbrev pub opening : List ℕ → List ℕ → Shape → Bool → List Request
 opening from to shape logged =
@@ -79,102 +99,361 @@ prepares_carried to shape false rest =
 
 -- ---- the disks that were put in
 
--- both diskettes are in, and ready
-pub record AreOpen (disk target : Disk) (to : List ℕ) (files : Files) (formats : List Request) (old new : State) (after : Option Files) : Type 0 where
-  pub start : State
-  pub start_files : Option Files
-  pub ready : AreReady disk target start start_files formats new after
-  pub memory : start.station.memory ≡ old.station.memory
-  pub named : in_bay start.names 1 ≡ Some to
-  pub same_files : start_files ≡ Some files
-  pub fell : NeverFell old.station.counters start.station.counters
-
 -- the disk of the first name is in bay 0
-pub disk_in : (from : List ℕ) (disk : Disk) (files : Files) (old new : State) (after : Option Files) (answer : Reply) → IsImageOf (Some files) from disk → Step (request.Insert 0 from) old (Some files) answer new after → is_refusal answer ≡ false → (bay_of new.station 0).medium ≡ Some disk
+pub disk_in : (from : List ℕ) (disk : Disk) (files : Files) (old new : State) (after : Option Files) (answer : Reply)
+    → IsImageOf (Some files) from disk → Step (request.Insert 0 from) old (Some files) answer new after → is_refusal answer ≡ false → (bay_of new.station 0).medium ≡ Some disk
 disk_in from disk files old new after answer image step done =
     let put = (done_does old new (Some files) after (request.Insert 0 from) answer step done).2 in
     ap (λ (s : StationState). (bay_of s 0).medium) put.2.exchanged.becomes ∙ ap (λ (d : Disk). Some d) (one_image files from put.0 disk put.1 image)
 
--- so it is, and these requests are left
-record IsIn (disk : Disk) (files : Files) (rest : List Request) (old new : State) (after : Option Files) : Type 0 where
-  pub mid : State
-  pub mid_files : Option Files
-  pub course : List Taken
-  pub medium : (bay_of mid.station 0).medium ≡ Some disk
-  pub memory : mid.station.memory ≡ old.station.memory
-  pub same_files : mid_files ≡ Some files
-  pub fell : NeverFell old.station.counters mid.station.counters
-  pub behind : DoesAll rest mid mid_files course new after
+-- a disk that can be formatted to this shape
+pub record IsFresh (shape : Shape) (disk : Disk) : Type 0 where
+  pub valid : IsDisk disk
+  pub regular : IsRegularDisk disk
+  pub rate : disk.rate ≡ shape.rate
+  pub words : disk.words_per_track ≡ words_at shape.rate
+  pub has : (c h : ℕ) → c < shape.cylinders → h < 2 → HasTrack disk c h
+  pub only : (c h : ℕ) → HasTrack disk c h → c < shape.cylinders
 
-is_in : (from : List ℕ) (disk : Disk) (files : Files) (rest : List Request) (old new : State) (after : Option Files) (course : List Taken) → IsImageOf (Some files) from disk → DoesAll (request.Insert 0 from ∷ rest) old (Some files) course new after → IsIn disk files rest old new after
-is_in from disk files rest old new after course image all =
-    let one = begins old new (Some files) after (request.Insert 0 from) rest course all in
-    let put = one.does.2 in
+-- the other disk: that of an earlier run, or a fresh one
+abbrev pub IsOther : Option Files → List ℕ → Shape → Bool → Disk → Type 0
+IsOther told to shape true disk = IsImageOf told to disk
+IsOther told to shape false disk = IsFresh shape disk
+
+-- it was put into bay 1
+pub record IsPut (Such : Disk → Type 0) (to : List ℕ) (old : State) (told : Option Files) (new : State) (after : Option Files) : Type 0 where
+  pub target : Disk
+  pub such : Such target
+  pub medium : (bay_of new.station 1).medium ≡ Some target
+  pub first : bay_of new.station 0 ≡ bay_of old.station 0
+  pub memory : new.station.memory ≡ old.station.memory
+  pub named : in_bay new.names 1 ≡ Some to
+  pub files : after ≡ told
+  pub fell : NeverFell old.station.counters new.station.counters
+
+pub second_put : (to : List ℕ) (shape : Shape) (logged : Bool) (old new : State) (told after : Option Files) (answer : Reply)
+    → Step (second_request to shape logged) old told answer new after → is_refusal answer ≡ false → IsPut (IsOther told to shape logged) to old told new after
+second_put to shape true old new told after answer step done =
+    let does = done_does old new told after (request.Insert 1 to) answer step done in
+    let put = does.2 in
+    let becomes = put.2.exchanged.becomes in
+    record {
+      target = put.0;
+      such = put.1;
+      medium = ap (λ (s : StationState). (bay_of s 1).medium) becomes;
+      first = ap (λ (s : StationState). bay_of s 0) becomes;
+      memory = ap (λ (s : StationState). s.memory) becomes;
+      named = ap (λ (n : Two (Option (List ℕ))). in_bay n 1) put.2.names;
+      files = does.1;
+      fell = step_never_fell old new told after (request.Insert 1 to) answer step refl;
+    }
+second_put to shape false old new told after answer step done =
+    let fresh = blanks 1 shape.rate to shape.cylinders old new told after answer step done in
+    record {
+      target = blank_of shape.cylinders shape.rate;
+      such = record { valid = fresh.valid; regular = blank_regular shape.cylinders shape.rate; rate = refl; words = refl; has = λ c h cylinder head. (cylinder, head); only = λ c h there. there.0 };
+      medium = fresh.medium;
+      first = ap (λ (s : StationState). bay_of s 0) fresh.becomes;
+      memory = ap (λ (s : StationState). s.memory) fresh.becomes;
+      named = ap (λ (n : Two (Option (List ℕ))). in_bay n 1) fresh.named;
+      files = fresh.files;
+      fell = step_never_fell old new told after (blank_request 1 to shape.cylinders shape.rate) answer step (blank_keeps 1 shape.rate to shape.cylinders);
+    }
+
+-- ---- both bays made ready
+
+-- bay 1 was set to a rate, where that isn't the one after an acknowledgement
+record IsSet (rate : Rate) (old : State) (told : Option Files) (rest : List Request) (new : State) (after : Option Files) : Type 0 where
+  pub mid : State
+  pub files : Option Files
+  pub course : List Taken
+  pub first : bay_of mid.station 0 ≡ bay_of old.station 0
+  pub medium : (bay_of mid.station 1).medium ≡ (bay_of old.station 1).medium
+  pub high : rate ≡ R500 → (bay_of mid.station 1).rate ≡ (bay_of old.station 1).rate
+  pub low : rate ≡ R250 → (bay_of mid.station 1).rate ≡ R250
+  pub memory : mid.station.memory ≡ old.station.memory
+  pub names : mid.names ≡ old.names
+  pub same_files : files ≡ told
+  pub fell : NeverFell old.station.counters mid.station.counters
+  pub behind : DoesAll rest mid files course new after
+
+sets : (rate : Rate) (rest : List Request) (old new : State) (told after : Option Files) (course : List Taken) → DoesAll (rate_requests rate 1 ++ rest) old told course new after → IsSet rate old told rest new after
+sets R500 rest old new told after course all = record {
+  mid = old;
+  files = told;
+  course = course;
+  first = refl;
+  medium = refl;
+  high = λ e. refl;
+  low = λ e. absurd (cc e);
+  memory = refl;
+  names = refl;
+  same_files = refl;
+  fell = record { first = omega arith; second = omega arith; stalls = omega arith };
+  behind = all;
+}
+sets R250 rest old new told after course all =
+    let one = begins old new told after (request.SetRate 1 R250) rest course all in
+    let does = one.does in
+    let ok = ok_called does.1.0 one.answer does.1.1 one.done in
+    let drive = reached (rate_refusal old.station 1) does.1.0 old.station one.mid.station does.1.2 ok in
     record {
       mid = one.mid;
-      mid_files = one.files;
+      files = one.files;
       course = one.later;
-      medium = disk_in from disk files old one.mid one.files one.answer image one.step one.done;
-      memory = ap (λ (s : StationState). s.memory) put.2.exchanged.becomes;
-      same_files = one.does.1;
-      fell = step_never_fell old one.mid (Some files) one.files (request.Insert 0 from) one.answer one.step refl;
+      first = ap (λ (s : StationState). bay_of s 0) drive.becomes;
+      medium = ap (λ (s : StationState). (bay_of s 1).medium) drive.becomes;
+      high = λ e. absurd (cc e);
+      low = λ e. ap (λ (s : StationState). (bay_of s 1).rate) drive.becomes;
+      memory = ap (λ (s : StationState). s.memory) drive.becomes;
+      names = does.0.names;
+      same_files = does.0.files;
+      fell = step_never_fell old one.mid told one.files (request.SetRate 1 R250) one.answer one.step refl;
       behind = one.behind;
     }
 
--- a blank one
-pub record OpensBlank (disk : Disk) (to : List ℕ) (files : Files) (formats : List Request) (old new : State) (after : Option Files) : Type 0 where
-  pub valid : IsDisk (blank_of disk.cylinders disk.rate)
-  pub both : AreOpen disk (blank_of disk.cylinders disk.rate) to files formats old new after
+-- a bay at the rate of its medium
+at_rate : (rate at now of_disk : Rate) → of_disk ≡ rate → (of_disk ≡ R500 → at ≡ R500) → (rate ≡ R500 → now ≡ at) → (rate ≡ R250 → now ≡ R250) → now ≡ rate
+at_rate R500 at now of_disk same acked high low = high refl ∙ acked same
+at_rate R250 at now of_disk same acked high low = low refl
 
-pub opens_blank : (from to : List ℕ) (disk : Disk) (files : Files) (formats : List Request) (old new : State) (after : Option Files) (course : List Taken) → IsImageOf (Some files) from disk → DoesAll (request.Insert 0 from ∷ blank_request 1 to disk.cylinders disk.rate ∷ ready_requests disk.rate formats) old (Some files) course new after → OpensBlank disk to files formats old new after
-opens_blank from to disk files formats old new after course image all =
-    let rate = disk.rate in
-    let count = disk.cylinders in
-    let blank = blank_of count rate in
-    let next = ready_requests rate formats in
-    let one = is_in from disk files (blank_request 1 to count rate ∷ next) old new after course image all in
-    let two = begins one.mid new one.mid_files after (blank_request 1 to count rate) next one.course one.behind in
-    let fresh = blanks 1 rate to count one.mid two.mid one.mid_files two.files two.answer two.step two.done in
-    let first = ap (λ (s : StationState). (bay_of s 0).medium) fresh.becomes ∙ one.medium in
-    record {
-      valid = fresh.valid;
-      both = record {
-        start = two.mid;
-        start_files = two.files;
-        ready = makes_ready disk blank formats two.mid new two.files after two.later two.behind first fresh.medium;
-        memory = ap (λ (s : StationState). s.memory) fresh.becomes ∙ one.memory;
-        named = ap (λ (n : Two (Option (List ℕ))). in_bay n 1) fresh.named;
-        same_files = fresh.files ∙ one.same_files;
-        fell = both_fell old.station.counters one.mid.station.counters two.mid.station.counters one.fell
-            (step_never_fell one.mid two.mid one.mid_files two.files (blank_request 1 to count rate) two.answer two.step (blank_keeps 1 rate to count));
-      };
-    }
-
--- one of an earlier run
-pub record OpensOther (disk : Disk) (to : List ℕ) (files : Files) (old new : State) (after : Option Files) : Type 0 where
+-- both disks are in, and both bays ready
+pub record AreOpen (disk : Disk) (Such : Disk → Type 0) (to : List ℕ) (old : State) (told : Option Files) (new : State) (after : Option Files) : Type 0 where
   pub target : Disk
-  pub image : IsImageOf (Some files) to target
-  pub both : AreOpen disk target to files [] old new after
+  pub such : Such target
+  pub count : ℕ
+  pub first : (bay_of new.station 0).medium ≡ Some disk
+  pub first_rate : (bay_of new.station 0).rate ≡ disk.rate
+  pub acknowledged : (bay_of new.station 0).acknowledged ≡ Some count
+  pub before : faults_of old.station.counters 0 ≤ count
+  pub since : count ≤ faults_of new.station.counters 0
+  pub second : (bay_of new.station 1).medium ≡ Some target
+  pub second_rate : target.rate ≡ disk.rate → (bay_of new.station 1).rate ≡ disk.rate
+  pub memory : new.station.memory ≡ old.station.memory
+  pub named : in_bay new.names 1 ≡ Some to
+  pub files : after ≡ told
+  pub fell : NeverFell old.station.counters new.station.counters
 
-pub opens_other : (from to : List ℕ) (disk : Disk) (files : Files) (old new : State) (after : Option Files) (course : List Taken) → IsImageOf (Some files) from disk → DoesAll (request.Insert 0 from ∷ request.Insert 1 to ∷ ready_requests disk.rate []) old (Some files) course new after → OpensOther disk to files old new after
-opens_other from to disk files old new after course image all =
-    let next = ready_requests disk.rate [] in
-    let one = is_in from disk files (request.Insert 1 to ∷ next) old new after course image all in
-    let two = begins one.mid new one.mid_files after (request.Insert 1 to) next one.course one.behind in
-    let put = two.does.2 in
-    let first = ap (λ (s : StationState). (bay_of s 0).medium) put.2.exchanged.becomes ∙ one.medium in
-    let second : (bay_of two.mid.station 1).medium ≡ Some put.0 = ap (λ (s : StationState). (bay_of s 1).medium) put.2.exchanged.becomes in
-    record {
-      target = put.0;
-      image = subst (λ (f : Option Files). IsImageOf f to put.0) one.same_files put.1;
-      both = record {
-        start = two.mid;
-        start_files = two.files;
-        ready = makes_ready disk put.0 [] two.mid new two.files after two.later two.behind first second;
-        memory = ap (λ (s : StationState). s.memory) put.2.exchanged.becomes ∙ one.memory;
-        named = ap (λ (n : Two (Option (List ℕ))). in_bay n 1) put.2.names;
-        same_files = two.does.1 ∙ one.same_files;
-        fell = both_fell old.station.counters one.mid.station.counters two.mid.station.counters one.fell
-            (step_never_fell one.mid two.mid one.mid_files two.files (request.Insert 1 to) two.answer two.step refl);
+are_open : (from to : List ℕ) (disk : Disk) (files : Files) (logged : Bool) (old new : State) (after : Option Files) (course : List Taken) → IsImageOf (Some files) from disk
+    → DoesAll (request.Insert 0 from ∷ second_request to (shape_of disk) logged ∷ ready_requests disk.rate []) old (Some files) course new after
+    → AreOpen disk (IsOther (Some files) to (shape_of disk) logged) to old (Some files) new after
+are_open from to disk files logged old new after course image all =
+    let rate = disk.rate in
+    let asked = second_request to (shape_of disk) logged in
+    let last = request.Ack 1 ∷ (rate_requests rate 1 ++ []) in
+    let one = begins old new (Some files) after (request.Insert 0 from) (asked ∷ ready_requests rate []) course all in
+    let two = begins one.mid new one.files after asked (ready_requests rate []) one.later one.behind in
+    let put = second_put to (shape_of disk) logged one.mid two.mid one.files two.files two.answer two.step two.done in
+    let first = ap (λ (b : Bay). b.medium) put.first ∙ disk_in from disk files old one.mid one.files one.answer image one.step one.done in
+    let three = begins two.mid new two.files after (request.Ack 0) (rate_requests rate 0 ++ last) two.later two.behind in
+    let acked = acks 0 disk two.mid three.mid two.files three.files three.answer three.does three.done first in
+    let rated = rates 0 rate disk last three.mid new three.files after three.later three.behind refl acked.medium acked.high in
+    let other : bay_of rated.mid.station 1 ≡ bay_of two.mid.station 1 = ap (λ (b : Two Bay). in_bay b 1) rated.bays ∙ ap (λ (s : StationState). bay_of s 1) acked.becomes in
+    let four = begins rated.mid new rated.files after (request.Ack 1) (rate_requests rate 1 ++ []) rated.course rated.behind in
+    let also = acks 1 put.target rated.mid four.mid rated.files four.files four.answer four.does four.done (ap (λ (b : Bay). b.medium) other ∙ put.medium) in
+    let set = sets rate [] four.mid new four.files after four.later four.behind in
+    let end = ends_there set.mid new set.files after set.course set.behind in
+    let same : bay_of set.mid.station 0 ≡ bay_of rated.mid.station 0 = set.first ∙ ap (λ (s : StationState). bay_of s 0) also.becomes in
+    let a = step_never_fell old one.mid (Some files) one.files (request.Insert 0 from) one.answer one.step refl in
+    let b = step_never_fell two.mid three.mid two.files three.files (request.Ack 0) three.answer three.step refl in
+    let c = step_never_fell rated.mid four.mid rated.files four.files (request.Ack 1) four.answer four.step refl in
+    let told = one.does.1 in
+    subst (λ (s : State). AreOpen disk (IsOther (Some files) to (shape_of disk) logged) to old (Some files) s after) (sym end.0) (record {
+      target = put.target;
+      such = subst (λ (f : Option Files). IsOther f to (shape_of disk) logged put.target) told put.such;
+      count = faults_of three.mid.station.counters 0;
+      first = ap (λ (b : Bay). b.medium) same ∙ rated.medium;
+      first_rate = ap (λ (b : Bay). b.rate) same ∙ rated.rate;
+      acknowledged = ap (λ (b : Bay). b.acknowledged) same ∙ rated.kept ∙ acked.kept;
+      before = omega (arith, a.first, put.fell.first, b.first);
+      since = omega (arith, rated.fell.first, c.first, set.fell.first);
+      second = set.medium ∙ also.medium;
+      second_rate = λ is. at_rate rate (bay_of four.mid.station 1).rate (bay_of set.mid.station 1).rate put.target.rate is also.high set.high set.low;
+      memory = set.memory ∙ ap (λ (s : StationState). s.memory) also.becomes ∙ rated.memory ∙ ap (λ (s : StationState). s.memory) acked.becomes
+          ∙ put.memory ∙ ap (λ (s : StationState). s.memory) one.does.2.2.exchanged.becomes;
+      named = ap (λ (n : Two (Option (List ℕ))). in_bay n 1) (set.names ∙ also.names ∙ rated.names ∙ acked.names) ∙ put.named;
+      files = end.1 ∙ set.same_files ∙ also.files ∙ rated.same_files ∙ acked.files ∙ put.files ∙ told;
+      fell = record {
+        first = omega (arith, a.first, put.fell.first, b.first, rated.fell.first, c.first, set.fell.first);
+        second = omega (arith, a.second, put.fell.second, b.second, rated.fell.second, c.second, set.fell.second);
+        stalls = omega (arith, a.stalls, put.fell.stalls, b.stalls, rated.fell.stalls, c.stalls, set.fell.stalls);
       };
+    })
+
+-- ---- the formats
+
+pub formats_keep : (tracks : List Track) → list_all keeps_drives (format_each 1 tracks) ≡ true
+formats_keep [] = refl
+formats_keep (track ∷ later) = formats_keep later
+
+-- the formats leave bay 0 as it is
+pub first_stays : (tracks : List Track) (old new : State) (told after : Option Files) (course : List Taken) → DoesAll (format_each 1 tracks) old told course new after → bay_of new.station 0 ≡ bay_of old.station 0
+first_stays [] old new told after course all = ap (λ (s : State). bay_of s.station 0) (ends_there old new told after course all).0
+first_stays (track ∷ later) old new told after course all =
+    let one = begins old new told after (request.Format 1 track.0 track.1) (format_each 1 later) course all in
+    let does = one.does in
+    let ok = ok_called does.1.0 one.answer does.1.1 one.done in
+    let drive = reached (format_refusal old.station 1 track.0 track.1 (gap_at (bay_of old.station 1).rate)) does.1.0 old.station one.mid.station does.1.2 ok in
+    first_stays later one.mid new one.files after one.later one.behind ∙ ap (λ (s : StationState). bay_of s 0) drive.becomes
+
+-- what the formats made of the disk in bay 1
+pub record LaysTracks (at : Rate) (source : Disk) (tracks : List Track) (disk : Disk) (old : State) (told : Option Files) (new : State) (after : Option Files) : Type 0 where
+  pub final : Disk
+  pub ready : IsReady at source final new
+  pub alike : AreAlike disk final
+  pub laid : (c h : ℕ) → HasTrack disk c h → (Among tracks c h ⊎ IsLaid (track_of disk c h)) → IsLaid (track_of final c h)
+  pub names : new.names ≡ old.names
+  pub files : after ≡ told
+
+pub lays_tracks : (rate : Rate) (source : Disk) (tracks : List Track) (disk : Disk) (old new : State) (told after : Option Files) (course : List Taken) → DoesAll (format_each 1 tracks) old told course new after → ((c h : ℕ) → Among tracks c h → HasTrack disk c h) → IsReady rate source disk old → IsFaultless 1 old.station.counters new.station.counters → LaysTracks rate source tracks disk old told new after
+lays_tracks rate source [] disk old new told after course all has ready faultless =
+    let same = ends_there old new told after course all in
+    record {
+      final = disk;
+      ready = subst (λ (s : State). IsReady rate source disk s) (sym same.0) ready;
+      alike = alike_itself disk ready.valid;
+      laid = λ c h had which. elim which [ inl among ↦ absurd among | inr laid ↦ laid ];
+      names = ap (λ (s : State). s.names) same.0;
+      files = same.1;
     }
+lays_tracks rate source (track ∷ later) disk old new told after course all has ready faultless =
+    let b = track.0 in
+    let g = track.1 in
+    let format = request.Format 1 b g in
+    let one = begins old new told after format (format_each 1 later) course all in
+    let first : DoesAll (format ∷ []) old told ((record { asked = format; answer = one.answer; after = one.mid }) ∷ []) one.mid one.files = record {
+      run = (one.files, one.step, (refl, refl));
+      all = refl;
+      done = (let fine = one.done in rw fine refl);
+    } in
+    let fell_first = never_fell old one.mid told one.files (format ∷ []) _ first refl in
+    let fell_later = never_fell one.mid new one.files after (format_each 1 later) one.later one.behind (formats_keep later) in
+    let here = has b g (inl (refl, refl)) in
+    let made = formats_it rate source b g disk old one.mid told one.files _ first ready here (omega (arith, fell_later.second, faultless.0), omega (arith, fell_later.second, faultless.1)) in
+    let alike = made.keeps.alike in
+    let has_later = λ (c h : ℕ) (among : Among later c h). (alike_tracks disk made.next c h alike).0 (has c h (inr among)) in
+    let tiny = small disk b g ready.valid here in
+    let fresh : IsLaid (track_of made.next b g) = subst IsLaid (sym made.track) (track_laid rate b g tiny.0 tiny.1) in
+    let rest = lays_tracks rate source later made.next one.mid new one.files after one.later one.behind has_later made.ready (omega (arith, fell_first.second, faultless.0), faultless.1) in
+    record {
+      final = rest.final;
+      ready = rest.ready;
+      alike = alike_both disk made.next rest.final alike rest.alike;
+      laid = λ c h had which. rest.laid c h ((alike_tracks disk made.next c h alike).0 had) (laid_still rate b g later disk made.next made.keeps fresh c h had which);
+      names = rest.names ∙ made.names;
+      files = rest.files ∙ made.files;
+    }
+
+-- so bay 0, whether or not there is a log
+formats_stay : (shape : Shape) (logged : Bool) (old new : State) (told after : Option Files) (course : List Taken) → DoesAll (formats_for shape logged) old told course new after → (bay_of new.station 0 ≡ bay_of old.station 0) × NeverFell old.station.counters new.station.counters
+formats_stay shape true old new told after course all = (first_stays [] old new told after course all, never_fell old new told after [] course all refl)
+formats_stay shape false old new told after course all =
+    let tracks = tracks_of shape.cylinders shape.heads in
+    (first_stays tracks old new told after course all, never_fell old new told after (format_each 1 tracks) course all (formats_keep tracks))
+
+-- ---- the whole opening
+
+-- so it is with the formats behind it
+pub record IsOpened (disk : Disk) (to : List ℕ) (files : Files) (logged : Bool) (old new : State) (after : Option Files) : Type 0 where
+  pub mid : State
+  pub mid_files : Option Files
+  pub course : List Taken
+  pub open_there : AreOpen disk (IsOther (Some files) to (shape_of disk) logged) to old (Some files) mid mid_files
+  pub formats_all : DoesAll (formats_for (shape_of disk) logged) mid mid_files course new after
+
+in_parts : (from to : List ℕ) (shape : Shape) (logged : Bool)
+    → opening from to shape logged ≡ (request.Insert 0 from ∷ second_request to shape logged ∷ ready_requests shape.rate []) ++ formats_for shape logged
+in_parts from to shape logged = go shape.rate
+  where
+    go : (rate : Rate) → request.Insert 0 from ∷ second_request to shape logged ∷ ready_requests rate (formats_for shape logged)
+        ≡ (request.Insert 0 from ∷ second_request to shape logged ∷ ready_requests rate []) ++ formats_for shape logged
+    go R500 = refl
+    go R250 = refl
+
+is_opened : (from to : List ℕ) (disk : Disk) (files : Files) (logged : Bool) (old new : State) (after : Option Files) (course : List Taken) → IsImageOf (Some files) from disk
+    → DoesAll (opening from to (shape_of disk) logged) old (Some files) course new after → IsOpened disk to files logged old new after
+is_opened from to disk files logged old new after course image all =
+    let whole = subst (λ (row : List Request). DoesAll row old (Some files) course new after) (in_parts from to (shape_of disk) logged) all in
+    let parts = splits old new (Some files) after (request.Insert 0 from ∷ second_request to (shape_of disk) logged ∷ ready_requests disk.rate []) (formats_for (shape_of disk) logged) course whole in
+    record {
+      mid = parts.mid;
+      mid_files = parts.files;
+      course = parts.two;
+      open_there = are_open from to disk files logged old parts.mid parts.files parts.one image parts.before;
+      formats_all = parts.behind;
+    }
+
+-- bay 0 holds the disk to rescue
+pub holds_first : (from to : List ℕ) (disk : Disk) (files : Files) (logged : Bool) (old new : State) (after : Option Files) (course : List Taken)
+    → IsImageOf (Some files) from disk → DoesAll (opening from to (shape_of disk) logged) old (Some files) course new after
+    → IsUndisturbed 0 old.station.counters new.station.counters → (count : ℕ) × Holds disk count new.station
+holds_first from to disk files logged old new after course image all quiet =
+    let it = is_opened from to disk files logged old new after course image all in
+    let both = it.open_there in
+    let same = formats_stay (shape_of disk) logged it.mid new it.mid_files after it.course it.formats_all in
+    let fell = same.1 in
+    let top = both.fell in
+    (both.count, record {
+      medium = ap (λ (b : Bay). b.medium) same.0 ∙ both.first;
+      rate = ap (λ (b : Bay). b.rate) same.0 ∙ both.first_rate;
+      acknowledged = ap (λ (b : Bay). b.acknowledged) same.0 ∙ both.acknowledged;
+      faults = (let before = both.before in let since = both.since in omega (arith, top.stalls, fell.first, fell.stalls, quiet.together));
+    })
+
+-- a regular disk is in bay 1 under its name
+pub record HasOther (start : Disk) (to : List ℕ) (files : Files) (state : State) (told : Option Files) : Type 0 where
+  pub medium : (bay_of state.station 1).medium ≡ Some start
+  pub regular : IsRegularDisk start
+  pub size : length state.station.memory ≡ user_bytes
+  pub named : in_bay state.names 1 ≡ Some to
+  pub files_are : told ≡ Some files
+
+-- a new one, each track of which is Laid
+pub begins_new : (from to : List ℕ) (disk : Disk) (files : Files) (old new : State) (after : Option Files) (course : List Taken) → IsImageOf (Some files) from disk
+    → DoesAll (opening from to (shape_of disk) false) old (Some files) course new after → length old.station.memory ≡ user_bytes
+    → IsFaultless 1 old.station.counters new.station.counters → (start : Disk) × HasOther start to files new after × AreLaid disk.heads start
+begins_new from to disk files old new after course image all size faultless =
+    let it = is_opened from to disk files false old new after course image all in
+    let both = it.open_there in
+    let such = both.such in
+    let tracks = tracks_of disk.cylinders disk.heads in
+    let ranges = image_ranges files from disk image in
+    let ready : IsReady disk.rate disk both.target it.mid = record {
+      first = both.first;
+      medium = both.second;
+      bay_rate = both.second_rate such.rate;
+      valid = such.valid;
+      regular = such.regular;
+      rate = such.rate;
+      words = such.words;
+      size = ap (λ (m : List ℕ). length m) both.memory ∙ size;
+    } in
+    let has = λ (c h : ℕ) (among : Among tracks c h). let at = among_only disk.cylinders disk.heads c h among in such.has c h at.0 (omega (arith, at.1, ranges.1)) in
+    let lays = lays_tracks disk.rate disk tracks both.target it.mid new it.mid_files after it.course it.formats_all has ready
+        (omega (arith, both.fell.second, faultless.0), omega (arith, both.fell.second, faultless.1)) in
+    let there : HasOther lays.final to files new after = record {
+      medium = lays.ready.medium;
+      regular = lays.ready.regular;
+      size = lays.ready.size;
+      named = ap (λ (n : Two (Option (List ℕ))). in_bay n 1) lays.names ∙ both.named;
+      files_are = lays.files ∙ both.files;
+    } in
+    (lays.final, there, λ c h track few.
+    let had = (alike_tracks both.target lays.final c h lays.alike).1 track in
+    lays.laid c h had (inl (among_all disk.cylinders disk.heads c h (such.only c h had) few)))
+
+-- that of an earlier run
+pub begins_again : (from to : List ℕ) (disk target : Disk) (files : Files) (old new : State) (after : Option Files) (course : List Taken) → IsImageOf (Some files) from disk
+    → IsImageOf (Some files) to target → IsRegularDisk target → DoesAll (opening from to (shape_of disk) true) old (Some files) course new after
+    → length old.station.memory ≡ user_bytes → HasOther target to files new after
+begins_again from to disk target files old new after course image other regular all size =
+    let it = is_opened from to disk files true old new after course image all in
+    let both = it.open_there in
+    let end = ends_there it.mid new it.mid_files after it.course it.formats_all in
+    subst (λ (s : State). HasOther target to files s after) (sym end.0) (record {
+      medium = both.second ∙ ap (λ (d : Disk). Some d) (one_image files to both.target target both.such other);
+      regular = regular;
+      size = ap (λ (m : List ℕ). length m) both.memory ∙ size;
+      named = both.named;
+      files_are = end.1 ∙ both.files;
+    })

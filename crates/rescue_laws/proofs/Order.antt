@@ -30,7 +30,6 @@ use Rattle.scripts.specs.Parts.{needs, carries, may_starve, with_shape, opens, t
 use Rattle.scripts.specs.Leading.{with_report}
 use Rattle.scripts.proofs.Reading.{AskRun, Answered, Stopped, NeedRun, Done, Refused, Halted, ask_run, need_run, carry_run, last_run, last_stored}
 use Rattle.disk_laws.specs.Requests.{Track, format_each, tracks_of}
-use Rattle.disk_laws.proofs.Prepared.{blanks}
 use Rattle.disk_laws.proofs.Steps.{either, done_does}
 use Rattle.rescue.specs.Course.{read_of, write_of, outcome_status}
 use Rattle.rescue.specs.Log.{log_text}
@@ -40,12 +39,10 @@ use Rattle.rescue_commands.specs.declared.logs.NoLog.TheVariants as none
 use Rattle.rescue_commands.specs.Rescue.{follows, rescues, prepares, asked_keys, outcome_of, last_text, rescues_all, stores_log, rescue_found, bad_log_text, tells_no_log, rescue_rest, Rescues}
 use Rattle.rescue_laws.specs.Logged.{line_at, log_of}
 use Rattle.rescue_laws.specs.Rescued.{StoresInOrder, Nothing, DiskAlone, DiskThenLog}
-use Rattle.rescue_laws.proofs.Going.{carries_all}
-use Rattle.rescue_laws.proofs.Gone.{FollowRun, Writes, Logs, GivesUp, Starves, follow_run}
-use Rattle.rescue_laws.proofs.Opening.{formats_for, second_request, prepares_carried}
+use Rattle.rescue_laws.proofs.Gone.{carries_all, FollowRun, Writes, Logs, GivesUp, Starves, follow_run}
+use Rattle.rescue_laws.proofs.Opening.{ready_requests, formats_for, second_request, prepares_carried, second_put}
 use Rattle.rescue_laws.proofs.Reading.{line_of_refused, line_of_done, read_done}
-use Rattle.rescue_laws.proofs.Ready.{ready_requests}
-use Rattle.rescue_laws.proofs.Saving.{write_does}
+use Rattle.rescue_laws.proofs.Records.{write_does}
 
 -- ---- the other diskette, put in under its name
 
@@ -62,11 +59,6 @@ second_stores to shape false old new told after answer step = go shape.rate step
     go : (rate : Rate) → Step (blank_request 1 to shape.cylinders rate) old told answer new after → after ≡ told
     go R500 blank = either (refusal_of old (request.Blank 1 to shape.cylinders)) blank (λ does. does.1) (λ cause refused. refused.files)
     go R250 blank = either (refusal_of old (request.BlankDd 1 to shape.cylinders)) blank (λ does. does.1) (λ cause refused. refused.files)
-
-second_named : (to : List ℕ) (shape : Shape) (logged : Bool) (old new : State) (told after : Option Files) (answer : Reply) → Step (second_request to shape logged) old told answer new after → is_refusal answer ≡ false → Named to new
-second_named to shape true old new told after answer step done =
-    ap (λ (n : Two (Option (List ℕ))). in_bay n 1) (done_does old new told after (request.Insert 1 to) answer step done).2.2.names
-second_named to shape false old new told after answer step done = ap (λ (n : Two (Option (List ℕ))). in_bay n 1) (blanks 1 shape.rate to shape.cylinders old new told after answer step done).named
 
 module _ (to log : List ℕ) where
   -- however a script is run from such a state, with these lines of the new log so far
@@ -159,7 +151,7 @@ module _ (to log : List ℕ) where
       go (Answered run) =
           let called = run.step.1.0 in
           let answered = run.step.1.1 in
-          by_next called answered (follow_run key called lines rest (with_report run.taken.after run.files old.report) run.later new ended (subst (λ (r : Reply). RunsScript (follows key r lines rest) (with_report run.taken.after run.files old.report) run.later new ended) answered run.left))
+          by_next called answered (follow_run key lines rest (with_report run.taken.after run.files old.report) run.later new ended called (subst (λ (r : Reply). RunsScript (follows key r lines rest) (with_report run.taken.after run.files old.report) run.later new ended) answered run.left))
         where
           named_then : Named to run.taken.after
           named_then = ap (λ (n : Two (Option (List ℕ))). in_bay n 1) run.step.0.names ∙ named
@@ -211,7 +203,7 @@ module _ (to log : List ℕ) where
       let later = ready_in_order shape.rate (formats_for shape logged) (rest tt) (opening_in_order shape logged (rest tt) next) in
       subst (λ (s : Script). InOrder Any [] s) (sym (prepares_carried to shape logged rest))
       (need_in_order Any (Named to) second [] (λ answer after. carries_all ready (rest tt)) (second_stores to shape logged)
-      (λ old new told after answer step fine any. second_named to shape logged old new told after answer step fine) (λ answer after. later))
+      (λ old new told after answer step fine any. (second_put to shape logged old new told after answer step fine).named) (λ answer after. later))
 
   -- ---- the whole
 

@@ -24,7 +24,7 @@ use Rattle.disk_laws.proofs.Steps.{NeverFell, either, keeps_drives}
 use Rattle.track_model.proofs.Splices.{length-with_items}
 use Rattle.rescue.specs.Course.{read_of, write_of}
 use Rattle.rescue_laws.specs.Logged.{line_at}
-use Rattle.rescue_laws.specs.Rescued.{is_write}
+use Rattle.rescue_laws.specs.Rescued.{WasRefused, is_write}
 
 -- ---- what a read leaves
 
@@ -77,26 +77,13 @@ gave key deleted read asked answered = record {
   content = refl;
 }
 
--- or nothing
-no_mark : (asked : Request) (cause : Code) → mark_of asked (read_reply (Err cause)) ≡ []
-no_mark (request.Insert bay name) cause = refl
-no_mark (request.Blank bay name cylinders) cause = refl
-no_mark (request.BlankDd bay name cylinders) cause = refl
-no_mark (request.Eject bay) cause = refl
-no_mark (request.Ack bay) cause = refl
-no_mark (request.Read bay key address) cause = refl
-no_mark (request.Write bay key address) cause = refl
-no_mark (request.WriteDeleted bay key address) cause = refl
-no_mark (request.Format bay c h) cause = refl
-no_mark (request.Fill address count byte) cause = refl
-no_mark (request.Dump address count) cause = refl
-no_mark (request.Unit bay) cause = refl
-no_mark (request.SetRate bay rate) cause = refl
-no_mark (request.Tries tries) cause = refl
+pub gave_reads : (key : Chrn) (deleted : Bool) (content : List ℕ) (taken : Taken) → Gave key deleted content taken → (address : ℕ) × (taken.asked ≡ request.Read 0 key address)
+gave_reads key deleted content taken given = (given.address, given.asked)
 
-pub gave_nothing : (key : Chrn) (deleted : Bool) (bytes : List ℕ) (read : Taken) (cause : Code) → read.answer ≡ read_reply (Err cause) → Gave key deleted bytes read → ⊥
-gave_nothing key deleted bytes read cause answered given =
-    let none : mark_of read.asked read.answer ≡ [] = ap (mark_of read.asked) answered ∙ no_mark read.asked cause in
+-- or it was refused
+pub never_both : (key : Chrn) (code : Code) (deleted : Bool) (bytes : List ℕ) (read : Taken) → WasRefused key code read → Gave key deleted bytes read → ⊥
+never_both key code deleted bytes read refused given =
+    let none : mark_of read.asked read.answer ≡ [] = ap₂ (λ (q : Request) (r : Reply). mark_of q r) refused.0 refused.1 in
     let some = given.mark in
     cc (none, some)
 

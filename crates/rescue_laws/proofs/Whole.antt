@@ -1,185 +1,369 @@
 -- Rescues, by the status with which they end: what is stored and told, and when the log is exactly the keys that aren't found.
-use Rattle.std.proofs.Common.{arith, ◌≡◌, ◌≢◌, ◌∙◌, ◌+◌, ◌-◌, ◌≤◌, ℕ, Bool, true, false, List, [], ◌∷◌, length, refl, sym, ap, subst, Option, Some, None}
-use Rattle.std.specs.Prelude.{is_some, IfSome}
+use Rattle.std.proofs.Common.{arith, ◌≡◌, ◌∙◌, ◌+◌, ℕ, Bool, true, false, true≢false, List, [], ◌∷◌, ◌++◌, refl, sym, ap, inl, inr, append_assoc, ◌↔◌, length, subst, append-nil, Option, Some, None, ◌≢◌, ◌-◌, ◌≤◌}
+use Rattle.std.specs.Prelude.{◌⊎◌, Contains, is_some, IfSome}
+use Rattle.std.specs.List.{list_all, AllByRecursion}
+use Rattle.std.proofs.lemmas.List.Elements.{All-from_recursion}
 use Rattle.std.specs.FinMap as fin
-use Rattle.flop_base.specs.Shelf.{Files, file_at, stored}
-use Rattle.flop_base.specs.Sink.{grown}
-use Rattle.flop_base.specs.Standard.{sectors_at}
 use Rattle.flop_base.specs.declared.key.Chrn.{Chrn}
+use Rattle.flop_base.specs.declared.answers.Rate.{Rate}
+use Rattle.flop_base.specs.declared.answers.Rate.TheVariants.{R500, R250}
+use Rattle.flop_base.specs.Shelf.{Files, stored, file_at}
+use Rattle.flop_base.specs.Standard.{sectors_at}
 use Rattle.flop_base.specs.declared.answers.Status.{Status}
+use Rattle.flop_base.specs.Sink.{grown}
 use Rattle.raw_image.specs.Disk.{Disk}
 use Rattle.raw_image.specs.Image.{file_of}
-use Rattle.bay_model.specs.Counters.{IsFaultless, IsUndisturbed, faults_of}
+use Rattle.bay_model.specs.Bays.{Two, in_bay}
+use Rattle.bay_model.specs.Counters.{IsFaultless, IsUndisturbed}
 use Rattle.bay_model.specs.Memory.{user_bytes}
-use Rattle.track_model.specs.declared.Look.{Look}
-use Rattle.sector_map.specs.Failing.{AreFailing}
+use Rattle.track_format.proofs.Laid.{laid_tidy}
+use Rattle.floppy_requests.specs.declared.request.Request.{Request}
 use Rattle.floppy_requests.specs.declared.request.Request.TheVariants as request
-use Rattle.sector_model.specs.Stations.{Bay, bay_of}
+use Rattle.sector_map.specs.Disks.{Entry, IsOnMap}
+use Rattle.sector_model.specs.Texts.{is_refusal}
+use Rattle.sector_model.specs.Runs.{Taken, requests_of, has_refusal, Run}
 use Rattle.sector_model.specs.States.{State}
 use Rattle.sector_model.specs.Steps.{IsImageOf}
-use Rattle.sector_model.specs.Runs.{Taken}
 use Rattle.sector_model.specs.Plays.{World}
+use Rattle.floppy_session.specs.Blanks.{blank_request}
 use Rattle.floppy_session.specs.declared.shape.Shape.{Shape}
 use Rattle.floppy_session.specs.Shapes.{shape_of}
-use Rattle.disk_laws.specs.Done.{DoesAll}
-use Rattle.disk_laws.specs.Requests.{tracks_of, format_each}
+use Rattle.disk_laws.specs.Copied.{SomeStep}
+use Rattle.disk_laws.specs.Requests.{Track, format_each, tracks_of}
+use Rattle.disk_laws.proofs.Steps.{keeps_drives, and_both, or_false, NeverFell, begins, ends_there, never_fell}
+use Rattle.disk_laws.proofs.Marks.{some_first, some_second}
 use Rattle.disk_laws.specs.VerifyRuns.{IsEndStatus}
 use Rattle.disk_laws.specs.Verified.{IsUnmistaken}
-use Rattle.disk_laws.proofs.CopiedTrack.{both_fell}
-use Rattle.disk_laws.proofs.Reading.{Holds}
-use Rattle.disk_laws.proofs.Steps.{NeverFell, never_fell}
+use Rattle.disk_laws.proofs.Reading.{quiet_parts}
 use Rattle.disk_laws.proofs.Verified.{image_ranges}
+use Rattle.rescue.specs.declared.line.LogLine.{LogLine}
 use Rattle.rescue.specs.Course.{outcome_status}
 use Rattle.rescue.specs.Log.{log_text}
-use Rattle.rescue.specs.declared.line.LogLine.{LogLine}
 use Rattle.rescue.specs.declared.outcome.Outcome.{Outcome}
-use Rattle.rescue_commands.specs.Rescue.{asked_keys, outcome_of, last_text, Rescues}
 use Rattle.rescue_commands.specs.Logs.{IsLogFound}
-use Rattle.rescue_laws.specs.Logged.{log_of}
-use Rattle.rescue_laws.specs.Rescued.{IsNotStopped, HasTarget, KeepsEntries, count_writes, outcome_in, failing_lines, IsRescue, LogsNotFound}
-use Rattle.rescue_laws.proofs.Asked.{asked_all}
-use Rattle.rescue_laws.proofs.Exactly.{tells_keys}
+use Rattle.rescue_commands.specs.Rescue.{asked_keys, outcome_of, last_text, Rescues}
+use Rattle.rescue_laws.specs.Logged.{line_at, log_of}
+use Rattle.rescue_laws.specs.Rescued.{is_write, count_writes, IsLogged, IsSaved, IsSettled, WasNotRead, IsNotStopped, HasTarget, KeepsEntries, outcome_in, IsRescue, LogsNotFound, WasRefused}
+use Rattle.rescue_laws.specs.Tidy.{AreTidy}
+use Rattle.rescue_laws.proofs.Asked.{heads_for, asked_all, asked_distinct}
 use Rattle.rescue_laws.proofs.Files.{first_there, last_there}
-use Rattle.rescue_laws.proofs.Gone.{keys_fell}
-use Rattle.rescue_laws.proofs.Laying.{first_stays, formats_keep}
-use Rattle.rescue_laws.proofs.Opening.{AreOpen, opening, formats_for, opens_blank, opens_other}
-use Rattle.rescue_laws.proofs.Plain.{opening_plain}
-use Rattle.rescue_laws.proofs.Settled.{Settles, parts, settles_new, settles_again}
+use Rattle.rescue_laws.proofs.Gone.{Fell, fell_both, keys_fell}
+use Rattle.rescue_laws.proofs.Keys.{ReadsKey, some_apart, keys_read, keys_counted}
+use Rattle.rescue_laws.proofs.Opening.{opening, ready_requests, HasOther, begins_new, begins_again, holds_first}
+use Rattle.rescue_laws.proofs.Reading.{line_of_done, gave_reads, never_both}
+use Rattle.rescue_laws.proofs.Records.{IsGuarded, IsPart, SavesKeys, saves_keys}
+use Rattle.rescue_laws.proofs.Telling.{tells_keys}
 use Rattle.rescue_laws.proofs.Through.{GoesThrough, goes_through}
 
--- ---- what is stored and told
+-- ---- requests that neither read nor write
 
-stores_both : (files : Files) (to log disk lines : List ℕ) (after : Option Files) → to ≢ log → after ≡ stored (stored (Some files) to disk) log lines → IfSome after (λ files. file_at files to ≡ Some disk) × IfSome after (λ files. file_at files log ≡ Some lines)
+-- the request is no read and no write, and leaves the drives in their bays
+abbrev pub is_plain : Request → Bool
+is_plain (request.Read bay key address) = false
+is_plain (request.Write bay key address) = false
+is_plain (request.WriteDeleted bay key address) = false
+is_plain (request.Unit bay) = false
+is_plain _ = true
+
+plain_facts : (asked : Request) → is_plain asked ≡ true → (is_write asked ≡ false) × (keeps_drives asked ≡ true)
+plain_facts (request.Insert bay name) e = (refl, refl)
+plain_facts (request.Blank bay name cylinders) e = (refl, refl)
+plain_facts (request.BlankDd bay name cylinders) e = (refl, refl)
+plain_facts (request.Eject bay) e = (refl, refl)
+plain_facts (request.Ack bay) e = (refl, refl)
+plain_facts (request.Read bay key address) e = absurd (true≢false (sym e))
+plain_facts (request.Write bay key address) e = absurd (true≢false (sym e))
+plain_facts (request.WriteDeleted bay key address) e = absurd (true≢false (sym e))
+plain_facts (request.Format bay c h) e = (refl, refl)
+plain_facts (request.Fill address count byte) e = (refl, refl)
+plain_facts (request.Dump address count) e = (refl, refl)
+plain_facts (request.Unit bay) e = absurd (true≢false (sym e))
+plain_facts (request.SetRate bay rate) e = (refl, refl)
+plain_facts (request.Tries tries) e = (refl, refl)
+
+plain_keep : (requests : List Request) → list_all is_plain requests ≡ true → list_all keeps_drives requests ≡ true
+plain_keep [] e = refl
+plain_keep (asked ∷ later) e =
+    let both = and_both (is_plain asked) (list_all is_plain later) e in
+    let first = (plain_facts asked both.0).1 in
+    rw first (plain_keep later both.1)
+
+-- no step of the course reads a key
+plain_reads : (course : List Taken) → list_all is_plain (requests_of course) ≡ true → (key : Chrn) → SomeStep (ReadsKey key) course → ⊥
+plain_reads [] e key some = some
+plain_reads (taken ∷ later) e key (inl here) =
+    let both = and_both (is_plain taken.asked) (list_all is_plain (requests_of later)) e in
+    true≢false (sym both.0 ∙ ap is_plain here.1)
+plain_reads (taken ∷ later) e key (inr there) =
+    let both = and_both (is_plain taken.asked) (list_all is_plain (requests_of later)) e in
+    plain_reads later both.1 key there
+
+-- nor writes one
+plain_writes : (course : List Taken) → list_all is_plain (requests_of course) ≡ true → count_writes course ≡ 0
+plain_writes [] e = refl
+plain_writes (taken ∷ later) e =
+    let both = and_both (is_plain taken.asked) (list_all is_plain (requests_of later)) e in
+    let first = (plain_facts taken.asked both.0).0 in
+    let rest = plain_writes later both.1 in
+    rw first (omega (arith, rest))
+
+writes_join : (one two : List Taken) → count_writes (one ++ two) ≡ count_writes one + count_writes two
+writes_join [] two = omega arith
+writes_join (taken ∷ one) two = let rest = writes_join one two in omega (arith, rest)
+
+log_join : (one two : List Taken) → log_of (one ++ two) ≡ log_of one ++ log_of two
+log_join [] two = refl
+log_join (taken ∷ one) two =
+    ap (λ (row : List LogLine). line_at taken.asked taken.answer ++ row) (log_join one two)
+    ∙ sym (append_assoc (line_at taken.asked taken.answer) (log_of one) (log_of two))
+
+-- no line where nothing was refused
+done_lines : (course : List Taken) → has_refusal course ≡ false → log_of course ≡ []
+done_lines [] e = refl
+done_lines (taken ∷ later) e =
+    let parts = or_false (is_refusal taken.answer) (has_refusal later) e in
+    let first = line_of_done taken.asked taken.answer parts.0 in
+    rw first (done_lines later parts.1)
+
+formats_plain : (tracks : List Track) → list_all is_plain (format_each 1 tracks) ≡ true
+formats_plain [] = refl
+formats_plain (track ∷ later) = formats_plain later
+
+ready_plain : (rate : Rate) (formats : List Request) → list_all is_plain formats ≡ true → list_all is_plain (ready_requests rate formats) ≡ true
+ready_plain R500 formats e = e
+ready_plain R250 formats e = e
+
+blank_plain : (from to : List ℕ) (cylinders : ℕ) (rate : Rate) (formats : List Request) → list_all is_plain formats ≡ true → list_all is_plain (request.Insert 0 from ∷ blank_request 1 to cylinders rate ∷ ready_requests rate formats) ≡ true
+blank_plain from to cylinders R500 formats e = e
+blank_plain from to cylinders R250 formats e = e
+
+opening_plain : (from to : List ℕ) (shape : Shape) (logged : Bool) → list_all is_plain (opening from to shape logged) ≡ true
+opening_plain from to shape true = ready_plain shape.rate [] refl
+opening_plain from to shape false = blank_plain from to shape.cylinders shape.rate (format_each 1 (tracks_of shape.cylinders shape.heads)) (formats_plain (tracks_of shape.cylinders shape.heads))
+
+-- a step of a course is one of either part
+some_either : (P : Taken → Type 0) (one two : List Taken) → SomeStep P (one ++ two) → SomeStep P one ⊎ SomeStep P two
+some_either P [] two some = inr some
+some_either P (taken ∷ one) two (inl here) = inl (inl here)
+some_either P (taken ∷ one) two (inr there) = elim (some_either P one two there) [ inl first ↦ inl (inr first) | inr second ↦ inr second ]
+
+-- ---- what is stored
+
+-- parts of a run whose writes are Tidy
+tidy_first : (old : State) (one two : List Taken) → AreTidy old (one ++ two) → AreTidy old one
+tidy_first old [] two tidy = tt
+tidy_first old (taken ∷ one) two tidy = (tidy.0, tidy_first taken.after one two tidy.1)
+
+tidy_later : (old new : State) (told after : Option Files) (one two : List Taken) → Run old told one new after → AreTidy old (one ++ two) → AreTidy new two
+tidy_later old new told after [] two run tidy = subst (λ (s : State). AreTidy s two) (sym run.0) tidy
+tidy_later old new told after (taken ∷ one) two run tidy = tidy_later taken.after new run.0 after one two run.2 tidy.1
+
+stores_both : (files : Files) (to log disk lines : List ℕ) (after : Option Files) → to ≢ log → after ≡ stored (stored (Some files) to disk) log lines
+    → IfSome after (λ files. file_at files to ≡ Some disk) × IfSome after (λ files. file_at files log ≡ Some lines)
 stores_both files to log disk lines after differ is =
     subst (λ (f : Option Files). IfSome f (λ files. file_at files to ≡ Some disk) × IfSome f (λ files. file_at files log ≡ Some lines)) (sym is)
     (first_there files to disk log lines differ, last_there (fin.insert files to disk) log lines)
+
+log_under : (before : Option Files) (log lines : List ℕ) (after : Option Files) → after ≡ stored before log lines → IfSome after (λ files. file_at files log ≡ Some lines)
+log_under None log lines after is = subst (λ (f : Option Files). IfSome f (λ files. file_at files log ≡ Some lines)) (sym is) tt
+log_under (Some files) log lines after is = subst (λ (f : Option Files). IfSome f (λ files. file_at files log ≡ Some lines)) (sym is) (last_there files log lines)
 
 same_outcome : (course : List Taken) (asked : ℕ) → count_writes course + length (log_of course) ≡ asked → outcome_of asked (log_of course) ≡ outcome_in course asked
 same_outcome course asked count =
     let written : asked - length (log_of course) ≡ count_writes course = omega arith in
     ap (λ (n : ℕ). record { written = n; asked = asked }) written
 
--- the log of a whole course
-log_is : (from to log : List ℕ) (disk : Disk) (found : Option (List LogLine)) (files : Files) (old : World) (course : List Taken) (new : World) (ended : Status) (p : GoesThrough (opening from to (shape_of disk) (is_some found)) (asked_keys (shape_of disk) found) log files old course new ended) → log_of course ≡ log_of p.body
-log_is from to log disk found files old course new ended p =
-    (parts (opening from to (shape_of disk) (is_some found)) (opening_plain from to (shape_of disk) (is_some found)) (asked_keys (shape_of disk) found) log files old course new ended p).log
+-- a rescue that went on to its end, by the log that was found
+module _ (from to log : List ℕ) (disk : Disk) (found : Option (List LogLine)) (files : Files) (old : World) (course : List Taken) (new : World) (ended : Status) (there : IsLogFound (Some files) log (sectors_at disk.rate) found) (image : IsImageOf (Some files) from disk) (p : GoesThrough (opening from to (shape_of disk) (is_some found)) (asked_keys (shape_of disk) found) log files old course new ended) where
+  abbrev requests : List Request
+  requests = opening from to (shape_of disk) (is_some found)
 
-is_rescue : (from to log : List ℕ) (disk target : Disk) (found : Option (List LogLine)) (files : Files) (old : World) (course : List Taken) (new : World) (ended : Status) → to ≢ log → IsLogFound (Some files) log (sectors_at disk.rate) found → (p : GoesThrough (opening from to (shape_of disk) (is_some found)) (asked_keys (shape_of disk) found) log files old course new ended) → (start : Disk) (kept : Settles (asked_keys (shape_of disk) found) start to files course p.after) → KeepsEntries found course target kept.saved → IsRescue disk target to log files old course new ended
-is_rescue from to log disk target found files old course new ended differ there p start kept keeps =
-    let asked = length (asked_keys (shape_of disk) found) in
-    let lines = log_is from to log disk found files old course new ended p in
-    let text = log_text (log_of course) in
-    let is : new.files ≡ stored (stored (Some files) to (file_of kept.saved)) log text =
-        p.stores ∙ ap (λ (f : Option Files). stored f log (log_text (log_of p.body))) kept.stores ∙ ap (λ (row : List LogLine). stored (stored (Some files) to (file_of kept.saved)) log (log_text row)) (sym lines) in
-    let both = stores_both files to log (file_of kept.saved) text new.files differ is in
-    let same = ap (λ (row : List LogLine). outcome_of asked row) (sym lines) ∙ same_outcome course asked kept.count in
-    record {
-      found = found;
-      there = there;
-      stores = record {
-        saved = kept.saved;
-        regular = kept.regular;
-        stores = is;
-        disk_there = both.0;
-        log_there = both.1;
-        settled = kept.settled;
-        kept = keeps;
-      };
-      tells = record {
-        report = p.report ∙ ap (λ (o : Outcome). grown old.report (last_text o)) same;
-        status = p.status ∙ ap outcome_status same;
-        others = kept.count;
-      };
-    }
+  abbrev keys : List Chrn
+  keys = asked_keys (shape_of disk) found
 
-by_log : (from to log : List ℕ) (disk target : Disk) (found : Option (List LogLine)) (files : Files) (old : World) (course : List Taken) (new : World) (ended : Status) → to ≢ log → IsImageOf (Some files) from disk → length old.state.station.memory ≡ user_bytes → IsFaultless 1 old.state.station.counters new.state.station.counters → IsLogFound (Some files) log (sectors_at disk.rate) found → HasTarget found to target files old.state course → GoesThrough (opening from to (shape_of disk) (is_some found)) (asked_keys (shape_of disk) found) log files old course new ended → IsRescue disk target to log files old course new ended
+  requests_plain : list_all is_plain requests ≡ true
+  requests_plain = opening_plain from to (shape_of disk) (is_some found)
+
+  top_plain : list_all is_plain (requests_of p.top) ≡ true
+  top_plain = ap (λ (row : List Request). list_all is_plain row) p.opens.all ∙ requests_plain
+
+  last_plain : list_all is_plain (requests_of p.last) ≡ true
+  last_plain = ap (λ (row : List Request). list_all is_plain row) p.ejects.all
+
+  -- the log and the writes are those of the records
+  pub log_is : log_of course ≡ log_of p.body
+  log_is =
+      ap log_of p.is ∙ log_join p.top (p.body ++ p.last) ∙ ap (λ (row : List LogLine). row ++ log_of (p.body ++ p.last)) (done_lines p.top p.opens.done)
+      ∙ log_join p.body p.last ∙ ap (λ (row : List LogLine). log_of p.body ++ row) (done_lines p.last p.ejects.done) ∙ append-nil (log_of p.body)
+
+  counted : count_writes course + length (log_of course) ≡ length keys
+  counted =
+      let first = plain_writes p.top top_plain in
+      let more = plain_writes p.last last_plain in
+      let above : count_writes course ≡ count_writes p.top + count_writes (p.body ++ p.last) = ap count_writes p.is ∙ writes_join p.top (p.body ++ p.last) in
+      let below = writes_join p.body p.last in
+      let lines = ap (λ (row : List LogLine). length row) log_is in
+      let all = keys_counted keys p.opened p.body p.rescued p.goes in
+      omega (arith, above, below, first, more, lines, all)
+
+  -- and so are its reads
+  inner : (P : Taken → Type 0) (key : Chrn) → ((taken : Taken) → P taken → ReadsKey key taken) → SomeStep P course → SomeStep P p.body
+  inner P key reads some = elim (some_either P p.top (p.body ++ p.last) (subst (SomeStep P) p.is some)) [
+    | inl above ↦ absurd (plain_reads p.top top_plain key (some_apart P (ReadsKey key) p.top reads above))
+    | inr below ↦ elim (some_either P p.body p.last below) [
+      | inl here ↦ here
+      | inr end ↦ absurd (plain_reads p.last last_plain key (some_apart P (ReadsKey key) p.last reads end))
+    ]
+  ]
+
+  outer : (P : Taken → Type 0) → SomeStep P p.body → SomeStep P course
+  outer P some = subst (SomeStep P) (sym p.is) (some_second P p.top (p.body ++ p.last) (some_first P p.body p.last some))
+
+  -- no count falls
+  fell_top : Fell old p.opened
+  fell_top = never_fell old.state p.opened.state (Some files) p.opened.files requests p.top p.opens (plain_keep requests requests_plain)
+
+  fell_last : Fell p.ejected new → Fell p.rescued new
+  fell_last end =
+      fell_both p.rescued p.ejected new
+      (never_fell p.rescued.state p.ejected.state p.rescued.files p.ejected.files (request.Eject 1 ∷ []) p.last p.ejects refl) end
+
+  same_end : Fell p.ejected new
+  same_end = subst (λ (s : State). NeverFell p.ejected.state.station.counters s.station.counters) (sym p.stores.state) (record { first = omega arith; second = omega arith; stalls = omega arith })
+
+  pub fell_rescued : Fell p.rescued new
+  fell_rescued = fell_last same_end
+
+  pub fell_opened : Fell p.opened new
+  fell_opened = fell_both p.opened p.rescued new (keys_fell keys p.opened p.body p.rescued p.goes) fell_rescued
+
+  pub few : (disk.cylinders ≤ 80) × (disk.heads ≤ 2)
+  few = let ranges = image_ranges files from disk image in (ranges.0, ranges.1)
+
+  module _ (target start : Disk) (has : HasOther start to files p.opened.state p.opened.files) (saves : SavesKeys course (log_of course) keys start p.opened p.body p.rescued) where
+    disk_stored : p.ejected.files ≡ stored (Some files) to (file_of saves.final)
+    disk_stored =
+        let last = begins p.rescued.state p.ejected.state p.rescued.files p.ejected.files (request.Eject 1) [] p.last p.ejects in
+        let disk = last.does.1 in
+        let named : in_bay p.rescued.state.names 1 ≡ Some to = ap (λ (n : Two (Option (List ℕ))). in_bay n 1) saves.names ∙ has.named in
+        let same_disk : disk.0 ≡ saves.final = cc (disk.2, saves.medium) in
+        let same_name : disk.1 ≡ to = cc (disk.3, named) in
+        (ends_there last.mid p.ejected.state last.files p.ejected.files last.later last.behind).1 ∙ disk.5
+        ∙ ap (λ (n : List ℕ). stored p.rescued.files n (file_of disk.0)) same_name ∙ ap (λ (d : Disk). stored p.rescued.files to (file_of d)) same_disk
+        ∙ ap (λ (f : Option Files). stored f to (file_of saves.final)) (saves.files ∙ has.files_are)
+
+    settles : (some : List Chrn) → AllByRecursion (λ key. IsLogged course (log_of course) key ⊎ IsSaved course saves.final key) some
+        → AllByRecursion (IsSettled course saves.final (log_of course)) some
+    settles [] each = tt
+    settles (key ∷ some) each = (
+      record {
+        either = each.0;
+        never_both = λ logged kept.
+            let reads = keys_read keys (asked_distinct disk files log found there) p.opened p.body p.rescued p.goes in
+            let refused : (taken : Taken) → WasRefused key logged.code taken → ReadsKey key taken = λ taken is. (0x10000, is.0) in
+            let gave = gave_reads key kept.deleted kept.content in
+            let one = reads.once key _ _ refused gave (inner _ key refused logged.read) (inner _ key gave kept.read) in
+            never_both key logged.code kept.deleted kept.content one.0 one.1 one.2;
+      },
+      settles some each.1,
+    )
+
+    is_rescue : to ≢ log → KeepsEntries found course target saves.final → IsRescue disk target to log files old course new ended
+    is_rescue differ keeps =
+        let asked = length keys in
+        let text = log_text (log_of course) in
+        let lines = sym log_is in
+        let is : new.files ≡ stored (stored (Some files) to (file_of saves.final)) log text =
+            p.stores.stores ∙ ap (λ (f : Option Files). stored f log (log_text (log_of p.body))) disk_stored
+            ∙ ap (λ (row : List LogLine). stored (stored (Some files) to (file_of saves.final)) log (log_text row)) lines in
+        let both = stores_both files to log (file_of saves.final) text new.files differ is in
+        let same = ap (λ (row : List LogLine). outcome_of asked row) lines ∙ same_outcome course asked counted in
+        record {
+          found = found;
+          there = there;
+          stores = record {
+            saved = saves.final;
+            regular = saves.regular;
+            stores = is;
+            disk_there = both.0;
+            log_there = both.1;
+            settled = All-from_recursion (IsSettled course saves.final (log_of course)) keys (settles keys saves.settled);
+            kept = keeps;
+          };
+          tells = record {
+            report = p.stores.report ∙ ap (λ (r : Option (List ℕ)). grown r (last_text (outcome_of asked (log_of p.body)))) p.report
+                ∙ ap (λ (o : Outcome). grown old.report (last_text o)) same;
+            status = p.stores.status ∙ ap outcome_status same;
+            others = counted;
+          };
+        }
+
+  -- the records are saved to the other disk, as it is in the beginning
+  pub rescued : (target start : Disk) → to ≢ log → HasOther start to files p.opened.state p.opened.files → IsGuarded (heads_for disk found) start p.opened.state p.body
+      → IsFaultless 1 old.state.station.counters new.state.station.counters
+      → ((final : Disk) → ((entry : Entry) → WasNotRead course entry.key → IsOnMap start entry ↔ IsOnMap final entry) → KeepsEntries found course target final)
+      → IsRescue disk target to log files old course new ended
+  rescued target start differ has guarded faultless keeps =
+      let fell = fell_rescued in
+      let part : IsPart laid_tidy disk (heads_for disk found) course (log_of course) p.body = record {
+        steps = outer;
+        lines_are = λ line some. subst (λ (row : List LogLine). Contains row line) (sym log_is) some;
+      } in
+      let asked = asked_all disk files log found few.0 few.1 there in
+      let saves = saves_keys laid_tidy disk (heads_for disk found) course (log_of course) keys start p.opened p.body p.rescued p.goes part asked (asked_distinct disk files log found there)
+          has.regular has.size has.medium guarded (omega (arith, fell_top.second, fell.second, faultless.0), omega (arith, fell.second, faultless.1)) in
+      is_rescue target start has saves differ (keeps saves.final (λ entry unread. saves.others entry (λ deleted content some. unread deleted content (outer _ some))))
+
+-- ---- both ways to begin
+
+by_log : (from to log : List ℕ) (disk target : Disk) (found : Option (List LogLine)) (files : Files) (old : World) (course : List Taken) (new : World) (ended : Status)
+    → to ≢ log → IsImageOf (Some files) from disk → length old.state.station.memory ≡ user_bytes → IsFaultless 1 old.state.station.counters new.state.station.counters
+    → IsLogFound (Some files) log (sectors_at disk.rate) found → HasTarget found to target files old.state course
+    → GoesThrough (opening from to (shape_of disk) (is_some found)) (asked_keys (shape_of disk) found) log files old course new ended
+    → IsRescue disk target to log files old course new ended
 by_log from to log disk target None files old course new ended differ image size faultless there other p =
-    let kept = settles_new from to log disk target files old course new ended image size faultless there p in
-    is_rescue from to log disk target None files old course new ended differ there p kept.0 kept.1 tt
+    let fell = fell_opened from to log disk None files old course new ended there image p in
+    let begins = begins_new from to disk files old.state p.opened.state p.opened.files p.top image p.opens size
+        (omega (arith, fell.second, faultless.0), omega (arith, fell.second, faultless.1)) in
+    rescued from to log disk None files old course new ended there image p target begins.0 differ begins.1 (inl begins.2) faultless (λ final others. tt)
 by_log from to log disk target (Some lines) files old course new ended differ image size faultless there other p =
-    let kept = settles_again from to log disk target files old course new ended image size faultless lines there other p in
-    is_rescue from to log disk target (Some lines) files old course new ended differ there p target kept kept.kept
+    let has = begins_again from to disk target files old.state p.opened.state p.opened.files p.top image other.image other.regular p.opens size in
+    let tidy = tidy_later old.state p.opened.state (Some files) p.opened.files p.top (p.body ++ p.last) p.opens.run (subst (λ (row : List Taken). AreTidy old.state row) p.is other.tidy) in
+    rescued from to log disk (Some lines) files old course new ended there image p target target differ has (inr (tidy_first p.opened.state p.body p.last tidy)) faultless
+    (λ final others. others)
 
-pub rescue_stores : (from to log : List ℕ) (disk target : Disk) (files : Files) (old : World) (course : List Taken) (new : World) (ended : Status) → Rescues from to log old course new ended → IsEndStatus ended → IsNotStopped course → to ≢ log → old.files ≡ Some files → IsImageOf (Some files) from disk → length old.state.station.memory ≡ user_bytes → IsFaultless 1 old.state.station.counters new.state.station.counters → ((found : Option (List LogLine)) → IsLogFound (Some files) log (sectors_at disk.rate) found → HasTarget found to target files old.state course) → IsRescue disk target to log files old course new ended
+pub rescue_stores : (from to log : List ℕ) (disk target : Disk) (files : Files) (old : World) (course : List Taken) (new : World) (ended : Status)
+    → Rescues from to log old course new ended → IsEndStatus ended → IsNotStopped course → to ≢ log → old.files ≡ Some files → IsImageOf (Some files) from disk
+    → length old.state.station.memory ≡ user_bytes → IsFaultless 1 old.state.station.counters new.state.station.counters
+    → ((found : Option (List LogLine)) → IsLogFound (Some files) log (sectors_at disk.rate) found → HasTarget found to target files old.state course)
+    → IsRescue disk target to log files old course new ended
 rescue_stores from to log disk target files old course new ended rescues whole fine differ told image size faultless other =
-    let p = goes_through from to log disk files old course new ended rescues whole fine told image in
-    by_log from to log disk target p.found files old course new ended differ image size faultless p.there (other p.found p.there) p.goes
+    let all = goes_through from to log disk files old course new ended rescues whole fine told image in
+    by_log from to log disk target all.found files old course new ended differ image size faultless all.there (other all.found all.there) all.goes
 
 -- ---- the log, exactly
 
--- bay 0 behind the opening
-record HoldsFirst (disk : Disk) (old mid : State) : Type 0 where
-  pub count : ℕ
-  pub medium : (bay_of mid.station 0).medium ≡ Some disk
-  pub rate : (bay_of mid.station 0).rate ≡ disk.rate
-  pub acknowledged : (bay_of mid.station 0).acknowledged ≡ Some count
-  pub before : faults_of old.station.counters 0 ≤ count
-  pub since : count ≤ faults_of mid.station.counters 0
-  pub fell : NeverFell old.station.counters mid.station.counters
-
--- the formats leave bay 0 as it is
-formats_stay : (shape : Shape) (logged : Bool) (old new : State) (told after : Option Files) (course : List Taken) → DoesAll (formats_for shape logged) old told course new after → (bay_of new.station 0 ≡ bay_of old.station 0) × NeverFell old.station.counters new.station.counters
-formats_stay shape true old new told after course all = (first_stays [] old new told after course all, never_fell old new told after [] course all refl)
-formats_stay shape false old new told after course all =
-    let tracks = tracks_of shape.cylinders shape.heads in
-    (first_stays tracks old new told after course all, never_fell old new told after (format_each 1 tracks) course all (formats_keep tracks))
-
-opened_first : (disk target : Disk) (to : List ℕ) (files : Files) (shape : Shape) (logged : Bool) (old mid : State) (after : Option Files) → AreOpen disk target to files (formats_for shape logged) old mid after → HoldsFirst disk old mid
-opened_first disk target to files shape logged old mid after both =
-    let ready = both.ready in
-    let same = formats_stay shape logged ready.mid mid ready.files after ready.course ready.behind in
-    record {
-      count = ready.count;
-      medium = ap (λ (b : Bay). b.medium) same.0 ∙ ready.first;
-      rate = ap (λ (b : Bay). b.rate) same.0 ∙ ready.first_rate;
-      acknowledged = ap (λ (b : Bay). b.acknowledged) same.0 ∙ ready.acknowledged;
-      before = (let fell = both.fell in omega (arith, fell.first, ready.before));
-      since = (let fell = same.1 in omega (arith, fell.first, ready.since));
-      fell = both_fell old.station.counters ready.mid.station.counters mid.station.counters
-          (both_fell old.station.counters both.start.station.counters ready.mid.station.counters both.fell ready.fell) same.1;
-    }
-
-holds_first : (from to : List ℕ) (disk : Disk) (found : Option (List LogLine)) (files : Files) (old mid : State) (after : Option Files) (course : List Taken) → IsImageOf (Some files) from disk → DoesAll (opening from to (shape_of disk) (is_some found)) old (Some files) course mid after → HoldsFirst disk old mid
-holds_first from to disk None files old mid after course image all =
-    let opened = opens_blank from to disk files (format_each 1 (tracks_of disk.cylinders disk.heads)) old mid after course image all in
-    opened_first disk _ to files (shape_of disk) false old mid after opened.both
-holds_first from to disk (Some lines) files old mid after course image all =
-    let opened = opens_other from to disk files old mid after course image all in
-    opened_first disk opened.target to files (shape_of disk) true old mid after opened.both
-
-parts_log : (from to log : List ℕ) (disk : Disk) (found : Option (List LogLine)) (failed : List (Chrn × Look)) (files : Files) (old : World) (course : List Taken) (new : World) (ended : Status) → IsImageOf (Some files) from disk → IsUndisturbed 0 old.state.station.counters new.state.station.counters → IsUnmistaken disk → AreFailing disk (asked_keys (shape_of disk) found) failed → IsLogFound (Some files) log (sectors_at disk.rate) found → (p : GoesThrough (opening from to (shape_of disk) (is_some found)) (asked_keys (shape_of disk) found) log files old course new ended) → log_of p.body ≡ failing_lines failed
-parts_log from to log disk found failed files old course new ended image quiet unmistaken failing there p =
-    let keys = asked_keys (shape_of disk) found in
-    let ranges = image_ranges files from disk image in
-    let first = holds_first from to disk found files old.state p.opened p.opened_files p.top image p.opens in
-    let one = first.fell in
-    let body = keys_fell keys p.opened p.rescued p.opened_files p.rescued_files p.body p.goes in
-    let last = never_fell p.rescued new.state p.rescued_files p.after (request.Eject 1 ∷ []) p.last p.ejects refl in
-    let holds : Holds disk first.count p.opened.station = record {
-      medium = first.medium;
-      rate = first.rate;
-      acknowledged = first.acknowledged;
-      faults = (let before = first.before in let since = first.since in omega (arith, one.stalls, body.first, body.stalls, last.first, last.stalls, quiet.together));
-    } in
-    let calm : IsUndisturbed 0 p.opened.station.counters p.rescued.station.counters = record {
-      faults = omega (arith, last.first, quiet.faults);
-      stalls = omega (arith, last.stalls, quiet.stalls);
-      together = omega (arith, one.first, one.stalls, last.first, last.stalls, quiet.together);
-    } in
-    tells_keys disk ranges.0 ranges.1 unmistaken first.count keys failed p.opened p.rescued p.opened_files p.rescued_files p.body p.goes (asked_all disk files log found ranges.0 ranges.1 there) failing holds calm
-
-log_under : (before : Option Files) (log lines : List ℕ) (after : Option Files) → after ≡ stored before log lines → IfSome after (λ files. file_at files log ≡ Some lines)
-log_under None log lines after is = subst (λ (f : Option Files). IfSome f (λ files. file_at files log ≡ Some lines)) (sym is) tt
-log_under (Some files) log lines after is = subst (λ (f : Option Files). IfSome f (λ files. file_at files log ≡ Some lines)) (sym is) (last_there files log lines)
-
-pub rescue_logs : (from to log : List ℕ) (disk : Disk) (files : Files) (old : World) (course : List Taken) (new : World) (ended : Status) → Rescues from to log old course new ended → IsEndStatus ended → IsNotStopped course → old.files ≡ Some files → IsImageOf (Some files) from disk → IsUndisturbed 0 old.state.station.counters new.state.station.counters → IsUnmistaken disk → LogsNotFound disk log files course new
+pub rescue_logs : (from to log : List ℕ) (disk : Disk) (files : Files) (old : World) (course : List Taken) (new : World) (ended : Status)
+    → Rescues from to log old course new ended → IsEndStatus ended → IsNotStopped course → old.files ≡ Some files → IsImageOf (Some files) from disk
+    → IsUndisturbed 0 old.state.station.counters new.state.station.counters → IsUnmistaken disk → LogsNotFound disk log files course new
 rescue_logs from to log disk files old course new ended rescues whole fine told image quiet unmistaken =
     let all = goes_through from to log disk files old course new ended rescues whole fine told image in
+    let found = all.found in
     let p = all.goes in
-    let lines = log_is from to log disk all.found files old course new ended p in
+    let lines = log_is from to log disk found files old course new ended all.there image p in
+    let opened = fell_opened from to log disk found files old course new ended all.there image p in
+    let rest = fell_rescued from to log disk found files old course new ended all.there image p in
+    let body = keys_fell (asked_keys (shape_of disk) found) p.opened p.body p.rescued p.goes in
+    let top = fell_top from to log disk found files old course new ended all.there image p in
+    let parts = quiet_parts old.state.station.counters p.opened.state.station.counters new.state.station.counters top opened quiet in
+    let calm = quiet_parts p.opened.state.station.counters p.rescued.state.station.counters new.state.station.counters body rest parts.1 in
+    let first = holds_first from to disk files (is_some found) old.state p.opened.state p.opened.files p.top image p.opens parts.0 in
+    let ranges = image_ranges files from disk image in
     record {
-      found = all.found;
+      found = found;
       there = all.there;
-      log_there = log_under p.after log (log_text (log_of course)) new.files (p.stores ∙ ap (λ (row : List LogLine). stored p.after log (log_text row)) (sym lines));
-      exactly = λ failed failing. lines ∙ parts_log from to log disk all.found failed files old course new ended image quiet unmistaken failing all.there p;
+      log_there = log_under p.ejected.files log (log_text (log_of course)) new.files
+          (p.stores.stores ∙ ap (λ (row : List LogLine). stored p.ejected.files log (log_text row)) (sym lines));
+      exactly = λ failed failing. lines ∙ tells_keys disk ranges.0 ranges.1 unmistaken (heads_for disk found) first.0 (asked_keys (shape_of disk) found) failed
+          p.opened p.body p.rescued p.goes (asked_all disk files log found ranges.0 ranges.1 all.there) failing first.1 calm.0;
     }
