@@ -1,5 +1,3 @@
-pub mod Carrying
-pub mod Reading
-pub mod Numbered
-pub mod Ending
-pub mod Missing
+mod Turns
+mod Endings
+mod Opening

@@ -13,7 +13,7 @@ use Rattle.rescue.specs.declared.line.LogLine.{LogLine}
 use Rattle.rescue.specs.declared.read.LogError.{LogError}
 use Rattle.rescue.specs.declared.read.LogError.TheVariants as bad
 use Rattle.rescue_commands.specs.declared.logs.NoLog.{NoLog}
-use Rattle.rescue_commands.specs.declared.logs.NoLog.TheVariants as none
+use Rattle.rescue_commands.specs.declared.logs.NoLog.TheVariants as missing
 
 -- the most bytes of a log's text
 abbrev pub most_log_bytes : ℕ
@@ -33,6 +33,11 @@ IsLogFound told name sectors (Some lines) = HasText told name (λ text. IsLog se
 abbrev pub lines_found : Option (Vec LogLine Global) → Option (List LogLine)
 lines_found found = option_map (λ lines. lines.items) found
 
+-- so it is with what is answered of a log
+abbrev pub answer_found : Result (Option (Vec LogLine Global)) NoLog → Result (Option (List LogLine)) NoLog
+answer_found (Ok found) = Ok (lines_found found)
+answer_found (Err cause) = Err cause
+
 -- the first line of a log that isn't understood: 0 where the text is too long
 abbrev pub IsBadLog : Option Files → List ℕ → ℕ → ℕ → Type 0
 IsBadLog told name sectors n =
@@ -40,9 +45,9 @@ IsBadLog told name sectors n =
 
 -- why there is no log to go by
 abbrev pub IsNoLog : Option Files → List ℕ → ℕ → NoLog → Type 0
-IsNoLog told name sectors (none.BadLine n) = IsBadLog told name sectors n
-IsNoLog told name sectors none.FileFault = Unit {0}
-IsNoLog told name sectors none.NoMemory = Unit {0}
+IsNoLog told name sectors (missing.BadLine n) = IsBadLog told name sectors n
+IsNoLog told name sectors missing.FileFault = Unit {0}
+IsNoLog told name sectors missing.NoMemory = Unit {0}
 
 -- what is found under the name of a log: a log or nothing, or why there is none to go by
 abbrev pub IsFound : Option Files → List ℕ → ℕ → Result (Option (List LogLine)) NoLog → Type 0
@@ -55,12 +60,12 @@ AreFound told name found = (rate : Rate) → IsFound told name (sectors_at rate)
 
 -- a text that isn't a log
 abbrev pub NotUnderstood : LogError → NoLog → Type 0
-NotUnderstood (bad.BadLine n) cause = cause ≡ none.BadLine n
-NotUnderstood bad.NoMemory cause = cause ≡ none.NoMemory
+NotUnderstood (bad.BadLine n) cause = cause ≡ missing.BadLine n
+NotUnderstood bad.NoMemory cause = cause ≡ missing.NoMemory
 
 -- a file that wasn't loaded
 abbrev pub NotLoaded : LoadError → Result (Option (Vec LogLine Global)) NoLog → Type 0
 NotLoaded load.Absent answer = answer ≡ Ok None
-NotLoaded load.TooLong answer = answer ≡ Err (none.BadLine 0)
-NotLoaded load.Failed answer = answer ≡ Err none.FileFault
-NotLoaded load.NoMemory answer = answer ≡ Err none.NoMemory
+NotLoaded load.TooLong answer = answer ≡ Err (missing.BadLine 0)
+NotLoaded load.Failed answer = answer ≡ Err missing.FileFault
+NotLoaded load.NoMemory answer = answer ≡ Err missing.NoMemory

@@ -24,7 +24,7 @@ use Rattle.rescue.specs.declared.course.AfterRead.{AfterRead}
 use Rattle.rescue.specs.declared.course.AfterRead.TheVariants as next
 use Rattle.rescue.specs.declared.outcome.Outcome.{Outcome}
 use Rattle.rescue_commands.specs.declared.logs.NoLog.{NoLog}
-use Rattle.rescue_commands.specs.declared.logs.NoLog.TheVariants as none
+use Rattle.rescue_commands.specs.declared.logs.NoLog.TheVariants as missing
 use Rattle.rescue_commands.specs.Logs.{AreFound}
 
 -- ---- A record.
@@ -106,7 +106,7 @@ stores_log log asked lines =
 unfoldable pub rescue_found : List ℕ → List ℕ → Shape → Option (List LogLine) → Script
 rescue_found to log shape found =
     may_starve (λ none. rescues_all to shape (is_some found) (asked_keys shape found)
-    (λ lines. stores_log log (length (asked_keys shape found)) lines))
+    (stores_log log (length (asked_keys shape found))))
 
 -- the line where a log isn't understood
 unfoldable pub bad_log_text : ℕ → List ℕ
@@ -114,9 +114,9 @@ bad_log_text line = codes "log line " ++ (decimal line ++ codes " not understood
 
 -- what is told where there is no log to go by
 unfoldable pub tells_no_log : NoLog → Script
-tells_no_log (none.BadLine line) = Ends (bad_log_text line) status.BadJob
-tells_no_log none.FileFault = Ends [] status.FileFault
-tells_no_log none.NoMemory = Ends [] status.NoMemory
+tells_no_log (missing.BadLine line) = Ends (bad_log_text line) status.BadJob
+tells_no_log missing.FileFault = Ends [] status.FileFault
+tells_no_log missing.NoMemory = Ends [] status.NoMemory
 
 -- what comes behind the disk that was put in, by what was found under the name of its log
 abbrev pub rescue_rest : List ℕ → List ℕ → Shape → Result (Option (List LogLine)) NoLog → Script

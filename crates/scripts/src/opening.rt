@@ -1,5 +1,5 @@
 // Parts that many scripts have: a disk is put in, a bay is made ready, and tracks are formatted.
-ghost use Rattle.std.specs.Prelude.{◌≡◌, Some};
+ghost use Rattle.std.specs.Prelude.{◌≡◌, Some, OnOk};
 ghost use Rattle.flop_base.specs.declared.answers.Rate.{Rate};
 ghost use Rattle.floppy_session.specs.Session.{IsRunning};
 ghost use Rattle.floppy_session.specs.Tries.{HasTries};
@@ -24,9 +24,10 @@ pub fn open_disk<S: Shelf, K: Sink, D: Station>(
     out: &mut K,
 ) -> Result<Shape, Status>
     requires running { IsRunning D.shown D.is_ready session.old }
-    ensures { RanPart (Goes (opens name)) (IsRunning D.shown D.is_ready session.new)
+    ensures ran { RanPart (Goes (opens name)) (IsRunning D.shown D.is_ready session.new)
         (faulty_of D.shown S.told S.fault_count K.told K.fault_count session.old shelf.old out.old) result
         (faulty_of D.shown S.told S.fault_count K.told K.fault_count session.new shelf.new out.new) }
+    ensures files { OnOk result (S.told shelf.new ≡ S.told shelf.old) }
 {
     need(
         alloc,
