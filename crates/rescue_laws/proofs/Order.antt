@@ -1,5 +1,5 @@
 -- What a rescue stores, however it ends, and in which order.
-use Rattle.std.proofs.Common.{◌≡◌, ◌∙◌, ℕ, Bool, true, false, List, [], ◌∷◌, ◌++◌, length, append-nil, append_assoc, sym, ap, subst, inl, inr, Option, Some, None, Result, Ok, Err}
+use Rattle.std.proofs.Common.{◌≡◌, ◌∙◌, ℕ, Bool, true, false, List, [], ◌∷◌, ◌++◌, length, append-nil, append_assoc, sym, ap, subst, inl, inr, Option, Some, None, Result}
 use Rattle.std.specs.Prelude.{is_some}
 use Rattle.flop_base.specs.Shelf.{Files, stored}
 use Rattle.flop_base.specs.declared.key.Chrn.{Chrn}
@@ -34,9 +34,8 @@ use Rattle.disk_laws.proofs.Steps.{either, done_does}
 use Rattle.rescue.specs.Course.{read_of, write_of, outcome_status}
 use Rattle.rescue.specs.Log.{log_text}
 use Rattle.rescue.specs.declared.line.LogLine.{LogLine}
-use Rattle.rescue_commands.specs.declared.logs.NoLog.{NoLog}
-use Rattle.rescue_commands.specs.declared.logs.NoLog.TheVariants as none
-use Rattle.rescue_commands.specs.Rescue.{follows, rescues, prepares, asked_keys, outcome_of, last_text, rescues_all, stores_log, rescue_found, bad_log_text, tells_no_log, rescue_rest, Rescues}
+use Rattle.rescue_commands.specs.Rescue.{follows, rescues, prepares, asked_keys, outcome_of, last_text, rescues_all, stores_log, rescue_found, rescue_rest, Rescues}
+use Rattle.rescue_commands.proofs.Rests.{by_rest}
 use Rattle.rescue_laws.specs.Logged.{line_at, log_of}
 use Rattle.rescue_laws.specs.Rescued.{StoresInOrder, Nothing, DiskAlone, DiskThenLog}
 use Rattle.rescue_laws.proofs.Gone.{carries_all, FollowRun, Writes, Logs, GivesUp, Starves, follow_run}
@@ -219,16 +218,6 @@ module _ (to log : List ℕ) where
       prepares_in_order shape (is_some found) (λ none. through rescues keys [] rest) (records_in_order keys rest (λ lines. end_in_order lines asked) []) old course new ended any runs
   found_in_order shape found old course new ended any (inr starved) = Nothing (ap (λ (w : World). w.files) starved.1)
 
-  no_log_in_order : (cause : NoLog) → InOrder Any [] (tells_no_log cause)
-  unfolding tells_no_log
-  no_log_in_order (none.BadLine line) = ends_in_order (bad_log_text line) status.BadJob
-  no_log_in_order none.FileFault = ends_in_order [] status.FileFault
-  no_log_in_order none.NoMemory = ends_in_order [] status.NoMemory
-
-  rest_in_order : (shape : Shape) (answer : Result (Option (List LogLine)) NoLog) → InOrder Any [] (rescue_rest to log shape answer)
-  rest_in_order shape (Ok found) = found_in_order shape found
-  rest_in_order shape (Err cause) = no_log_in_order cause
-
   shape_in_order : (rest : Shape → Script) → ((shape : Shape) → InOrder Any [] (rest shape)) → (there : Option Shape) → InOrder Any [] (with_shape there rest)
   shape_in_order rest next (Some shape) = next shape
   shape_in_order rest next None = ends_in_order [] status.AllOk
@@ -240,5 +229,6 @@ stores_in_order from to log old new course ended (answers, are, runs) =
     need_in_order to log Any Any (request.Insert 0 from) [] (λ answer after. with_shape (shape_in (bay_of after.station 0)) rest)
     (λ before then told after answer step. either (refusal_of before (request.Insert 0 from)) step (λ does. does.1) (λ cause refused. refused.files))
     (λ before then told after answer step fine any. tt)
-    (λ answer after. shape_in_order to log rest (λ shape. rest_in_order to log shape (answers shape.rate)) (shape_in (bay_of after.station 0)))
+    (λ answer after. shape_in_order to log rest (λ shape. by_rest old.files to log shape (InOrder to log Any []) (λ found there. found_in_order to log shape found)
+    (λ line. ends_in_order to log line status.BadJob) (ends_in_order to log [] status.FileFault) (ends_in_order to log [] status.NoMemory) (answers shape.rate) (are shape.rate)) (shape_in (bay_of after.station 0)))
     old course new ended tt runs

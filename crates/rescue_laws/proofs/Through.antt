@@ -1,5 +1,5 @@
 -- A rescue that went on to its end went through its opening and its records, and stored the other diskette and the new log.
-use Rattle.std.proofs.Common.{◌≡◌, ◌∙◌, List, [], ◌∷◌, ◌++◌, ℕ, length, ap, subst, inl, inr, append-nil, Option, Some, Result, Ok, Err}
+use Rattle.std.proofs.Common.{◌≡◌, ◌∙◌, List, [], ◌∷◌, ◌++◌, ℕ, length, ap, subst, inl, inr, append-nil, Option, Some}
 use Rattle.std.specs.Prelude.{is_some}
 use Rattle.std.specs.Option.{option_map}
 use Rattle.flop_base.specs.Shelf.{Files, stored}
@@ -28,10 +28,9 @@ use Rattle.disk_laws.proofs.VerifyRun.{not_put}
 use Rattle.rescue.specs.Course.{outcome_status}
 use Rattle.rescue.specs.Log.{log_text}
 use Rattle.rescue.specs.declared.line.LogLine.{LogLine}
-use Rattle.rescue_commands.specs.declared.logs.NoLog.{NoLog}
-use Rattle.rescue_commands.specs.declared.logs.NoLog.TheVariants as none
 use Rattle.rescue_commands.specs.Logs.{IsLogFound, IsFound}
-use Rattle.rescue_commands.specs.Rescue.{rescues, asked_keys, outcome_of, last_text, rescues_all, stores_log, rescue_found, bad_log_text, tells_no_log, rescue_rest, Rescues}
+use Rattle.rescue_commands.specs.Rescue.{rescues, asked_keys, outcome_of, last_text, rescues_all, stores_log, rescue_found, rescue_rest, Rescues}
+use Rattle.rescue_commands.proofs.Rests.{by_rest}
 use Rattle.rescue_laws.specs.Logged.{log_of}
 use Rattle.rescue_laws.specs.Rescued.{IsNotStopped}
 use Rattle.rescue_laws.proofs.Gone.{later_fine, need_went, Done, Carried, behind, carried, more_carried, GoesKeys, keys_gone}
@@ -75,17 +74,11 @@ module _ (log : List ℕ) (asked : ℕ) (lines : List LogLine) (old : World) (co
 
 -- ---- the log that was found
 
-module _ (old : World) (course : List Taken) (new : World) (ended : Status) (whole : IsEndStatus ended) where
-  ends_not : (line : List ℕ) (wanted : Status) → (IsEndStatus wanted → ⊥) → RunsScript (Ends line wanted) old course new ended → ⊥
-  ends_not line wanted bad runs =
-      let last = last_run line wanted old course new ended runs in
-      bad (subst IsEndStatus (prints_status old.report line wanted ended new.report (not_put ended whole) last.1.report).1 whole)
-
-  no_log_not : (cause : NoLog) → RunsScript (tells_no_log cause) old course new ended → ⊥
-  unfolding tells_no_log
-  no_log_not (none.BadLine line) runs = ends_not (bad_log_text line) status.BadJob (λ e. e) runs
-  no_log_not none.FileFault runs = ends_not [] status.FileFault (λ e. e) runs
-  no_log_not none.NoMemory runs = ends_not [] status.NoMemory (λ e. e) runs
+ends_not : (line : List ℕ) (wanted : Status) (old : World) (course : List Taken) (new : World) (ended : Status)
+    → IsEndStatus ended → (IsEndStatus wanted → ⊥) → RunsScript (Ends line wanted) old course new ended → ⊥
+ends_not line wanted old course new ended whole bad runs =
+    let last = last_run line wanted old course new ended runs in
+    bad (subst IsEndStatus (prints_status old.report line wanted ended new.report (not_put ended whole) last.1.report).1 whole)
 
 -- what comes behind a line of the new log for each record that wasn't read
 abbrev Behind : List ℕ → List Chrn → List LogLine → Script
@@ -98,11 +91,11 @@ pub record FoundLog (to log : List ℕ) (shape : Shape) (told : Option Files) (o
   pub prepared : Carried (second_request to shape (is_some found) ∷ ready_requests shape.rate (formats_for shape (is_some found)))
       (through rescues (asked_keys shape found) [] (Behind log (asked_keys shape found))) old course new ended
 
-by_found : (to log : List ℕ) (shape : Shape) (told : Option Files) (answer : Result (Option (List LogLine)) NoLog) (old : World) (course : List Taken) (new : World) (ended : Status)
-    → IsEndStatus ended → IsNotStopped course → IsFound told log (sectors_at shape.rate) answer → RunsScript (rescue_rest to log shape answer) old course new ended
+found_log : (to log : List ℕ) (shape : Shape) (told : Option Files) (old : World) (course : List Taken) (new : World) (ended : Status) → IsEndStatus ended → IsNotStopped course
+    → (found : Option (List LogLine)) → IsLogFound told log (sectors_at shape.rate) found → RunsScript (rescue_found to log shape found) old course new ended
     → FoundLog to log shape told old course new ended
 unfolding rescue_found rescues_all may_starve
-by_found to log shape told (Ok found) old course new ended whole fine there (inl runs) =
+found_log to log shape told old course new ended whole fine found there (inl runs) =
     let rest = through rescues (asked_keys shape found) [] (Behind log (asked_keys shape found)) in
     record {
       found = found;
@@ -110,8 +103,7 @@ by_found to log shape told (Ok found) old course new ended whole fine there (inl
       prepared = carried _ rest old course new ended whole fine
           (subst (λ (s : Script). RunsScript s old course new ended) (prepares_carried to shape (is_some found) (λ none. rest)) runs);
     }
-by_found to log shape told (Ok found) old course new ended whole fine there (inr starved) = absurd (subst IsEndStatus starved.2 whole)
-by_found to log shape told (Err cause) old course new ended whole fine there runs = absurd (no_log_not old course new ended whole cause runs)
+found_log to log shape told old course new ended whole fine found there (inr starved) = absurd (subst IsEndStatus starved.2 whole)
 
 -- ---- the whole
 
@@ -179,7 +171,11 @@ goes_through from to log disk files old course new ended (answers, are, runs) wh
     let left = subst (λ (s : Option Shape). RunsScript (with_shape s rest) (behind run) run.later new ended) in_bay run.left in
     let is_found = subst (λ (f : Option Files). IsFound f log (sectors_at disk.rate) (answers disk.rate)) told (are disk.rate) in
     let later = later_fine (run.taken ∷ []) run.later course run.course_is fine in
-    let all = by_found to log shape (Some files) (answers disk.rate) (behind run) run.later new ended whole later is_found left in
+    let never = λ (line : List ℕ) (wanted : Status) (bad : IsEndStatus wanted → ⊥) (runs : RunsScript (Ends line wanted) (behind run) run.later new ended).
+        let none : FoundLog to log shape (Some files) (behind run) run.later new ended = absurd (ends_not line wanted (behind run) run.later new ended whole bad runs) in none in
+    let all = by_rest (Some files) to log shape (λ s. RunsScript s (behind run) run.later new ended → FoundLog to log shape (Some files) (behind run) run.later new ended)
+        (found_log to log shape (Some files) (behind run) run.later new ended whole later)
+        (λ line. never line status.BadJob (λ e. e)) (never [] status.FileFault (λ e. e)) (never [] status.NoMemory (λ e. e)) (answers disk.rate) is_found left in
     let keys = asked_keys shape all.found in
     record {
       found = all.found;
