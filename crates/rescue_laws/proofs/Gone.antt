@@ -13,13 +13,13 @@ use Rattle.sector_model.specs.States.{State}
 use Rattle.sector_model.specs.Reads.{Reads}
 use Rattle.sector_model.specs.Steps.{Step, IsDriverCall, read_reply}
 use Rattle.sector_model.specs.Texts.{is_refusal}
-use Rattle.sector_model.specs.Runs.{Taken, requests_of}
+use Rattle.sector_model.specs.Runs.{Taken}
 use Rattle.sector_model.specs.Plays.{World}
 use Rattle.scripts.specs.Scripts.{Script, RunsScript}
 use Rattle.scripts.specs.Parts.{carries, may_starve, through}
 use Rattle.scripts.specs.Leading.{with_report}
-use Rattle.scripts.proofs.Reading.{NeedRun, IsDone, IsAnswered, last_run, ask_answered, need_taken, ask_run, carry_run}
-use Rattle.disk_laws.specs.Done.{DoesAll}
+use Rattle.scripts.proofs.Reading.{IsRefused, IsAnswered, last_run, ask_answered, need_taken, ask_run, carry_run}
+use Rattle.scripts.proofs.Passed.{Known, Passed, at_once, Does, did_nothing, carries_passed, joined_did}
 use Rattle.disk_laws.specs.VerifyRuns.{IsEndStatus}
 use Rattle.disk_laws.proofs.CopiedTrack.{both_fell}
 use Rattle.disk_laws.proofs.Steps.{NeverFell, step_never_fell}
@@ -38,73 +38,22 @@ pub later_fine : (one two course : List Taken) → course ≡ one ++ two → IsN
 later_fine one two course whole fine before last is =
     fine (one ++ before) last (whole ∙ ap (λ (row : List Taken). one ++ row) is ∙ sym (append_assoc one before (last ∷ [])))
 
--- a request that the script couldn't go on without was done
-pub need_went : (asked : Request) (rest : Reply → State → Script) (old : World) (course : List Taken) (new : World) (ended : Status)
-    → IsEndStatus ended → IsNotStopped course → NeedRun asked rest old course new ended → IsDone asked rest old course new ended
-need_went asked rest old course new ended whole fine run =
-    need_taken asked rest old course new ended (end_is_whole ended whole)
-    (λ refused. true≢false (sym (ap is_refusal refused.answered) ∙ fine [] refused.taken refused.course_is)) run
+-- nor was its last request refused
+pub not_refused : (asked : Request) (old : World) (course : List Taken) (new : World) (ended : Status) → IsNotStopped course → IsRefused asked old course new ended → ⊥
+not_refused asked old course new ended fine run = true≢false (sym (ap is_refusal run.answered) ∙ fine [] run.taken run.course_is)
 
 -- requests that a script can't go on without, one after the other
 abbrev pub carries_all : List Request → Script → Script
 carries_all [] rest = rest
 carries_all (asked ∷ requests) rest = carries asked (λ none. carries_all requests rest)
 
--- requests were done
-abbrev pub Done : List Request → World → List Taken → World → Type 0
-Done requests old course new = DoesAll requests old.state old.files course new.state new.files
-
--- they were, by the first part of a course, and then what follows was run
-pub record Carried (requests : List Request) (rest : Script) (old : World) (course : List Taken) (new : World) (ended : Status) : Type 0 where
-  pub mid : World
-  pub one : List Taken
-  pub two : List Taken
-  pub is : course ≡ one ++ two
-  pub before : Done requests old one mid
-  pub report : mid.report ≡ old.report
-  pub left : RunsScript rest mid two new ended
-
--- the world behind a step
-abbrev pub behind : {asked : Request} {rest : Reply → State → Script} {old new : World} {course : List Taken} {ended : Status} → IsAnswered asked rest old course new ended → World
-behind {old = old} run = with_report run.taken.after run.files old.report
-
--- one more before them
-pub more_carried : (asked : Request) (requests : List Request) (next : Reply → State → Script) (rest : Script) (old : World) (course : List Taken) (new : World)
-    → (ended : Status) (one : IsDone asked next old course new ended)
-    → Carried requests rest (behind one.run) one.run.later new ended → Carried (asked ∷ requests) rest old course new ended
-more_carried asked requests next rest old course new ended one tail =
-    let run = one.run in
-    let done = one.fine in
-    record {
-      mid = tail.mid;
-      one = run.taken ∷ tail.one;
-      two = tail.two;
-      is = run.course_is ∙ ap (λ (row : List Taken). run.taken ∷ row) tail.is;
-      before = record {
-        run = (run.files, subst (λ (q : Request). Step q old.state old.files run.taken.answer run.taken.after run.files) (sym run.asked_is) run.step, tail.before.run);
-        all = ap (λ (q : Request). q ∷ requests_of tail.one) run.asked_is ∙ ap (λ (row : List Request). asked ∷ row) tail.before.all;
-        done = rw done tail.before.done;
-      };
-      report = tail.report;
-      left = tail.left;
-    }
-
+-- they were done, and then what follows was run
 pub carried : (requests : List Request) (rest : Script) (old : World) (course : List Taken) (new : World) (ended : Status)
-    → IsEndStatus ended → IsNotStopped course → RunsScript (carries_all requests rest) old course new ended → Carried requests rest old course new ended
-carried [] rest old course new ended whole fine runs = record {
-  mid = old;
-  one = [];
-  two = course;
-  is = refl;
-  before = record { run = (refl, refl); all = refl; done = refl };
-  report = refl;
-  left = runs;
-}
+    → IsEndStatus ended → IsNotStopped course → RunsScript (carries_all requests rest) old course new ended → Passed {Found = Unit {0}} (Does requests) (λ none. rest) old course new ended
+carried [] rest old course new ended whole fine runs = at_once tt runs (did_nothing old)
 carried (asked ∷ requests) rest old course new ended whole fine runs =
-    let later = carries_all requests rest in
-    let one = need_went asked (λ answer after. later) old course new ended whole fine (carry_run asked (λ none. later) old course new ended runs) in
-    more_carried asked requests (λ answer after. later) rest old course new ended one
-    (carried requests rest (behind one.run) one.run.later new ended whole (later_fine (one.run.taken ∷ []) one.run.later course one.run.course_is fine) one.run.left)
+    let a = carries_passed asked (λ none. carries_all requests rest) old course new ended (end_is_whole ended whole) (not_refused asked old course new ended fine) runs in
+    joined_did (asked ∷ []) requests a (carried requests rest a.mid a.two new ended whole (later_fine a.one a.two course a.course_is fine) a.left)
 
 -- ---- what follows the read of a record
 
@@ -200,21 +149,19 @@ keys_fell (key ∷ keys) old (read ∷ write ∷ later) new (Ok deleted, files, 
 
 -- ---- by a script that went on to its end
 
--- the records were gone through by the first part of a course, and then what follows their lines was run
-pub record KeysGone (keys : List Chrn) (lines : List LogLine) (rest : List LogLine → Script) (old : World) (course : List Taken) (new : World) (ended : Status) : Type 0 where
-  pub mid : World
-  pub one : List Taken
-  pub two : List Taken
-  pub is : course ≡ one ++ two
-  pub goes : GoesKeys keys old one mid
-  pub report : mid.report ≡ old.report
-  pub left : RunsScript (rest (lines ++ log_of one)) mid two new ended
+-- the world behind a step
+abbrev behind : {asked : Request} {rest : Reply → State → Script} {old new : World} {course : List Taken} {ended : Status} → IsAnswered asked rest old course new ended → World
+behind {old = old} run = with_report run.taken.after run.files old.report
+
+-- the records were gone through, and the log is what it was, with their lines
+abbrev pub RescuesKeys : List Chrn → List LogLine → Known (List LogLine)
+RescuesKeys keys lines old course found mid = GoesKeys keys old course mid × (found ≡ lines ++ log_of course) × (mid.report ≡ old.report)
 
 module _ (rest : List LogLine → Script) (new : World) (ended : Status) (whole : IsEndStatus ended) where
   -- how the keys behind the first one go on
   abbrev Goes : List Chrn → Type 0
   Goes keys = (lines : List LogLine) (old : World) (course : List Taken) → IsNotStopped course
-      → RunsScript (through rescues keys lines rest) old course new ended → KeysGone keys lines rest old course new ended
+      → RunsScript (through rescues keys lines rest) old course new ended → Passed (RescuesKeys keys lines) rest old course new ended
 
   module _ (key : Chrn) (keys : List Chrn) (next : Goes keys) (lines : List LogLine) (old : World) (course : List Taken) (fine : IsNotStopped course) where
     abbrev Rest : List LogLine → Script
@@ -225,53 +172,60 @@ module _ (rest : List LogLine → Script) (new : World) (ended : Status) (whole 
 
     -- it was written
     wrote : (run : Run) (deleted : Bool) → IsRead key (Ok deleted) old run.taken run.files → IsNotStopped run.later
-        → RunsScript (carries (write_of key deleted) (λ none. Rest lines)) (behind run) run.later new ended → KeysGone (key ∷ keys) lines rest old course new ended
+        → RunsScript (carries (write_of key deleted) (λ none. Rest lines)) (behind run) run.later new ended → Passed (RescuesKeys (key ∷ keys) lines) rest old course new ended
     wrote run deleted is later runs =
         let asked = write_of key deleted in
-        let one = need_went asked (λ answer after. Rest lines) (behind run) run.later new ended whole later (carry_run asked (λ none. Rest lines) (behind run) run.later new ended runs) in
+        let one = need_taken asked (λ answer after. Rest lines) (behind run) run.later new ended (end_is_whole ended whole) (not_refused asked (behind run) run.later new ended later)
+            (carry_run asked (λ none. Rest lines) (behind run) run.later new ended runs) in
         let write = one.run in
         let all = next lines (behind write) write.later (later_fine (write.taken ∷ []) write.later run.later write.course_is later) write.left in
         let none : line_at run.taken.asked run.taken.answer ≡ [] = line_of_done run.taken.asked run.taken.answer (ap is_refusal is.answered ∙ read_done deleted) in
         let also : line_at write.taken.asked write.taken.answer ≡ [] = line_of_done write.taken.asked write.taken.answer one.fine in
-        let same : log_of (run.taken ∷ write.taken ∷ all.one) ≡ log_of all.one = rw (none, also) refl in
+        let same : log_of all.one ≡ log_of (run.taken ∷ write.taken ∷ all.one) = rw (none, also) refl in
         record {
-          mid = all.mid;
           one = run.taken ∷ write.taken ∷ all.one;
           two = all.two;
-          is = run.course_is ∙ ap (λ (row : List Taken). run.taken ∷ row) (write.course_is ∙ ap (λ (row : List Taken). write.taken ∷ row) all.is);
-          goes = (Ok deleted, run.files, is, (write.files, record { asked = write.asked_is; done = one.fine; step = write.step }, all.goes));
-          report = all.report;
-          left = subst (λ (row : List LogLine). RunsScript (rest (lines ++ row)) all.mid all.two new ended) (sym same) all.left;
+          found = all.found;
+          mid = all.mid;
+          course_is = run.course_is ∙ ap (λ (row : List Taken). run.taken ∷ row) (write.course_is ∙ ap (λ (row : List Taken). write.taken ∷ row) all.course_is);
+          knows = (
+            (Ok deleted, run.files, is, (write.files, record { asked = write.asked_is; done = one.fine; step = write.step }, all.knows.0)),
+            all.knows.1 ∙ ap (λ (row : List LogLine). lines ++ row) same,
+            all.knows.2,
+          );
+          left = all.left;
         }
 
     -- its line came behind the log
     logged : (run : Run) (cause : Code) → IsRead key (Err cause) old run.taken run.files → IsNotStopped run.later
-        → RunsScript (Rest (lines ++ (record { key = key; code = cause }) ∷ [])) (behind run) run.later new ended → KeysGone (key ∷ keys) lines rest old course new ended
+        → RunsScript (Rest (lines ++ (record { key = key; code = cause }) ∷ [])) (behind run) run.later new ended → Passed (RescuesKeys (key ∷ keys) lines) rest old course new ended
     logged run cause is later runs =
         let line : LogLine = record { key = key; code = cause } in
         let all = next (lines ++ line ∷ []) (behind run) run.later later runs in
-        let same : (lines ++ line ∷ []) ++ log_of all.one ≡ lines ++ log_of (run.taken ∷ all.one) =
-            append_assoc lines (line ∷ []) (log_of all.one)
-            ∙ ap (λ (row : List LogLine). lines ++ (row ++ log_of all.one)) (sym (line_of_refused key cause run.taken is.asked is.answered)) in
+        let here = line_of_refused key cause run.taken is.asked is.answered in
         record {
-          mid = all.mid;
           one = run.taken ∷ all.one;
           two = all.two;
-          is = run.course_is ∙ ap (λ (row : List Taken). run.taken ∷ row) all.is;
-          goes = (Err cause, run.files, is, all.goes);
-          report = all.report;
-          left = subst (λ (row : List LogLine). RunsScript (rest row) all.mid all.two new ended) same all.left;
+          found = all.found;
+          mid = all.mid;
+          course_is = run.course_is ∙ ap (λ (row : List Taken). run.taken ∷ row) all.course_is;
+          knows = (
+            (Err cause, run.files, is, all.knows.0),
+            all.knows.1 ∙ append_assoc lines (line ∷ []) (log_of all.one) ∙ ap (λ (row : List LogLine). lines ++ (row ++ log_of all.one)) (sym here),
+            all.knows.2,
+          );
+          left = all.left;
         }
 
     by_next : (run : Run) (called : Result Bool Code) → IsRead key called old run.taken run.files → FollowRun key called lines Rest (behind run) run.later new ended
-        → IsNotStopped run.later → KeysGone (key ∷ keys) lines rest old course new ended
+        → IsNotStopped run.later → Passed (RescuesKeys (key ∷ keys) lines) rest old course new ended
     by_next run called is (Writes deleted same runs) later = wrote run deleted (subst (λ (c : Result Bool Code). IsRead key c old run.taken run.files) same is) later runs
     by_next run called is (Logs cause same runs) later = logged run cause (subst (λ (c : Result Bool Code). IsRead key c old run.taken run.files) same is) later runs
     by_next run called is (GivesUp cause same nothing stays) later =
         absurd (true≢false (sym (ap is_refusal (is.answered ∙ ap read_reply same)) ∙ fine [] run.taken (run.course_is ∙ ap (λ (row : List Taken). run.taken ∷ row) nothing)))
     by_next run called is (Starves stays starved) later = absurd (subst IsEndStatus starved whole)
 
-    by_read : Run → KeysGone (key ∷ keys) lines rest old course new ended
+    by_read : Run → Passed (RescuesKeys (key ∷ keys) lines) rest old course new ended
     by_read run =
         let called = run.step.1.0 in
         let runs = subst (λ (r : Reply). RunsScript (follows key r lines Rest) (behind run) run.later new ended) run.step.1.1 run.left in
@@ -279,17 +233,9 @@ module _ (rest : List LogLine → Script) (new : World) (ended : Status) (whole 
         (follow_run key lines Rest (behind run) run.later new ended called runs) (later_fine (run.taken ∷ []) run.later course run.course_is fine)
 
 pub keys_gone : (keys : List Chrn) (lines : List LogLine) (rest : List LogLine → Script) (old : World) (course : List Taken) (new : World) (ended : Status)
-    → IsEndStatus ended → IsNotStopped course → RunsScript (through rescues keys lines rest) old course new ended → KeysGone keys lines rest old course new ended
+    → IsEndStatus ended → IsNotStopped course → RunsScript (through rescues keys lines rest) old course new ended → Passed (RescuesKeys keys lines) rest old course new ended
 unfolding through rescues
-keys_gone [] lines rest old course new ended whole fine runs = record {
-  mid = old;
-  one = [];
-  two = course;
-  is = refl;
-  goes = (refl, refl);
-  report = refl;
-  left = subst (λ (row : List LogLine). RunsScript (rest row) old course new ended) (sym (append-nil lines)) runs;
-}
+keys_gone [] lines rest old course new ended whole fine runs = at_once lines runs ((refl, refl), sym (append-nil lines), refl)
 keys_gone (key ∷ keys) lines rest old course new ended whole fine runs =
     let follow = λ (answer : Reply) (after : State). follows key answer lines (λ now. through rescues keys now rest) in
     by_read rest new ended whole key keys (λ more now later sound next. keys_gone keys more rest now later new ended whole sound next) lines old course fine

@@ -2,7 +2,6 @@ pub mod Gone
 pub mod Reading
 pub mod Asked
 pub mod Keys
-pub mod Files
 pub mod Records
 pub mod Telling
 pub mod Opening

@@ -1,6 +1,6 @@
 -- What comes before the records of a rescue: both diskettes are put in and made ready.
 use Rattle.std.proofs.Common.{arith, ◌≡◌, ◌∙◌, ◌≤◌, ℕ, List, ◌∷◌, ◌++◌, refl, ap, Option, Some, Bool, true, false, [], subst, sym, inl, inr, length, ◌<◌}
-use Rattle.std.specs.List.{flat_map, range_with_len, list_all}
+use Rattle.std.specs.List.{list_all}
 use Rattle.std.specs.Prelude.{◌⊎◌}
 use Rattle.flop_base.specs.Shelf.{Files}
 use Rattle.flop_base.specs.declared.answers.Rate.{Rate}
@@ -26,18 +26,18 @@ use Rattle.sector_model.specs.Texts.{is_refusal}
 use Rattle.floppy_session.specs.Blanks.{blank_request}
 use Rattle.floppy_session.specs.declared.shape.Shape.{Shape}
 use Rattle.floppy_session.specs.Shapes.{shape_of}
-use Rattle.scripts.specs.Parts.{rate_requests, Part, carries, sets_rate, acknowledges, through, each, by_track, formats}
+use Rattle.scripts.specs.Parts.{rate_requests, carries, sets_rate, acknowledges, through, by_track, formats}
 use Rattle.scripts.specs.Scripts.{Script}
-use Rattle.scripts.proofs.Passed.{each_named, each_nested}
 use Rattle.disk_laws.specs.Done.{DoesAll}
 use Rattle.disk_laws.proofs.CopiedTrack.{IsReady, formats_it, small}
-use Rattle.disk_laws.proofs.Prepared.{acks, rates, blanks}
-use Rattle.disk_laws.proofs.Steps.{NeverFell, begins, step_never_fell, ok_called, reached, done_does, ends_there, never_fell, keeps_drives, splits}
-use Rattle.disk_laws.specs.Requests.{Track, heads_of, tracks_of, format_each}
+use Rattle.disk_laws.proofs.Prepared.{acks, blanks, readies}
+use Rattle.disk_laws.proofs.Steps.{NeverFell, begins, step_never_fell, ok_called, reached, done_does, ends_there, never_fell, keeps_drives}
+use Rattle.disk_laws.specs.Requests.{Track, tracks_of, format_each}
 use Rattle.disk_laws.proofs.Formatted.{blank_keeps}
 use Rattle.disk_laws.proofs.Verified.{one_image, image_ranges}
 use Rattle.disk_laws.proofs.Copied.{laid_still}
 use Rattle.disk_laws.proofs.Sectors.{track_laid}
+use Rattle.disk_laws.proofs.TrackParts.{tracks_part}
 use Rattle.disk_laws.proofs.Tracks.{Among, among_all, among_only}
 use Rattle.disk_laws.proofs.BlankDisk.{blank_regular}
 use Rattle.disk_laws.proofs.Reading.{Holds}
@@ -68,21 +68,11 @@ opening from to shape logged =
 
 -- ---- the script carries them
 
--- a track is formatted
-abbrev formats_track : Track → Unit {0} → Part (Unit {0})
-formats_track track none rest = carries (request.Format 1 track.0 track.1) rest
-
-formats_carried : (tracks : List Track) (rest : Unit {0} → Script) → through formats_track tracks tt rest ≡ carries_all (format_each 1 tracks) (rest tt)
+formats_carried : (tracks : List Track) (rest : Unit {0} → Script)
+    → through (λ (track : Track). formats 1 track.0 track.1) tracks tt rest ≡ carries_all (format_each 1 tracks) (rest tt)
 unfolding through carries
 formats_carried [] rest = refl
 formats_carried (track ∷ tracks) rest = ap (λ (s : Script). carries (request.Format 1 track.0 track.1) (λ none. s)) (formats_carried tracks rest)
-
-tracks_carried : (cylinders heads : ℕ) (rest : Unit {0} → Script) → by_track cylinders heads (formats 1) tt rest ≡ carries_all (format_each 1 (tracks_of cylinders heads)) (rest tt)
-unfolding tracks_of
-tracks_carried cylinders heads rest =
-    each_nested formats_track 0 cylinders (λ c. each 0 heads (formats 1 c)) (heads_of heads)
-    (λ c found next. each_named formats_track 0 heads (formats 1 c) (λ h. (c, h)) (λ h now more. refl) found next) tt rest
-    ∙ formats_carried (flat_map (heads_of heads) (range_with_len 0 cylinders)) rest
 
 both_carried : (rate : Rate) (rest : Unit {0} → Script) (requests : List Request) (more : Script) → rest tt ≡ carries_all requests more → acknowledges_both rate rest ≡ carries_all (ready_requests rate requests) more
 unfolding acknowledges_both acknowledges sets_rate
@@ -95,7 +85,7 @@ unfolding prepares prepares_old prepares_new
 prepares_carried to shape true rest = ap (λ (s : Script). carries (request.Insert 1 to) (λ none. s)) (both_carried shape.rate rest [] (rest tt) refl)
 prepares_carried to shape false rest =
     ap (λ (s : Script). carries (blank_request 1 to shape.cylinders shape.rate) (λ none. s))
-    (both_carried shape.rate (λ still. by_track shape.cylinders shape.heads (formats 1) tt rest) (formats_for shape false) (rest tt) (tracks_carried shape.cylinders shape.heads rest))
+    (both_carried shape.rate (λ still. by_track shape.cylinders shape.heads (formats 1) tt rest) (formats_for shape false) (rest tt) (tracks_part shape.cylinders shape.heads (formats 1) tt rest ∙ formats_carried (tracks_of shape.cylinders shape.heads) rest))
 
 -- ---- the disks that were put in
 
@@ -217,68 +207,71 @@ at_rate : (rate at now of_disk : Rate) → of_disk ≡ rate → (of_disk ≡ R50
 at_rate R500 at now of_disk same acked high low = high refl ∙ acked same
 at_rate R250 at now of_disk same acked high low = low refl
 
--- both disks are in, and both bays ready
-pub record AreOpen (disk : Disk) (Such : Disk → Type 0) (to : List ℕ) (old : State) (told : Option Files) (new : State) (after : Option Files) : Type 0 where
+-- both disks are in, and both bays ready; and the formats are left, if there is no log
+pub record AreOpen (disk : Disk) (to : List ℕ) (files : Files) (logged : Bool) (old new : State) (after : Option Files) : Type 0 where
+  pub mid : State
+  pub mid_files : Option Files
+  pub course : List Taken
+  pub formats_left : DoesAll (formats_for (shape_of disk) logged) mid mid_files course new after
   pub target : Disk
-  pub such : Such target
+  pub such : IsOther (Some files) to (shape_of disk) logged target
   pub count : ℕ
-  pub first : (bay_of new.station 0).medium ≡ Some disk
-  pub first_rate : (bay_of new.station 0).rate ≡ disk.rate
-  pub acknowledged : (bay_of new.station 0).acknowledged ≡ Some count
+  pub first : (bay_of mid.station 0).medium ≡ Some disk
+  pub first_rate : (bay_of mid.station 0).rate ≡ disk.rate
+  pub acknowledged : (bay_of mid.station 0).acknowledged ≡ Some count
   pub before : faults_of old.station.counters 0 ≤ count
-  pub since : count ≤ faults_of new.station.counters 0
-  pub second : (bay_of new.station 1).medium ≡ Some target
-  pub second_rate : target.rate ≡ disk.rate → (bay_of new.station 1).rate ≡ disk.rate
-  pub memory : new.station.memory ≡ old.station.memory
-  pub named : in_bay new.names 1 ≡ Some to
-  pub files : after ≡ told
-  pub fell : NeverFell old.station.counters new.station.counters
+  pub since : count ≤ faults_of mid.station.counters 0
+  pub second : (bay_of mid.station 1).medium ≡ Some target
+  pub second_rate : target.rate ≡ disk.rate → (bay_of mid.station 1).rate ≡ disk.rate
+  pub memory : mid.station.memory ≡ old.station.memory
+  pub named : in_bay mid.names 1 ≡ Some to
+  pub files_are : mid_files ≡ Some files
+  pub fell : NeverFell old.station.counters mid.station.counters
 
 are_open : (from to : List ℕ) (disk : Disk) (files : Files) (logged : Bool) (old new : State) (after : Option Files) (course : List Taken) → IsImageOf (Some files) from disk
-    → DoesAll (request.Insert 0 from ∷ second_request to (shape_of disk) logged ∷ ready_requests disk.rate []) old (Some files) course new after
-    → AreOpen disk (IsOther (Some files) to (shape_of disk) logged) to old (Some files) new after
+    → DoesAll (opening from to (shape_of disk) logged) old (Some files) course new after → AreOpen disk to files logged old new after
 are_open from to disk files logged old new after course image all =
     let rate = disk.rate in
     let asked = second_request to (shape_of disk) logged in
-    let last = request.Ack 1 ∷ (rate_requests rate 1 ++ []) in
-    let one = begins old new (Some files) after (request.Insert 0 from) (asked ∷ ready_requests rate []) course all in
-    let two = begins one.mid new one.files after asked (ready_requests rate []) one.later one.behind in
+    let formats = formats_for (shape_of disk) logged in
+    let ready = ready_requests rate formats in
+    let one = begins old new (Some files) after (request.Insert 0 from) (asked ∷ ready) course all in
+    let two = begins one.mid new one.files after asked ready one.later one.behind in
     let put = second_put to (shape_of disk) logged one.mid two.mid one.files two.files two.answer two.step two.done in
     let first = ap (λ (b : Bay). b.medium) put.first ∙ disk_in from disk files old one.mid one.files one.answer image one.step one.done in
-    let three = begins two.mid new two.files after (request.Ack 0) (rate_requests rate 0 ++ last) two.later two.behind in
-    let acked = acks 0 disk two.mid three.mid two.files three.files three.answer three.does three.done first in
-    let rated = rates 0 rate disk last three.mid new three.files after three.later three.behind refl acked.medium acked.high in
-    let other : bay_of rated.mid.station 1 ≡ bay_of two.mid.station 1 = ap (λ (b : Two Bay). in_bay b 1) rated.bays ∙ ap (λ (s : StationState). bay_of s 1) acked.becomes in
-    let four = begins rated.mid new rated.files after (request.Ack 1) (rate_requests rate 1 ++ []) rated.course rated.behind in
-    let also = acks 1 put.target rated.mid four.mid rated.files four.files four.answer four.does four.done (ap (λ (b : Bay). b.medium) other ∙ put.medium) in
-    let set = sets rate [] four.mid new four.files after four.later four.behind in
-    let end = ends_there set.mid new set.files after set.course set.behind in
-    let same : bay_of set.mid.station 0 ≡ bay_of rated.mid.station 0 = set.first ∙ ap (λ (s : StationState). bay_of s 0) also.becomes in
+    let three = readies 0 disk (request.Ack 1 ∷ (rate_requests rate 1 ++ formats)) two.mid new two.files after two.later two.behind first in
+    let other = ap (λ (b : Two Bay). (in_bay b 1).medium) three.bays ∙ put.medium in
+    let four = begins three.mid new three.files after (request.Ack 1) (rate_requests rate 1 ++ formats) three.course three.behind in
+    let acked = acks 1 put.target three.mid four.mid three.files four.files four.answer four.does four.done other in
+    let set = sets rate formats four.mid new four.files after four.later four.behind in
+    let same : bay_of set.mid.station 0 ≡ bay_of three.mid.station 0 = set.first ∙ ap (λ (s : StationState). bay_of s 0) acked.becomes in
     let a = step_never_fell old one.mid (Some files) one.files (request.Insert 0 from) one.answer one.step refl in
-    let b = step_never_fell two.mid three.mid two.files three.files (request.Ack 0) three.answer three.step refl in
-    let c = step_never_fell rated.mid four.mid rated.files four.files (request.Ack 1) four.answer four.step refl in
-    let told = one.does.1 in
-    subst (λ (s : State). AreOpen disk (IsOther (Some files) to (shape_of disk) logged) to old (Some files) s after) (sym end.0) (record {
+    let b = put.fell in
+    let c = step_never_fell three.mid four.mid three.files four.files (request.Ack 1) four.answer four.step refl in
+    record {
+      mid = set.mid;
+      mid_files = set.files;
+      course = set.course;
+      formats_left = set.behind;
       target = put.target;
-      such = subst (λ (f : Option Files). IsOther f to (shape_of disk) logged put.target) told put.such;
-      count = faults_of three.mid.station.counters 0;
-      first = ap (λ (b : Bay). b.medium) same ∙ rated.medium;
-      first_rate = ap (λ (b : Bay). b.rate) same ∙ rated.rate;
-      acknowledged = ap (λ (b : Bay). b.acknowledged) same ∙ rated.kept ∙ acked.kept;
-      before = omega (arith, a.first, put.fell.first, b.first);
-      since = omega (arith, rated.fell.first, c.first, set.fell.first);
-      second = set.medium ∙ also.medium;
-      second_rate = λ is. at_rate rate (bay_of four.mid.station 1).rate (bay_of set.mid.station 1).rate put.target.rate is also.high set.high set.low;
-      memory = set.memory ∙ ap (λ (s : StationState). s.memory) also.becomes ∙ rated.memory ∙ ap (λ (s : StationState). s.memory) acked.becomes
-          ∙ put.memory ∙ ap (λ (s : StationState). s.memory) one.does.2.2.exchanged.becomes;
-      named = ap (λ (n : Two (Option (List ℕ))). in_bay n 1) (set.names ∙ also.names ∙ rated.names ∙ acked.names) ∙ put.named;
-      files = end.1 ∙ set.same_files ∙ also.files ∙ rated.same_files ∙ acked.files ∙ put.files ∙ told;
+      such = subst (λ (f : Option Files). IsOther f to (shape_of disk) logged put.target) one.does.1 put.such;
+      count = faults_of three.acked.station.counters 0;
+      first = ap (λ (b : Bay). b.medium) same ∙ three.medium;
+      first_rate = ap (λ (b : Bay). b.rate) same ∙ three.rate;
+      acknowledged = ap (λ (b : Bay). b.acknowledged) same ∙ three.kept;
+      before = omega (arith, a.first, b.first, three.first.first);
+      since = omega (arith, three.later.first, c.first, set.fell.first);
+      second = set.medium ∙ acked.medium;
+      second_rate = λ is. at_rate rate (bay_of four.mid.station 1).rate (bay_of set.mid.station 1).rate put.target.rate is acked.high set.high set.low;
+      memory = set.memory ∙ ap (λ (s : StationState). s.memory) acked.becomes ∙ three.memory ∙ put.memory ∙ ap (λ (s : StationState). s.memory) one.does.2.2.exchanged.becomes;
+      named = ap (λ (n : Two (Option (List ℕ))). in_bay n 1) (set.names ∙ acked.names ∙ three.names) ∙ put.named;
+      files_are = set.same_files ∙ acked.files ∙ three.same_files ∙ put.files ∙ one.does.1;
       fell = record {
-        first = omega (arith, a.first, put.fell.first, b.first, rated.fell.first, c.first, set.fell.first);
-        second = omega (arith, a.second, put.fell.second, b.second, rated.fell.second, c.second, set.fell.second);
-        stalls = omega (arith, a.stalls, put.fell.stalls, b.stalls, rated.fell.stalls, c.stalls, set.fell.stalls);
+        first = omega (arith, a.first, b.first, three.first.first, three.later.first, c.first, set.fell.first);
+        second = omega (arith, a.second, b.second, three.first.second, three.later.second, c.second, set.fell.second);
+        stalls = omega (arith, a.stalls, b.stalls, three.first.stalls, three.later.stalls, c.stalls, set.fell.stalls);
       };
-    })
+    }
 
 -- ---- the formats
 
@@ -353,51 +346,20 @@ formats_stay shape false old new told after course all =
 
 -- ---- the whole opening
 
--- so it is with the formats behind it
-pub record IsOpened (disk : Disk) (to : List ℕ) (files : Files) (logged : Bool) (old new : State) (after : Option Files) : Type 0 where
-  pub mid : State
-  pub mid_files : Option Files
-  pub course : List Taken
-  pub open_there : AreOpen disk (IsOther (Some files) to (shape_of disk) logged) to old (Some files) mid mid_files
-  pub formats_all : DoesAll (formats_for (shape_of disk) logged) mid mid_files course new after
-
-in_parts : (from to : List ℕ) (shape : Shape) (logged : Bool)
-    → opening from to shape logged ≡ (request.Insert 0 from ∷ second_request to shape logged ∷ ready_requests shape.rate []) ++ formats_for shape logged
-in_parts from to shape logged = go shape.rate
-  where
-    go : (rate : Rate) → request.Insert 0 from ∷ second_request to shape logged ∷ ready_requests rate (formats_for shape logged)
-        ≡ (request.Insert 0 from ∷ second_request to shape logged ∷ ready_requests rate []) ++ formats_for shape logged
-    go R500 = refl
-    go R250 = refl
-
-is_opened : (from to : List ℕ) (disk : Disk) (files : Files) (logged : Bool) (old new : State) (after : Option Files) (course : List Taken) → IsImageOf (Some files) from disk
-    → DoesAll (opening from to (shape_of disk) logged) old (Some files) course new after → IsOpened disk to files logged old new after
-is_opened from to disk files logged old new after course image all =
-    let whole = subst (λ (row : List Request). DoesAll row old (Some files) course new after) (in_parts from to (shape_of disk) logged) all in
-    let parts = splits old new (Some files) after (request.Insert 0 from ∷ second_request to (shape_of disk) logged ∷ ready_requests disk.rate []) (formats_for (shape_of disk) logged) course whole in
-    record {
-      mid = parts.mid;
-      mid_files = parts.files;
-      course = parts.two;
-      open_there = are_open from to disk files logged old parts.mid parts.files parts.one image parts.before;
-      formats_all = parts.behind;
-    }
-
 -- bay 0 holds the disk to rescue
 pub holds_first : (from to : List ℕ) (disk : Disk) (files : Files) (logged : Bool) (old new : State) (after : Option Files) (course : List Taken)
     → IsImageOf (Some files) from disk → DoesAll (opening from to (shape_of disk) logged) old (Some files) course new after
     → IsUndisturbed 0 old.station.counters new.station.counters → (count : ℕ) × Holds disk count new.station
 holds_first from to disk files logged old new after course image all quiet =
-    let it = is_opened from to disk files logged old new after course image all in
-    let both = it.open_there in
-    let same = formats_stay (shape_of disk) logged it.mid new it.mid_files after it.course it.formats_all in
+    let it = are_open from to disk files logged old new after course image all in
+    let same = formats_stay (shape_of disk) logged it.mid new it.mid_files after it.course it.formats_left in
     let fell = same.1 in
-    let top = both.fell in
-    (both.count, record {
-      medium = ap (λ (b : Bay). b.medium) same.0 ∙ both.first;
-      rate = ap (λ (b : Bay). b.rate) same.0 ∙ both.first_rate;
-      acknowledged = ap (λ (b : Bay). b.acknowledged) same.0 ∙ both.acknowledged;
-      faults = (let before = both.before in let since = both.since in omega (arith, top.stalls, fell.first, fell.stalls, quiet.together));
+    let top = it.fell in
+    (it.count, record {
+      medium = ap (λ (b : Bay). b.medium) same.0 ∙ it.first;
+      rate = ap (λ (b : Bay). b.rate) same.0 ∙ it.first_rate;
+      acknowledged = ap (λ (b : Bay). b.acknowledged) same.0 ∙ it.acknowledged;
+      faults = (let before = it.before in let since = it.since in omega (arith, top.stalls, fell.first, fell.stalls, quiet.together));
     })
 
 -- a regular disk is in bay 1 under its name
@@ -413,33 +375,32 @@ pub begins_new : (from to : List ℕ) (disk : Disk) (files : Files) (old new : S
     → DoesAll (opening from to (shape_of disk) false) old (Some files) course new after → length old.station.memory ≡ user_bytes
     → IsFaultless 1 old.station.counters new.station.counters → (start : Disk) × HasOther start to files new after × AreLaid disk.heads start
 begins_new from to disk files old new after course image all size faultless =
-    let it = is_opened from to disk files false old new after course image all in
-    let both = it.open_there in
-    let such = both.such in
+    let it = are_open from to disk files false old new after course image all in
+    let such = it.such in
     let tracks = tracks_of disk.cylinders disk.heads in
     let ranges = image_ranges files from disk image in
-    let ready : IsReady disk.rate disk both.target it.mid = record {
-      first = both.first;
-      medium = both.second;
-      bay_rate = both.second_rate such.rate;
+    let ready : IsReady disk.rate disk it.target it.mid = record {
+      first = it.first;
+      medium = it.second;
+      bay_rate = it.second_rate such.rate;
       valid = such.valid;
       regular = such.regular;
       rate = such.rate;
       words = such.words;
-      size = ap (λ (m : List ℕ). length m) both.memory ∙ size;
+      size = ap (λ (m : List ℕ). length m) it.memory ∙ size;
     } in
     let has = λ (c h : ℕ) (among : Among tracks c h). let at = among_only disk.cylinders disk.heads c h among in such.has c h at.0 (omega (arith, at.1, ranges.1)) in
-    let lays = lays_tracks disk.rate disk tracks both.target it.mid new it.mid_files after it.course it.formats_all has ready
-        (omega (arith, both.fell.second, faultless.0), omega (arith, both.fell.second, faultless.1)) in
+    let lays = lays_tracks disk.rate disk tracks it.target it.mid new it.mid_files after it.course it.formats_left has ready
+        (omega (arith, it.fell.second, faultless.0), omega (arith, it.fell.second, faultless.1)) in
     let there : HasOther lays.final to files new after = record {
       medium = lays.ready.medium;
       regular = lays.ready.regular;
       size = lays.ready.size;
-      named = ap (λ (n : Two (Option (List ℕ))). in_bay n 1) lays.names ∙ both.named;
-      files_are = lays.files ∙ both.files;
+      named = ap (λ (n : Two (Option (List ℕ))). in_bay n 1) lays.names ∙ it.named;
+      files_are = lays.files ∙ it.files_are;
     } in
     (lays.final, there, λ c h track few.
-    let had = (alike_tracks both.target lays.final c h lays.alike).1 track in
+    let had = (alike_tracks it.target lays.final c h lays.alike).1 track in
     lays.laid c h had (inl (among_all disk.cylinders disk.heads c h (such.only c h had) few)))
 
 -- that of an earlier run
@@ -447,13 +408,12 @@ pub begins_again : (from to : List ℕ) (disk target : Disk) (files : Files) (ol
     → IsImageOf (Some files) to target → IsRegularDisk target → DoesAll (opening from to (shape_of disk) true) old (Some files) course new after
     → length old.station.memory ≡ user_bytes → HasOther target to files new after
 begins_again from to disk target files old new after course image other regular all size =
-    let it = is_opened from to disk files true old new after course image all in
-    let both = it.open_there in
-    let end = ends_there it.mid new it.mid_files after it.course it.formats_all in
+    let it = are_open from to disk files true old new after course image all in
+    let end = ends_there it.mid new it.mid_files after it.course it.formats_left in
     subst (λ (s : State). HasOther target to files s after) (sym end.0) (record {
-      medium = both.second ∙ ap (λ (d : Disk). Some d) (one_image files to both.target target both.such other);
+      medium = it.second ∙ ap (λ (d : Disk). Some d) (one_image files to it.target target it.such other);
       regular = regular;
-      size = ap (λ (m : List ℕ). length m) both.memory ∙ size;
-      named = both.named;
-      files_are = end.1 ∙ both.files;
+      size = ap (λ (m : List ℕ). length m) it.memory ∙ size;
+      named = it.named;
+      files_are = end.1 ∙ it.files_are;
     })

@@ -1,9 +1,13 @@
 -- Rescues, by the status with which they end: what is stored and told, and when the log is exactly the keys that aren't found.
-use Rattle.std.proofs.Common.{arith, ◌≡◌, ◌∙◌, ◌+◌, ℕ, Bool, true, false, true≢false, List, [], ◌∷◌, ◌++◌, refl, sym, ap, inl, inr, append_assoc, ◌↔◌, length, subst, append-nil, Option, Some, None, ◌≢◌, ◌-◌, ◌≤◌}
-use Rattle.std.specs.Prelude.{◌⊎◌, Contains, is_some, IfSome}
+use Rattle.std.proofs.Common.{arith, ◌≡◌, ◌∙◌, ◌+◌, ℕ, Bool, true, false, true≢false, List, [], ◌∷◌, ◌++◌, refl, sym, ap, inl, inr, append_assoc, ◌↔◌, length, subst, append-nil, Option, Some, None, ◌≢◌, ◌-◌, ◌≤◌, cond}
+use Rattle.std.specs.Prelude.{◌⊎◌, Contains, is_some, IfSome, if◌then◌else◌}
 use Rattle.std.specs.List.{list_all, AllByRecursion}
 use Rattle.std.proofs.lemmas.List.Elements.{All-from_recursion}
 use Rattle.std.specs.FinMap as fin
+use Rattle.std.specs.Cmp.Lexicographic.{slice_cmp, nat_list_cmp_total}
+use Rattle.std.specs.Ordering.{nat_cmp, eq_by_cmp}
+use Rattle.std.proofs.lemmas.Cmp.{eq_by_cmp_equiv}
+use Rattle.std.proofs.lemmas.Map.Views.{tells_apart}
 use Rattle.flop_base.specs.declared.key.Chrn.{Chrn}
 use Rattle.flop_base.specs.declared.answers.Rate.{Rate}
 use Rattle.flop_base.specs.declared.answers.Rate.TheVariants.{R500, R250}
@@ -46,7 +50,6 @@ use Rattle.rescue_laws.specs.Logged.{line_at, log_of}
 use Rattle.rescue_laws.specs.Rescued.{is_write, count_writes, IsLogged, IsSaved, IsSettled, WasNotRead, IsNotStopped, HasTarget, KeepsEntries, outcome_in, IsRescue, LogsNotFound, WasRefused}
 use Rattle.rescue_laws.specs.Tidy.{AreTidy}
 use Rattle.rescue_laws.proofs.Asked.{heads_for, asked_all, asked_distinct}
-use Rattle.rescue_laws.proofs.Files.{first_there, last_there}
 use Rattle.rescue_laws.proofs.Gone.{Fell, fell_both, keys_fell}
 use Rattle.rescue_laws.proofs.Keys.{ReadsKey, some_apart, keys_read, keys_counted}
 use Rattle.rescue_laws.proofs.Opening.{opening, ready_requests, HasOther, begins_new, begins_again, holds_first}
@@ -57,29 +60,21 @@ use Rattle.rescue_laws.proofs.Through.{GoesThrough, goes_through}
 
 -- ---- requests that neither read nor write
 
+abbrev is_read : Request → Bool
+is_read (request.Read bay key address) = true
+is_read _ = false
+
 -- the request is no read and no write, and leaves the drives in their bays
-abbrev pub is_plain : Request → Bool
-is_plain (request.Read bay key address) = false
-is_plain (request.Write bay key address) = false
-is_plain (request.WriteDeleted bay key address) = false
-is_plain (request.Unit bay) = false
-is_plain _ = true
+abbrev is_plain : Request → Bool
+is_plain asked = if is_write asked then false else (if is_read asked then false else keeps_drives asked)
 
 plain_facts : (asked : Request) → is_plain asked ≡ true → (is_write asked ≡ false) × (keeps_drives asked ≡ true)
-plain_facts (request.Insert bay name) e = (refl, refl)
-plain_facts (request.Blank bay name cylinders) e = (refl, refl)
-plain_facts (request.BlankDd bay name cylinders) e = (refl, refl)
-plain_facts (request.Eject bay) e = (refl, refl)
-plain_facts (request.Ack bay) e = (refl, refl)
-plain_facts (request.Read bay key address) e = absurd (true≢false (sym e))
-plain_facts (request.Write bay key address) e = absurd (true≢false (sym e))
-plain_facts (request.WriteDeleted bay key address) e = absurd (true≢false (sym e))
-plain_facts (request.Format bay c h) e = (refl, refl)
-plain_facts (request.Fill address count byte) e = (refl, refl)
-plain_facts (request.Dump address count) e = (refl, refl)
-plain_facts (request.Unit bay) e = absurd (true≢false (sym e))
-plain_facts (request.SetRate bay rate) e = (refl, refl)
-plain_facts (request.Tries tries) e = (refl, refl)
+plain_facts asked = go (is_write asked) (is_read asked)
+  where
+    go : (writes reads : Bool) → (if writes then false else (if reads then false else keeps_drives asked)) ≡ true → (writes ≡ false) × (keeps_drives asked ≡ true)
+    go true reads e = absurd (true≢false (sym e))
+    go false true e = absurd (true≢false (sym e))
+    go false false e = (refl, e)
 
 plain_keep : (requests : List Request) → list_all is_plain requests ≡ true → list_all keeps_drives requests ≡ true
 plain_keep [] e = refl
@@ -146,6 +141,33 @@ some_either : (P : Taken → Type 0) (one two : List Taken) → SomeStep P (one 
 some_either P [] two some = inr some
 some_either P (taken ∷ one) two (inl here) = inl (inl here)
 some_either P (taken ∷ one) two (inr there) = elim (some_either P one two there) [ inl first ↦ inl (inr first) | inr second ↦ inr second ]
+
+-- ---- files
+
+abbrev same_name : List ℕ → List ℕ → Bool
+same_name = eq_by_cmp (slice_cmp nat_cmp)
+
+told_apart : (a b : List ℕ) → a ≢ b → same_name a b ≡ false
+told_apart a b differ = go (same_name a b) (λ same. tells_apart (fin.slice_cmp-IsAntisymmetric fin.nat_cmp-IsAntisymmetric) a b same)
+  where
+    go : (t : Bool) → (t ≡ true → a ≡ b) → t ≡ false
+    go true same = absurd (differ (same refl))
+    go false same = refl
+
+at_stored : (files : Files) (name bytes other : List ℕ) → file_at (fin.insert files name bytes) other ≡ cond (same_name other name) (Some bytes) (file_at files other)
+at_stored files name bytes other = fin.get-insert nat_list_cmp_total files name bytes other
+
+-- what was stored last stands there
+last_there : (files : Files) (name bytes : List ℕ) → file_at (fin.insert files name bytes) name ≡ Some bytes
+last_there files name bytes = at_stored files name bytes name ∙ ap (λ (t : Bool). cond t (Some bytes) (file_at files name)) ((eq_by_cmp_equiv nat_list_cmp_total).refl name)
+
+-- other names have what they had
+other_there : (files : Files) (name bytes other : List ℕ) → other ≢ name → file_at (fin.insert files name bytes) other ≡ file_at files other
+other_there files name bytes other differ = at_stored files name bytes other ∙ ap (λ (t : Bool). cond t (Some bytes) (file_at files other)) (told_apart other name differ)
+
+-- and so does what was stored before
+first_there : (files : Files) (one first two second : List ℕ) → one ≢ two → file_at (fin.insert (fin.insert files one first) two second) one ≡ Some first
+first_there files one first two second differ = other_there (fin.insert files one first) two second one differ ∙ last_there files one first
 
 -- ---- what is stored
 
@@ -223,16 +245,10 @@ module _ (from to log : List ℕ) (disk : Disk) (found : Option (List LogLine)) 
   fell_top : Fell old p.opened
   fell_top = never_fell old.state p.opened.state (Some files) p.opened.files requests p.top p.opens (plain_keep requests requests_plain)
 
-  fell_last : Fell p.ejected new → Fell p.rescued new
-  fell_last end =
-      fell_both p.rescued p.ejected new
-      (never_fell p.rescued.state p.ejected.state p.rescued.files p.ejected.files (request.Eject 1 ∷ []) p.last p.ejects refl) end
-
-  same_end : Fell p.ejected new
-  same_end = subst (λ (s : State). NeverFell p.ejected.state.station.counters s.station.counters) (sym p.stores.state) (record { first = omega arith; second = omega arith; stalls = omega arith })
-
   pub fell_rescued : Fell p.rescued new
-  fell_rescued = fell_last same_end
+  fell_rescued =
+      subst (λ (s : State). NeverFell p.rescued.state.station.counters s.station.counters) (sym p.stores.state)
+      (never_fell p.rescued.state p.ejected.state p.rescued.files p.ejected.files (request.Eject 1 ∷ []) p.last p.ejects refl)
 
   pub fell_opened : Fell p.opened new
   fell_opened = fell_both p.opened p.rescued new (keys_fell keys p.opened p.body p.rescued p.goes) fell_rescued
@@ -338,7 +354,7 @@ pub rescue_stores : (from to log : List ℕ) (disk target : Disk) (files : Files
     → ((found : Option (List LogLine)) → IsLogFound (Some files) log (sectors_at disk.rate) found → HasTarget found to target files old.state course)
     → IsRescue disk target to log files old course new ended
 rescue_stores from to log disk target files old course new ended rescues whole fine differ told image size faultless other =
-    let all = goes_through from to log disk files old course new ended rescues whole fine told image in
+    let all = goes_through from to log disk files old course new ended whole fine told rescues image in
     by_log from to log disk target all.found files old course new ended differ image size faultless all.there (other all.found all.there) all.goes
 
 -- ---- the log, exactly
@@ -347,7 +363,7 @@ pub rescue_logs : (from to log : List ℕ) (disk : Disk) (files : Files) (old : 
     → Rescues from to log old course new ended → IsEndStatus ended → IsNotStopped course → old.files ≡ Some files → IsImageOf (Some files) from disk
     → IsUndisturbed 0 old.state.station.counters new.state.station.counters → IsUnmistaken disk → LogsNotFound disk log files course new
 rescue_logs from to log disk files old course new ended rescues whole fine told image quiet unmistaken =
-    let all = goes_through from to log disk files old course new ended rescues whole fine told image in
+    let all = goes_through from to log disk files old course new ended whole fine told rescues image in
     let found = all.found in
     let p = all.goes in
     let lines = log_is from to log disk found files old course new ended all.there image p in
