@@ -1,10 +1,7 @@
 pub mod Gone
-pub mod Reading
 pub mod Asked
-pub mod Keys
 pub mod Records
 pub mod Telling
 pub mod Opening
-pub mod Through
 pub mod Whole
 pub mod Order

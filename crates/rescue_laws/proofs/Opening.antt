@@ -31,7 +31,7 @@ use Rattle.scripts.specs.Scripts.{Script}
 use Rattle.disk_laws.specs.Done.{DoesAll}
 use Rattle.disk_laws.proofs.CopiedTrack.{IsReady, formats_it, small}
 use Rattle.disk_laws.proofs.Prepared.{acks, blanks, readies}
-use Rattle.disk_laws.proofs.Steps.{NeverFell, begins, step_never_fell, ok_called, reached, done_does, ends_there, never_fell, keeps_drives}
+use Rattle.disk_laws.proofs.Steps.{splits, NeverFell, begins, step_never_fell, ok_called, reached, done_does, ends_there, never_fell, keeps_drives}
 use Rattle.disk_laws.specs.Requests.{Track, tracks_of, format_each}
 use Rattle.disk_laws.proofs.Formatted.{blank_keeps}
 use Rattle.disk_laws.proofs.Verified.{one_image, image_ranges}
@@ -312,22 +312,17 @@ lays_tracks rate source [] disk old new told after course all has ready faultles
 lays_tracks rate source (track ∷ later) disk old new told after course all has ready faultless =
     let b = track.0 in
     let g = track.1 in
-    let format = request.Format 1 b g in
-    let one = begins old new told after format (format_each 1 later) course all in
-    let first : DoesAll (format ∷ []) old told ((record { asked = format; answer = one.answer; after = one.mid }) ∷ []) one.mid one.files = record {
-      run = (one.files, one.step, (refl, refl));
-      all = refl;
-      done = (let fine = one.done in rw fine refl);
-    } in
-    let fell_first = never_fell old one.mid told one.files (format ∷ []) _ first refl in
-    let fell_later = never_fell one.mid new one.files after (format_each 1 later) one.later one.behind (formats_keep later) in
+    let format = request.Format 1 b g ∷ [] in
+    let parts = splits old new told after format (format_each 1 later) course all in
+    let fell_first = never_fell old parts.mid told parts.files format parts.one parts.before refl in
+    let fell_later = never_fell parts.mid new parts.files after (format_each 1 later) parts.two parts.behind (formats_keep later) in
     let here = has b g (inl (refl, refl)) in
-    let made = formats_it rate source b g disk old one.mid told one.files _ first ready here (omega (arith, fell_later.second, faultless.0), omega (arith, fell_later.second, faultless.1)) in
+    let made = formats_it rate source b g disk old parts.mid told parts.files parts.one parts.before ready here (omega (arith, fell_later.second, faultless.0), omega (arith, fell_later.second, faultless.1)) in
     let alike = made.keeps.alike in
     let has_later = λ (c h : ℕ) (among : Among later c h). (alike_tracks disk made.next c h alike).0 (has c h (inr among)) in
     let tiny = small disk b g ready.valid here in
     let fresh : IsLaid (track_of made.next b g) = subst IsLaid (sym made.track) (track_laid rate b g tiny.0 tiny.1) in
-    let rest = lays_tracks rate source later made.next one.mid new one.files after one.later one.behind has_later made.ready (omega (arith, fell_first.second, faultless.0), faultless.1) in
+    let rest = lays_tracks rate source later made.next parts.mid new parts.files after parts.two parts.behind has_later made.ready (omega (arith, fell_first.second, faultless.0), faultless.1) in
     record {
       final = rest.final;
       ready = rest.ready;

@@ -38,9 +38,8 @@ use Rattle.rescue_commands.specs.Rescue.{follows, rescues, prepares, asked_keys,
 use Rattle.rescue_commands.proofs.Rests.{by_rest}
 use Rattle.rescue_laws.specs.Logged.{line_at, log_of}
 use Rattle.rescue_laws.specs.Rescued.{StoresInOrder, Nothing, DiskAlone, DiskThenLog}
-use Rattle.rescue_laws.proofs.Gone.{carries_all, FollowRun, Writes, Logs, GivesUp, Starves, follow_run}
+use Rattle.rescue_laws.proofs.Gone.{line_of_refused, line_of_done, read_done, carries_all, FollowRun, Writes, Logs, GivesUp, Starves, follow_run}
 use Rattle.rescue_laws.proofs.Opening.{ready_requests, formats_for, second_request, prepares_carried, second_put}
-use Rattle.rescue_laws.proofs.Reading.{line_of_refused, line_of_done, read_done}
 use Rattle.rescue_laws.proofs.Records.{write_does}
 
 -- ---- the other diskette, put in under its name

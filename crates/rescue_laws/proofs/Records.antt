@@ -16,9 +16,10 @@ use Rattle.track_model.specs.Laid.{IsLaid}
 use Rattle.track_model.specs.Windows.{HasFieldFor, IsTidy}
 use Rattle.track_model.proofs.Laid.{written_laid}
 use Rattle.floppy_requests.specs.declared.request.Request.{Request}
+use Rattle.floppy_requests.specs.declared.request.Request.TheVariants as request
 use Rattle.sector_map.specs.Changes.{Change, Written, IsChange}
 use Rattle.sector_map.specs.Disks.{Entry, IsOnMap, IsRegularDisk}
-use Rattle.sector_map.specs.KeptDisks.{AreAlike, KeepsTracks}
+use Rattle.sector_map.specs.KeptDisks.{KeepsTracks}
 use Rattle.sector_map.proofs.Changed.{change_keeps_tracks}
 use Rattle.sector_map.proofs.KeptTracks.{alike_tracks}
 use Rattle.sector_map.proofs.RegularTracks.{key_cylinder}
@@ -37,15 +38,93 @@ use Rattle.disk_laws.proofs.UserMemory.{length-bytes_from}
 use Rattle.disk_laws.proofs.Written.{AllTidy}
 use Rattle.disk_laws.proofs.WrittenHere.{WritesHere, writes_here, reaches_in}
 use Rattle.disk_laws.specs.Copied.{SomeStep, Gave}
-use Rattle.rescue.specs.Course.{write_of}
+use Rattle.rescue.specs.Course.{write_of, read_of}
 use Rattle.rescue.specs.declared.line.LogLine.{LogLine}
 use Rattle.rescue_laws.specs.Tidy.{IsTidyWrite, IsTidyFor, AreTidy}
-use Rattle.rescue_laws.specs.Rescued.{IsLogged, IsSaved, WasNotRead, entry_at}
+use Rattle.rescue_laws.specs.Rescued.{IsLogged, IsSaved, WasNotRead, entry_at, is_write, count_writes}
 use Rattle.rescue_laws.specs.Logged.{line_at, log_of}
-use Rattle.rescue_laws.proofs.Reading.{read_keeps, call_fell, gave, gave_reads, line_of_refused}
-use Rattle.rescue_laws.proofs.Asked.{AreDistinct, IsAsked}
-use Rattle.rescue_laws.proofs.Gone.{GoesKeys, keys_fell, write_fell}
-use Rattle.rescue_laws.proofs.Keys.{some_apart, keys_read}
+use Rattle.rescue_laws.proofs.Asked.{AreDistinct, IsAsked, IsAmong}
+use Rattle.rescue_laws.proofs.Gone.{GoesKeys, keys_fell, write_fell, line_of_refused, line_of_done, read_done, write_no_read, write_writes, read_keeps, call_fell, gave, gave_reads}
+
+-- ---- the records in a course
+
+-- a step reads the key
+abbrev pub ReadsKey : Chrn → Taken → Type 0
+ReadsKey key taken = (address : ℕ) × (taken.asked ≡ request.Read 0 key address)
+
+-- of a step of a course more is known
+pub some_apart : (P Q : Taken → Type 0) (course : List Taken) → ((taken : Taken) → P taken → Q taken) → SomeStep P course → SomeStep Q course
+some_apart P Q [] f some = absurd some
+some_apart P Q (taken ∷ later) f (inl here) = inl (f taken here)
+some_apart P Q (taken ∷ later) f (inr there) = inr (some_apart P Q later f there)
+
+-- the reads of a course are those of keys, and two reads of a key are one
+pub record ReadsOnce (keys : List Chrn) (course : List Taken) : Type 1 where
+  pub only : (key : Chrn) → SomeStep (ReadsKey key) course → IsAmong key keys
+  pub once : (key : Chrn) (P Q : Taken → Type 0) → ((taken : Taken) → P taken → ReadsKey key taken) → ((taken : Taken) → Q taken → ReadsKey key taken)
+      → SomeStep P course → SomeStep Q course → (taken : Taken) × P taken × Q taken
+
+-- a record is read before others
+reads_first : (key : Chrn) (keys : List Chrn) (read : Taken) (later : List Taken) → (IsAmong key keys → ⊥) → read.asked ≡ read_of key
+    → ReadsOnce keys later → ReadsOnce (key ∷ keys) (read ∷ later)
+reads_first key keys read later distinct asked reads = record {
+  only = λ other some. elim some [ inl here ↦ inl (same other here) | inr there ↦ inr (reads.only other there) ];
+  once = λ other P Q p q some also. elim some [
+    | inl here ↦ elim also [ inl too ↦ (read, here, too) | inr there ↦ absurd (again other Q q (p read here) there) ]
+    | inr there ↦ elim also [ inl here ↦ absurd (again other P p (q read here) there) | inr more ↦ reads.once other P Q p q there more ]
+  ];
+}
+  where
+    same : (other : Chrn) → ReadsKey other read → key ≡ other
+    same other (address, is) = cc (asked, is)
+
+    again : (other : Chrn) (P : Taken → Type 0) → ((taken : Taken) → P taken → ReadsKey other taken) → ReadsKey other read → SomeStep P later → ⊥
+    again other P p here there = distinct (subst (λ (k : Chrn). IsAmong k keys) (sym (same other here)) (reads.only other (some_apart P _ later p there)))
+
+-- a write is none of them
+reads_write : (key : Chrn) (deleted : Bool) (keys : List Chrn) (write : Taken) (later : List Taken) → write.asked ≡ write_of key deleted
+    → ReadsOnce keys later → ReadsOnce keys (write ∷ later)
+reads_write key deleted keys write later asked reads = record {
+  only = λ other some. elim some [ inl here ↦ absurd (none other here) | inr there ↦ reads.only other there ];
+  once = λ other P Q p q some also. elim some [
+    | inl here ↦ absurd (none other (p write here))
+    | inr there ↦ elim also [ inl here ↦ absurd (none other (q write here)) | inr more ↦ reads.once other P Q p q there more ]
+  ];
+}
+  where
+    none : (other : Chrn) → ReadsKey other write → ⊥
+    none other (address, is) = write_no_read key other deleted address (sym asked ∙ is)
+
+pub keys_read : (keys : List Chrn) → AreDistinct keys → (old : World) (course : List Taken) (new : World) → GoesKeys keys old course new → ReadsOnce keys course
+keys_read [] distinct old course new goes =
+    subst (ReadsOnce []) (sym goes.0) (record { only = λ key some. some; once = λ key P Q p q some also. absurd some })
+keys_read (key ∷ keys) distinct old [] new goes = absurd goes
+keys_read (key ∷ keys) distinct old (read ∷ later) new (Err cause, files, is, goes) =
+    reads_first key keys read later distinct.0 is.asked (keys_read keys distinct.1 (with_report read.after files old.report) later new goes)
+keys_read (key ∷ keys) distinct old (read ∷ []) new (Ok deleted, files, is, goes) = absurd goes
+keys_read (key ∷ keys) distinct old (read ∷ write ∷ later) new (Ok deleted, files, is, (more, wrote, goes)) =
+    reads_first key keys read (write ∷ later) distinct.0 is.asked
+    (reads_write key deleted keys write later wrote.asked (keys_read keys distinct.1 (with_report write.after more old.report) later new goes))
+
+-- each is written, or has its line
+pub keys_counted : (keys : List Chrn) (old : World) (course : List Taken) (new : World) → GoesKeys keys old course new → count_writes course + length (log_of course) ≡ length keys
+keys_counted [] old course new goes = rw goes.0 refl
+keys_counted (key ∷ keys) old [] new goes = absurd goes
+keys_counted (key ∷ keys) old (read ∷ later) new (Err cause, files, is, goes) =
+    let line = line_of_refused key cause read is.asked is.answered in
+    let is_read : is_write read.asked ≡ false = ap is_write is.asked in
+    let rest = keys_counted keys (with_report read.after files old.report) later new goes in
+    rw (line, is_read) (omega (arith, rest))
+keys_counted (key ∷ keys) old (read ∷ []) new (Ok deleted, files, is, goes) = absurd goes
+keys_counted (key ∷ keys) old (read ∷ write ∷ later) new (Ok deleted, files, is, (more, wrote, goes)) =
+    let none : line_at read.asked read.answer ≡ [] = line_of_done read.asked read.answer (ap is_refusal is.answered ∙ read_done deleted) in
+    let also : line_at write.asked write.answer ≡ [] = line_of_done write.asked write.answer wrote.done in
+    let is_read : is_write read.asked ≡ false = ap is_write is.asked in
+    let is_written : is_write write.asked ≡ true = ap is_write wrote.asked ∙ write_writes key deleted in
+    let rest = keys_counted keys (with_report write.after more old.report) later new goes in
+    rw (none, also, is_read, is_written) (omega (arith, rest))
+
+-- ---- changes of the other disk
 
 -- the tracks of these heads are Laid
 abbrev pub AreLaid : ℕ → Disk → Type 0
@@ -128,7 +207,6 @@ tidy_write key false state tidy = tidy
 pub record SavesKey (heads : ℕ) (disk : Disk) (key : Chrn) (deleted : Bool) (old : State) (told : Option Files) (new : State) (after : Option Files) (later : List Taken) : Type 0 where
   pub next : Disk
   pub medium : (bay_of new.station 1).medium ≡ Some next
-  pub alike : AreAlike disk next
   pub regular : IsRegularDisk next
   pub guarded : IsGuarded heads next new later
   pub others : (entry : Entry) → entry.key ≢ key → IsOnMap disk entry ↔ IsOnMap next entry
@@ -160,7 +238,6 @@ module _ (tidy : AllTidy) (heads : ℕ) (disk : Disk) (key : Chrn) (deleted : Bo
   saves told after later neat call guarded = record {
     next = (here neat).next;
     medium = (here neat).medium;
-    alike = (here neat).keeps.alike;
     regular = (here neat).regular;
     guarded = guarded;
     others = (here neat).others;

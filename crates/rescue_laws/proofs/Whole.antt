@@ -1,20 +1,21 @@
 -- Rescues, by the status with which they end: what is stored and told, and when the log is exactly the keys that aren't found.
-use Rattle.std.proofs.Common.{arith, ◌≡◌, ◌∙◌, ◌+◌, ℕ, Bool, true, false, true≢false, List, [], ◌∷◌, ◌++◌, refl, sym, ap, inl, inr, append_assoc, ◌↔◌, length, subst, append-nil, Option, Some, None, ◌≢◌, ◌-◌, ◌≤◌, cond}
-use Rattle.std.specs.Prelude.{◌⊎◌, Contains, is_some, IfSome, if◌then◌else◌}
-use Rattle.std.specs.List.{list_all, AllByRecursion}
-use Rattle.std.proofs.lemmas.List.Elements.{All-from_recursion}
+use Rattle.std.proofs.Common.{◌≡◌, ◌∙◌, List, [], ◌∷◌, ◌++◌, ℕ, length, ap, subst, inl, inr, append-nil, Option, Some, arith, ◌+◌, Bool, true, false, true≢false, refl, sym, append_assoc, ◌↔◌, None, ◌≢◌, ◌-◌, ◌≤◌, cond}
+use Rattle.std.specs.Prelude.{is_some, ◌⊎◌, Contains, IfSome, if◌then◌else◌}
+use Rattle.std.specs.List.{list_all}
+use Rattle.std.proofs.lemmas.List.Elements.{All-from_recursion, All-weaker}
 use Rattle.std.specs.FinMap as fin
 use Rattle.std.specs.Cmp.Lexicographic.{slice_cmp, nat_list_cmp_total}
 use Rattle.std.specs.Ordering.{nat_cmp, eq_by_cmp}
 use Rattle.std.proofs.lemmas.Cmp.{eq_by_cmp_equiv}
 use Rattle.std.proofs.lemmas.Map.Views.{tells_apart}
+use Rattle.flop_base.specs.Shelf.{Files, stored, file_at}
+use Rattle.flop_base.specs.Sink.{grown}
+use Rattle.flop_base.specs.Standard.{sectors_at}
+use Rattle.flop_base.specs.declared.answers.Status.{Status}
+use Rattle.flop_base.specs.declared.answers.Status.TheVariants as status
 use Rattle.flop_base.specs.declared.key.Chrn.{Chrn}
 use Rattle.flop_base.specs.declared.answers.Rate.{Rate}
 use Rattle.flop_base.specs.declared.answers.Rate.TheVariants.{R500, R250}
-use Rattle.flop_base.specs.Shelf.{Files, stored, file_at}
-use Rattle.flop_base.specs.Standard.{sectors_at}
-use Rattle.flop_base.specs.declared.answers.Status.{Status}
-use Rattle.flop_base.specs.Sink.{grown}
 use Rattle.raw_image.specs.Disk.{Disk}
 use Rattle.raw_image.specs.Image.{file_of}
 use Rattle.bay_model.specs.Bays.{Two, in_bay}
@@ -24,39 +25,178 @@ use Rattle.track_format.proofs.Laid.{laid_tidy}
 use Rattle.floppy_requests.specs.declared.request.Request.{Request}
 use Rattle.floppy_requests.specs.declared.request.Request.TheVariants as request
 use Rattle.sector_map.specs.Disks.{Entry, IsOnMap}
-use Rattle.sector_model.specs.Texts.{is_refusal}
-use Rattle.sector_model.specs.Runs.{Taken, requests_of, has_refusal, Run}
-use Rattle.sector_model.specs.States.{State}
 use Rattle.sector_model.specs.Steps.{IsImageOf}
+use Rattle.sector_model.specs.Runs.{Taken, requests_of, has_refusal, Run}
 use Rattle.sector_model.specs.Plays.{World}
-use Rattle.floppy_session.specs.Blanks.{blank_request}
+use Rattle.sector_model.specs.Texts.{is_refusal}
+use Rattle.sector_model.specs.States.{State}
 use Rattle.floppy_session.specs.declared.shape.Shape.{Shape}
 use Rattle.floppy_session.specs.Shapes.{shape_of}
+use Rattle.floppy_session.specs.Blanks.{blank_request}
+use Rattle.scripts.specs.Scripts.{Script, Ends, RunsScript, StoresLast, IsStored, NotStored, IsStoreFault}
+use Rattle.scripts.specs.Parts.{carries, may_starve, through}
+use Rattle.scripts.proofs.Reading.{last_run, last_stored, prints_status}
+use Rattle.scripts.proofs.Passed.{Passed, Does, Opened, joined, did_both, opens_passed}
+use Rattle.disk_laws.specs.Done.{DoesAll}
+use Rattle.disk_laws.specs.VerifyRuns.{IsEndStatus}
+use Rattle.disk_laws.proofs.VerifyRun.{not_put, end_is_whole}
+use Rattle.disk_laws.proofs.PutIn.{opened_shape}
+use Rattle.disk_laws.proofs.TrackParts.{did_all}
 use Rattle.disk_laws.specs.Copied.{SomeStep}
 use Rattle.disk_laws.specs.Requests.{Track, format_each, tracks_of}
 use Rattle.disk_laws.proofs.Steps.{keeps_drives, and_both, or_false, NeverFell, begins, ends_there, never_fell}
 use Rattle.disk_laws.proofs.Marks.{some_first, some_second}
-use Rattle.disk_laws.specs.VerifyRuns.{IsEndStatus}
 use Rattle.disk_laws.specs.Verified.{IsUnmistaken}
 use Rattle.disk_laws.proofs.Reading.{quiet_parts}
 use Rattle.disk_laws.proofs.Verified.{image_ranges}
-use Rattle.rescue.specs.declared.line.LogLine.{LogLine}
 use Rattle.rescue.specs.Course.{outcome_status}
 use Rattle.rescue.specs.Log.{log_text}
+use Rattle.rescue.specs.declared.line.LogLine.{LogLine}
 use Rattle.rescue.specs.declared.outcome.Outcome.{Outcome}
-use Rattle.rescue_commands.specs.Logs.{IsLogFound}
-use Rattle.rescue_commands.specs.Rescue.{asked_keys, outcome_of, last_text, Rescues}
-use Rattle.rescue_laws.specs.Logged.{line_at, log_of}
-use Rattle.rescue_laws.specs.Rescued.{is_write, count_writes, IsLogged, IsSaved, IsSettled, WasNotRead, IsNotStopped, HasTarget, KeepsEntries, outcome_in, IsRescue, LogsNotFound, WasRefused}
+use Rattle.rescue_commands.specs.Logs.{IsLogFound, IsFound}
+use Rattle.rescue_commands.specs.Rescue.{rescues, asked_keys, outcome_of, last_text, rescues_all, stores_log, rescue_found, rescue_rest, Rescues}
+use Rattle.rescue_commands.proofs.Rests.{by_rest}
+use Rattle.rescue_laws.specs.Logged.{log_of, line_at}
+use Rattle.rescue_laws.specs.Rescued.{IsNotStopped, is_write, count_writes, IsLogged, IsSaved, IsSettled, WasNotRead, HasTarget, KeepsEntries, outcome_in, IsRescue, LogsNotFound, WasRefused}
+use Rattle.rescue_laws.proofs.Gone.{later_fine, not_refused, carried, GoesKeys, keys_gone, Fell, fell_both, keys_fell, line_of_done, gave_reads, never_both}
+use Rattle.rescue_laws.proofs.Opening.{opening, ready_requests, second_request, formats_for, prepares_carried, HasOther, begins_new, begins_again, holds_first}
 use Rattle.rescue_laws.specs.Tidy.{AreTidy}
 use Rattle.rescue_laws.proofs.Asked.{heads_for, asked_all, asked_distinct}
-use Rattle.rescue_laws.proofs.Gone.{Fell, fell_both, keys_fell}
-use Rattle.rescue_laws.proofs.Keys.{ReadsKey, some_apart, keys_read, keys_counted}
-use Rattle.rescue_laws.proofs.Opening.{opening, ready_requests, HasOther, begins_new, begins_again, holds_first}
-use Rattle.rescue_laws.proofs.Reading.{line_of_done, gave_reads, never_both}
-use Rattle.rescue_laws.proofs.Records.{IsGuarded, IsPart, SavesKeys, saves_keys}
+use Rattle.rescue_laws.proofs.Records.{IsGuarded, IsPart, SavesKeys, saves_keys, ReadsKey, some_apart, keys_read, keys_counted}
 use Rattle.rescue_laws.proofs.Telling.{tells_keys}
-use Rattle.rescue_laws.proofs.Through.{GoesThrough, goes_through}
+
+-- ---- the new log
+
+-- it was stored, and the last line printed
+pub record StoresLog (log : List ℕ) (asked : ℕ) (lines : List LogLine) (old : World) (course : List Taken) (new : World) (ended : Status) : Type 0 where
+  pub nothing : course ≡ []
+  pub state : new.state ≡ old.state
+  pub stores : new.files ≡ stored old.files log (log_text lines)
+  pub report : new.report ≡ grown old.report (last_text (outcome_of asked lines))
+  pub status : ended ≡ outcome_status (outcome_of asked lines)
+
+not_store : (ended : Status) → IsEndStatus ended → IsStoreFault ended → ⊥
+not_store status.AllOk whole fault = fault
+not_store status.SomeRefused whole fault = fault
+not_store status.BadImage whole fault = whole
+not_store status.Absent whole fault = whole
+not_store status.FileFault whole fault = whole
+not_store status.BadJob whole fault = whole
+not_store status.BadWords whole fault = whole
+not_store status.NoMemory whole fault = whole
+not_store status.SinkFault whole fault = whole
+
+module _ (log : List ℕ) (asked : ℕ) (lines : List LogLine) (old : World) (course : List Taken) (new : World) (ended : Status) (whole : IsEndStatus ended) where
+  abbrev Last : Type 0
+  Last = StoresLast log (log_text lines) (last_text (outcome_of asked lines)) (outcome_status (outcome_of asked lines)) old new ended
+
+  file_stored : course ≡ [] → Last → StoresLog log asked lines old course new ended
+  file_stored nothing (IsStored state files prints) =
+      let printed = prints_status old.report _ _ ended new.report (not_put ended whole) prints in
+      record { nothing = nothing; state = state; stores = files; report = printed.0; status = printed.1 }
+  file_stored nothing (NotStored same fault) = absurd (not_store ended whole fault)
+
+  log_stored : RunsScript (stores_log log asked lines) old course new ended → StoresLog log asked lines old course new ended
+  unfolding stores_log may_starve
+  log_stored (inl runs) = let last = last_stored log (log_text lines) _ _ old course new ended runs in file_stored last.0 last.1
+  log_stored (inr starved) = absurd (subst IsEndStatus starved.2 whole)
+
+-- ---- the end of a script
+
+ends_not : (line : List ℕ) (wanted : Status) (old : World) (course : List Taken) (new : World) (ended : Status)
+    → IsEndStatus ended → (IsEndStatus wanted → ⊥) → RunsScript (Ends line wanted) old course new ended → ⊥
+ends_not line wanted old course new ended whole bad runs =
+    let last = last_run line wanted old course new ended runs in
+    bad (subst IsEndStatus (prints_status old.report line wanted ended new.report (not_put ended whole) last.1.report).1 whole)
+
+-- what comes behind a line of the new log for each record that wasn't read
+abbrev Behind : List ℕ → List Chrn → List LogLine → Script
+Behind log keys lines = carries (request.Eject 1) (λ still. stores_log log (length keys) lines)
+
+-- ---- the whole
+
+-- requests were done, then records were gone through, and the other diskette was stored, each with its part of the course; then the log
+pub record GoesThrough (requests : List Request) (keys : List Chrn) (log : List ℕ) (files : Files) (old : World) (course : List Taken) (new : World) (ended : Status) : Type 0 where
+  pub opened : World
+  pub rescued : World
+  pub ejected : World
+  pub top : List Taken
+  pub body : List Taken
+  pub last : List Taken
+  pub is : course ≡ top ++ (body ++ last)
+  pub opens : DoesAll requests old.state (Some files) top opened.state opened.files
+  pub goes : GoesKeys keys opened body rescued
+  pub ejects : DoesAll (request.Eject 1 ∷ []) rescued.state rescued.files last ejected.state ejected.files
+  pub report : ejected.report ≡ old.report
+  pub left : List Taken
+  pub stores : StoresLog log (length keys) (log_of body) ejected left new ended
+
+goes_on : (requests : List Request) (keys : List Chrn) (log : List ℕ) (files : Files) (old : World) (course : List Taken) (new : World) (ended : Status)
+    → IsEndStatus ended → IsNotStopped course → old.files ≡ Some files → Passed {Found = Unit {0}} (Does requests) (λ none. through rescues keys [] (Behind log keys)) old course new ended
+    → GoesThrough requests keys log files old course new ended
+goes_on requests keys log files old course new ended whole fine told one =
+    let fine_two = later_fine one.one one.two course one.course_is fine in
+    let two = keys_gone keys [] (Behind log keys) one.mid one.two new ended whole fine_two one.left in
+    let fine_three = later_fine two.one two.two one.two two.course_is fine_two in
+    let three = carried (request.Eject 1 ∷ []) (stores_log log (length keys) two.found) two.mid two.two new ended whole fine_three two.left in
+    let last = log_stored log (length keys) two.found three.mid three.two new ended whole three.left in
+    let end = three.course_is ∙ ap (λ (row : List Taken). three.one ++ row) last.nothing ∙ append-nil three.one in
+    record {
+      opened = one.mid;
+      rescued = two.mid;
+      ejected = three.mid;
+      top = one.one;
+      body = two.one;
+      last = three.one;
+      is = one.course_is ∙ ap (λ (row : List Taken). one.one ++ row) (two.course_is ∙ ap (λ (row : List Taken). two.one ++ row) end);
+      opens = subst (λ (f : Option Files). DoesAll requests old.state f one.one one.mid.state one.mid.files) told (did_all requests old one.one one.mid one.knows);
+      goes = two.knows.0;
+      ejects = did_all (request.Eject 1 ∷ []) two.mid three.one three.mid three.knows;
+      report = three.knows.report ∙ two.knows.2 ∙ one.knows.report;
+      left = three.two;
+      stores = subst (λ (row : List LogLine). StoresLog log (length keys) row three.mid three.two new ended) two.knows.1 last;
+    }
+
+-- a rescue of this disk, by the log that was found
+pub record RescuesDisk (from to log : List ℕ) (disk : Disk) (files : Files) (old : World) (course : List Taken) (new : World) (ended : Status) : Type 0 where
+  pub found : Option (List LogLine)
+  pub there : IsLogFound (Some files) log (sectors_at disk.rate) found
+  pub goes : GoesThrough (opening from to (shape_of disk) (is_some found)) (asked_keys (shape_of disk) found) log files old course new ended
+
+module _ (from to log : List ℕ) (disk : Disk) (files : Files) (old : World) (course : List Taken) (new : World) (ended : Status) (whole : IsEndStatus ended) (fine : IsNotStopped course) (told : old.files ≡ Some files) where
+  -- behind the disk that was put in, by the log that was found
+  by_found : {rest : Shape → Script} (a : Passed (Opened from) rest old course new ended) (found : Option (List LogLine)) → IsLogFound (Some files) log (sectors_at disk.rate) found
+      → RunsScript (rescue_found to log (shape_of disk) found) a.mid a.two new ended → RescuesDisk from to log disk files old course new ended
+  unfolding rescue_found rescues_all may_starve
+  by_found a found there (inl runs) =
+      let shape = shape_of disk in
+      let logged = is_some found in
+      let keys = asked_keys shape found in
+      let rest = through rescues keys [] (Behind log keys) in
+      let all = subst (λ (s : Script). RunsScript s a.mid a.two new ended) (prepares_carried to shape logged (λ none. rest)) runs in
+      let requests = second_request to shape logged ∷ ready_requests disk.rate (formats_for shape logged) in
+      let b = carried requests rest a.mid a.two new ended whole (later_fine a.one a.two course a.course_is fine) all in
+      record {
+        found = found;
+        there = there;
+        goes = goes_on (opening from to shape logged) keys log files old course new ended whole fine told
+            (joined a b (did_both (request.Insert 0 from ∷ []) requests old a.mid b.mid a.one b.one a.knows.did b.knows));
+      }
+  by_found a found there (inr starved) = absurd (subst IsEndStatus starved.2 whole)
+
+  pub goes_through : Rescues from to log old course new ended → IsImageOf (Some files) from disk → RescuesDisk from to log disk files old course new ended
+  goes_through (answers, are, runs) image =
+      let rest = λ (shape : Shape). rescue_rest to log shape (answers shape.rate) in
+      let a = opens_passed from rest old course new ended (end_is_whole ended whole) (not_refused (request.Insert 0 from) old course new ended fine) runs in
+      let same = opened_shape from disk files old a.mid a.one a.found image told a.knows in
+      let left = subst (λ (s : Shape). RunsScript (rest s) a.mid a.two new ended) same a.left in
+      let there = subst (λ (f : Option Files). IsFound f log (sectors_at disk.rate) (answers disk.rate)) told (are disk.rate) in
+      by_rest (Some files) to log (shape_of disk) (λ s. RunsScript s a.mid a.two new ended → RescuesDisk from to log disk files old course new ended) (by_found a)
+      (λ line. never a line status.BadJob (λ e. e)) (never a [] status.FileFault (λ e. e)) (never a [] status.NoMemory (λ e. e)) (answers disk.rate) there left
+    where
+      never : {rest : Shape → Script} (a : Passed (Opened from) rest old course new ended) (line : List ℕ) (wanted : Status) → (IsEndStatus wanted → ⊥)
+          → RunsScript (Ends line wanted) a.mid a.two new ended → RescuesDisk from to log disk files old course new ended
+      never a line wanted bad runs = absurd (ends_not line wanted a.mid a.two new ended whole bad runs)
 
 -- ---- requests that neither read nor write
 
@@ -268,21 +408,16 @@ module _ (from to log : List ℕ) (disk : Disk) (found : Option (List LogLine)) 
         ∙ ap (λ (n : List ℕ). stored p.rescued.files n (file_of disk.0)) same_name ∙ ap (λ (d : Disk). stored p.rescued.files to (file_of d)) same_disk
         ∙ ap (λ (f : Option Files). stored f to (file_of saves.final)) (saves.files ∙ has.files_are)
 
-    settles : (some : List Chrn) → AllByRecursion (λ key. IsLogged course (log_of course) key ⊎ IsSaved course saves.final key) some
-        → AllByRecursion (IsSettled course saves.final (log_of course)) some
-    settles [] each = tt
-    settles (key ∷ some) each = (
-      record {
-        either = each.0;
-        never_both = λ logged kept.
-            let reads = keys_read keys (asked_distinct disk files log found there) p.opened p.body p.rescued p.goes in
-            let refused : (taken : Taken) → WasRefused key logged.code taken → ReadsKey key taken = λ taken is. (0x10000, is.0) in
-            let gave = gave_reads key kept.deleted kept.content in
-            let one = reads.once key _ _ refused gave (inner _ key refused logged.read) (inner _ key gave kept.read) in
-            never_both key logged.code kept.deleted kept.content one.0 one.1 one.2;
-      },
-      settles some each.1,
-    )
+    settles : (key : Chrn) → IsLogged course (log_of course) key ⊎ IsSaved course saves.final key → IsSettled course saves.final (log_of course) key
+    settles key either = record {
+      either = either;
+      never_both = λ logged kept.
+          let reads = keys_read keys (asked_distinct disk files log found there) p.opened p.body p.rescued p.goes in
+          let refused : (taken : Taken) → WasRefused key logged.code taken → ReadsKey key taken = λ taken is. (0x10000, is.0) in
+          let gave = gave_reads key kept.deleted kept.content in
+          let one = reads.once key _ _ refused gave (inner _ key refused logged.read) (inner _ key gave kept.read) in
+          never_both key logged.code kept.deleted kept.content one.0 one.1 one.2;
+    }
 
     is_rescue : to ≢ log → KeepsEntries found course target saves.final → IsRescue disk target to log files old course new ended
     is_rescue differ keeps =
@@ -303,7 +438,7 @@ module _ (from to log : List ℕ) (disk : Disk) (found : Option (List LogLine)) 
             stores = is;
             disk_there = both.0;
             log_there = both.1;
-            settled = All-from_recursion (IsSettled course saves.final (log_of course)) keys (settles keys saves.settled);
+            settled = All-weaker _ (IsSettled course saves.final (log_of course)) settles keys (All-from_recursion _ keys saves.settled);
             kept = keeps;
           };
           tells = record {
