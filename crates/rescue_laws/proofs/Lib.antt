@@ -1,5 +1,4 @@
 pub mod Gone
-pub mod Asked
 pub mod Records
 pub mod Telling
 pub mod Opening

@@ -33,9 +33,8 @@ use Rattle.disk_laws.proofs.Steps.{NeverFell, ok_called, reached}
 use Rattle.rescue.specs.declared.line.LogLine.{LogLine}
 use Rattle.rescue_laws.specs.Logged.{line_at, log_of}
 use Rattle.rescue_laws.specs.Rescued.{failing_lines}
-use Rattle.rescue_laws.proofs.Asked.{IsAsked}
 use Rattle.rescue_laws.proofs.Gone.{call_fell, line_of_refused, line_of_done, read_done, IsRead, IsWrite, GoesKeys, fell_both, write_fell, keys_fell}
-use Rattle.rescue_laws.proofs.Records.{write_does}
+use Rattle.rescue_laws.proofs.Records.{IsAsked, write_does}
 
 -- the refusal of a read, if it was one
 abbrev pub refusal_of_read : Chrn → Result Bool Code → List (Chrn × Code)

@@ -61,8 +61,7 @@ use Rattle.rescue_laws.specs.Rescued.{IsNotStopped, is_write, count_writes, IsLo
 use Rattle.rescue_laws.proofs.Gone.{later_fine, not_refused, carried, GoesKeys, keys_gone, Fell, fell_both, keys_fell, line_of_done, gave_reads, never_both}
 use Rattle.rescue_laws.proofs.Opening.{opening, ready_requests, second_request, formats_for, prepares_carried, HasOther, begins_new, begins_again, holds_first}
 use Rattle.rescue_laws.specs.Tidy.{AreTidy}
-use Rattle.rescue_laws.proofs.Asked.{heads_for, asked_all, asked_distinct}
-use Rattle.rescue_laws.proofs.Records.{IsGuarded, IsPart, SavesKeys, saves_keys, ReadsKey, some_apart, keys_read, keys_counted}
+use Rattle.rescue_laws.proofs.Records.{heads_for, asked_all, asked_distinct, IsGuarded, IsPart, SavesKeys, saves_keys, ReadsKey, some_apart, keys_read, keys_counted}
 use Rattle.rescue_laws.proofs.Telling.{tells_keys}
 
 -- ---- the new log
@@ -465,6 +464,22 @@ module _ (from to log : List ℕ) (disk : Disk) (found : Option (List LogLine)) 
           has.regular has.size has.medium guarded (omega (arith, fell_top.second, fell.second, faultless.0), omega (arith, fell.second, faultless.1)) in
       is_rescue target start has saves differ (keeps saves.final (λ entry unread. saves.others entry (λ deleted content some. unread deleted content (outer _ some))))
 
+  -- the log is exactly the records that aren't found
+  pub logs_exactly : IsUndisturbed 0 old.state.station.counters new.state.station.counters → IsUnmistaken disk → LogsNotFound disk log files course new
+  logs_exactly quiet unmistaken =
+      let body = keys_fell keys p.opened p.body p.rescued p.goes in
+      let parts = quiet_parts old.state.station.counters p.opened.state.station.counters new.state.station.counters fell_top fell_opened quiet in
+      let calm = quiet_parts p.opened.state.station.counters p.rescued.state.station.counters new.state.station.counters body fell_rescued parts.1 in
+      let first = holds_first from to disk files (is_some found) old.state p.opened.state p.opened.files p.top image p.opens parts.0 in
+      record {
+        found = found;
+        there = there;
+        log_there = log_under p.ejected.files log (log_text (log_of course)) new.files
+            (p.stores.stores ∙ ap (λ (row : List LogLine). stored p.ejected.files log (log_text row)) (sym log_is));
+        exactly = λ failed failing. log_is ∙ tells_keys disk few.0 few.1 unmistaken (heads_for disk found) first.0 keys failed
+            p.opened p.body p.rescued p.goes (asked_all disk files log found few.0 few.1 there) failing first.1 calm.0;
+      }
+
 -- ---- both ways to begin
 
 by_log : (from to log : List ℕ) (disk target : Disk) (found : Option (List LogLine)) (files : Files) (old : World) (course : List Taken) (new : World) (ended : Status)
@@ -492,29 +507,9 @@ rescue_stores from to log disk target files old course new ended rescues whole f
     let all = goes_through from to log disk files old course new ended whole fine told rescues image in
     by_log from to log disk target all.found files old course new ended differ image size faultless all.there (other all.found all.there) all.goes
 
--- ---- the log, exactly
-
 pub rescue_logs : (from to log : List ℕ) (disk : Disk) (files : Files) (old : World) (course : List Taken) (new : World) (ended : Status)
     → Rescues from to log old course new ended → IsEndStatus ended → IsNotStopped course → old.files ≡ Some files → IsImageOf (Some files) from disk
     → IsUndisturbed 0 old.state.station.counters new.state.station.counters → IsUnmistaken disk → LogsNotFound disk log files course new
 rescue_logs from to log disk files old course new ended rescues whole fine told image quiet unmistaken =
     let all = goes_through from to log disk files old course new ended whole fine told rescues image in
-    let found = all.found in
-    let p = all.goes in
-    let lines = log_is from to log disk found files old course new ended all.there image p in
-    let opened = fell_opened from to log disk found files old course new ended all.there image p in
-    let rest = fell_rescued from to log disk found files old course new ended all.there image p in
-    let body = keys_fell (asked_keys (shape_of disk) found) p.opened p.body p.rescued p.goes in
-    let top = fell_top from to log disk found files old course new ended all.there image p in
-    let parts = quiet_parts old.state.station.counters p.opened.state.station.counters new.state.station.counters top opened quiet in
-    let calm = quiet_parts p.opened.state.station.counters p.rescued.state.station.counters new.state.station.counters body rest parts.1 in
-    let first = holds_first from to disk files (is_some found) old.state p.opened.state p.opened.files p.top image p.opens parts.0 in
-    let ranges = image_ranges files from disk image in
-    record {
-      found = found;
-      there = all.there;
-      log_there = log_under p.ejected.files log (log_text (log_of course)) new.files
-          (p.stores.stores ∙ ap (λ (row : List LogLine). stored p.ejected.files log (log_text row)) (sym lines));
-      exactly = λ failed failing. lines ∙ tells_keys disk ranges.0 ranges.1 unmistaken (heads_for disk found) first.0 (asked_keys (shape_of disk) found) failed
-          p.opened p.body p.rescued p.goes (asked_all disk files log found ranges.0 ranges.1 all.there) failing first.1 calm.0;
-    }
+    logs_exactly from to log disk all.found files old course new ended all.there image all.goes quiet unmistaken
