@@ -92,7 +92,8 @@ gave key deleted read asked answered = record {
   content = refl;
 }
 
-pub gave_reads : (key : Chrn) (deleted : Bool) (content : List ℕ) (taken : Taken) → Gave key deleted content taken → (address : ℕ) × (taken.asked ≡ request.Read 0 key address)
+pub gave_reads : (key : Chrn) (deleted : Bool) (content : List ℕ) (taken : Taken) → Gave key deleted content taken
+    → (address : ℕ) × (taken.asked ≡ request.Read 0 key address)
 gave_reads key deleted content taken given = (given.address, given.asked)
 
 -- or it was refused
@@ -138,7 +139,8 @@ later_fine one two course whole fine before last is =
     fine (one ++ before) last (whole ∙ ap (λ (row : List Taken). one ++ row) is ∙ sym (append_assoc one before (last ∷ [])))
 
 -- nor was its last request refused
-pub not_refused : (asked : Request) (old : World) (course : List Taken) (new : World) (ended : Status) → IsNotStopped course → IsRefused asked old course new ended → ⊥
+pub not_refused : (asked : Request) (old : World) (course : List Taken) (new : World) (ended : Status) → IsNotStopped course
+    → IsRefused asked old course new ended → ⊥
 not_refused asked old course new ended fine run = true≢false (sym (ap is_refusal run.answered) ∙ fine [] run.taken run.course_is)
 
 -- requests that a script can't go on without, one after the other
@@ -148,10 +150,12 @@ carries_all (asked ∷ requests) rest = carries asked (λ none. carries_all requ
 
 -- they were done, and then what follows was run
 pub carried : (requests : List Request) (rest : Script) (old : World) (course : List Taken) (new : World) (ended : Status)
-    → IsEndStatus ended → IsNotStopped course → RunsScript (carries_all requests rest) old course new ended → Passed {Found = Unit {0}} (Does requests) (λ none. rest) old course new ended
+    → IsEndStatus ended → IsNotStopped course → RunsScript (carries_all requests rest) old course new ended
+    → Passed {Found = Unit {0}} (Does requests) (λ none. rest) old course new ended
 carried [] rest old course new ended whole fine runs = at_once tt runs (did_nothing old)
 carried (asked ∷ requests) rest old course new ended whole fine runs =
-    let a = carries_passed asked (λ none. carries_all requests rest) old course new ended (end_is_whole ended whole) (not_refused asked old course new ended fine) runs in
+    let a = carries_passed asked (λ none. carries_all requests rest) old course new ended (end_is_whole ended whole)
+        (not_refused asked old course new ended fine) runs in
     joined_did (asked ∷ []) requests a (carried requests rest a.mid a.two new ended whole (later_fine a.one a.two course a.course_is fine) a.left)
 
 -- ---- what follows the read of a record
@@ -228,7 +232,8 @@ Fell old new = NeverFell old.state.station.counters new.state.station.counters
 pub fell_both : (old mid new : World) → Fell old mid → Fell mid new → Fell old new
 fell_both old mid new one two = both_fell old.state.station.counters mid.state.station.counters new.state.station.counters one two
 
-pub write_fell : (key : Chrn) (deleted : Bool) (old new : World) (write : Taken) (files : Option Files) → new.state ≡ write.after → IsWrite key deleted old write files → Fell old new
+pub write_fell : (key : Chrn) (deleted : Bool) (old new : World) (write : Taken) (files : Option Files) → new.state ≡ write.after
+    → IsWrite key deleted old write files → Fell old new
 write_fell key deleted old new write files is wrote =
     subst (λ (s : State). NeverFell old.state.station.counters s.station.counters) (sym is)
     (step_never_fell old.state write.after old.files files (write_of key deleted) write.answer wrote.step (write_keeps key deleted))
@@ -249,7 +254,8 @@ keys_fell (key ∷ keys) old (read ∷ write ∷ later) new (Ok deleted, files, 
 -- ---- by a script that went on to its end
 
 -- the world behind a step
-abbrev behind : {asked : Request} {rest : Reply → State → Script} {old new : World} {course : List Taken} {ended : Status} → IsAnswered asked rest old course new ended → World
+abbrev behind : {asked : Request} {rest : Reply → State → Script} {old new : World} {course : List Taken} {ended : Status}
+    → IsAnswered asked rest old course new ended → World
 behind {old = old} run = with_report run.taken.after run.files old.report
 
 -- the records were gone through, and the log is what it was, with their lines
@@ -271,14 +277,17 @@ module _ (rest : List LogLine → Script) (new : World) (ended : Status) (whole 
 
     -- it was written
     wrote : (run : Run) (deleted : Bool) → IsRead key (Ok deleted) old run.taken run.files → IsNotStopped run.later
-        → RunsScript (carries (write_of key deleted) (λ none. Rest lines)) (behind run) run.later new ended → Passed (RescuesKeys (key ∷ keys) lines) rest old course new ended
+        → RunsScript (carries (write_of key deleted) (λ none. Rest lines)) (behind run) run.later new ended
+        → Passed (RescuesKeys (key ∷ keys) lines) rest old course new ended
     wrote run deleted is later runs =
         let asked = write_of key deleted in
-        let one = need_taken asked (λ answer after. Rest lines) (behind run) run.later new ended (end_is_whole ended whole) (not_refused asked (behind run) run.later new ended later)
+        let one = need_taken asked (λ answer after. Rest lines) (behind run) run.later new ended (end_is_whole ended whole)
+            (not_refused asked (behind run) run.later new ended later)
             (carry_run asked (λ none. Rest lines) (behind run) run.later new ended runs) in
         let write = one.run in
         let all = next lines (behind write) write.later (later_fine (write.taken ∷ []) write.later run.later write.course_is later) write.left in
-        let none : line_at run.taken.asked run.taken.answer ≡ [] = line_of_done run.taken.asked run.taken.answer (ap is_refusal is.answered ∙ read_done deleted) in
+        let none : line_at run.taken.asked run.taken.answer ≡ [] = line_of_done run.taken.asked run.taken.answer
+            (ap is_refusal is.answered ∙ read_done deleted) in
         let also : line_at write.taken.asked write.taken.answer ≡ [] = line_of_done write.taken.asked write.taken.answer one.fine in
         let same : log_of all.one ≡ log_of (run.taken ∷ write.taken ∷ all.one) = rw (none, also) refl in
         record {
@@ -297,7 +306,8 @@ module _ (rest : List LogLine → Script) (new : World) (ended : Status) (whole 
 
     -- its line came behind the log
     logged : (run : Run) (cause : Code) → IsRead key (Err cause) old run.taken run.files → IsNotStopped run.later
-        → RunsScript (Rest (lines ++ (record { key = key; code = cause }) ∷ [])) (behind run) run.later new ended → Passed (RescuesKeys (key ∷ keys) lines) rest old course new ended
+        → RunsScript (Rest (lines ++ (record { key = key; code = cause }) ∷ [])) (behind run) run.later new ended
+        → Passed (RescuesKeys (key ∷ keys) lines) rest old course new ended
     logged run cause is later runs =
         let line : LogLine = record { key = key; code = cause } in
         let all = next (lines ++ line ∷ []) (behind run) run.later later runs in
@@ -316,12 +326,16 @@ module _ (rest : List LogLine → Script) (new : World) (ended : Status) (whole 
           left = all.left;
         }
 
-    by_next : (run : Run) (called : Result Bool Code) → IsRead key called old run.taken run.files → FollowRun key called lines Rest (behind run) run.later new ended
+    by_next : (run : Run) (called : Result Bool Code) → IsRead key called old run.taken run.files
+        → FollowRun key called lines Rest (behind run) run.later new ended
         → IsNotStopped run.later → Passed (RescuesKeys (key ∷ keys) lines) rest old course new ended
-    by_next run called is (Writes deleted same runs) later = wrote run deleted (subst (λ (c : Result Bool Code). IsRead key c old run.taken run.files) same is) later runs
-    by_next run called is (Logs cause same runs) later = logged run cause (subst (λ (c : Result Bool Code). IsRead key c old run.taken run.files) same is) later runs
+    by_next run called is (Writes deleted same runs) later =
+        wrote run deleted (subst (λ (c : Result Bool Code). IsRead key c old run.taken run.files) same is) later runs
+    by_next run called is (Logs cause same runs) later =
+        logged run cause (subst (λ (c : Result Bool Code). IsRead key c old run.taken run.files) same is) later runs
     by_next run called is (GivesUp cause same nothing stays) later =
-        absurd (true≢false (sym (ap is_refusal (is.answered ∙ ap read_reply same)) ∙ fine [] run.taken (run.course_is ∙ ap (λ (row : List Taken). run.taken ∷ row) nothing)))
+        absurd (true≢false (sym (ap is_refusal (is.answered ∙ ap read_reply same))
+            ∙ fine [] run.taken (run.course_is ∙ ap (λ (row : List Taken). run.taken ∷ row) nothing)))
     by_next run called is (Starves stays starved) later = absurd (subst IsEndStatus starved whole)
 
     by_read : Run → Passed (RescuesKeys (key ∷ keys) lines) rest old course new ended
@@ -332,7 +346,8 @@ module _ (rest : List LogLine → Script) (new : World) (ended : Status) (whole 
         (follow_run key lines Rest (behind run) run.later new ended called runs) (later_fine (run.taken ∷ []) run.later course run.course_is fine)
 
 pub keys_gone : (keys : List Chrn) (lines : List LogLine) (rest : List LogLine → Script) (old : World) (course : List Taken) (new : World) (ended : Status)
-    → IsEndStatus ended → IsNotStopped course → RunsScript (through rescues keys lines rest) old course new ended → Passed (RescuesKeys keys lines) rest old course new ended
+    → IsEndStatus ended → IsNotStopped course → RunsScript (through rescues keys lines rest) old course new ended
+    → Passed (RescuesKeys keys lines) rest old course new ended
 unfolding through rescues
 keys_gone [] lines rest old course new ended whole fine runs = at_once lines runs ((refl, refl), sym (append-nil lines), refl)
 keys_gone (key ∷ keys) lines rest old course new ended whole fine runs =

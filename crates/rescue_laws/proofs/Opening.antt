@@ -74,24 +74,29 @@ unfolding through carries
 formats_carried [] rest = refl
 formats_carried (track ∷ tracks) rest = ap (λ (s : Script). carries (request.Format 1 track.0 track.1) (λ none. s)) (formats_carried tracks rest)
 
-both_carried : (rate : Rate) (rest : Unit {0} → Script) (requests : List Request) (more : Script) → rest tt ≡ carries_all requests more → acknowledges_both rate rest ≡ carries_all (ready_requests rate requests) more
+both_carried : (rate : Rate) (rest : Unit {0} → Script) (requests : List Request) (more : Script) → rest tt ≡ carries_all requests more
+    → acknowledges_both rate rest ≡ carries_all (ready_requests rate requests) more
 unfolding acknowledges_both acknowledges sets_rate
 both_carried R500 rest requests more is = ap (λ (s : Script). carries (request.Ack 0) (λ none. carries (request.Ack 1) (λ still. s))) is
 both_carried R250 rest requests more is =
-    ap (λ (s : Script). carries (request.Ack 0) (λ none. carries (request.SetRate 0 R250) (λ now. carries (request.Ack 1) (λ still. carries (request.SetRate 1 R250) (λ yet. s))))) is
+    ap (λ (s : Script). carries (request.Ack 0)
+        (λ none. carries (request.SetRate 0 R250) (λ now. carries (request.Ack 1) (λ still. carries (request.SetRate 1 R250) (λ yet. s))))) is
 
-pub prepares_carried : (to : List ℕ) (shape : Shape) (logged : Bool) (rest : Unit {0} → Script) → prepares to shape logged rest ≡ carries_all (second_request to shape logged ∷ ready_requests shape.rate (formats_for shape logged)) (rest tt)
+pub prepares_carried : (to : List ℕ) (shape : Shape) (logged : Bool) (rest : Unit {0} → Script)
+    → prepares to shape logged rest ≡ carries_all (second_request to shape logged ∷ ready_requests shape.rate (formats_for shape logged)) (rest tt)
 unfolding prepares prepares_old prepares_new
 prepares_carried to shape true rest = ap (λ (s : Script). carries (request.Insert 1 to) (λ none. s)) (both_carried shape.rate rest [] (rest tt) refl)
 prepares_carried to shape false rest =
     ap (λ (s : Script). carries (blank_request 1 to shape.cylinders shape.rate) (λ none. s))
-    (both_carried shape.rate (λ still. by_track shape.cylinders shape.heads (formats 1) tt rest) (formats_for shape false) (rest tt) (tracks_part shape.cylinders shape.heads (formats 1) tt rest ∙ formats_carried (tracks_of shape.cylinders shape.heads) rest))
+    (both_carried shape.rate (λ still. by_track shape.cylinders shape.heads (formats 1) tt rest) (formats_for shape false) (rest tt)
+        (tracks_part shape.cylinders shape.heads (formats 1) tt rest ∙ formats_carried (tracks_of shape.cylinders shape.heads) rest))
 
 -- ---- the disks that were put in
 
 -- the disk of the first name is in bay 0
 pub disk_in : (from : List ℕ) (disk : Disk) (files : Files) (old new : State) (after : Option Files) (answer : Reply)
-    → IsImageOf (Some files) from disk → Step (request.Insert 0 from) old (Some files) answer new after → is_refusal answer ≡ false → (bay_of new.station 0).medium ≡ Some disk
+    → IsImageOf (Some files) from disk → Step (request.Insert 0 from) old (Some files) answer new after → is_refusal answer ≡ false
+    → (bay_of new.station 0).medium ≡ Some disk
 disk_in from disk files old new after answer image step done =
     let put = (done_does old new (Some files) after (request.Insert 0 from) answer step done).2 in
     ap (λ (s : StationState). (bay_of s 0).medium) put.2.exchanged.becomes ∙ ap (λ (d : Disk). Some d) (one_image files from put.0 disk put.1 image)
@@ -141,7 +146,8 @@ second_put to shape false old new told after answer step done =
     let fresh = blanks 1 shape.rate to shape.cylinders old new told after answer step done in
     record {
       target = blank_of shape.cylinders shape.rate;
-      such = record { valid = fresh.valid; regular = blank_regular shape.cylinders shape.rate; rate = refl; words = refl; has = λ c h cylinder head. (cylinder, head); only = λ c h there. there.0 };
+      such = record { valid = fresh.valid; regular = blank_regular shape.cylinders shape.rate; rate = refl; words = refl; has = λ c h cylinder head.
+          (cylinder, head); only = λ c h there. there.0 };
       medium = fresh.medium;
       first = ap (λ (s : StationState). bay_of s 0) fresh.becomes;
       memory = ap (λ (s : StationState). s.memory) fresh.becomes;
@@ -228,7 +234,8 @@ pub record AreOpen (disk : Disk) (to : List ℕ) (files : Files) (logged : Bool)
   pub files_are : mid_files ≡ Some files
   pub fell : NeverFell old.station.counters mid.station.counters
 
-are_open : (from to : List ℕ) (disk : Disk) (files : Files) (logged : Bool) (old new : State) (after : Option Files) (course : List Taken) → IsImageOf (Some files) from disk
+are_open : (from to : List ℕ) (disk : Disk) (files : Files) (logged : Bool) (old new : State) (after : Option Files) (course : List Taken)
+    → IsImageOf (Some files) from disk
     → DoesAll (opening from to (shape_of disk) logged) old (Some files) course new after → AreOpen disk to files logged old new after
 are_open from to disk files logged old new after course image all =
     let rate = disk.rate in
@@ -263,7 +270,8 @@ are_open from to disk files logged old new after course image all =
       since = omega (arith, three.later.first, c.first, set.fell.first);
       second = set.medium ∙ acked.medium;
       second_rate = λ is. at_rate rate (bay_of four.mid.station 1).rate (bay_of set.mid.station 1).rate put.target.rate is acked.high set.high set.low;
-      memory = set.memory ∙ ap (λ (s : StationState). s.memory) acked.becomes ∙ three.memory ∙ put.memory ∙ ap (λ (s : StationState). s.memory) one.does.2.2.exchanged.becomes;
+      memory = set.memory ∙ ap (λ (s : StationState). s.memory) acked.becomes ∙ three.memory ∙ put.memory
+          ∙ ap (λ (s : StationState). s.memory) one.does.2.2.exchanged.becomes;
       named = ap (λ (n : Two (Option (List ℕ))). in_bay n 1) (set.names ∙ acked.names ∙ three.names) ∙ put.named;
       files_are = set.same_files ∙ acked.files ∙ three.same_files ∙ put.files ∙ one.does.1;
       fell = record {
@@ -317,12 +325,14 @@ lays_tracks rate source (track ∷ later) disk old new told after course all has
     let fell_first = never_fell old parts.mid told parts.files format parts.one parts.before refl in
     let fell_later = never_fell parts.mid new parts.files after (format_each 1 later) parts.two parts.behind (formats_keep later) in
     let here = has b g (inl (refl, refl)) in
-    let made = formats_it rate source b g disk old parts.mid told parts.files parts.one parts.before ready here (omega (arith, fell_later.second, faultless.0), omega (arith, fell_later.second, faultless.1)) in
+    let made = formats_it rate source b g disk old parts.mid told parts.files parts.one parts.before ready here
+        (omega (arith, fell_later.second, faultless.0), omega (arith, fell_later.second, faultless.1)) in
     let alike = made.keeps.alike in
     let has_later = λ (c h : ℕ) (among : Among later c h). (alike_tracks disk made.next c h alike).0 (has c h (inr among)) in
     let tiny = small disk b g ready.valid here in
     let fresh : IsLaid (track_of made.next b g) = subst IsLaid (sym made.track) (track_laid rate b g tiny.0 tiny.1) in
-    let rest = lays_tracks rate source later made.next parts.mid new parts.files after parts.two parts.behind has_later made.ready (omega (arith, fell_first.second, faultless.0), faultless.1) in
+    let rest = lays_tracks rate source later made.next parts.mid new parts.files after parts.two parts.behind has_later made.ready
+        (omega (arith, fell_first.second, faultless.0), faultless.1) in
     record {
       final = rest.final;
       ready = rest.ready;
@@ -366,7 +376,8 @@ pub record HasOther (start : Disk) (to : List ℕ) (files : Files) (state : Stat
   pub files_are : told ≡ Some files
 
 -- a new one, each track of which is Laid
-pub begins_new : (from to : List ℕ) (disk : Disk) (files : Files) (old new : State) (after : Option Files) (course : List Taken) → IsImageOf (Some files) from disk
+pub begins_new : (from to : List ℕ) (disk : Disk) (files : Files) (old new : State) (after : Option Files) (course : List Taken)
+    → IsImageOf (Some files) from disk
     → DoesAll (opening from to (shape_of disk) false) old (Some files) course new after → length old.station.memory ≡ user_bytes
     → IsFaultless 1 old.station.counters new.station.counters → (start : Disk) × HasOther start to files new after × AreLaid disk.heads start
 begins_new from to disk files old new after course image all size faultless =
@@ -384,7 +395,8 @@ begins_new from to disk files old new after course image all size faultless =
       words = such.words;
       size = ap (λ (m : List ℕ). length m) it.memory ∙ size;
     } in
-    let has = λ (c h : ℕ) (among : Among tracks c h). let at = among_only disk.cylinders disk.heads c h among in such.has c h at.0 (omega (arith, at.1, ranges.1)) in
+    let has = λ (c h : ℕ) (among : Among tracks c h). let at = among_only disk.cylinders disk.heads c h among in such.has c h at.0
+        (omega (arith, at.1, ranges.1)) in
     let lays = lays_tracks disk.rate disk tracks it.target it.mid new it.mid_files after it.course it.formats_left has ready
         (omega (arith, it.fell.second, faultless.0), omega (arith, it.fell.second, faultless.1)) in
     let there : HasOther lays.final to files new after = record {
@@ -399,7 +411,8 @@ begins_new from to disk files old new after course image all size faultless =
     lays.laid c h had (inl (among_all disk.cylinders disk.heads c h (such.only c h had) few)))
 
 -- that of an earlier run
-pub begins_again : (from to : List ℕ) (disk target : Disk) (files : Files) (old new : State) (after : Option Files) (course : List Taken) → IsImageOf (Some files) from disk
+pub begins_again : (from to : List ℕ) (disk target : Disk) (files : Files) (old new : State) (after : Option Files) (course : List Taken)
+    → IsImageOf (Some files) from disk
     → IsImageOf (Some files) to target → IsRegularDisk target → DoesAll (opening from to (shape_of disk) true) old (Some files) course new after
     → length old.station.memory ≡ user_bytes → HasOther target to files new after
 begins_again from to disk target files old new after course image other regular all size =

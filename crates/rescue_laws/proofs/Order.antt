@@ -50,8 +50,10 @@ Any state = Unit {0}
 abbrev Named : List ℕ → State → Type 0
 Named to state = in_bay state.names 1 ≡ Some to
 
-second_stores : (to : List ℕ) (shape : Shape) (logged : Bool) (old new : State) (told after : Option Files) (answer : Reply) → Step (second_request to shape logged) old told answer new after → after ≡ told
-second_stores to shape true old new told after answer step = either (refusal_of old (request.Insert 1 to)) step (λ does. does.1) (λ cause refused. refused.files)
+second_stores : (to : List ℕ) (shape : Shape) (logged : Bool) (old new : State) (told after : Option Files) (answer : Reply)
+    → Step (second_request to shape logged) old told answer new after → after ≡ told
+second_stores to shape true old new told after answer step =
+    either (refusal_of old (request.Insert 1 to)) step (λ does. does.1) (λ cause refused. refused.files)
 second_stores to shape false old new told after answer step = go shape.rate step
   where
     go : (rate : Rate) → Step (blank_request 1 to shape.cylinders rate) old told answer new after → after ≡ told
@@ -66,11 +68,15 @@ module _ (to log : List ℕ) where
       → StoresInOrder to log (lines ++ log_of course) old.files new.files
 
   -- behind a step that stores nothing
-  behind : (lines now : List LogLine) (taken : Taken) (later course : List Taken) (told files after : Option Files) → course ≡ taken ∷ later → files ≡ told → lines ++ line_at taken.asked taken.answer ≡ now → StoresInOrder to log (now ++ log_of later) files after → StoresInOrder to log (lines ++ log_of course) told after
+  behind : (lines now : List LogLine) (taken : Taken) (later course : List Taken) (told files after : Option Files) → course ≡ taken ∷ later → files ≡ told
+      → lines ++ line_at taken.asked taken.answer ≡ now → StoresInOrder to log (now ++ log_of later) files after
+      → StoresInOrder to log (lines ++ log_of course) told after
   behind lines now taken later course told files after whole same is stores =
       let all : now ++ log_of later ≡ lines ++ log_of course =
-          ap (λ (row : List LogLine). row ++ log_of later) (sym is) ∙ append_assoc lines (line_at taken.asked taken.answer) (log_of later) ∙ ap (λ (row : List Taken). lines ++ log_of row) (sym whole) in
-      subst (λ (f : Option Files). StoresInOrder to log (lines ++ log_of course) f after) same (subst (λ (row : List LogLine). StoresInOrder to log row files after) all stores)
+          ap (λ (row : List LogLine). row ++ log_of later) (sym is) ∙ append_assoc lines (line_at taken.asked taken.answer) (log_of later)
+              ∙ ap (λ (row : List Taken). lines ++ log_of row) (sym whole) in
+      subst (λ (f : Option Files). StoresInOrder to log (lines ++ log_of course) f after) same
+          (subst (λ (row : List LogLine). StoresInOrder to log row files after) all stores)
 
   -- a step that wasn't refused has no line
   no_line : (lines : List LogLine) (taken : Taken) → is_refusal taken.answer ≡ false → lines ++ line_at taken.asked taken.answer ≡ lines
@@ -87,13 +93,15 @@ module _ (to log : List ℕ) where
       go (Done run fine) =
           let taken = run.taken in
           let such_then = leads old.state taken.after old.files run.files taken.answer run.step fine such in
-          behind lines lines taken run.later course old.files run.files new.files run.course_is (same old.state taken.after old.files run.files taken.answer run.step) (no_line lines taken fine)
+          behind lines lines taken run.later course old.files run.files new.files run.course_is
+              (same old.state taken.after old.files run.files taken.answer run.step) (no_line lines taken fine)
           (next taken.answer taken.after (with_report taken.after run.files old.report) run.later new ended such_then run.left)
       go (Refused run) = Nothing (same old.state new.state old.files new.files (reply.Refused run.cause) run.step)
       go (Halted run) = Nothing run.stops.files
 
   -- a call of the driver
-  call_in_order : (asked : Request) → ((old new : State) (told after : Option Files) (answer : Reply) → Step asked old told answer new after → IsDriverCall old told new after)
+  call_in_order : (asked : Request)
+      → ((old new : State) (told after : Option Files) (answer : Reply) → Step asked old told answer new after → IsDriverCall old told new after)
       → (lines : List LogLine) (rest : Script) → InOrder (Named to) lines rest → InOrder (Named to) lines (carries asked (λ none. rest))
   unfolding carries
   call_in_order asked call lines rest next =
@@ -105,30 +113,36 @@ module _ (to log : List ℕ) where
   -- ---- the end
 
   -- behind the store of the disk, the log is stored or not, and nothing is asked
-  log_in_order : (lines : List LogLine) (asked : ℕ) (old : World) (course : List Taken) (new : World) (ended : Status) (told : Option Files) (disk : Disk) → old.files ≡ stored told to (file_of disk) → RunsScript (stores_log log asked lines) old course new ended → (course ≡ []) × StoresInOrder to log lines told new.files
+  log_in_order : (lines : List LogLine) (asked : ℕ) (old : World) (course : List Taken) (new : World) (ended : Status) (told : Option Files) (disk : Disk)
+      → old.files ≡ stored told to (file_of disk) → RunsScript (stores_log log asked lines) old course new ended
+      → (course ≡ []) × StoresInOrder to log lines told new.files
   unfolding stores_log may_starve
   log_in_order lines asked old course new ended told disk is (inl runs) =
       let last = last_stored log (log_text lines) (last_text (outcome_of asked lines)) (outcome_status (outcome_of asked lines)) old course new ended runs in
       (last.0, go last.1)
     where
-      go : StoresLast log (log_text lines) (last_text (outcome_of asked lines)) (outcome_status (outcome_of asked lines)) old new ended → StoresInOrder to log lines told new.files
+      go : StoresLast log (log_text lines) (last_text (outcome_of asked lines)) (outcome_status (outcome_of asked lines)) old new ended
+          → StoresInOrder to log lines told new.files
       go (IsStored state files prints) = DiskThenLog disk (files ∙ ap (λ (f : Option Files). stored f log (log_text lines)) is)
       go (NotStored same fault) = DiskAlone disk (ap (λ (w : World). w.files) same ∙ is)
   log_in_order lines asked old course new ended told disk is (inr starved) = (starved.0, DiskAlone disk (ap (λ (w : World). w.files) starved.1 ∙ is))
 
-  eject_refused : (old new : State) (told after : Option Files) (cause : Reason) → Step (request.Eject 1) old told (reply.Refused cause) new after → after ≡ told
+  eject_refused : (old new : State) (told after : Option Files) (cause : Reason) → Step (request.Eject 1) old told (reply.Refused cause) new after
+      → after ≡ told
   eject_refused old new told after cause step = either (refusal_of old (request.Eject 1)) step (λ does. absurd (cc does.0)) (λ reason refused. refused.files)
 
   end_in_order : (lines : List LogLine) (asked : ℕ) → InOrder (Named to) lines (carries (request.Eject 1) (λ still. stores_log log asked lines))
   end_in_order lines asked old course new ended named runs = go (carry_run (request.Eject 1) (λ still. stores_log log asked lines) old course new ended runs)
     where
-      go : NeedRun (request.Eject 1) (λ answer after. stores_log log asked lines) old course new ended → StoresInOrder to log (lines ++ log_of course) old.files new.files
+      go : NeedRun (request.Eject 1) (λ answer after. stores_log log asked lines) old course new ended
+          → StoresInOrder to log (lines ++ log_of course) old.files new.files
       go (Done run fine) =
           let does = (done_does old.state run.taken.after old.files run.files (request.Eject 1) run.taken.answer run.step fine).1 in
           let same : does.1 ≡ to = cc (does.3, named) in
           let files : run.files ≡ stored old.files to (file_of does.0) = does.5 ∙ ap (λ (n : List ℕ). stored old.files n (file_of does.0)) same in
           let stores = log_in_order lines asked (with_report run.taken.after run.files old.report) run.later new ended old.files does.0 files run.left in
-          let none : log_of course ≡ line_at run.taken.asked run.taken.answer = ap log_of (run.course_is ∙ ap (λ (row : List Taken). run.taken ∷ row) stores.0) ∙ append-nil (line_at run.taken.asked run.taken.answer) in
+          let none : log_of course ≡ line_at run.taken.asked run.taken.answer = ap log_of
+              (run.course_is ∙ ap (λ (row : List Taken). run.taken ∷ row) stores.0) ∙ append-nil (line_at run.taken.asked run.taken.answer) in
           let all : lines ++ log_of course ≡ lines = ap (λ (row : List LogLine). lines ++ row) none ∙ no_line lines run.taken fine in
           subst (λ (row : List LogLine). StoresInOrder to log row old.files new.files) (sym all) stores.1
       go (Refused run) = Nothing (eject_refused old.state new.state old.files new.files run.cause run.step)
@@ -142,27 +156,35 @@ module _ (to log : List ℕ) where
 
   rescue_in_order : (key : Chrn) (rest : List LogLine → Script) → AllInOrder rest → AllInOrder (λ lines. rescues key lines rest)
   unfolding rescues
-  rescue_in_order key rest next lines old course new ended named runs = go (ask_run (read_of key) (λ answer after. follows key answer lines rest) old course new ended runs)
+  rescue_in_order key rest next lines old course new ended named runs =
+      go (ask_run (read_of key) (λ answer after. follows key answer lines rest) old course new ended runs)
     where
-      go : AskRun (read_of key) (λ answer after. follows key answer lines rest) old course new ended → StoresInOrder to log (lines ++ log_of course) old.files new.files
+      go : AskRun (read_of key) (λ answer after. follows key answer lines rest) old course new ended
+          → StoresInOrder to log (lines ++ log_of course) old.files new.files
       go (Stopped run) = Nothing run.stops.files
       go (Answered run) =
           let called = run.step.1.0 in
           let answered = run.step.1.1 in
-          by_next called answered (follow_run key lines rest (with_report run.taken.after run.files old.report) run.later new ended called (subst (λ (r : Reply). RunsScript (follows key r lines rest) (with_report run.taken.after run.files old.report) run.later new ended) answered run.left))
+          by_next called answered (follow_run key lines rest (with_report run.taken.after run.files old.report) run.later new ended called
+              (subst (λ (r : Reply). RunsScript (follows key r lines rest) (with_report run.taken.after run.files old.report) run.later new ended) answered
+                  run.left))
         where
           named_then : Named to run.taken.after
           named_then = ap (λ (n : Two (Option (List ℕ))). in_bay n 1) run.step.0.names ∙ named
 
-          by_next : (called : Result Bool Code) → run.taken.answer ≡ read_reply called → FollowRun key called lines rest (with_report run.taken.after run.files old.report) run.later new ended → StoresInOrder to log (lines ++ log_of course) old.files new.files
+          by_next : (called : Result Bool Code) → run.taken.answer ≡ read_reply called
+              → FollowRun key called lines rest (with_report run.taken.after run.files old.report) run.later new ended
+              → StoresInOrder to log (lines ++ log_of course) old.files new.files
           by_next called answered (Writes deleted is more) =
               let fine = ap is_refusal (answered ∙ ap read_reply is) ∙ read_done deleted in
               behind lines lines run.taken run.later course old.files run.files new.files run.course_is run.step.0.files (no_line lines run.taken fine)
-              (call_in_order (write_of key deleted) (λ from then told after answer step. (write_does key deleted from then told after answer step).0) lines (rest lines) (next lines) (with_report run.taken.after run.files old.report) run.later new ended named_then more)
+              (call_in_order (write_of key deleted) (λ from then told after answer step. (write_does key deleted from then told after answer step).0) lines
+                  (rest lines) (next lines) (with_report run.taken.after run.files old.report) run.later new ended named_then more)
           by_next called answered (Logs cause is more) =
               let line = line_of_refused key cause run.taken run.asked_is (answered ∙ ap read_reply is) in
               let now = lines ++ (record { key = key; code = cause }) ∷ [] in
-              behind lines now run.taken run.later course old.files run.files new.files run.course_is run.step.0.files (ap (λ (row : List LogLine). lines ++ row) line)
+              behind lines now run.taken run.later course old.files run.files new.files run.course_is run.step.0.files
+                  (ap (λ (row : List LogLine). lines ++ row) line)
               (next now (with_report run.taken.after run.files old.report) run.later new ended named_then more)
           by_next called answered (GivesUp cause is nothing same) = Nothing (same ∙ run.step.0.files)
           by_next called answered (Starves same starved) = Nothing (same ∙ run.step.0.files)
@@ -177,13 +199,16 @@ module _ (to log : List ℕ) where
   formats_in_order : (tracks : List Track) (rest : Script) → InOrder (Named to) [] rest → InOrder (Named to) [] (carries_all (format_each 1 tracks) rest)
   formats_in_order [] rest next = next
   formats_in_order (track ∷ tracks) rest next =
-      call_in_order (request.Format 1 track.0 track.1) (λ old new told after answer step. step.0) [] (carries_all (format_each 1 tracks) rest) (formats_in_order tracks rest next)
+      call_in_order (request.Format 1 track.0 track.1) (λ old new told after answer step. step.0) [] (carries_all (format_each 1 tracks) rest)
+          (formats_in_order tracks rest next)
 
-  opening_in_order : (shape : Shape) (logged : Bool) (rest : Script) → InOrder (Named to) [] rest → InOrder (Named to) [] (carries_all (formats_for shape logged) rest)
+  opening_in_order : (shape : Shape) (logged : Bool) (rest : Script) → InOrder (Named to) [] rest
+      → InOrder (Named to) [] (carries_all (formats_for shape logged) rest)
   opening_in_order shape true rest next = next
   opening_in_order shape false rest next = formats_in_order (tracks_of shape.cylinders shape.heads) rest next
 
-  ready_in_order : (rate : Rate) (requests : List Request) (rest : Script) → InOrder (Named to) [] (carries_all requests rest) → InOrder (Named to) [] (carries_all (ready_requests rate requests) rest)
+  ready_in_order : (rate : Rate) (requests : List Request) (rest : Script) → InOrder (Named to) [] (carries_all requests rest)
+      → InOrder (Named to) [] (carries_all (ready_requests rate requests) rest)
   ready_in_order R500 requests rest next =
       call_in_order (request.Ack 0) (λ old new told after answer step. step.0) [] _
       (call_in_order (request.Ack 1) (λ old new told after answer step. step.0) [] _ next)
@@ -193,7 +218,8 @@ module _ (to log : List ℕ) where
       (call_in_order (request.Ack 1) (λ old new told after answer step. step.0) [] _
       (call_in_order (request.SetRate 1 R250) (λ old new told after answer step. step.0) [] _ next)))
 
-  prepares_in_order : (shape : Shape) (logged : Bool) (rest : Unit {0} → Script) → InOrder (Named to) [] (rest tt) → InOrder Any [] (prepares to shape logged rest)
+  prepares_in_order : (shape : Shape) (logged : Bool) (rest : Unit {0} → Script) → InOrder (Named to) [] (rest tt)
+      → InOrder Any [] (prepares to shape logged rest)
   unfolding carries
   prepares_in_order shape logged rest next =
       let second = second_request to shape logged in
@@ -214,7 +240,8 @@ module _ (to log : List ℕ) where
       let keys = asked_keys shape found in
       let asked = length keys in
       let rest = λ (lines : List LogLine). carries (request.Eject 1) (λ still. stores_log log asked lines) in
-      prepares_in_order shape (is_some found) (λ none. through rescues keys [] rest) (records_in_order keys rest (λ lines. end_in_order lines asked) []) old course new ended any runs
+      prepares_in_order shape (is_some found) (λ none. through rescues keys [] rest)
+          (records_in_order keys rest (λ lines. end_in_order lines asked) []) old course new ended any runs
   found_in_order shape found old course new ended any (inr starved) = Nothing (ap (λ (w : World). w.files) starved.1)
 
   shape_in_order : (rest : Shape → Script) → ((shape : Shape) → InOrder Any [] (rest shape)) → (there : Option Shape) → InOrder Any [] (with_shape there rest)
@@ -228,6 +255,8 @@ stores_in_order from to log old new course ended (answers, are, runs) =
     need_in_order to log Any Any (request.Insert 0 from) [] (λ answer after. with_shape (shape_in (bay_of after.station 0)) rest)
     (λ before then told after answer step. either (refusal_of before (request.Insert 0 from)) step (λ does. does.1) (λ cause refused. refused.files))
     (λ before then told after answer step fine any. tt)
-    (λ answer after. shape_in_order to log rest (λ shape. by_rest old.files to log shape (InOrder to log Any []) (λ found there. found_in_order to log shape found)
-    (λ line. ends_in_order to log line status.BadJob) (ends_in_order to log [] status.FileFault) (ends_in_order to log [] status.NoMemory) (answers shape.rate) (are shape.rate)) (shape_in (bay_of after.station 0)))
+    (λ answer after. shape_in_order to log rest
+        (λ shape. by_rest old.files to log shape (InOrder to log Any []) (λ found there. found_in_order to log shape found)
+    (λ line. ends_in_order to log line status.BadJob) (ends_in_order to log [] status.FileFault) (ends_in_order to log [] status.NoMemory)
+        (answers shape.rate) (are shape.rate)) (shape_in (bay_of after.station 0)))
     old course new ended tt runs

@@ -202,7 +202,8 @@ keys_read (key ∷ keys) distinct old (read ∷ write ∷ later) new (Ok deleted
     (reads_write key deleted keys write later wrote.asked (keys_read keys distinct.1 (with_report write.after more old.report) later new goes))
 
 -- each is written, or has its line
-pub keys_counted : (keys : List Chrn) (old : World) (course : List Taken) (new : World) → GoesKeys keys old course new → count_writes course + length (log_of course) ≡ length keys
+pub keys_counted : (keys : List Chrn) (old : World) (course : List Taken) (new : World) → GoesKeys keys old course new
+    → count_writes course + length (log_of course) ≡ length keys
 keys_counted [] old course new goes = rw goes.0 refl
 keys_counted (key ∷ keys) old [] new goes = absurd goes
 keys_counted (key ∷ keys) old (read ∷ later) new (Err cause, files, is, goes) =
@@ -327,9 +328,12 @@ module _ (tidy : AllTidy) (heads : ℕ) (disk : Disk) (key : Chrn) (deleted : Bo
   field = (key, record { address = went.field.address; size = long })
 
   here : IsTidy (track_of disk key.c key.h) went.field.place deleted content → WritesHere 1 disk key went.field.place 0x10000 deleted old.station new.station
-  here neat = writes_here 1 key 0x10000 deleted disk regular went.field.has went.field.place went.field.address old.station new.station neat called drive ok faultless medium went.rate
+  here neat =
+      writes_here 1 key 0x10000 deleted disk regular went.field.has went.field.place went.field.address old.station new.station neat called drive ok
+          faultless medium went.rate
 
-  saves : (told after : Option Files) (later : List Taken) (neat : IsTidy (track_of disk key.c key.h) went.field.place deleted content) → IsDriverCall old told new after → IsGuarded heads (here neat).next new later → SavesKey heads disk key deleted old told new after later
+  saves : (told after : Option Files) (later : List Taken) (neat : IsTidy (track_of disk key.c key.h) went.field.place deleted content)
+      → IsDriverCall old told new after → IsGuarded heads (here neat).next new later → SavesKey heads disk key deleted old told new after later
   saves told after later neat call guarded = record {
     next = (here neat).next;
     medium = (here neat).medium;
@@ -431,7 +435,8 @@ module _ (tidy : AllTidy) (source : Disk) (heads : ℕ) (whole : List Taken) (li
         others = λ entry unread. all.others entry (λ deleted content some. unread deleted content (inr some));
       }
   saves_keys (key ∷ keys) disk old (read ∷ []) new (Ok deleted, files, is, goes) part asked distinct regular size medium guarded faultless = absurd goes
-  saves_keys (key ∷ keys) disk old (read ∷ write ∷ later) new (Ok deleted, files, is, (more, wrote, goes)) part asked distinct regular size medium guarded faultless =
+  saves_keys (key ∷ keys) disk old (read ∷ write ∷ later) new
+      (Ok deleted, files, is, (more, wrote, goes)) part asked distinct regular size medium guarded faultless =
       let mid = with_report read.after files old.report in
       let next = with_report write.after more old.report in
       let keeps = read_keeps key old.state.station read.after.station (Ok deleted) asked.0.size size is.reads in
@@ -440,11 +445,14 @@ module _ (tidy : AllTidy) (source : Disk) (heads : ℕ) (whole : List Taken) (li
       let there = keys_fell keys next later new goes in
       let guard = guard_later heads disk old.state read (write ∷ later) guarded in
       let still = ap (λ (bays : Two Bay). (in_bay bays 1).medium) keeps.bays ∙ medium in
-      let calm : IsFaultless 1 mid.state.station.counters next.state.station.counters = (omega (arith, fell_read.second, there.second, faultless.0), omega (arith, there.second, faultless.1)) in
-      let one = saves_key tidy heads disk key deleted read.after files write more later regular (keeps.size ∙ size) asked.0.size asked.0.head wrote.asked wrote.step
+      let calm : IsFaultless 1 mid.state.station.counters next.state.station.counters =
+          (omega (arith, fell_read.second, there.second, faultless.0), omega (arith, there.second, faultless.1)) in
+      let one = saves_key tidy heads disk key deleted read.after files write more later regular
+          (keeps.size ∙ size) asked.0.size asked.0.head wrote.asked wrote.step
           wrote.done calm still guard in
       let all = saves_keys keys one.next next later new goes (part_later write later (part_later read (write ∷ later) part)) asked.1 distinct.1 one.regular
-          (ap (λ (m : List ℕ). length m) one.memory ∙ keeps.size ∙ size) one.medium one.guarded (omega (arith, fell_read.second, fell_write.second, faultless.0), faultless.1) in
+          (ap (λ (m : List ℕ). length m) one.memory ∙ keeps.size ∙ size) one.medium one.guarded
+              (omega (arith, fell_read.second, fell_write.second, faultless.0), faultless.1) in
       let content = bytes_from read.after.station.memory 0x10000 (content_size key.n) in
       let given = gave key deleted read is.asked is.answered in
       let reads = keys_read keys distinct.1 next later new goes in

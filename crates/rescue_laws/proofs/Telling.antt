@@ -54,7 +54,10 @@ pub record TellsKey (disk : Disk) (count : ℕ) (key : Chrn) (called : Result Bo
   pub holds : Holds disk count new
 
 -- a standard key
-on_disk : (disk : Disk) (heads count : ℕ) (key : Chrn) (called : Result Bool Code) (old new : State) (told after : Option Files) → disk.cylinders ≤ 80 → disk.heads ≤ 2 → IsUnmistaken disk → IsAsked disk heads key → HasTrack disk key.c key.h → IsDriverCall old told new after → Reads 0 key 0x10000 old.station called new.station → Holds disk count old.station → IsUndisturbed 0 old.station.counters new.station.counters → NeverFell old.station.counters new.station.counters → TellsKey disk count key called new.station
+on_disk : (disk : Disk) (heads count : ℕ) (key : Chrn) (called : Result Bool Code) (old new : State) (told after : Option Files) → disk.cylinders ≤ 80
+    → disk.heads ≤ 2 → IsUnmistaken disk → IsAsked disk heads key → HasTrack disk key.c key.h → IsDriverCall old told new after
+    → Reads 0 key 0x10000 old.station called new.station → Holds disk count old.station → IsUndisturbed 0 old.station.counters new.station.counters
+    → NeverFell old.station.counters new.station.counters → TellsKey disk count key called new.station
 on_disk disk heads count key called old new told after few_cylinders few_heads unmistaken asked has call reads holds quiet fell =
     let standard : IsStandardKey disk key = record { track = has; sector = asked.sector; size = asked.size } in
     let tells = one_read disk count key old new told after (read_reply called) few_cylinders few_heads unmistaken standard (call, (called, refl, reads)) holds quiet fell in
@@ -103,14 +106,19 @@ module _ (disk : Disk) (heads count : ℕ) (key : Chrn) (asked : IsAsked disk he
 
   off_disk : (called : Result Bool Code) → Reads 0 key 0x10000 old called new → TellsKey disk count key called new
   off_disk called reads =
-      let free = subst (λ (k : Chrn). read_refusal old 0 k 0x10000 ≡ None) (sym (key_is key asked.size)) (not_refused old key.c key.h key.r count asked.cylinder asked.side asked.sector.0 holds.acknowledged) in
+      let free = subst (λ (k : Chrn). read_refusal old 0 k 0x10000 ≡ None) (sym (key_is key asked.size))
+          (not_refused old key.c key.h key.r count asked.cylinder asked.side asked.sector.0 holds.acknowledged) in
       drive_tells called (reaches _ (read_refusal old 0 key 0x10000) free reads)
 
-tells_key : (disk : Disk) (heads count : ℕ) (key : Chrn) (called : Result Bool Code) (old new : State) (told after : Option Files) → disk.cylinders ≤ 80 → disk.heads ≤ 2 → IsUnmistaken disk → IsAsked disk heads key → IsDriverCall old told new after → Reads 0 key 0x10000 old.station called new.station → Holds disk count old.station → IsUndisturbed 0 old.station.counters new.station.counters → NeverFell old.station.counters new.station.counters → TellsKey disk count key called new.station
+tells_key : (disk : Disk) (heads count : ℕ) (key : Chrn) (called : Result Bool Code) (old new : State) (told after : Option Files) → disk.cylinders ≤ 80
+    → disk.heads ≤ 2 → IsUnmistaken disk → IsAsked disk heads key → IsDriverCall old told new after → Reads 0 key 0x10000 old.station called new.station
+    → Holds disk count old.station → IsUndisturbed 0 old.station.counters new.station.counters → NeverFell old.station.counters new.station.counters
+    → TellsKey disk count key called new.station
 tells_key disk heads count key called old new told after few_cylinders few_heads unmistaken asked call reads holds quiet fell =
     elim (cases_lt key.c disk.cylinders) [
       | inl cylinder ↦ elim (cases_lt key.h disk.heads) [
-        | inl head ↦ on_disk disk heads count key called old new told after few_cylinders few_heads unmistaken asked (cylinder, head) call reads holds quiet fell
+        | inl head ↦ on_disk disk heads count key called old new told after few_cylinders few_heads unmistaken asked
+            (cylinder, head) call reads holds quiet fell
         | inr past ↦ off_disk disk heads count key asked (λ has. absurd (omega (arith, has.1))) old.station new.station holds quiet fell called reads
       ]
       | inr past ↦ off_disk disk heads count key asked (λ has. absurd (omega (arith, has.0))) old.station new.station holds quiet fell called reads
@@ -124,7 +132,8 @@ lines_of refused = map (λ (told : Chrn × Code). record { key = told.0; code = 
 
 -- the lines of one key more
 lines_more : (key : Chrn) (look : Look) (failed rest : List (Chrn × Look)) (refused : List (Chrn × Code)) (lines later : List LogLine)
-    → failed ≡ unless_found key look ++ rest → refused ≡ told_of key look → lines ≡ lines_of refused → later ≡ failing_lines rest → lines ++ later ≡ failing_lines failed
+    → failed ≡ unless_found key look ++ rest → refused ≡ told_of key look → lines ≡ lines_of refused → later ≡ failing_lines rest
+    → lines ++ later ≡ failing_lines failed
 lines_more key look failed rest refused lines later all told here there =
     ap (λ (row : List LogLine). row ++ later) (here ∙ ap lines_of told)
     ∙ ap (λ (row : List LogLine). lines_of (told_of key look) ++ row) there
@@ -134,14 +143,17 @@ lines_more key look failed rest refused lines later all told here there =
 
 module _ (disk : Disk) (few_cylinders : disk.cylinders ≤ 80) (few_heads : disk.heads ≤ 2) (unmistaken : IsUnmistaken disk) (heads count : ℕ) where
   -- what the read of a record told
-  read_tells : (key : Chrn) (called : Result Bool Code) (old : World) (read : Taken) (files : Option Files) → IsAsked disk heads key → IsRead key called old read files
-      → Holds disk count old.state.station → IsUndisturbed 0 old.state.station.counters read.after.station.counters → TellsKey disk count key called read.after.station
+  read_tells : (key : Chrn) (called : Result Bool Code) (old : World) (read : Taken) (files : Option Files) → IsAsked disk heads key
+      → IsRead key called old read files
+      → Holds disk count old.state.station → IsUndisturbed 0 old.state.station.counters read.after.station.counters
+      → TellsKey disk count key called read.after.station
   read_tells key called old read files asked is holds quiet =
       tells_key disk heads count key called old.state read.after old.files files few_cylinders few_heads unmistaken asked is.call is.reads holds quiet
       (call_fell old.state read.after old.files files is.call)
 
   -- a write leaves bay 0 as it is
-  write_holds : (key : Chrn) (deleted : Bool) (old new : World) (write : Taken) (files : Option Files) → new.state ≡ write.after → IsWrite key deleted old write files
+  write_holds : (key : Chrn) (deleted : Bool) (old new : World) (write : Taken) (files : Option Files) → new.state ≡ write.after
+      → IsWrite key deleted old write files
       → Holds disk count old.state.station → IsUndisturbed 0 old.state.station.counters new.state.station.counters → Holds disk count new.state.station
   write_holds key deleted old new write files same wrote holds quiet =
       let does = write_does key deleted old.state write.after old.files files write.answer wrote.step in
@@ -161,10 +173,12 @@ module _ (disk : Disk) (few_cylinders : disk.cylinders ≤ 80) (few_heads : disk
   tells_keys (key ∷ keys) failed old (read ∷ later) new (Err cause, files, is, goes) asked failing holds quiet =
       let mid = with_report read.after files old.report in
       let here = call_fell old.state read.after old.files files is.call in
-      let parts = quiet_parts old.state.station.counters read.after.station.counters new.state.station.counters here (keys_fell keys mid later new goes) quiet in
+      let parts = quiet_parts old.state.station.counters read.after.station.counters new.state.station.counters here
+          (keys_fell keys mid later new goes) quiet in
       let tells = read_tells key (Err cause) old read files asked.0 is holds parts.0 in
       let same = tells.one failing.0 failing.2 in
-      lines_more key failing.0 failed failing.1 ((key, cause) ∷ []) (line_at read.asked read.answer) (log_of later) failing.3 (tells.told ∙ ap (told_of key) (sym same))
+      lines_more key failing.0 failed failing.1 ((key, cause) ∷ []) (line_at read.asked read.answer) (log_of later) failing.3
+          (tells.told ∙ ap (told_of key) (sym same))
       (line_of_refused key cause read is.asked is.answered) (tells_keys keys failing.1 mid later new goes asked.1 failing.4 tells.holds parts.1)
   tells_keys (key ∷ keys) failed old (read ∷ []) new (Ok deleted, files, is, goes) asked failing holds quiet = absurd goes
   tells_keys (key ∷ keys) failed old (read ∷ write ∷ later) new (Ok deleted, files, is, (more, wrote, goes)) asked failing holds quiet =
@@ -173,12 +187,14 @@ module _ (disk : Disk) (few_cylinders : disk.cylinders ≤ 80) (few_heads : disk
       let fell = write_fell key deleted mid next write more refl wrote in
       let there = keys_fell keys next later new goes in
       let here = call_fell old.state read.after old.files files is.call in
-      let parts = quiet_parts old.state.station.counters read.after.station.counters new.state.station.counters here (fell_both mid next new fell there) quiet in
+      let parts = quiet_parts old.state.station.counters read.after.station.counters new.state.station.counters here
+          (fell_both mid next new fell there) quiet in
       let last = quiet_parts read.after.station.counters write.after.station.counters new.state.station.counters fell there parts.1 in
       let tells = read_tells key (Ok deleted) old read files asked.0 is holds parts.0 in
       let same = tells.one failing.0 failing.2 in
       let now = write_holds key deleted mid next write more refl wrote tells.holds last.0 in
       let none = line_of_done read.asked read.answer (ap is_refusal is.answered ∙ read_done deleted) in
       let also = ap (λ (row : List LogLine). row ++ log_of later) (line_of_done write.asked write.answer wrote.done) in
-      lines_more key failing.0 failed failing.1 [] (line_at read.asked read.answer) (log_of (write ∷ later)) failing.3 (tells.told ∙ ap (told_of key) (sym same))
+      lines_more key failing.0 failed failing.1 [] (line_at read.asked read.answer) (log_of (write ∷ later)) failing.3
+          (tells.told ∙ ap (told_of key) (sym same))
       none (also ∙ tells_keys keys failing.1 next later new goes asked.1 failing.4 now last.1)

@@ -131,7 +131,8 @@ pub record GoesThrough (requests : List Request) (keys : List Chrn) (log : List 
   pub stores : StoresLog log (length keys) (log_of body) ejected left new ended
 
 goes_on : (requests : List Request) (keys : List Chrn) (log : List ℕ) (files : Files) (old : World) (course : List Taken) (new : World) (ended : Status)
-    → IsEndStatus ended → IsNotStopped course → old.files ≡ Some files → Passed {Found = Unit {0}} (Does requests) (λ none. through rescues keys [] (Behind log keys)) old course new ended
+    → IsEndStatus ended → IsNotStopped course → old.files ≡ Some files
+    → Passed {Found = Unit {0}} (Does requests) (λ none. through rescues keys [] (Behind log keys)) old course new ended
     → GoesThrough requests keys log files old course new ended
 goes_on requests keys log files old course new ended whole fine told one =
     let fine_two = later_fine one.one one.two course one.course_is fine in
@@ -148,7 +149,8 @@ goes_on requests keys log files old course new ended whole fine told one =
       body = two.one;
       last = three.one;
       is = one.course_is ∙ ap (λ (row : List Taken). one.one ++ row) (two.course_is ∙ ap (λ (row : List Taken). two.one ++ row) end);
-      opens = subst (λ (f : Option Files). DoesAll requests old.state f one.one one.mid.state one.mid.files) told (did_all requests old one.one one.mid one.knows);
+      opens = subst (λ (f : Option Files). DoesAll requests old.state f one.one one.mid.state one.mid.files) told
+          (did_all requests old one.one one.mid one.knows);
       goes = two.knows.0;
       ejects = did_all (request.Eject 1 ∷ []) two.mid three.one three.mid three.knows;
       report = three.knows.report ∙ two.knows.2 ∙ one.knows.report;
@@ -164,7 +166,8 @@ pub record RescuesDisk (from to log : List ℕ) (disk : Disk) (files : Files) (o
 
 module _ (from to log : List ℕ) (disk : Disk) (files : Files) (old : World) (course : List Taken) (new : World) (ended : Status) (whole : IsEndStatus ended) (fine : IsNotStopped course) (told : old.files ≡ Some files) where
   -- behind the disk that was put in, by the log that was found
-  by_found : {rest : Shape → Script} (a : Passed (Opened from) rest old course new ended) (found : Option (List LogLine)) → IsLogFound (Some files) log (sectors_at disk.rate) found
+  by_found : {rest : Shape → Script} (a : Passed (Opened from) rest old course new ended) (found : Option (List LogLine))
+      → IsLogFound (Some files) log (sectors_at disk.rate) found
       → RunsScript (rescue_found to log (shape_of disk) found) a.mid a.two new ended → RescuesDisk from to log disk files old course new ended
   unfolding rescue_found rescues_all may_starve
   by_found a found there (inl runs) =
@@ -190,7 +193,8 @@ module _ (from to log : List ℕ) (disk : Disk) (files : Files) (old : World) (c
       let same = opened_shape from disk files old a.mid a.one a.found image told a.knows in
       let left = subst (λ (s : Shape). RunsScript (rest s) a.mid a.two new ended) same a.left in
       let there = subst (λ (f : Option Files). IsFound f log (sectors_at disk.rate) (answers disk.rate)) told (are disk.rate) in
-      by_rest (Some files) to log (shape_of disk) (λ s. RunsScript s a.mid a.two new ended → RescuesDisk from to log disk files old course new ended) (by_found a)
+      by_rest (Some files) to log (shape_of disk) (λ s. RunsScript s a.mid a.two new ended → RescuesDisk from to log disk files old course new ended)
+          (by_found a)
       (λ line. never a line status.BadJob (λ e. e)) (never a [] status.FileFault (λ e. e)) (never a [] status.NoMemory (λ e. e)) (answers disk.rate) there left
     where
       never : {rest : Shape → Script} (a : Passed (Opened from) rest old course new ended) (line : List ℕ) (wanted : Status) → (IsEndStatus wanted → ⊥)
@@ -210,7 +214,8 @@ is_plain asked = if is_write asked then false else (if is_read asked then false 
 plain_facts : (asked : Request) → is_plain asked ≡ true → (is_write asked ≡ false) × (keeps_drives asked ≡ true)
 plain_facts asked = go (is_write asked) (is_read asked)
   where
-    go : (writes reads : Bool) → (if writes then false else (if reads then false else keeps_drives asked)) ≡ true → (writes ≡ false) × (keeps_drives asked ≡ true)
+    go : (writes reads : Bool) → (if writes then false else (if reads then false else keeps_drives asked)) ≡ true
+        → (writes ≡ false) × (keeps_drives asked ≡ true)
     go true reads e = absurd (true≢false (sym e))
     go false true e = absurd (true≢false (sym e))
     go false false e = (refl, e)
@@ -449,7 +454,8 @@ module _ (from to log : List ℕ) (disk : Disk) (found : Option (List LogLine)) 
         }
 
   -- the records are saved to the other disk, as it is in the beginning
-  pub rescued : (target start : Disk) → to ≢ log → HasOther start to files p.opened.state p.opened.files → IsGuarded (heads_for disk found) start p.opened.state p.body
+  pub rescued : (target start : Disk) → to ≢ log → HasOther start to files p.opened.state p.opened.files
+      → IsGuarded (heads_for disk found) start p.opened.state p.body
       → IsFaultless 1 old.state.station.counters new.state.station.counters
       → ((final : Disk) → ((entry : Entry) → WasNotRead course entry.key → IsOnMap start entry ↔ IsOnMap final entry) → KeepsEntries found course target final)
       → IsRescue disk target to log files old course new ended
@@ -460,9 +466,11 @@ module _ (from to log : List ℕ) (disk : Disk) (found : Option (List LogLine)) 
         lines_are = λ line some. subst (λ (row : List LogLine). Contains row line) (sym log_is) some;
       } in
       let asked = asked_all disk files log found few.0 few.1 there in
-      let saves = saves_keys laid_tidy disk (heads_for disk found) course (log_of course) keys start p.opened p.body p.rescued p.goes part asked (asked_distinct disk files log found there)
+      let saves = saves_keys laid_tidy disk (heads_for disk found) course (log_of course) keys start p.opened p.body p.rescued p.goes part asked
+          (asked_distinct disk files log found there)
           has.regular has.size has.medium guarded (omega (arith, fell_top.second, fell.second, faultless.0), omega (arith, fell.second, faultless.1)) in
-      is_rescue target start has saves differ (keeps saves.final (λ entry unread. saves.others entry (λ deleted content some. unread deleted content (outer _ some))))
+      is_rescue target start has saves differ (keeps saves.final
+          (λ entry unread. saves.others entry (λ deleted content some. unread deleted content (outer _ some))))
 
   -- the log is exactly the records that aren't found
   pub logs_exactly : IsUndisturbed 0 old.state.station.counters new.state.station.counters → IsUnmistaken disk → LogsNotFound disk log files course new
@@ -482,8 +490,10 @@ module _ (from to log : List ℕ) (disk : Disk) (found : Option (List LogLine)) 
 
 -- ---- both ways to begin
 
-by_log : (from to log : List ℕ) (disk target : Disk) (found : Option (List LogLine)) (files : Files) (old : World) (course : List Taken) (new : World) (ended : Status)
-    → to ≢ log → IsImageOf (Some files) from disk → length old.state.station.memory ≡ user_bytes → IsFaultless 1 old.state.station.counters new.state.station.counters
+by_log : (from to log : List ℕ) (disk target : Disk) (found : Option (List LogLine)) (files : Files) (old : World) (course : List Taken) (new : World)
+    (ended : Status)
+    → to ≢ log → IsImageOf (Some files) from disk → length old.state.station.memory ≡ user_bytes
+    → IsFaultless 1 old.state.station.counters new.state.station.counters
     → IsLogFound (Some files) log (sectors_at disk.rate) found → HasTarget found to target files old.state course
     → GoesThrough (opening from to (shape_of disk) (is_some found)) (asked_keys (shape_of disk) found) log files old course new ended
     → IsRescue disk target to log files old course new ended
@@ -494,8 +504,10 @@ by_log from to log disk target None files old course new ended differ image size
     rescued from to log disk None files old course new ended there image p target begins.0 differ begins.1 (inl begins.2) faultless (λ final others. tt)
 by_log from to log disk target (Some lines) files old course new ended differ image size faultless there other p =
     let has = begins_again from to disk target files old.state p.opened.state p.opened.files p.top image other.image other.regular p.opens size in
-    let tidy = tidy_later old.state p.opened.state (Some files) p.opened.files p.top (p.body ++ p.last) p.opens.run (subst (λ (row : List Taken). AreTidy old.state row) p.is other.tidy) in
-    rescued from to log disk (Some lines) files old course new ended there image p target target differ has (inr (tidy_first p.opened.state p.body p.last tidy)) faultless
+    let tidy = tidy_later old.state p.opened.state (Some files) p.opened.files p.top (p.body ++ p.last) p.opens.run
+        (subst (λ (row : List Taken). AreTidy old.state row) p.is other.tidy) in
+    rescued from to log disk (Some lines) files old course new ended there image p target target differ has
+        (inr (tidy_first p.opened.state p.body p.last tidy)) faultless
     (λ final others. others)
 
 pub rescue_stores : (from to log : List ℕ) (disk target : Disk) (files : Files) (old : World) (course : List Taken) (new : World) (ended : Status)
