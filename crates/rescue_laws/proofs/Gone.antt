@@ -155,7 +155,7 @@ pub carried : (requests : List Request) (rest : Script) (old : World) (course : 
 carried [] rest old course new ended whole fine runs = at_once tt runs (did_nothing old)
 carried (asked ∷ requests) rest old course new ended whole fine runs =
     let a = carries_passed asked (λ none. carries_all requests rest) old course new ended (end_is_whole ended whole)
-        (not_refused asked old course new ended fine) runs in
+    (not_refused asked old course new ended fine) runs in
     joined_did (asked ∷ []) requests a (carried requests rest a.mid a.two new ended whole (later_fine a.one a.two course a.course_is fine) a.left)
 
 -- ---- what follows the read of a record
@@ -282,12 +282,12 @@ module _ (rest : List LogLine → Script) (new : World) (ended : Status) (whole 
     wrote run deleted is later runs =
         let asked = write_of key deleted in
         let one = need_taken asked (λ answer after. Rest lines) (behind run) run.later new ended (end_is_whole ended whole)
-            (not_refused asked (behind run) run.later new ended later)
-            (carry_run asked (λ none. Rest lines) (behind run) run.later new ended runs) in
+        (not_refused asked (behind run) run.later new ended later)
+        (carry_run asked (λ none. Rest lines) (behind run) run.later new ended runs) in
         let write = one.run in
         let all = next lines (behind write) write.later (later_fine (write.taken ∷ []) write.later run.later write.course_is later) write.left in
         let none : line_at run.taken.asked run.taken.answer ≡ [] = line_of_done run.taken.asked run.taken.answer
-            (ap is_refusal is.answered ∙ read_done deleted) in
+        (ap is_refusal is.answered ∙ read_done deleted) in
         let also : line_at write.taken.asked write.taken.answer ≡ [] = line_of_done write.taken.asked write.taken.answer one.fine in
         let same : log_of all.one ≡ log_of (run.taken ∷ write.taken ∷ all.one) = rw (none, also) refl in
         record {
@@ -335,7 +335,7 @@ module _ (rest : List LogLine → Script) (new : World) (ended : Status) (whole 
         logged run cause (subst (λ (c : Result Bool Code). IsRead key c old run.taken run.files) same is) later runs
     by_next run called is (GivesUp cause same nothing stays) later =
         absurd (true≢false (sym (ap is_refusal (is.answered ∙ ap read_reply same))
-            ∙ fine [] run.taken (run.course_is ∙ ap (λ (row : List Taken). run.taken ∷ row) nothing)))
+        ∙ fine [] run.taken (run.course_is ∙ ap (λ (row : List Taken). run.taken ∷ row) nothing)))
     by_next run called is (Starves stays starved) later = absurd (subst IsEndStatus starved whole)
 
     by_read : Run → Passed (RescuesKeys (key ∷ keys) lines) rest old course new ended

@@ -80,7 +80,7 @@ unfolding acknowledges_both acknowledges sets_rate
 both_carried R500 rest requests more is = ap (λ (s : Script). carries (request.Ack 0) (λ none. carries (request.Ack 1) (λ still. s))) is
 both_carried R250 rest requests more is =
     ap (λ (s : Script). carries (request.Ack 0)
-        (λ none. carries (request.SetRate 0 R250) (λ now. carries (request.Ack 1) (λ still. carries (request.SetRate 1 R250) (λ yet. s))))) is
+    (λ none. carries (request.SetRate 0 R250) (λ now. carries (request.Ack 1) (λ still. carries (request.SetRate 1 R250) (λ yet. s))))) is
 
 pub prepares_carried : (to : List ℕ) (shape : Shape) (logged : Bool) (rest : Unit {0} → Script)
     → prepares to shape logged rest ≡ carries_all (second_request to shape logged ∷ ready_requests shape.rate (formats_for shape logged)) (rest tt)
@@ -89,7 +89,7 @@ prepares_carried to shape true rest = ap (λ (s : Script). carries (request.Inse
 prepares_carried to shape false rest =
     ap (λ (s : Script). carries (blank_request 1 to shape.cylinders shape.rate) (λ none. s))
     (both_carried shape.rate (λ still. by_track shape.cylinders shape.heads (formats 1) tt rest) (formats_for shape false) (rest tt)
-        (tracks_part shape.cylinders shape.heads (formats 1) tt rest ∙ formats_carried (tracks_of shape.cylinders shape.heads) rest))
+    (tracks_part shape.cylinders shape.heads (formats 1) tt rest ∙ formats_carried (tracks_of shape.cylinders shape.heads) rest))
 
 -- ---- the disks that were put in
 
@@ -146,8 +146,15 @@ second_put to shape false old new told after answer step done =
     let fresh = blanks 1 shape.rate to shape.cylinders old new told after answer step done in
     record {
       target = blank_of shape.cylinders shape.rate;
-      such = record { valid = fresh.valid; regular = blank_regular shape.cylinders shape.rate; rate = refl; words = refl; has = λ c h cylinder head.
-          (cylinder, head); only = λ c h there. there.0 };
+      such = record {
+        valid = fresh.valid;
+        regular = blank_regular shape.cylinders shape.rate;
+        rate = refl;
+        words = refl;
+        has = λ c h cylinder head.
+            (cylinder, head);
+        only = λ c h there. there.0;
+      };
       medium = fresh.medium;
       first = ap (λ (s : StationState). bay_of s 0) fresh.becomes;
       memory = ap (λ (s : StationState). s.memory) fresh.becomes;
@@ -326,13 +333,13 @@ lays_tracks rate source (track ∷ later) disk old new told after course all has
     let fell_later = never_fell parts.mid new parts.files after (format_each 1 later) parts.two parts.behind (formats_keep later) in
     let here = has b g (inl (refl, refl)) in
     let made = formats_it rate source b g disk old parts.mid told parts.files parts.one parts.before ready here
-        (omega (arith, fell_later.second, faultless.0), omega (arith, fell_later.second, faultless.1)) in
+    (omega (arith, fell_later.second, faultless.0), omega (arith, fell_later.second, faultless.1)) in
     let alike = made.keeps.alike in
     let has_later = λ (c h : ℕ) (among : Among later c h). (alike_tracks disk made.next c h alike).0 (has c h (inr among)) in
     let tiny = small disk b g ready.valid here in
     let fresh : IsLaid (track_of made.next b g) = subst IsLaid (sym made.track) (track_laid rate b g tiny.0 tiny.1) in
     let rest = lays_tracks rate source later made.next parts.mid new parts.files after parts.two parts.behind has_later made.ready
-        (omega (arith, fell_first.second, faultless.0), faultless.1) in
+    (omega (arith, fell_first.second, faultless.0), faultless.1) in
     record {
       final = rest.final;
       ready = rest.ready;
@@ -359,13 +366,15 @@ holds_first from to disk files logged old new after course image all quiet =
     let it = are_open from to disk files logged old new after course image all in
     let same = formats_stay (shape_of disk) logged it.mid new it.mid_files after it.course it.formats_left in
     let fell = same.1 in
-    let top = it.fell in
-    (it.count, record {
-      medium = ap (λ (b : Bay). b.medium) same.0 ∙ it.first;
-      rate = ap (λ (b : Bay). b.rate) same.0 ∙ it.first_rate;
-      acknowledged = ap (λ (b : Bay). b.acknowledged) same.0 ∙ it.acknowledged;
-      faults = (let before = it.before in let since = it.since in omega (arith, top.stalls, fell.first, fell.stalls, quiet.together));
-    })
+    let top = it.fell in (
+      it.count,
+      record {
+        medium = ap (λ (b : Bay). b.medium) same.0 ∙ it.first;
+        rate = ap (λ (b : Bay). b.rate) same.0 ∙ it.first_rate;
+        acknowledged = ap (λ (b : Bay). b.acknowledged) same.0 ∙ it.acknowledged;
+        faults = (let before = it.before in let since = it.since in omega (arith, top.stalls, fell.first, fell.stalls, quiet.together));
+      },
+    )
 
 -- a regular disk is in bay 1 under its name
 pub record HasOther (start : Disk) (to : List ℕ) (files : Files) (state : State) (told : Option Files) : Type 0 where
@@ -396,19 +405,22 @@ begins_new from to disk files old new after course image all size faultless =
       size = ap (λ (m : List ℕ). length m) it.memory ∙ size;
     } in
     let has = λ (c h : ℕ) (among : Among tracks c h). let at = among_only disk.cylinders disk.heads c h among in such.has c h at.0
-        (omega (arith, at.1, ranges.1)) in
+    (omega (arith, at.1, ranges.1)) in
     let lays = lays_tracks disk.rate disk tracks it.target it.mid new it.mid_files after it.course it.formats_left has ready
-        (omega (arith, it.fell.second, faultless.0), omega (arith, it.fell.second, faultless.1)) in
+    (omega (arith, it.fell.second, faultless.0), omega (arith, it.fell.second, faultless.1)) in
     let there : HasOther lays.final to files new after = record {
       medium = lays.ready.medium;
       regular = lays.ready.regular;
       size = lays.ready.size;
       named = ap (λ (n : Two (Option (List ℕ))). in_bay n 1) lays.names ∙ it.named;
       files_are = lays.files ∙ it.files_are;
-    } in
-    (lays.final, there, λ c h track few.
-    let had = (alike_tracks it.target lays.final c h lays.alike).1 track in
-    lays.laid c h had (inl (among_all disk.cylinders disk.heads c h (such.only c h had) few)))
+    } in (
+      lays.final,
+      there,
+      λ c h track few.
+          let had = (alike_tracks it.target lays.final c h lays.alike).1 track in
+          lays.laid c h had (inl (among_all disk.cylinders disk.heads c h (such.only c h had) few)),
+    )
 
 -- that of an earlier run
 pub begins_again : (from to : List ℕ) (disk target : Disk) (files : Files) (old new : State) (after : Option Files) (course : List Taken)

@@ -73,10 +73,10 @@ module _ (to log : List ℕ) where
       → StoresInOrder to log (lines ++ log_of course) told after
   behind lines now taken later course told files after whole same is stores =
       let all : now ++ log_of later ≡ lines ++ log_of course =
-          ap (λ (row : List LogLine). row ++ log_of later) (sym is) ∙ append_assoc lines (line_at taken.asked taken.answer) (log_of later)
-              ∙ ap (λ (row : List Taken). lines ++ log_of row) (sym whole) in
+      ap (λ (row : List LogLine). row ++ log_of later) (sym is) ∙ append_assoc lines (line_at taken.asked taken.answer) (log_of later)
+      ∙ ap (λ (row : List Taken). lines ++ log_of row) (sym whole) in
       subst (λ (f : Option Files). StoresInOrder to log (lines ++ log_of course) f after) same
-          (subst (λ (row : List LogLine). StoresInOrder to log row files after) all stores)
+      (subst (λ (row : List LogLine). StoresInOrder to log row files after) all stores)
 
   -- a step that wasn't refused has no line
   no_line : (lines : List LogLine) (taken : Taken) → is_refusal taken.answer ≡ false → lines ++ line_at taken.asked taken.answer ≡ lines
@@ -94,7 +94,7 @@ module _ (to log : List ℕ) where
           let taken = run.taken in
           let such_then = leads old.state taken.after old.files run.files taken.answer run.step fine such in
           behind lines lines taken run.later course old.files run.files new.files run.course_is
-              (same old.state taken.after old.files run.files taken.answer run.step) (no_line lines taken fine)
+          (same old.state taken.after old.files run.files taken.answer run.step) (no_line lines taken fine)
           (next taken.answer taken.after (with_report taken.after run.files old.report) run.later new ended such_then run.left)
       go (Refused run) = Nothing (same old.state new.state old.files new.files (reply.Refused run.cause) run.step)
       go (Halted run) = Nothing run.stops.files
@@ -142,7 +142,7 @@ module _ (to log : List ℕ) where
           let files : run.files ≡ stored old.files to (file_of does.0) = does.5 ∙ ap (λ (n : List ℕ). stored old.files n (file_of does.0)) same in
           let stores = log_in_order lines asked (with_report run.taken.after run.files old.report) run.later new ended old.files does.0 files run.left in
           let none : log_of course ≡ line_at run.taken.asked run.taken.answer = ap log_of
-              (run.course_is ∙ ap (λ (row : List Taken). run.taken ∷ row) stores.0) ∙ append-nil (line_at run.taken.asked run.taken.answer) in
+          (run.course_is ∙ ap (λ (row : List Taken). run.taken ∷ row) stores.0) ∙ append-nil (line_at run.taken.asked run.taken.answer) in
           let all : lines ++ log_of course ≡ lines = ap (λ (row : List LogLine). lines ++ row) none ∙ no_line lines run.taken fine in
           subst (λ (row : List LogLine). StoresInOrder to log row old.files new.files) (sym all) stores.1
       go (Refused run) = Nothing (eject_refused old.state new.state old.files new.files run.cause run.step)
@@ -166,8 +166,8 @@ module _ (to log : List ℕ) where
           let called = run.step.1.0 in
           let answered = run.step.1.1 in
           by_next called answered (follow_run key lines rest (with_report run.taken.after run.files old.report) run.later new ended called
-              (subst (λ (r : Reply). RunsScript (follows key r lines rest) (with_report run.taken.after run.files old.report) run.later new ended) answered
-                  run.left))
+          (subst (λ (r : Reply). RunsScript (follows key r lines rest) (with_report run.taken.after run.files old.report) run.later new ended) answered
+          run.left))
         where
           named_then : Named to run.taken.after
           named_then = ap (λ (n : Two (Option (List ℕ))). in_bay n 1) run.step.0.names ∙ named
@@ -179,12 +179,12 @@ module _ (to log : List ℕ) where
               let fine = ap is_refusal (answered ∙ ap read_reply is) ∙ read_done deleted in
               behind lines lines run.taken run.later course old.files run.files new.files run.course_is run.step.0.files (no_line lines run.taken fine)
               (call_in_order (write_of key deleted) (λ from then told after answer step. (write_does key deleted from then told after answer step).0) lines
-                  (rest lines) (next lines) (with_report run.taken.after run.files old.report) run.later new ended named_then more)
+              (rest lines) (next lines) (with_report run.taken.after run.files old.report) run.later new ended named_then more)
           by_next called answered (Logs cause is more) =
               let line = line_of_refused key cause run.taken run.asked_is (answered ∙ ap read_reply is) in
               let now = lines ++ (record { key = key; code = cause }) ∷ [] in
               behind lines now run.taken run.later course old.files run.files new.files run.course_is run.step.0.files
-                  (ap (λ (row : List LogLine). lines ++ row) line)
+              (ap (λ (row : List LogLine). lines ++ row) line)
               (next now (with_report run.taken.after run.files old.report) run.later new ended named_then more)
           by_next called answered (GivesUp cause is nothing same) = Nothing (same ∙ run.step.0.files)
           by_next called answered (Starves same starved) = Nothing (same ∙ run.step.0.files)
@@ -200,7 +200,7 @@ module _ (to log : List ℕ) where
   formats_in_order [] rest next = next
   formats_in_order (track ∷ tracks) rest next =
       call_in_order (request.Format 1 track.0 track.1) (λ old new told after answer step. step.0) [] (carries_all (format_each 1 tracks) rest)
-          (formats_in_order tracks rest next)
+      (formats_in_order tracks rest next)
 
   opening_in_order : (shape : Shape) (logged : Bool) (rest : Script) → InOrder (Named to) [] rest
       → InOrder (Named to) [] (carries_all (formats_for shape logged) rest)
@@ -241,7 +241,7 @@ module _ (to log : List ℕ) where
       let asked = length keys in
       let rest = λ (lines : List LogLine). carries (request.Eject 1) (λ still. stores_log log asked lines) in
       prepares_in_order shape (is_some found) (λ none. through rescues keys [] rest)
-          (records_in_order keys rest (λ lines. end_in_order lines asked) []) old course new ended any runs
+      (records_in_order keys rest (λ lines. end_in_order lines asked) []) old course new ended any runs
   found_in_order shape found old course new ended any (inr starved) = Nothing (ap (λ (w : World). w.files) starved.1)
 
   shape_in_order : (rest : Shape → Script) → ((shape : Shape) → InOrder Any [] (rest shape)) → (there : Option Shape) → InOrder Any [] (with_shape there rest)
@@ -256,7 +256,7 @@ stores_in_order from to log old new course ended (answers, are, runs) =
     (λ before then told after answer step. either (refusal_of before (request.Insert 0 from)) step (λ does. does.1) (λ cause refused. refused.files))
     (λ before then told after answer step fine any. tt)
     (λ answer after. shape_in_order to log rest
-        (λ shape. by_rest old.files to log shape (InOrder to log Any []) (λ found there. found_in_order to log shape found)
+    (λ shape. by_rest old.files to log shape (InOrder to log Any []) (λ found there. found_in_order to log shape found)
     (λ line. ends_in_order to log line status.BadJob) (ends_in_order to log [] status.FileFault) (ends_in_order to log [] status.NoMemory)
-        (answers shape.rate) (are shape.rate)) (shape_in (bay_of after.station 0)))
+    (answers shape.rate) (are shape.rate)) (shape_in (bay_of after.station 0)))
     old course new ended tt runs

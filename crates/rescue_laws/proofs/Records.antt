@@ -330,7 +330,7 @@ module _ (tidy : AllTidy) (heads : ℕ) (disk : Disk) (key : Chrn) (deleted : Bo
   here : IsTidy (track_of disk key.c key.h) went.field.place deleted content → WritesHere 1 disk key went.field.place 0x10000 deleted old.station new.station
   here neat =
       writes_here 1 key 0x10000 deleted disk regular went.field.has went.field.place went.field.address old.station new.station neat called drive ok
-          faultless medium went.rate
+      faultless medium went.rate
 
   saves : (told after : Option Files) (later : List Taken) (neat : IsTidy (track_of disk key.c key.h) went.field.place deleted content)
       → IsDriverCall old told new after → IsGuarded heads (here neat).next new later → SavesKey heads disk key deleted old told new after later
@@ -415,7 +415,7 @@ module _ (tidy : AllTidy) (source : Disk) (heads : ℕ) (whole : List Taken) (li
       let fell = call_fell old.state read.after old.files files is.call in
       let still = ap (λ (bays : Two Bay). (in_bay bays 1).medium) keeps.bays ∙ medium in
       let all = saves_keys keys disk (with_report read.after files old.report) later new goes (part_later read later part) asked.1 distinct.1 regular
-          (keeps.size ∙ size) still (guard_later heads disk old.state read later guarded) (omega (arith, fell.second, faultless.0), faultless.1) in
+      (keeps.size ∙ size) still (guard_later heads disk old.state read later guarded) (omega (arith, fell.second, faultless.0), faultless.1) in
       let line : LogLine = record { key = key; code = cause } in
       let here = line_of_refused key cause read is.asked is.answered in
       record {
@@ -446,13 +446,13 @@ module _ (tidy : AllTidy) (source : Disk) (heads : ℕ) (whole : List Taken) (li
       let guard = guard_later heads disk old.state read (write ∷ later) guarded in
       let still = ap (λ (bays : Two Bay). (in_bay bays 1).medium) keeps.bays ∙ medium in
       let calm : IsFaultless 1 mid.state.station.counters next.state.station.counters =
-          (omega (arith, fell_read.second, there.second, faultless.0), omega (arith, there.second, faultless.1)) in
+      (omega (arith, fell_read.second, there.second, faultless.0), omega (arith, there.second, faultless.1)) in
       let one = saves_key tidy heads disk key deleted read.after files write more later regular
-          (keeps.size ∙ size) asked.0.size asked.0.head wrote.asked wrote.step
-          wrote.done calm still guard in
+      (keeps.size ∙ size) asked.0.size asked.0.head wrote.asked wrote.step
+      wrote.done calm still guard in
       let all = saves_keys keys one.next next later new goes (part_later write later (part_later read (write ∷ later) part)) asked.1 distinct.1 one.regular
-          (ap (λ (m : List ℕ). length m) one.memory ∙ keeps.size ∙ size) one.medium one.guarded
-              (omega (arith, fell_read.second, fell_write.second, faultless.0), faultless.1) in
+      (ap (λ (m : List ℕ). length m) one.memory ∙ keeps.size ∙ size) one.medium one.guarded
+      (omega (arith, fell_read.second, fell_write.second, faultless.0), faultless.1) in
       let content = bytes_from read.after.station.memory 0x10000 (content_size key.n) in
       let given = gave key deleted read is.asked is.answered in
       let reads = keys_read keys distinct.1 next later new goes in

@@ -107,7 +107,7 @@ module _ (disk : Disk) (heads count : ℕ) (key : Chrn) (asked : IsAsked disk he
   off_disk : (called : Result Bool Code) → Reads 0 key 0x10000 old called new → TellsKey disk count key called new
   off_disk called reads =
       let free = subst (λ (k : Chrn). read_refusal old 0 k 0x10000 ≡ None) (sym (key_is key asked.size))
-          (not_refused old key.c key.h key.r count asked.cylinder asked.side asked.sector.0 holds.acknowledged) in
+      (not_refused old key.c key.h key.r count asked.cylinder asked.side asked.sector.0 holds.acknowledged) in
       drive_tells called (reaches _ (read_refusal old 0 key 0x10000) free reads)
 
 tells_key : (disk : Disk) (heads count : ℕ) (key : Chrn) (called : Result Bool Code) (old new : State) (told after : Option Files) → disk.cylinders ≤ 80
@@ -174,11 +174,11 @@ module _ (disk : Disk) (few_cylinders : disk.cylinders ≤ 80) (few_heads : disk
       let mid = with_report read.after files old.report in
       let here = call_fell old.state read.after old.files files is.call in
       let parts = quiet_parts old.state.station.counters read.after.station.counters new.state.station.counters here
-          (keys_fell keys mid later new goes) quiet in
+      (keys_fell keys mid later new goes) quiet in
       let tells = read_tells key (Err cause) old read files asked.0 is holds parts.0 in
       let same = tells.one failing.0 failing.2 in
       lines_more key failing.0 failed failing.1 ((key, cause) ∷ []) (line_at read.asked read.answer) (log_of later) failing.3
-          (tells.told ∙ ap (told_of key) (sym same))
+      (tells.told ∙ ap (told_of key) (sym same))
       (line_of_refused key cause read is.asked is.answered) (tells_keys keys failing.1 mid later new goes asked.1 failing.4 tells.holds parts.1)
   tells_keys (key ∷ keys) failed old (read ∷ []) new (Ok deleted, files, is, goes) asked failing holds quiet = absurd goes
   tells_keys (key ∷ keys) failed old (read ∷ write ∷ later) new (Ok deleted, files, is, (more, wrote, goes)) asked failing holds quiet =
@@ -188,7 +188,7 @@ module _ (disk : Disk) (few_cylinders : disk.cylinders ≤ 80) (few_heads : disk
       let there = keys_fell keys next later new goes in
       let here = call_fell old.state read.after old.files files is.call in
       let parts = quiet_parts old.state.station.counters read.after.station.counters new.state.station.counters here
-          (fell_both mid next new fell there) quiet in
+      (fell_both mid next new fell there) quiet in
       let last = quiet_parts read.after.station.counters write.after.station.counters new.state.station.counters fell there parts.1 in
       let tells = read_tells key (Ok deleted) old read files asked.0 is holds parts.0 in
       let same = tells.one failing.0 failing.2 in
@@ -196,5 +196,5 @@ module _ (disk : Disk) (few_cylinders : disk.cylinders ≤ 80) (few_heads : disk
       let none = line_of_done read.asked read.answer (ap is_refusal is.answered ∙ read_done deleted) in
       let also = ap (λ (row : List LogLine). row ++ log_of later) (line_of_done write.asked write.answer wrote.done) in
       lines_more key failing.0 failed failing.1 [] (line_at read.asked read.answer) (log_of (write ∷ later)) failing.3
-          (tells.told ∙ ap (told_of key) (sym same))
+      (tells.told ∙ ap (told_of key) (sym same))
       none (also ∙ tells_keys keys failing.1 next later new goes asked.1 failing.4 now last.1)

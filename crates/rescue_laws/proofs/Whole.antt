@@ -194,7 +194,7 @@ module _ (from to log : List ℕ) (disk : Disk) (files : Files) (old : World) (c
       let left = subst (λ (s : Shape). RunsScript (rest s) a.mid a.two new ended) same a.left in
       let there = subst (λ (f : Option Files). IsFound f log (sectors_at disk.rate) (answers disk.rate)) told (are disk.rate) in
       by_rest (Some files) to log (shape_of disk) (λ s. RunsScript s a.mid a.two new ended → RescuesDisk from to log disk files old course new ended)
-          (by_found a)
+      (by_found a)
       (λ line. never a line status.BadJob (λ e. e)) (never a [] status.FileFault (λ e. e)) (never a [] status.NoMemory (λ e. e)) (answers disk.rate) there left
     where
       never : {rest : Shape → Script} (a : Passed (Opened from) rest old course new ended) (line : List ℕ) (wanted : Status) → (IsEndStatus wanted → ⊥)
@@ -429,8 +429,8 @@ module _ (from to log : List ℕ) (disk : Disk) (found : Option (List LogLine)) 
         let text = log_text (log_of course) in
         let lines = sym log_is in
         let is : new.files ≡ stored (stored (Some files) to (file_of saves.final)) log text =
-            p.stores.stores ∙ ap (λ (f : Option Files). stored f log (log_text (log_of p.body))) disk_stored
-            ∙ ap (λ (row : List LogLine). stored (stored (Some files) to (file_of saves.final)) log (log_text row)) lines in
+        p.stores.stores ∙ ap (λ (f : Option Files). stored f log (log_text (log_of p.body))) disk_stored
+        ∙ ap (λ (row : List LogLine). stored (stored (Some files) to (file_of saves.final)) log (log_text row)) lines in
         let both = stores_both files to log (file_of saves.final) text new.files differ is in
         let same = ap (λ (row : List LogLine). outcome_of asked row) lines ∙ same_outcome course asked counted in
         record {
@@ -467,10 +467,10 @@ module _ (from to log : List ℕ) (disk : Disk) (found : Option (List LogLine)) 
       } in
       let asked = asked_all disk files log found few.0 few.1 there in
       let saves = saves_keys laid_tidy disk (heads_for disk found) course (log_of course) keys start p.opened p.body p.rescued p.goes part asked
-          (asked_distinct disk files log found there)
-          has.regular has.size has.medium guarded (omega (arith, fell_top.second, fell.second, faultless.0), omega (arith, fell.second, faultless.1)) in
+      (asked_distinct disk files log found there)
+      has.regular has.size has.medium guarded (omega (arith, fell_top.second, fell.second, faultless.0), omega (arith, fell.second, faultless.1)) in
       is_rescue target start has saves differ (keeps saves.final
-          (λ entry unread. saves.others entry (λ deleted content some. unread deleted content (outer _ some))))
+      (λ entry unread. saves.others entry (λ deleted content some. unread deleted content (outer _ some))))
 
   -- the log is exactly the records that aren't found
   pub logs_exactly : IsUndisturbed 0 old.state.station.counters new.state.station.counters → IsUnmistaken disk → LogsNotFound disk log files course new
@@ -500,14 +500,14 @@ by_log : (from to log : List ℕ) (disk target : Disk) (found : Option (List Log
 by_log from to log disk target None files old course new ended differ image size faultless there other p =
     let fell = fell_opened from to log disk None files old course new ended there image p in
     let begins = begins_new from to disk files old.state p.opened.state p.opened.files p.top image p.opens size
-        (omega (arith, fell.second, faultless.0), omega (arith, fell.second, faultless.1)) in
+    (omega (arith, fell.second, faultless.0), omega (arith, fell.second, faultless.1)) in
     rescued from to log disk None files old course new ended there image p target begins.0 differ begins.1 (inl begins.2) faultless (λ final others. tt)
 by_log from to log disk target (Some lines) files old course new ended differ image size faultless there other p =
     let has = begins_again from to disk target files old.state p.opened.state p.opened.files p.top image other.image other.regular p.opens size in
     let tidy = tidy_later old.state p.opened.state (Some files) p.opened.files p.top (p.body ++ p.last) p.opens.run
-        (subst (λ (row : List Taken). AreTidy old.state row) p.is other.tidy) in
+    (subst (λ (row : List Taken). AreTidy old.state row) p.is other.tidy) in
     rescued from to log disk (Some lines) files old course new ended there image p target target differ has
-        (inr (tidy_first p.opened.state p.body p.last tidy)) faultless
+    (inr (tidy_first p.opened.state p.body p.last tidy)) faultless
     (λ final others. others)
 
 pub rescue_stores : (from to log : List ℕ) (disk target : Disk) (files : Files) (old : World) (course : List Taken) (new : World) (ended : Status)
