@@ -38,8 +38,7 @@ use Rattle.disk_laws.proofs.Records.{length-bytes_at}
 use Rattle.rescue.specs.Course.{read_of, write_of}
 use Rattle.rescue.specs.declared.line.LogLine.{LogLine}
 use Rattle.rescue_commands.specs.Rescue.{gives_up, does_next, follows, rescues}
-use Rattle.rescue_laws.specs.Logged.{line_at, log_of}
-use Rattle.rescue_laws.specs.Rescued.{IsNotStopped, WasRefused, is_write}
+use Rattle.rescue_laws.specs.Rescued.{IsNotStopped, WasRefused, is_write, line_at, log_of}
 
 -- ---- what a read leaves
 

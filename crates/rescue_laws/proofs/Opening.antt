@@ -1,5 +1,5 @@
 -- What comes before the records of a rescue: both diskettes are put in and made ready.
-use Rattle.std.proofs.Common.{arith, ◌≡◌, ◌∙◌, ◌≤◌, ℕ, List, ◌∷◌, ◌++◌, refl, ap, Option, Some, Bool, true, false, [], subst, sym, inl, inr, length, ◌<◌}
+use Rattle.std.proofs.Common.{◌↔◌, arith, ◌≡◌, ◌∙◌, ◌≤◌, ℕ, List, ◌∷◌, ◌++◌, refl, ap, Option, Some, Bool, true, false, [], subst, sym, inl, inr, length, ◌<◌}
 use Rattle.std.specs.List.{list_all}
 use Rattle.std.specs.Prelude.{◌⊎◌}
 use Rattle.flop_base.specs.Shelf.{Files}
@@ -107,8 +107,7 @@ pub record IsFresh (shape : Shape) (disk : Disk) : Type 0 where
   pub regular : IsRegularDisk disk
   pub rate : disk.rate ≡ shape.rate
   pub words : disk.words_per_track ≡ words_at shape.rate
-  pub has : (c h : ℕ) → c < shape.cylinders → h < 2 → HasTrack disk c h
-  pub only : (c h : ℕ) → HasTrack disk c h → c < shape.cylinders
+  pub tracks : (c h : ℕ) → HasTrack disk c h ↔ (c < shape.cylinders × h < 2)
 
 -- the other disk: that of an earlier run, or a fresh one
 abbrev pub IsOther : Option Files → List ℕ → Shape → Bool → Disk → Type 0
@@ -151,9 +150,7 @@ second_put to shape false old new told after answer step done =
         regular = blank_regular shape.cylinders shape.rate;
         rate = refl;
         words = refl;
-        has = λ c h cylinder head.
-            (cylinder, head);
-        only = λ c h there. there.0;
+        tracks = λ c h. (λ had. had, λ inside. inside);
       };
       medium = fresh.medium;
       first = ap (λ (s : StationState). bay_of s 0) fresh.becomes;
@@ -172,8 +169,7 @@ record IsSet (rate : Rate) (old : State) (told : Option Files) (rest : List Requ
   pub course : List Taken
   pub first : bay_of mid.station 0 ≡ bay_of old.station 0
   pub medium : (bay_of mid.station 1).medium ≡ (bay_of old.station 1).medium
-  pub high : rate ≡ R500 → (bay_of mid.station 1).rate ≡ (bay_of old.station 1).rate
-  pub low : rate ≡ R250 → (bay_of mid.station 1).rate ≡ R250
+  pub rate_is : (rate ≡ R500 → (bay_of old.station 1).rate ≡ R500) → (bay_of mid.station 1).rate ≡ rate
   pub memory : mid.station.memory ≡ old.station.memory
   pub names : mid.names ≡ old.names
   pub same_files : files ≡ told
@@ -187,8 +183,7 @@ sets R500 rest old new told after course all = record {
   course = course;
   first = refl;
   medium = refl;
-  high = λ e. refl;
-  low = λ e. absurd (cc e);
+  rate_is = λ high. high refl;
   memory = refl;
   names = refl;
   same_files = refl;
@@ -206,19 +201,13 @@ sets R250 rest old new told after course all =
       course = one.later;
       first = ap (λ (s : StationState). bay_of s 0) drive.becomes;
       medium = ap (λ (s : StationState). (bay_of s 1).medium) drive.becomes;
-      high = λ e. absurd (cc e);
-      low = λ e. ap (λ (s : StationState). (bay_of s 1).rate) drive.becomes;
+      rate_is = λ high. ap (λ (s : StationState). (bay_of s 1).rate) drive.becomes;
       memory = ap (λ (s : StationState). s.memory) drive.becomes;
       names = does.0.names;
       same_files = does.0.files;
       fell = step_never_fell old one.mid told one.files (request.SetRate 1 R250) one.answer one.step refl;
       behind = one.behind;
     }
-
--- a bay at the rate of its medium
-at_rate : (rate at now of_disk : Rate) → of_disk ≡ rate → (of_disk ≡ R500 → at ≡ R500) → (rate ≡ R500 → now ≡ at) → (rate ≡ R250 → now ≡ R250) → now ≡ rate
-at_rate R500 at now of_disk same acked high low = high refl ∙ acked same
-at_rate R250 at now of_disk same acked high low = low refl
 
 -- both disks are in, and both bays ready; and the formats are left, if there is no log
 pub record AreOpen (disk : Disk) (to : List ℕ) (files : Files) (logged : Bool) (old new : State) (after : Option Files) : Type 0 where
@@ -276,7 +265,7 @@ are_open from to disk files logged old new after course image all =
       before = omega (arith, a.first, b.first, three.first.first);
       since = omega (arith, three.later.first, c.first, set.fell.first);
       second = set.medium ∙ acked.medium;
-      second_rate = λ is. at_rate rate (bay_of four.mid.station 1).rate (bay_of set.mid.station 1).rate put.target.rate is acked.high set.high set.low;
+      second_rate = λ is. set.rate_is (λ high. acked.high (is ∙ high));
       memory = set.memory ∙ ap (λ (s : StationState). s.memory) acked.becomes ∙ three.memory ∙ put.memory
           ∙ ap (λ (s : StationState). s.memory) one.does.2.2.exchanged.becomes;
       named = ap (λ (n : Two (Option (List ℕ))). in_bay n 1) (set.names ∙ acked.names ∙ three.names) ∙ put.named;
@@ -366,15 +355,16 @@ holds_first from to disk files logged old new after course image all quiet =
     let it = are_open from to disk files logged old new after course image all in
     let same = formats_stay (shape_of disk) logged it.mid new it.mid_files after it.course it.formats_left in
     let fell = same.1 in
-    let top = it.fell in (
-      it.count,
-      record {
-        medium = ap (λ (b : Bay). b.medium) same.0 ∙ it.first;
-        rate = ap (λ (b : Bay). b.rate) same.0 ∙ it.first_rate;
-        acknowledged = ap (λ (b : Bay). b.acknowledged) same.0 ∙ it.acknowledged;
-        faults = (let before = it.before in let since = it.since in omega (arith, top.stalls, fell.first, fell.stalls, quiet.together));
-      },
-    )
+    let top = it.fell in
+    let before = it.before in
+    let since = it.since in
+    let holds : Holds disk it.count new.station = record {
+      medium = ap (λ (b : Bay). b.medium) same.0 ∙ it.first;
+      rate = ap (λ (b : Bay). b.rate) same.0 ∙ it.first_rate;
+      acknowledged = ap (λ (b : Bay). b.acknowledged) same.0 ∙ it.acknowledged;
+      faults = omega (arith, before, since, top.stalls, fell.first, fell.stalls, quiet.together);
+    } in
+    (it.count, holds)
 
 -- a regular disk is in bay 1 under its name
 pub record HasOther (start : Disk) (to : List ℕ) (files : Files) (state : State) (told : Option Files) : Type 0 where
@@ -404,8 +394,9 @@ begins_new from to disk files old new after course image all size faultless =
       words = such.words;
       size = ap (λ (m : List ℕ). length m) it.memory ∙ size;
     } in
-    let has = λ (c h : ℕ) (among : Among tracks c h). let at = among_only disk.cylinders disk.heads c h among in such.has c h at.0
-    (omega (arith, at.1, ranges.1)) in
+    let has = λ (c h : ℕ) (among : Among tracks c h).
+    let at = among_only disk.cylinders disk.heads c h among in
+    (such.tracks c h).1 (at.0, omega (arith, at.1, ranges.1)) in
     let lays = lays_tracks disk.rate disk tracks it.target it.mid new it.mid_files after it.course it.formats_left has ready
     (omega (arith, it.fell.second, faultless.0), omega (arith, it.fell.second, faultless.1)) in
     let there : HasOther lays.final to files new after = record {
@@ -414,13 +405,11 @@ begins_new from to disk files old new after course image all size faultless =
       size = lays.ready.size;
       named = ap (λ (n : Two (Option (List ℕ))). in_bay n 1) lays.names ∙ it.named;
       files_are = lays.files ∙ it.files_are;
-    } in (
-      lays.final,
-      there,
-      λ c h track few.
-          let had = (alike_tracks it.target lays.final c h lays.alike).1 track in
-          lays.laid c h had (inl (among_all disk.cylinders disk.heads c h (such.only c h had) few)),
-    )
+    } in
+    let laid : AreLaid disk.heads lays.final = λ c h track few.
+    let had = (alike_tracks it.target lays.final c h lays.alike).1 track in
+    lays.laid c h had (inl (among_all disk.cylinders disk.heads c h ((such.tracks c h).0 had).0 few)) in
+    (lays.final, there, laid)
 
 -- that of an earlier run
 pub begins_again : (from to : List ℕ) (disk target : Disk) (files : Files) (old new : State) (after : Option Files) (course : List Taken)

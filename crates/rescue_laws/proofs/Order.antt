@@ -36,8 +36,7 @@ use Rattle.rescue.specs.Log.{log_text}
 use Rattle.rescue.specs.declared.line.LogLine.{LogLine}
 use Rattle.rescue_commands.specs.Rescue.{follows, rescues, prepares, asked_keys, outcome_of, last_text, rescues_all, stores_log, rescue_found, rescue_rest, Rescues}
 use Rattle.rescue_commands.proofs.Rests.{by_rest}
-use Rattle.rescue_laws.specs.Logged.{line_at, log_of}
-use Rattle.rescue_laws.specs.Rescued.{StoresInOrder, Nothing, DiskAlone, DiskThenLog}
+use Rattle.rescue_laws.specs.Rescued.{StoresInOrder, Nothing, DiskAlone, DiskThenLog, line_at, log_of}
 use Rattle.rescue_laws.proofs.Gone.{line_of_refused, line_of_done, read_done, carries_all, FollowRun, Writes, Logs, GivesUp, Starves, follow_run}
 use Rattle.rescue_laws.proofs.Opening.{ready_requests, formats_for, second_request, prepares_carried, second_put}
 use Rattle.rescue_laws.proofs.Records.{write_does}

@@ -50,8 +50,7 @@ use Rattle.rescue.proofs.OrderLemmas.{standard_rises, logged_rises}
 use Rattle.rescue_commands.specs.Logs.{IsLogFound, most_log_bytes}
 use Rattle.rescue_commands.specs.Rescue.{asked_keys}
 use Rattle.rescue_laws.specs.Tidy.{IsTidyWrite, IsTidyFor, AreTidy}
-use Rattle.rescue_laws.specs.Rescued.{IsLogged, IsSaved, WasNotRead, entry_at, is_write, count_writes}
-use Rattle.rescue_laws.specs.Logged.{line_at, log_of}
+use Rattle.rescue_laws.specs.Rescued.{IsLogged, IsSaved, WasNotRead, entry_at, is_write, count_writes, line_at, log_of}
 use Rattle.rescue_laws.proofs.Gone.{GoesKeys, keys_fell, write_fell, line_of_refused, line_of_done, read_done, write_no_read, write_writes, read_keeps, call_fell, gave, gave_reads}
 
 -- ---- each once
@@ -220,7 +219,7 @@ keys_counted (key ∷ keys) old (read ∷ write ∷ later) new (Ok deleted, file
     let rest = keys_counted keys (with_report write.after more old.report) later new goes in
     rw (none, also, is_read, is_written) (omega (arith, rest))
 
--- ---- changes of the other disk
+-- ---- changes of a disk
 
 -- the tracks of these heads are Laid
 abbrev pub AreLaid : ℕ → Disk → Type 0
@@ -229,8 +228,6 @@ AreLaid heads disk = (c h : ℕ) → HasTrack disk c h → h < heads → IsLaid 
 -- no write of a course brings up an address mark: its tracks are Laid, or each write is Tidy
 abbrev pub IsGuarded : ℕ → Disk → State → List Taken → Type 0
 IsGuarded heads disk state course = AreLaid heads disk ⊎ AreTidy state course
-
--- ---- changes of a disk
 
 -- the disk of a list of changes that isn't empty has an address field for the first of them
 first_change : (written : Written) (disk : Disk) (earlier : List Change) (last : Change) (after : Disk) → ChangesDisk written disk (earlier ++ last ∷ []) after → (change : Change) × (next : Disk) × IsChange written disk change next
@@ -242,24 +239,11 @@ same_rate written disk [] after same = ap (λ (d : Disk). d.rate) same
 same_rate written disk (change ∷ later) after changes =
     same_rate written changes.0 later after changes.2 ∙ (change_keeps_tracks written disk change changes.0 changes.1).alike.rate
 
--- where a write went: to the address field of its key
-pub record HasField (disk : Disk) (key : Chrn) : Type 0 where
+-- a write that was done went to the address field of its key, at the rate of the disk
+pub record GoesToField (disk : Disk) (key : Chrn) (old : StationState) : Type 0 where
   pub has : HasTrack disk key.c key.h
   pub place : ℕ
   pub address : IsAddressAt (track_of disk key.c key.h) place key
-
-has_field : (disk : Disk) (key : Chrn) (c p : ℕ) → IsRegularDisk disk → HasTrack disk c key.h → IsAddressAt (track_of disk c key.h) p key → HasField disk key
-has_field disk key c p regular has address =
-    let cylinder = sym (key_cylinder disk c key.h p key regular has address).0 in
-    record {
-      has = subst (λ (b : ℕ). HasTrack disk b key.h) cylinder has;
-      place = p;
-      address = subst (λ (b : ℕ). IsAddressAt (track_of disk b key.h) p key) cylinder address;
-    }
-
--- a write that was done went to a field, at the rate of the disk
-pub record GoesToField (disk : Disk) (key : Chrn) (old : StationState) : Type 0 where
-  pub field : HasField disk key
   pub rate : (bay_of old 1).rate ≡ disk.rate
 
 goes_to_field : (key : Chrn) (address : ℕ) (deleted : Bool) (disk : Disk) (old new : StationState) (called : Result (Unit {0}) Code) → IsRegularDisk disk → WritesDrive (written_from old key address deleted) 1 old called new → IsOk called → IsFaultless 1 old.counters new.counters → (bay_of old 1).medium ≡ Some disk → GoesToField disk key old
@@ -269,8 +253,12 @@ goes_to_field key address deleted disk old new called regular drive ok faultless
     let last = done.last faultless in
     let reach = reaches_in written _ _ disk done.disk drive.changes medium done.medium drive.reach in
     let first = first_change written disk last.0 last.1 done.disk (subst (λ (row : List Change). ChangesDisk written disk row done.disk) last.2 reach) in
+    let place = first.0.place in
+    let cylinder = sym (key_cylinder disk first.0.cylinder key.h place key regular first.2.track first.2.address).0 in
     record {
-      field = has_field disk key first.0.cylinder first.0.place regular first.2.track first.2.address;
+      has = subst (λ (b : ℕ). HasTrack disk b key.h) cylinder first.2.track;
+      place = place;
+      address = subst (λ (b : ℕ). IsAddressAt (track_of disk b key.h) place key) cylinder first.2.address;
       rate = sym done.same_rate ∙ same_rate written disk drive.changes done.disk reach;
     }
 
@@ -301,13 +289,9 @@ tidy_write key false state tidy = tidy
 
 -- what it made of the disk in bay 1
 pub record SavesKey (heads : ℕ) (disk : Disk) (key : Chrn) (deleted : Bool) (old : State) (told : Option Files) (new : State) (after : Option Files) (later : List Taken) : Type 0 where
-  pub next : Disk
-  pub medium : (bay_of new.station 1).medium ≡ Some next
-  pub regular : IsRegularDisk next
-  pub guarded : IsGuarded heads next new later
-  pub others : (entry : Entry) → entry.key ≢ key → IsOnMap disk entry ↔ IsOnMap next entry
   pub place : ℕ
-  pub entry : IsOnMap next (entry_at key place deleted (bytes_from old.station.memory 0x10000 (content_size key.n)))
+  pub wrote : WritesHere 1 disk key place 0x10000 deleted old.station new.station
+  pub guarded : IsGuarded heads wrote.next new later
   pub memory : new.station.memory ≡ old.station.memory
   pub names : new.names ≡ old.names
   pub files : after ≡ told
@@ -324,24 +308,20 @@ module _ (tidy : AllTidy) (heads : ℕ) (disk : Disk) (key : Chrn) (deleted : Bo
       let few : 0x10000 + 512 ≤ length old.station.memory = omega (arith, size) in
       length-bytes_from old.station.memory 0x10000 (content_size key.n) (subst (λ (n : ℕ). 0x10000 + content_size n ≤ length old.station.memory) (sym sized) few)
 
-  field : HasFieldFor (track_of disk key.c key.h) went.field.place content
-  field = (key, record { address = went.field.address; size = long })
+  field : HasFieldFor (track_of disk key.c key.h) went.place content
+  field = (key, record { address = went.address; size = long })
 
-  here : IsTidy (track_of disk key.c key.h) went.field.place deleted content → WritesHere 1 disk key went.field.place 0x10000 deleted old.station new.station
+  here : IsTidy (track_of disk key.c key.h) went.place deleted content → WritesHere 1 disk key went.place 0x10000 deleted old.station new.station
   here neat =
-      writes_here 1 key 0x10000 deleted disk regular went.field.has went.field.place went.field.address old.station new.station neat called drive ok
+      writes_here 1 key 0x10000 deleted disk regular went.has went.place went.address old.station new.station neat called drive ok
       faultless medium went.rate
 
-  saves : (told after : Option Files) (later : List Taken) (neat : IsTidy (track_of disk key.c key.h) went.field.place deleted content)
+  saves : (told after : Option Files) (later : List Taken) (neat : IsTidy (track_of disk key.c key.h) went.place deleted content)
       → IsDriverCall old told new after → IsGuarded heads (here neat).next new later → SavesKey heads disk key deleted old told new after later
   saves told after later neat call guarded = record {
-    next = (here neat).next;
-    medium = (here neat).medium;
-    regular = (here neat).regular;
+    place = went.place;
+    wrote = here neat;
     guarded = guarded;
-    others = (here neat).others;
-    place = went.field.place;
-    entry = (here neat).entry;
     memory = ap (λ (s : StationState). s.memory) drive.becomes;
     names = call.names;
     files = call.files;
@@ -349,12 +329,12 @@ module _ (tidy : AllTidy) (heads : ℕ) (disk : Disk) (key : Chrn) (deleted : Bo
 
   pub guarded_saves : (told after : Option Files) (later : List Taken) → IsDriverCall old told new after → (AreLaid heads disk ⊎ (IsTidyWrite old.station 1 key 0x10000 deleted × AreTidy new later)) → SavesKey heads disk key deleted old told new after later
   guarded_saves told after later call (inl laid) =
-      let on = laid key.c key.h went.field.has head in
-      let neat = tidy (track_of disk key.c key.h) went.field.place deleted content on field in
-      let still = subst IsLaid (sym (here neat).window) (written_laid (track_of disk key.c key.h) went.field.place deleted content on field) in
+      let on = laid key.c key.h went.has head in
+      let neat = tidy (track_of disk key.c key.h) went.place deleted content on field in
+      let still = subst IsLaid (sym (here neat).window) (written_laid (track_of disk key.c key.h) went.place deleted content on field) in
       saves told after later neat call (inl (still_laid heads disk (here neat).next key.c key.h (here neat).keeps laid still))
   guarded_saves told after later call (inr (first, rest)) =
-      saves told after later (first disk key.c went.field.place medium went.field.has went.field.address) call (inr rest)
+      saves told after later (first disk key.c went.place medium went.has went.address) call (inr rest)
 
 pub saves_key : (tidy : AllTidy) (heads : ℕ) (disk : Disk) (key : Chrn) (deleted : Bool) (old : State) (told : Option Files) (taken : Taken) (after : Option Files) (later : List Taken) → IsRegularDisk disk → length old.station.memory ≡ user_bytes → key.n ≡ 2 → key.h < heads → taken.asked ≡ write_of key deleted → Step (write_of key deleted) old told taken.answer taken.after after → is_refusal taken.answer ≡ false → IsFaultless 1 old.station.counters taken.after.station.counters → (bay_of old.station 1).medium ≡ Some disk → IsGuarded heads disk old (taken ∷ later) → SavesKey heads disk key deleted old told taken.after after later
 saves_key tidy heads disk key deleted old told taken after later regular size sized head asked step done faultless medium guarded =
@@ -450,8 +430,8 @@ module _ (tidy : AllTidy) (source : Disk) (heads : ℕ) (whole : List Taken) (li
       let one = saves_key tidy heads disk key deleted read.after files write more later regular
       (keeps.size ∙ size) asked.0.size asked.0.head wrote.asked wrote.step
       wrote.done calm still guard in
-      let all = saves_keys keys one.next next later new goes (part_later write later (part_later read (write ∷ later) part)) asked.1 distinct.1 one.regular
-      (ap (λ (m : List ℕ). length m) one.memory ∙ keeps.size ∙ size) one.medium one.guarded
+      let all = saves_keys keys one.wrote.next next later new goes (part_later write later (part_later read (write ∷ later) part)) asked.1 distinct.1 one.wrote.regular
+      (ap (λ (m : List ℕ). length m) one.memory ∙ keeps.size ∙ size) one.wrote.medium one.guarded
       (omega (arith, fell_read.second, fell_write.second, faultless.0), faultless.1) in
       let content = bytes_from read.after.station.memory 0x10000 (content_size key.n) in
       let given = gave key deleted read is.asked is.answered in
@@ -469,13 +449,13 @@ module _ (tidy : AllTidy) (source : Disk) (heads : ℕ) (whole : List Taken) (li
             content = content;
             place = one.place;
             read = part.steps _ (inl given);
-            entry = (all.others (entry_at key one.place deleted content) unread).0 one.entry;
+            entry = (all.others (entry_at key one.place deleted content) unread).0 one.wrote.entry;
           }),
           all.settled,
         );
         others = λ entry none.
             let differ : entry.key ≢ key = λ same. none deleted content (inl (subst (λ (k : Chrn). Gave k deleted content read) (sym same) given)) in
-            let first = one.others entry differ in
+            let first = one.wrote.others entry differ in
             let rest = all.others entry (λ mark bytes some. none mark bytes (inr (inr some))) in
             (λ on. rest.0 (first.0 on), λ on. first.1 (rest.1 on));
       }

@@ -31,8 +31,7 @@ use Rattle.disk_laws.proofs.Looks.{rose_by}
 use Rattle.disk_laws.proofs.Reading.{Holds, not_refused, reaches, bays_stay, holds_on, key_is, one_read, quiet_parts, told_more}
 use Rattle.disk_laws.proofs.Steps.{NeverFell, ok_called, reached}
 use Rattle.rescue.specs.declared.line.LogLine.{LogLine}
-use Rattle.rescue_laws.specs.Logged.{line_at, log_of}
-use Rattle.rescue_laws.specs.Rescued.{failing_lines}
+use Rattle.rescue_laws.specs.Rescued.{failing_lines, line_at, log_of}
 use Rattle.rescue_laws.proofs.Gone.{call_fell, line_of_refused, line_of_done, read_done, IsRead, IsWrite, GoesKeys, fell_both, write_fell, keys_fell}
 use Rattle.rescue_laws.proofs.Records.{IsAsked, write_does}
 

@@ -56,8 +56,7 @@ use Rattle.rescue.specs.declared.outcome.Outcome.{Outcome}
 use Rattle.rescue_commands.specs.Logs.{IsLogFound, IsFound}
 use Rattle.rescue_commands.specs.Rescue.{rescues, asked_keys, outcome_of, last_text, rescues_all, stores_log, rescue_found, rescue_rest, Rescues}
 use Rattle.rescue_commands.proofs.Rests.{by_rest}
-use Rattle.rescue_laws.specs.Logged.{log_of, line_at}
-use Rattle.rescue_laws.specs.Rescued.{IsNotStopped, is_write, count_writes, IsLogged, IsSaved, IsSettled, WasNotRead, HasTarget, KeepsEntries, outcome_in, IsRescue, LogsNotFound, WasRefused}
+use Rattle.rescue_laws.specs.Rescued.{IsNotStopped, is_write, count_writes, IsLogged, IsSaved, IsSettled, WasNotRead, HasTarget, KeepsEntries, outcome_in, IsRescue, LogsNotFound, WasRefused, log_of, line_at}
 use Rattle.rescue_laws.proofs.Gone.{later_fine, not_refused, carried, GoesKeys, keys_gone, Fell, fell_both, keys_fell, line_of_done, gave_reads, never_both}
 use Rattle.rescue_laws.proofs.Opening.{opening, ready_requests, second_request, formats_for, prepares_carried, HasOther, begins_new, begins_again, holds_first}
 use Rattle.rescue_laws.specs.Tidy.{AreTidy}

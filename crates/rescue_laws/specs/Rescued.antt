@@ -13,6 +13,7 @@ use Rattle.floppy_requests.specs.declared.request.Request.{Request}
 use Rattle.floppy_requests.specs.declared.request.Request.TheVariants as request
 use Rattle.sector_map.specs.Failing.{AreFailing}
 use Rattle.sector_map.specs.Disks.{Entry, IsOnMap, IsRegularDisk}
+use Rattle.sector_model.specs.declared.reply.Reply.{Reply}
 use Rattle.sector_model.specs.declared.reply.Reply.TheVariants as reply
 use Rattle.sector_model.specs.declared.reply.Reason.TheVariants as reason
 use Rattle.sector_model.specs.States.{State}
@@ -29,9 +30,27 @@ use Rattle.rescue.specs.declared.line.LogLine.{LogLine}
 use Rattle.rescue.specs.declared.outcome.Outcome.{Outcome}
 use Rattle.rescue_commands.specs.Logs.{IsLogFound}
 use Rattle.rescue_commands.specs.Rescue.{asked_keys}
-use Rattle.rescue_laws.specs.Logged.{log_of}
 use Rattle.rescue_commands.specs.Rescue.{last_text}
 use Rattle.rescue_laws.specs.Tidy.{AreTidy}
+
+-- ---- The lines of a new log, by the course of a rescue.
+
+-- the line of a refused read
+abbrev pub line_for : Request → Code → List LogLine
+line_for (request.Read bay key address) code = (record { key = key; code = code }) ∷ []
+line_for _ code = []
+
+-- the line of a request, if its answer is a drive's refusal
+abbrev pub line_at : Request → Reply → List LogLine
+line_at asked (reply.Refused (reason.Driver code)) = line_for asked code
+line_at asked other = []
+
+-- those of a course: the reads that were refused
+abbrev pub log_of : List Taken → List LogLine
+log_of [] = []
+log_of (taken ∷ later) = line_at taken.asked taken.answer ++ log_of later
+
+-- ---- Its run.
 
 -- no refusal stopped the run: its last answer is none
 abbrev pub IsNotStopped : List Taken → Type 0
