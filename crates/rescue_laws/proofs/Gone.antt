@@ -253,9 +253,9 @@ keys_fell (key ∷ keys) old (read ∷ write ∷ later) new (Ok deleted, files, 
 -- ---- by a script that went on to its end
 
 -- the world behind a step
-abbrev behind : {asked : Request} {rest : Reply → State → Script} {old new : World} {course : List Taken} {ended : Status}
+abbrev pub behind_step : {asked : Request} {rest : Reply → State → Script} {old new : World} {course : List Taken} {ended : Status}
     → IsAnswered asked rest old course new ended → World
-behind {old = old} run = with_report run.taken.after run.files old.report
+behind_step {old = old} run = with_report run.taken.after run.files old.report
 
 -- the records were gone through, and the log is what it was, with their lines
 abbrev pub RescuesKeys : List Chrn → List LogLine → Known (List LogLine)
@@ -276,15 +276,15 @@ module _ (rest : List LogLine → Script) (new : World) (ended : Status) (whole 
 
     -- it was written
     wrote : (run : Run) (deleted : Bool) → IsRead key (Ok deleted) old run.taken run.files → IsNotStopped run.later
-        → RunsScript (carries (write_of key deleted) (λ none. Rest lines)) (behind run) run.later new ended
+        → RunsScript (carries (write_of key deleted) (λ none. Rest lines)) (behind_step run) run.later new ended
         → Passed (RescuesKeys (key ∷ keys) lines) rest old course new ended
     wrote run deleted is later runs =
         let asked = write_of key deleted in
-        let one = need_taken asked (λ answer after. Rest lines) (behind run) run.later new ended (end_is_whole ended whole)
-        (not_refused asked (behind run) run.later new ended later)
-        (carry_run asked (λ none. Rest lines) (behind run) run.later new ended runs) in
+        let one = need_taken asked (λ answer after. Rest lines) (behind_step run) run.later new ended (end_is_whole ended whole)
+        (not_refused asked (behind_step run) run.later new ended later)
+        (carry_run asked (λ none. Rest lines) (behind_step run) run.later new ended runs) in
         let write = one.run in
-        let all = next lines (behind write) write.later (later_fine (write.taken ∷ []) write.later run.later write.course_is later) write.left in
+        let all = next lines (behind_step write) write.later (later_fine (write.taken ∷ []) write.later run.later write.course_is later) write.left in
         let none : line_at run.taken.asked run.taken.answer ≡ [] = line_of_done run.taken.asked run.taken.answer
         (ap is_refusal is.answered ∙ read_done deleted) in
         let also : line_at write.taken.asked write.taken.answer ≡ [] = line_of_done write.taken.asked write.taken.answer one.fine in
@@ -305,11 +305,11 @@ module _ (rest : List LogLine → Script) (new : World) (ended : Status) (whole 
 
     -- its line came behind the log
     logged : (run : Run) (cause : Code) → IsRead key (Err cause) old run.taken run.files → IsNotStopped run.later
-        → RunsScript (Rest (lines ++ (record { key = key; code = cause }) ∷ [])) (behind run) run.later new ended
+        → RunsScript (Rest (lines ++ (record { key = key; code = cause }) ∷ [])) (behind_step run) run.later new ended
         → Passed (RescuesKeys (key ∷ keys) lines) rest old course new ended
     logged run cause is later runs =
         let line : LogLine = record { key = key; code = cause } in
-        let all = next (lines ++ line ∷ []) (behind run) run.later later runs in
+        let all = next (lines ++ line ∷ []) (behind_step run) run.later later runs in
         let here = line_of_refused key cause run.taken is.asked is.answered in
         record {
           one = run.taken ∷ all.one;
@@ -326,7 +326,7 @@ module _ (rest : List LogLine → Script) (new : World) (ended : Status) (whole 
         }
 
     by_next : (run : Run) (called : Result Bool Code) → IsRead key called old run.taken run.files
-        → FollowRun key called lines Rest (behind run) run.later new ended
+        → FollowRun key called lines Rest (behind_step run) run.later new ended
         → IsNotStopped run.later → Passed (RescuesKeys (key ∷ keys) lines) rest old course new ended
     by_next run called is (Writes deleted same runs) later =
         wrote run deleted (subst (λ (c : Result Bool Code). IsRead key c old run.taken run.files) same is) later runs
@@ -340,9 +340,9 @@ module _ (rest : List LogLine → Script) (new : World) (ended : Status) (whole 
     by_read : Run → Passed (RescuesKeys (key ∷ keys) lines) rest old course new ended
     by_read run =
         let called = run.step.1.0 in
-        let runs = subst (λ (r : Reply). RunsScript (follows key r lines Rest) (behind run) run.later new ended) run.step.1.1 run.left in
+        let runs = subst (λ (r : Reply). RunsScript (follows key r lines Rest) (behind_step run) run.later new ended) run.step.1.1 run.left in
         by_next run called (record { asked = run.asked_is; answered = run.step.1.1; call = run.step.0; reads = run.step.1.2 })
-        (follow_run key lines Rest (behind run) run.later new ended called runs) (later_fine (run.taken ∷ []) run.later course run.course_is fine)
+        (follow_run key lines Rest (behind_step run) run.later new ended called runs) (later_fine (run.taken ∷ []) run.later course run.course_is fine)
 
 pub keys_gone : (keys : List Chrn) (lines : List LogLine) (rest : List LogLine → Script) (old : World) (course : List Taken) (new : World) (ended : Status)
     → IsEndStatus ended → IsNotStopped course → RunsScript (through rescues keys lines rest) old course new ended

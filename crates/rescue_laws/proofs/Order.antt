@@ -15,7 +15,6 @@ use Rattle.floppy_requests.specs.declared.request.Request.{Request}
 use Rattle.floppy_requests.specs.declared.request.Request.TheVariants as request
 use Rattle.sector_model.specs.declared.reply.Reply.{Reply}
 use Rattle.sector_model.specs.declared.reply.Reply.TheVariants as reply
-use Rattle.sector_model.specs.declared.reply.Reason.{Reason}
 use Rattle.sector_model.specs.Stations.{bay_of}
 use Rattle.sector_model.specs.States.{State}
 use Rattle.sector_model.specs.Steps.{Step, IsDriverCall, refusal_of, read_reply}
@@ -27,8 +26,7 @@ use Rattle.floppy_session.specs.declared.shape.Shape.{Shape}
 use Rattle.floppy_session.specs.Shapes.{shape_in}
 use Rattle.scripts.specs.Scripts.{Script, Ends, RunsScript, StoresLast, IsStored, NotStored}
 use Rattle.scripts.specs.Parts.{needs, carries, may_starve, with_shape, opens, through}
-use Rattle.scripts.specs.Leading.{with_report}
-use Rattle.scripts.proofs.Reading.{AskRun, Answered, Stopped, NeedRun, Done, Refused, Halted, ask_run, need_run, carry_run, last_run, last_stored}
+use Rattle.scripts.proofs.Reading.{IsAnswered, AskRun, Answered, Stopped, NeedRun, Done, Refused, Halted, ask_run, need_run, carry_run, last_run, last_stored}
 use Rattle.disk_laws.specs.Requests.{Track, format_each, tracks_of}
 use Rattle.disk_laws.proofs.Steps.{either, done_does}
 use Rattle.rescue.specs.Course.{read_of, write_of, outcome_status}
@@ -37,7 +35,7 @@ use Rattle.rescue.specs.declared.line.LogLine.{LogLine}
 use Rattle.rescue_commands.specs.Rescue.{follows, rescues, prepares, asked_keys, outcome_of, last_text, rescues_all, stores_log, rescue_found, rescue_rest, Rescues}
 use Rattle.rescue_commands.proofs.Rests.{by_rest}
 use Rattle.rescue_laws.specs.Rescued.{StoresInOrder, Nothing, DiskAlone, DiskThenLog, line_at, log_of}
-use Rattle.rescue_laws.proofs.Gone.{line_of_refused, line_of_done, read_done, carries_all, FollowRun, Writes, Logs, GivesUp, Starves, follow_run}
+use Rattle.rescue_laws.proofs.Gone.{behind_step, line_of_refused, line_of_done, read_done, carries_all, FollowRun, Writes, Logs, GivesUp, Starves, follow_run}
 use Rattle.rescue_laws.proofs.Opening.{ready_requests, formats_for, second_request, prepares_carried, second_put}
 use Rattle.rescue_laws.proofs.Records.{write_does}
 
@@ -67,15 +65,16 @@ module _ (to log : List ℕ) where
       → StoresInOrder to log (lines ++ log_of course) old.files new.files
 
   -- behind a step that stores nothing
-  behind : (lines now : List LogLine) (taken : Taken) (later course : List Taken) (told files after : Option Files) → course ≡ taken ∷ later → files ≡ told
-      → lines ++ line_at taken.asked taken.answer ≡ now → StoresInOrder to log (now ++ log_of later) files after
-      → StoresInOrder to log (lines ++ log_of course) told after
-  behind lines now taken later course told files after whole same is stores =
-      let all : now ++ log_of later ≡ lines ++ log_of course =
-      ap (λ (row : List LogLine). row ++ log_of later) (sym is) ∙ append_assoc lines (line_at taken.asked taken.answer) (log_of later)
-      ∙ ap (λ (row : List Taken). lines ++ log_of row) (sym whole) in
-      subst (λ (f : Option Files). StoresInOrder to log (lines ++ log_of course) f after) same
-      (subst (λ (row : List LogLine). StoresInOrder to log row files after) all stores)
+  behind : {asked : Request} {rest : Reply → State → Script} {old new : World} {course : List Taken} {ended : Status}
+      → (run : IsAnswered asked rest old course new ended) (lines now : List LogLine) → run.files ≡ old.files
+      → lines ++ line_at run.taken.asked run.taken.answer ≡ now → StoresInOrder to log (now ++ log_of run.later) run.files new.files
+      → StoresInOrder to log (lines ++ log_of course) old.files new.files
+  behind {new = new} {course = course} run lines now same is stores =
+      let all : now ++ log_of run.later ≡ lines ++ log_of course =
+      ap (λ (row : List LogLine). row ++ log_of run.later) (sym is) ∙ append_assoc lines (line_at run.taken.asked run.taken.answer) (log_of run.later)
+      ∙ ap (λ (row : List Taken). lines ++ log_of row) (sym run.course_is) in
+      subst (λ (f : Option Files). StoresInOrder to log (lines ++ log_of course) f new.files) same
+      (subst (λ (row : List LogLine). StoresInOrder to log row run.files new.files) all stores)
 
   -- a step that wasn't refused has no line
   no_line : (lines : List LogLine) (taken : Taken) → is_refusal taken.answer ≡ false → lines ++ line_at taken.asked taken.answer ≡ lines
@@ -92,9 +91,8 @@ module _ (to log : List ℕ) where
       go (Done run fine) =
           let taken = run.taken in
           let such_then = leads old.state taken.after old.files run.files taken.answer run.step fine such in
-          behind lines lines taken run.later course old.files run.files new.files run.course_is
-          (same old.state taken.after old.files run.files taken.answer run.step) (no_line lines taken fine)
-          (next taken.answer taken.after (with_report taken.after run.files old.report) run.later new ended such_then run.left)
+          behind run lines lines (same old.state taken.after old.files run.files taken.answer run.step) (no_line lines taken fine)
+          (next taken.answer taken.after (behind_step run) run.later new ended such_then run.left)
       go (Refused run) = Nothing (same old.state new.state old.files new.files (reply.Refused run.cause) run.step)
       go (Halted run) = Nothing run.stops.files
 
@@ -126,10 +124,6 @@ module _ (to log : List ℕ) where
       go (NotStored same fault) = DiskAlone disk (ap (λ (w : World). w.files) same ∙ is)
   log_in_order lines asked old course new ended told disk is (inr starved) = (starved.0, DiskAlone disk (ap (λ (w : World). w.files) starved.1 ∙ is))
 
-  eject_refused : (old new : State) (told after : Option Files) (cause : Reason) → Step (request.Eject 1) old told (reply.Refused cause) new after
-      → after ≡ told
-  eject_refused old new told after cause step = either (refusal_of old (request.Eject 1)) step (λ does. absurd (cc does.0)) (λ reason refused. refused.files)
-
   end_in_order : (lines : List LogLine) (asked : ℕ) → InOrder (Named to) lines (carries (request.Eject 1) (λ still. stores_log log asked lines))
   end_in_order lines asked old course new ended named runs = go (carry_run (request.Eject 1) (λ still. stores_log log asked lines) old course new ended runs)
     where
@@ -139,12 +133,12 @@ module _ (to log : List ℕ) where
           let does = (done_does old.state run.taken.after old.files run.files (request.Eject 1) run.taken.answer run.step fine).1 in
           let same : does.1 ≡ to = cc (does.3, named) in
           let files : run.files ≡ stored old.files to (file_of does.0) = does.5 ∙ ap (λ (n : List ℕ). stored old.files n (file_of does.0)) same in
-          let stores = log_in_order lines asked (with_report run.taken.after run.files old.report) run.later new ended old.files does.0 files run.left in
+          let stores = log_in_order lines asked (behind_step run) run.later new ended old.files does.0 files run.left in
           let none : log_of course ≡ line_at run.taken.asked run.taken.answer = ap log_of
           (run.course_is ∙ ap (λ (row : List Taken). run.taken ∷ row) stores.0) ∙ append-nil (line_at run.taken.asked run.taken.answer) in
           let all : lines ++ log_of course ≡ lines = ap (λ (row : List LogLine). lines ++ row) none ∙ no_line lines run.taken fine in
           subst (λ (row : List LogLine). StoresInOrder to log row old.files new.files) (sym all) stores.1
-      go (Refused run) = Nothing (eject_refused old.state new.state old.files new.files run.cause run.step)
+      go (Refused run) = Nothing (either (refusal_of old.state (request.Eject 1)) run.step (λ does. absurd (cc does.0)) (λ reason refused. refused.files))
       go (Halted run) = Nothing run.stops.files
 
   -- ---- the records
@@ -164,27 +158,23 @@ module _ (to log : List ℕ) where
       go (Answered run) =
           let called = run.step.1.0 in
           let answered = run.step.1.1 in
-          by_next called answered (follow_run key lines rest (with_report run.taken.after run.files old.report) run.later new ended called
-          (subst (λ (r : Reply). RunsScript (follows key r lines rest) (with_report run.taken.after run.files old.report) run.later new ended) answered
-          run.left))
+          by_next called answered (follow_run key lines rest (behind_step run) run.later new ended called
+          (subst (λ (r : Reply). RunsScript (follows key r lines rest) (behind_step run) run.later new ended) answered run.left))
         where
           named_then : Named to run.taken.after
           named_then = ap (λ (n : Two (Option (List ℕ))). in_bay n 1) run.step.0.names ∙ named
 
-          by_next : (called : Result Bool Code) → run.taken.answer ≡ read_reply called
-              → FollowRun key called lines rest (with_report run.taken.after run.files old.report) run.later new ended
+          by_next : (called : Result Bool Code) → run.taken.answer ≡ read_reply called → FollowRun key called lines rest (behind_step run) run.later new ended
               → StoresInOrder to log (lines ++ log_of course) old.files new.files
           by_next called answered (Writes deleted is more) =
               let fine = ap is_refusal (answered ∙ ap read_reply is) ∙ read_done deleted in
-              behind lines lines run.taken run.later course old.files run.files new.files run.course_is run.step.0.files (no_line lines run.taken fine)
+              behind run lines lines run.step.0.files (no_line lines run.taken fine)
               (call_in_order (write_of key deleted) (λ from then told after answer step. (write_does key deleted from then told after answer step).0) lines
-              (rest lines) (next lines) (with_report run.taken.after run.files old.report) run.later new ended named_then more)
+              (rest lines) (next lines) (behind_step run) run.later new ended named_then more)
           by_next called answered (Logs cause is more) =
               let line = line_of_refused key cause run.taken run.asked_is (answered ∙ ap read_reply is) in
               let now = lines ++ (record { key = key; code = cause }) ∷ [] in
-              behind lines now run.taken run.later course old.files run.files new.files run.course_is run.step.0.files
-              (ap (λ (row : List LogLine). lines ++ row) line)
-              (next now (with_report run.taken.after run.files old.report) run.later new ended named_then more)
+              behind run lines now run.step.0.files (ap (λ (row : List LogLine). lines ++ row) line) (next now (behind_step run) run.later new ended named_then more)
           by_next called answered (GivesUp cause is nothing same) = Nothing (same ∙ run.step.0.files)
           by_next called answered (Starves same starved) = Nothing (same ∙ run.step.0.files)
 

@@ -49,8 +49,7 @@ use Rattle.rescue.specs.declared.line.LogLine.{LogLine}
 use Rattle.rescue.proofs.OrderLemmas.{standard_rises, logged_rises}
 use Rattle.rescue_commands.specs.Logs.{IsLogFound, most_log_bytes}
 use Rattle.rescue_commands.specs.Rescue.{asked_keys}
-use Rattle.rescue_laws.specs.Tidy.{IsTidyWrite, IsTidyFor, AreTidy}
-use Rattle.rescue_laws.specs.Rescued.{IsLogged, IsSaved, WasNotRead, entry_at, is_write, count_writes, line_at, log_of}
+use Rattle.rescue_laws.specs.Rescued.{IsLogged, IsSaved, WasNotRead, entry_at, is_write, count_writes, line_at, log_of, IsTidyWrite, IsTidyFor, AreTidy}
 use Rattle.rescue_laws.proofs.Gone.{GoesKeys, keys_fell, write_fell, line_of_refused, line_of_done, read_done, write_no_read, write_writes, read_keeps, call_fell, gave, gave_reads}
 
 -- ---- each once

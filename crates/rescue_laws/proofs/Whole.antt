@@ -56,10 +56,9 @@ use Rattle.rescue.specs.declared.outcome.Outcome.{Outcome}
 use Rattle.rescue_commands.specs.Logs.{IsLogFound, IsFound}
 use Rattle.rescue_commands.specs.Rescue.{rescues, asked_keys, outcome_of, last_text, rescues_all, stores_log, rescue_found, rescue_rest, Rescues}
 use Rattle.rescue_commands.proofs.Rests.{by_rest}
-use Rattle.rescue_laws.specs.Rescued.{IsNotStopped, is_write, count_writes, IsLogged, IsSaved, IsSettled, WasNotRead, HasTarget, KeepsEntries, outcome_in, IsRescue, LogsNotFound, WasRefused, log_of, line_at}
+use Rattle.rescue_laws.specs.Rescued.{IsNotStopped, is_write, count_writes, IsLogged, IsSaved, IsSettled, WasNotRead, HasTarget, KeepsEntries, outcome_in, IsRescue, LogsNotFound, WasRefused, log_of, line_at, AreTidy}
 use Rattle.rescue_laws.proofs.Gone.{later_fine, not_refused, carried, GoesKeys, keys_gone, Fell, fell_both, keys_fell, line_of_done, gave_reads, never_both}
 use Rattle.rescue_laws.proofs.Opening.{opening, ready_requests, second_request, formats_for, prepares_carried, HasOther, begins_new, begins_again, holds_first}
-use Rattle.rescue_laws.specs.Tidy.{AreTidy}
 use Rattle.rescue_laws.proofs.Records.{heads_for, asked_all, asked_distinct, IsGuarded, IsPart, SavesKeys, saves_keys, ReadsKey, some_apart, keys_read, keys_counted}
 use Rattle.rescue_laws.proofs.Telling.{tells_keys}
 
@@ -489,26 +488,6 @@ module _ (from to log : List ℕ) (disk : Disk) (found : Option (List LogLine)) 
 
 -- ---- both ways to begin
 
-by_log : (from to log : List ℕ) (disk target : Disk) (found : Option (List LogLine)) (files : Files) (old : World) (course : List Taken) (new : World)
-    (ended : Status)
-    → to ≢ log → IsImageOf (Some files) from disk → length old.state.station.memory ≡ user_bytes
-    → IsFaultless 1 old.state.station.counters new.state.station.counters
-    → IsLogFound (Some files) log (sectors_at disk.rate) found → HasTarget found to target files old.state course
-    → GoesThrough (opening from to (shape_of disk) (is_some found)) (asked_keys (shape_of disk) found) log files old course new ended
-    → IsRescue disk target to log files old course new ended
-by_log from to log disk target None files old course new ended differ image size faultless there other p =
-    let fell = fell_opened from to log disk None files old course new ended there image p in
-    let begins = begins_new from to disk files old.state p.opened.state p.opened.files p.top image p.opens size
-    (omega (arith, fell.second, faultless.0), omega (arith, fell.second, faultless.1)) in
-    rescued from to log disk None files old course new ended there image p target begins.0 differ begins.1 (inl begins.2) faultless (λ final others. tt)
-by_log from to log disk target (Some lines) files old course new ended differ image size faultless there other p =
-    let has = begins_again from to disk target files old.state p.opened.state p.opened.files p.top image other.image other.regular p.opens size in
-    let tidy = tidy_later old.state p.opened.state (Some files) p.opened.files p.top (p.body ++ p.last) p.opens.run
-    (subst (λ (row : List Taken). AreTidy old.state row) p.is other.tidy) in
-    rescued from to log disk (Some lines) files old course new ended there image p target target differ has
-    (inr (tidy_first p.opened.state p.body p.last tidy)) faultless
-    (λ final others. others)
-
 pub rescue_stores : (from to log : List ℕ) (disk target : Disk) (files : Files) (old : World) (course : List Taken) (new : World) (ended : Status)
     → Rescues from to log old course new ended → IsEndStatus ended → IsNotStopped course → to ≢ log → old.files ≡ Some files → IsImageOf (Some files) from disk
     → length old.state.station.memory ≡ user_bytes → IsFaultless 1 old.state.station.counters new.state.station.counters
@@ -516,7 +495,22 @@ pub rescue_stores : (from to log : List ℕ) (disk target : Disk) (files : Files
     → IsRescue disk target to log files old course new ended
 rescue_stores from to log disk target files old course new ended rescues whole fine differ told image size faultless other =
     let all = goes_through from to log disk files old course new ended whole fine told rescues image in
-    by_log from to log disk target all.found files old course new ended differ image size faultless all.there (other all.found all.there) all.goes
+    go all.found all.there (other all.found all.there) all.goes
+  where
+    go : (found : Option (List LogLine)) → IsLogFound (Some files) log (sectors_at disk.rate) found → HasTarget found to target files old.state course
+        → GoesThrough (opening from to (shape_of disk) (is_some found)) (asked_keys (shape_of disk) found) log files old course new ended
+        → IsRescue disk target to log files old course new ended
+    go None there other p =
+        let fell = fell_opened from to log disk None files old course new ended there image p in
+        let begins = begins_new from to disk files old.state p.opened.state p.opened.files p.top image p.opens size
+        (omega (arith, fell.second, faultless.0), omega (arith, fell.second, faultless.1)) in
+        rescued from to log disk None files old course new ended there image p target begins.0 differ begins.1 (inl begins.2) faultless (λ final others. tt)
+    go (Some lines) there other p =
+        let has = begins_again from to disk target files old.state p.opened.state p.opened.files p.top image other.image other.regular p.opens size in
+        let whole_tidy = subst (λ (row : List Taken). AreTidy old.state row) p.is other.tidy in
+        let later = tidy_later old.state p.opened.state (Some files) p.opened.files p.top (p.body ++ p.last) p.opens.run whole_tidy in
+        rescued from to log disk (Some lines) files old course new ended there image p target target differ has
+        (inr (tidy_first p.opened.state p.body p.last later)) faultless (λ final others. others)
 
 pub rescue_logs : (from to log : List ℕ) (disk : Disk) (files : Files) (old : World) (course : List Taken) (new : World) (ended : Status)
     → Rescues from to log old course new ended → IsEndStatus ended → IsNotStopped course → old.files ≡ Some files → IsImageOf (Some files) from disk

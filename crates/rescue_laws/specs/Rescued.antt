@@ -6,9 +6,12 @@ use Rattle.flop_base.specs.Standard.{sectors_at}
 use Rattle.flop_base.specs.declared.key.Chrn.{Chrn}
 use Rattle.flop_base.specs.declared.answers.Code.{Code}
 use Rattle.flop_base.specs.declared.answers.Status.{Status}
-use Rattle.raw_image.specs.Disk.{Disk}
+use Rattle.raw_image.specs.Disk.{Disk, HasTrack, track_of}
 use Rattle.raw_image.specs.Image.{file_of}
+use Rattle.bay_model.specs.Memory.{bytes_from}
 use Rattle.track_model.specs.declared.Look.{Look}
+use Rattle.track_model.specs.Fields.{IsAddressAt, content_size}
+use Rattle.track_model.specs.Windows.{IsTidy}
 use Rattle.floppy_requests.specs.declared.request.Request.{Request}
 use Rattle.floppy_requests.specs.declared.request.Request.TheVariants as request
 use Rattle.sector_map.specs.Failing.{AreFailing}
@@ -21,6 +24,7 @@ use Rattle.sector_model.specs.Steps.{IsImageOf}
 use Rattle.sector_model.specs.Texts.{is_refusal}
 use Rattle.sector_model.specs.Runs.{Taken}
 use Rattle.sector_model.specs.Plays.{World}
+use Rattle.sector_model.specs.Stations.{StationState, bay_of}
 use Rattle.floppy_session.specs.Shapes.{shape_of}
 use Rattle.disk_laws.specs.Copied.{SomeStep, Gave}
 use Rattle.disk_laws.specs.Verified.{all_told_of}
@@ -29,9 +33,7 @@ use Rattle.rescue.specs.Log.{log_text}
 use Rattle.rescue.specs.declared.line.LogLine.{LogLine}
 use Rattle.rescue.specs.declared.outcome.Outcome.{Outcome}
 use Rattle.rescue_commands.specs.Logs.{IsLogFound}
-use Rattle.rescue_commands.specs.Rescue.{asked_keys}
-use Rattle.rescue_commands.specs.Rescue.{last_text}
-use Rattle.rescue_laws.specs.Tidy.{AreTidy}
+use Rattle.rescue_commands.specs.Rescue.{asked_keys, last_text}
 
 -- ---- The lines of a new log, by the course of a rescue.
 
@@ -49,6 +51,26 @@ line_at asked other = []
 abbrev pub log_of : List Taken → List LogLine
 log_of [] = []
 log_of (taken ∷ later) = line_at taken.asked taken.answer ++ log_of later
+
+-- ---- Runs whose writes can't bring up an address mark, however short they stop.
+
+-- each address field of the key on the disk in the bay is Tidy for what is written from memory
+abbrev pub IsTidyWrite : StationState → ℕ → Chrn → ℕ → Bool → Type 0
+IsTidyWrite station bay key address deleted =
+    (disk : Disk) (c p : ℕ) → (bay_of station bay).medium ≡ Some disk → HasTrack disk c key.h
+    → IsAddressAt (track_of disk c key.h) p key
+    → IsTidy (track_of disk c key.h) p deleted (bytes_from station.memory address (content_size key.n))
+
+-- so it is where the request is a write
+abbrev pub IsTidyFor : State → Request → Type 0
+IsTidyFor state (request.Write bay key address) = IsTidyWrite state.station bay key address false
+IsTidyFor state (request.WriteDeleted bay key address) = IsTidyWrite state.station bay key address true
+IsTidyFor state _ = Unit {0}
+
+-- at the beginning of each write of a course
+abbrev pub AreTidy : State → List Taken → Type 0
+AreTidy state [] = Unit {0}
+AreTidy state (taken ∷ later) = IsTidyFor state taken.asked × AreTidy taken.after later
 
 -- ---- Its run.
 
