@@ -21,7 +21,7 @@ use Rattle.sector_model.specs.Stations.{StationState, bay_of, met}
 use Rattle.sector_model.specs.Orders.{read_refusal, write_refusal}
 use Rattle.sector_model.specs.Reads.{Reads, ReadsDrive, IsReadCause}
 use Rattle.sector_model.specs.States.{State}
-use Rattle.sector_model.specs.Steps.{IsDriverCall, read_reply}
+use Rattle.sector_model.specs.Steps.{read_reply}
 use Rattle.sector_model.specs.Runs.{Taken}
 use Rattle.sector_model.specs.Texts.{is_refusal}
 use Rattle.sector_model.specs.Plays.{World}
@@ -51,21 +51,6 @@ pub record TellsKey (disk : Disk) (count : ℕ) (key : Chrn) (called : Result Bo
   pub one : (other : Look) → LookOn disk key other → other ≡ look
   pub told : refusal_of_read key called ≡ told_of key look
   pub holds : Holds disk count new
-
--- a standard key
-on_disk : (disk : Disk) (heads count : ℕ) (key : Chrn) (called : Result Bool Code) (old new : State) (told after : Option Files) → disk.cylinders ≤ 80
-    → disk.heads ≤ 2 → IsUnmistaken disk → IsAsked disk heads key → HasTrack disk key.c key.h → IsDriverCall old told new after
-    → Reads 0 key 0x10000 old.station called new.station → Holds disk count old.station → IsUndisturbed 0 old.station.counters new.station.counters
-    → NeverFell old.station.counters new.station.counters → TellsKey disk count key called new.station
-on_disk disk heads count key called old new told after few_cylinders few_heads unmistaken asked has call reads holds quiet fell =
-    let standard : IsStandardKey disk key = record { track = has; sector = asked.sector; size = asked.size } in
-    let tells = one_read disk count key old new told after (read_reply called) few_cylinders few_heads unmistaken standard (call, (called, refl, reads)) holds quiet fell in
-    record {
-      look = tells.look;
-      one = λ other on. one_look_for (track_of disk key.c key.h) key other tells.look (on.there has) tells.looked;
-      told = sym (same_refusal key called) ∙ tells.told;
-      holds = tells.holds;
-    }
 
 -- a key of no track
 module _ (disk : Disk) (heads count : ℕ) (key : Chrn) (asked : IsAsked disk heads key) (none : HasTrack disk key.c key.h → ⊥) (old new : StationState) (holds : Holds disk count old) (quiet : IsUndisturbed 0 old.counters new.counters) (fell : NeverFell old.counters new.counters) where
@@ -109,20 +94,6 @@ module _ (disk : Disk) (heads count : ℕ) (key : Chrn) (asked : IsAsked disk he
       (not_refused old key.c key.h key.r count asked.cylinder asked.side asked.sector.0 holds.acknowledged) in
       drive_tells called (reaches _ (read_refusal old 0 key 0x10000) free reads)
 
-tells_key : (disk : Disk) (heads count : ℕ) (key : Chrn) (called : Result Bool Code) (old new : State) (told after : Option Files) → disk.cylinders ≤ 80
-    → disk.heads ≤ 2 → IsUnmistaken disk → IsAsked disk heads key → IsDriverCall old told new after → Reads 0 key 0x10000 old.station called new.station
-    → Holds disk count old.station → IsUndisturbed 0 old.station.counters new.station.counters → NeverFell old.station.counters new.station.counters
-    → TellsKey disk count key called new.station
-tells_key disk heads count key called old new told after few_cylinders few_heads unmistaken asked call reads holds quiet fell =
-    elim (cases_lt key.c disk.cylinders) [
-      | inl cylinder ↦ elim (cases_lt key.h disk.heads) [
-        | inl head ↦ on_disk disk heads count key called old new told after few_cylinders few_heads unmistaken asked
-            (cylinder, head) call reads holds quiet fell
-        | inr past ↦ off_disk disk heads count key asked (λ has. absurd (omega (arith, has.1))) old.station new.station holds quiet fell called reads
-      ]
-      | inr past ↦ off_disk disk heads count key asked (λ has. absurd (omega (arith, has.0))) old.station new.station holds quiet fell called reads
-    ]
-
 -- ---- what the log has
 
 -- the lines of refusals
@@ -143,12 +114,30 @@ lines_more key look failed rest refused lines later all told here there =
 module _ (disk : Disk) (few_cylinders : disk.cylinders ≤ 80) (few_heads : disk.heads ≤ 2) (unmistaken : IsUnmistaken disk) (heads count : ℕ) where
   -- what the read of a record told
   read_tells : (key : Chrn) (called : Result Bool Code) (old : World) (read : Taken) (files : Option Files) → IsAsked disk heads key
-      → IsRead key called old read files
-      → Holds disk count old.state.station → IsUndisturbed 0 old.state.station.counters read.after.station.counters
-      → TellsKey disk count key called read.after.station
-  read_tells key called old read files asked is holds quiet =
-      tells_key disk heads count key called old.state read.after old.files files few_cylinders few_heads unmistaken asked is.call is.reads holds quiet
-      (call_fell old.state read.after old.files files is.call)
+      → IsRead key called old read files → Holds disk count old.state.station
+      → IsUndisturbed 0 old.state.station.counters read.after.station.counters → TellsKey disk count key called read.after.station
+  read_tells key called old read files asked is holds quiet = elim (cases_lt key.c disk.cylinders) [
+    | inl cylinder ↦ elim (cases_lt key.h disk.heads) [ inl head ↦ on_disk (cylinder, head) | inr past ↦ off (λ has. absurd (omega (arith, has.1))) ]
+    | inr past ↦ off (λ has. absurd (omega (arith, has.0)))
+  ]
+    where
+      fell : NeverFell old.state.station.counters read.after.station.counters
+      fell = call_fell old.state read.after old.files files is.call
+
+      off : (HasTrack disk key.c key.h → ⊥) → TellsKey disk count key called read.after.station
+      off none = off_disk disk heads count key asked none old.state.station read.after.station holds quiet fell called is.reads
+
+      on_disk : HasTrack disk key.c key.h → TellsKey disk count key called read.after.station
+      on_disk has =
+          let standard : IsStandardKey disk key = record { track = has; sector = asked.sector; size = asked.size } in
+          let tells = one_read disk count key old.state read.after old.files files (read_reply called) few_cylinders few_heads unmistaken standard
+          (is.call, (called, refl, is.reads)) holds quiet fell in
+          record {
+            look = tells.look;
+            one = λ other on. one_look_for (track_of disk key.c key.h) key other tells.look (on.there has) tells.looked;
+            told = sym (same_refusal key called) ∙ tells.told;
+            holds = tells.holds;
+          }
 
   -- a write leaves bay 0 as it is
   write_holds : (key : Chrn) (deleted : Bool) (old new : World) (write : Taken) (files : Option Files) → new.state ≡ write.after

@@ -113,7 +113,8 @@ Behind log keys lines = carries (request.Eject 1) (λ still. stores_log log (len
 -- ---- the whole
 
 -- requests were done, then records were gone through, and the other diskette was stored, each with its part of the course; then the log
-pub record GoesThrough (requests : List Request) (keys : List Chrn) (log : List ℕ) (files : Files) (old : World) (course : List Taken) (new : World) (ended : Status) : Type 0 where
+pub record GoesThrough (requests : List Request) (keys : List Chrn) (log : List ℕ) (files : Files)
+    (old : World) (course : List Taken) (new : World) (ended : Status) : Type 0 where
   pub opened : World
   pub rescued : World
   pub ejected : World
@@ -345,11 +346,8 @@ module _ (from to log : List ℕ) (disk : Disk) (found : Option (List LogLine)) 
   abbrev keys : List Chrn
   keys = asked_keys (shape_of disk) found
 
-  requests_plain : list_all is_plain requests ≡ true
-  requests_plain = opening_plain from to (shape_of disk) (is_some found)
-
   top_plain : list_all is_plain (requests_of p.top) ≡ true
-  top_plain = ap (λ (row : List Request). list_all is_plain row) p.opens.all ∙ requests_plain
+  top_plain = ap (λ (row : List Request). list_all is_plain row) p.opens.all ∙ opening_plain from to (shape_of disk) (is_some found)
 
   last_plain : list_all is_plain (requests_of p.last) ≡ true
   last_plain = ap (λ (row : List Request). list_all is_plain row) p.ejects.all
@@ -385,7 +383,7 @@ module _ (from to log : List ℕ) (disk : Disk) (found : Option (List LogLine)) 
 
   -- no count falls
   fell_top : Fell old p.opened
-  fell_top = never_fell old.state p.opened.state (Some files) p.opened.files requests p.top p.opens (plain_keep requests requests_plain)
+  fell_top = never_fell old.state p.opened.state (Some files) p.opened.files requests p.top p.opens (plain_keep requests (opening_plain from to (shape_of disk) (is_some found)))
 
   pub fell_rescued : Fell p.rescued new
   fell_rescued =
