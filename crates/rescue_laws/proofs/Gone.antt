@@ -160,7 +160,8 @@ carried (asked ∷ requests) rest old course new ended whole fine runs =
 -- ---- what follows the read of a record
 
 -- it is written, or its line comes behind the log; or the rescue ends there, by the code, or for want of memory
-pub data FollowRun (key : Chrn) (called : Result Bool Code) (lines : List LogLine) (rest : List LogLine → Script) (old : World) (course : List Taken) (new : World) (ended : Status) : Type 0 where
+pub data FollowRun (key : Chrn) (called : Result Bool Code) (lines : List LogLine) (rest : List LogLine → Script) (old : World) (course : List Taken)
+    (new : World) (ended : Status) : Type 0 where
   Writes : (deleted : Bool) → called ≡ Ok deleted → RunsScript (carries (write_of key deleted) (λ none. rest lines)) old course new ended
       → FollowRun key called lines rest old course new ended
   Logs : (cause : Code) → called ≡ Err cause → RunsScript (rest (lines ++ (record { key = key; code = cause }) ∷ [])) old course new ended

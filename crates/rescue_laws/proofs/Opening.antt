@@ -1,7 +1,7 @@
 -- What comes before the records of a rescue: both diskettes are put in and made ready.
-use Rattle.std.proofs.Common.{◌↔◌, arith, ◌≡◌, ◌∙◌, ◌≤◌, ℕ, List, ◌∷◌, ◌++◌, refl, ap, Option, Some, Bool, true, false, [], subst, sym, inl, inr, length, ◌<◌}
+use Rattle.std.proofs.Common.{true≢false, ◌↔◌, arith, ◌≡◌, ◌∙◌, ◌≤◌, ℕ, List, ◌∷◌, ◌++◌, refl, ap, Option, Some, Bool, true, false, [], subst, sym, inl, inr, length, ◌<◌}
 use Rattle.std.specs.List.{list_all}
-use Rattle.std.specs.Prelude.{◌⊎◌}
+use Rattle.std.specs.Prelude.{if◌then◌else◌, ◌⊎◌}
 use Rattle.flop_base.specs.Shelf.{Files}
 use Rattle.flop_base.specs.declared.answers.Rate.{Rate}
 use Rattle.flop_base.specs.declared.answers.Rate.TheVariants.{R500, R250}
@@ -31,7 +31,7 @@ use Rattle.scripts.specs.Scripts.{Script}
 use Rattle.disk_laws.specs.Done.{DoesAll}
 use Rattle.disk_laws.proofs.CopiedTrack.{IsReady, formats_it, small}
 use Rattle.disk_laws.proofs.Prepared.{acks, blanks, readies}
-use Rattle.disk_laws.proofs.Steps.{splits, NeverFell, begins, step_never_fell, ok_called, reached, done_does, ends_there, never_fell, keeps_drives}
+use Rattle.disk_laws.proofs.Steps.{and_both, keeps_drives, splits, NeverFell, begins, step_never_fell, ok_called, reached, done_does, ends_there, never_fell, keeps_drives}
 use Rattle.disk_laws.specs.Requests.{Track, tracks_of, format_each}
 use Rattle.disk_laws.proofs.Formatted.{blank_keeps}
 use Rattle.disk_laws.proofs.Verified.{one_image, image_ranges}
@@ -42,6 +42,7 @@ use Rattle.disk_laws.proofs.Tracks.{Among, among_all, among_only}
 use Rattle.disk_laws.proofs.BlankDisk.{blank_regular}
 use Rattle.disk_laws.proofs.Reading.{Holds}
 use Rattle.rescue_commands.specs.Rescue.{acknowledges_both, prepares_old, prepares_new, prepares}
+use Rattle.rescue_laws.specs.Rescued.{is_write}
 use Rattle.rescue_laws.proofs.Gone.{carries_all}
 use Rattle.rescue_laws.proofs.Records.{AreLaid}
 
@@ -65,6 +66,48 @@ ready_requests rate rest =
 abbrev pub opening : List ℕ → List ℕ → Shape → Bool → List Request
 opening from to shape logged =
     request.Insert 0 from ∷ second_request to shape logged ∷ ready_requests shape.rate (formats_for shape logged)
+
+-- ---- they neither read nor write
+
+abbrev is_read : Request → Bool
+is_read (request.Read bay key address) = true
+is_read _ = false
+
+-- the request is no read and no write, and leaves the drives in their bays
+abbrev pub is_plain : Request → Bool
+is_plain asked = if is_write asked then false else (if is_read asked then false else keeps_drives asked)
+
+pub plain_facts : (asked : Request) → is_plain asked ≡ true → (is_write asked ≡ false) × (keeps_drives asked ≡ true)
+plain_facts asked = go (is_write asked) (is_read asked)
+  where
+    go : (writes reads : Bool) → (if writes then false else (if reads then false else keeps_drives asked)) ≡ true
+        → (writes ≡ false) × (keeps_drives asked ≡ true)
+    go true reads e = absurd (true≢false (sym e))
+    go false true e = absurd (true≢false (sym e))
+    go false false e = (refl, e)
+
+pub plain_keep : (requests : List Request) → list_all is_plain requests ≡ true → list_all keeps_drives requests ≡ true
+plain_keep [] e = refl
+plain_keep (asked ∷ later) e =
+    let both = and_both (is_plain asked) (list_all is_plain later) e in
+    let first = (plain_facts asked both.0).1 in
+    rw first (plain_keep later both.1)
+
+formats_plain : (tracks : List Track) → list_all is_plain (format_each 1 tracks) ≡ true
+formats_plain [] = refl
+formats_plain (track ∷ later) = formats_plain later
+
+ready_plain : (rate : Rate) (formats : List Request) → list_all is_plain formats ≡ true → list_all is_plain (ready_requests rate formats) ≡ true
+ready_plain R500 formats e = e
+ready_plain R250 formats e = e
+
+blank_plain : (from to : List ℕ) (cylinders : ℕ) (rate : Rate) (formats : List Request) → list_all is_plain formats ≡ true → list_all is_plain (request.Insert 0 from ∷ blank_request 1 to cylinders rate ∷ ready_requests rate formats) ≡ true
+blank_plain from to cylinders R500 formats e = e
+blank_plain from to cylinders R250 formats e = e
+
+pub opening_plain : (from to : List ℕ) (shape : Shape) (logged : Bool) → list_all is_plain (opening from to shape logged) ≡ true
+opening_plain from to shape true = ready_plain shape.rate [] refl
+opening_plain from to shape false = blank_plain from to shape.cylinders shape.rate (format_each 1 (tracks_of shape.cylinders shape.heads)) (formats_plain (tracks_of shape.cylinders shape.heads))
 
 -- ---- the script carries them
 
@@ -279,10 +322,6 @@ are_open from to disk files logged old new after course image all =
 
 -- ---- the formats
 
-pub formats_keep : (tracks : List Track) → list_all keeps_drives (format_each 1 tracks) ≡ true
-formats_keep [] = refl
-formats_keep (track ∷ later) = formats_keep later
-
 -- the formats leave bay 0 as it is
 pub first_stays : (tracks : List Track) (old new : State) (told after : Option Files) (course : List Taken) → DoesAll (format_each 1 tracks) old told course new after → bay_of new.station 0 ≡ bay_of old.station 0
 first_stays [] old new told after course all = ap (λ (s : State). bay_of s.station 0) (ends_there old new told after course all).0
@@ -319,7 +358,8 @@ lays_tracks rate source (track ∷ later) disk old new told after course all has
     let format = request.Format 1 b g ∷ [] in
     let parts = splits old new told after format (format_each 1 later) course all in
     let fell_first = never_fell old parts.mid told parts.files format parts.one parts.before refl in
-    let fell_later = never_fell parts.mid new parts.files after (format_each 1 later) parts.two parts.behind (formats_keep later) in
+    let fell_later = never_fell parts.mid new parts.files after (format_each 1 later) parts.two parts.behind
+    (plain_keep (format_each 1 later) (formats_plain later)) in
     let here = has b g (inl (refl, refl)) in
     let made = formats_it rate source b g disk old parts.mid told parts.files parts.one parts.before ready here
     (omega (arith, fell_later.second, faultless.0), omega (arith, fell_later.second, faultless.1)) in
@@ -342,8 +382,11 @@ lays_tracks rate source (track ∷ later) disk old new told after course all has
 formats_stay : (shape : Shape) (logged : Bool) (old new : State) (told after : Option Files) (course : List Taken) → DoesAll (formats_for shape logged) old told course new after → (bay_of new.station 0 ≡ bay_of old.station 0) × NeverFell old.station.counters new.station.counters
 formats_stay shape true old new told after course all = (first_stays [] old new told after course all, never_fell old new told after [] course all refl)
 formats_stay shape false old new told after course all =
-    let tracks = tracks_of shape.cylinders shape.heads in
-    (first_stays tracks old new told after course all, never_fell old new told after (format_each 1 tracks) course all (formats_keep tracks))
+    let tracks = tracks_of shape.cylinders shape.heads in (
+      first_stays tracks old new told after course all,
+      never_fell old new told after (format_each 1 tracks) course all
+          (plain_keep (format_each 1 tracks) (formats_plain tracks)),
+    )
 
 -- ---- the whole opening
 

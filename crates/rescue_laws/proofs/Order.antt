@@ -174,7 +174,8 @@ module _ (to log : List ℕ) where
           by_next called answered (Logs cause is more) =
               let line = line_of_refused key cause run.taken run.asked_is (answered ∙ ap read_reply is) in
               let now = lines ++ (record { key = key; code = cause }) ∷ [] in
-              behind run lines now run.step.0.files (ap (λ (row : List LogLine). lines ++ row) line) (next now (behind_step run) run.later new ended named_then more)
+              behind run lines now run.step.0.files (ap (λ (row : List LogLine). lines ++ row) line)
+              (next now (behind_step run) run.later new ended named_then more)
           by_next called answered (GivesUp cause is nothing same) = Nothing (same ∙ run.step.0.files)
           by_next called answered (Starves same starved) = Nothing (same ∙ run.step.0.files)
 

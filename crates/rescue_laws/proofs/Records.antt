@@ -261,8 +261,6 @@ goes_to_field key address deleted disk old new called regular drive ok faultless
       rate = sym done.same_rate ∙ same_rate written disk drive.changes done.disk reach;
     }
 
--- ---- Laid tracks
-
 module _ (heads : ℕ) (disk next : Disk) (c h : ℕ) (keeps : KeepsTracks disk c h next) where
   still_laid : AreLaid heads disk → IsLaid (track_of next c h) → AreLaid heads next
   still_laid laid here b g has few =
@@ -349,7 +347,8 @@ saves_key tidy heads disk key deleted old told taken after later regular size si
 -- ---- the records, one after the other
 
 -- what became of the keys, and of the disk in bay 1; in a longer course
-pub record SavesKeys (whole : List Taken) (lines : List LogLine) (keys : List Chrn) (disk : Disk) (old : World) (course : List Taken) (new : World) : Type 0 where
+pub record SavesKeys (whole : List Taken) (lines : List LogLine) (keys : List Chrn) (disk : Disk) (old : World) (course : List Taken)
+    (new : World) : Type 0 where
   pub final : Disk
   pub medium : (bay_of new.state.station 1).medium ≡ Some final
   pub regular : IsRegularDisk final
@@ -429,7 +428,8 @@ module _ (tidy : AllTidy) (source : Disk) (heads : ℕ) (whole : List Taken) (li
       let one = saves_key tidy heads disk key deleted read.after files write more later regular
       (keeps.size ∙ size) asked.0.size asked.0.head wrote.asked wrote.step
       wrote.done calm still guard in
-      let all = saves_keys keys one.wrote.next next later new goes (part_later write later (part_later read (write ∷ later) part)) asked.1 distinct.1 one.wrote.regular
+      let all = saves_keys keys one.wrote.next next later new goes (part_later write later (part_later read (write ∷ later) part))
+      asked.1 distinct.1 one.wrote.regular
       (ap (λ (m : List ℕ). length m) one.memory ∙ keeps.size ∙ size) one.wrote.medium one.guarded
       (omega (arith, fell_read.second, fell_write.second, faultless.0), faultless.1) in
       let content = bytes_from read.after.station.memory 0x10000 (content_size key.n) in

@@ -36,24 +36,23 @@ use Rattle.rescue_laws.proofs.Gone.{call_fell, line_of_refused, line_of_done, re
 use Rattle.rescue_laws.proofs.Records.{IsAsked, write_does}
 
 -- the refusal of a read, if it was one
-abbrev pub refusal_of_read : Chrn → Result Bool Code → List (Chrn × Code)
-refusal_of_read key (Ok deleted) = []
-refusal_of_read key (Err cause) = (key, cause) ∷ []
+abbrev pub told_by : Chrn → Result Bool Code → List (Chrn × Code)
+told_by key called = refused_read (request.Read 0 key 0x10000) (read_reply called)
 
-same_refusal : (key : Chrn) (called : Result Bool Code) → refused_read (request.Read 0 key 0x10000) (read_reply called) ≡ refusal_of_read key called
-same_refusal key (Ok true) = refl
-same_refusal key (Ok false) = refl
-same_refusal key (Err cause) = refl
+none_told : (key : Chrn) (deleted : Bool) → told_by key (Ok deleted) ≡ []
+none_told key true = refl
+none_told key false = refl
 
 -- a read told the one look for its key
 pub record TellsKey (disk : Disk) (count : ℕ) (key : Chrn) (called : Result Bool Code) (new : StationState) : Type 0 where
   pub look : Look
   pub one : (other : Look) → LookOn disk key other → other ≡ look
-  pub told : refusal_of_read key called ≡ told_of key look
+  pub told : told_by key called ≡ told_of key look
   pub holds : Holds disk count new
 
 -- a key of no track
-module _ (disk : Disk) (heads count : ℕ) (key : Chrn) (asked : IsAsked disk heads key) (none : HasTrack disk key.c key.h → ⊥) (old new : StationState) (holds : Holds disk count old) (quiet : IsUndisturbed 0 old.counters new.counters) (fell : NeverFell old.counters new.counters) where
+module _ (disk : Disk) (heads count : ℕ) (key : Chrn) (asked : IsAsked disk heads key) (none : HasTrack disk key.c key.h → ⊥) (old new : StationState)
+    (holds : Holds disk count old) (quiet : IsUndisturbed 0 old.counters new.counters) (fell : NeverFell old.counters new.counters) where
   nothing : HasNothing (met (bay_of old 0) key.c key.h)
   nothing =
       subst HasNothing (sym (in_is_on (bay_of old 0).medium (bay_of old 0).rate key.c key.h disk holds.medium))
@@ -62,7 +61,7 @@ module _ (disk : Disk) (heads count : ℕ) (key : Chrn) (asked : IsAsked disk he
   same_faults : faults_of new.counters 0 ≡ count
   same_faults = let first = fell.first in let stalls = fell.stalls in let together = quiet.together in let was = holds.faults in omega arith
 
-  only_mark : (tries : ℕ) (cause : Code) → IsReadCause (met (bay_of old 0) key.c key.h) key tries 0 old cause new → refusal_of_read key (Err cause) ≡ told_of key NoMark
+  only_mark : (tries : ℕ) (cause : Code) → IsReadCause (met (bay_of old 0) key.c key.h) key tries 0 old cause new → told_by key (Err cause) ≡ told_of key NoMark
   only_mark tries code.NoMark is = refl
   only_mark tries code.NotFound is = absurd (nothing.marks (is.not_found refl quiet).0)
   only_mark tries code.BadCrc is = let bad = is.bad_data refl quiet in absurd (nothing.addresses bad.0 key bad.1)
@@ -135,7 +134,7 @@ module _ (disk : Disk) (few_cylinders : disk.cylinders ≤ 80) (few_heads : disk
           record {
             look = tells.look;
             one = λ other on. one_look_for (track_of disk key.c key.h) key other tells.look (on.there has) tells.looked;
-            told = sym (same_refusal key called) ∙ tells.told;
+            told = tells.told;
             holds = tells.holds;
           }
 
@@ -184,5 +183,5 @@ module _ (disk : Disk) (few_cylinders : disk.cylinders ≤ 80) (few_heads : disk
       let none = line_of_done read.asked read.answer (ap is_refusal is.answered ∙ read_done deleted) in
       let also = ap (λ (row : List LogLine). row ++ log_of later) (line_of_done write.asked write.answer wrote.done) in
       lines_more key failing.0 failed failing.1 [] (line_at read.asked read.answer) (log_of (write ∷ later)) failing.3
-      (tells.told ∙ ap (told_of key) (sym same))
+      (sym (none_told key deleted) ∙ tells.told ∙ ap (told_of key) (sym same))
       none (also ∙ tells_keys keys failing.1 next later new goes asked.1 failing.4 now last.1)

@@ -1,6 +1,6 @@
 -- Rescues, by the status with which they end: what is stored and told, and when the log is exactly the keys that aren't found.
 use Rattle.std.proofs.Common.{◌≡◌, ◌∙◌, List, [], ◌∷◌, ◌++◌, ℕ, length, ap, subst, inl, inr, append-nil, Option, Some, arith, ◌+◌, Bool, true, false, true≢false, refl, sym, append_assoc, ◌↔◌, None, ◌≢◌, ◌-◌, ◌≤◌, cond}
-use Rattle.std.specs.Prelude.{is_some, ◌⊎◌, Contains, IfSome, if◌then◌else◌}
+use Rattle.std.specs.Prelude.{is_some, ◌⊎◌, Contains, IfSome}
 use Rattle.std.specs.List.{list_all}
 use Rattle.std.proofs.lemmas.List.Elements.{All-from_recursion, All-weaker}
 use Rattle.std.specs.FinMap as fin
@@ -14,8 +14,6 @@ use Rattle.flop_base.specs.Standard.{sectors_at}
 use Rattle.flop_base.specs.declared.answers.Status.{Status}
 use Rattle.flop_base.specs.declared.answers.Status.TheVariants as status
 use Rattle.flop_base.specs.declared.key.Chrn.{Chrn}
-use Rattle.flop_base.specs.declared.answers.Rate.{Rate}
-use Rattle.flop_base.specs.declared.answers.Rate.TheVariants.{R500, R250}
 use Rattle.raw_image.specs.Disk.{Disk}
 use Rattle.raw_image.specs.Image.{file_of}
 use Rattle.bay_model.specs.Bays.{Two, in_bay}
@@ -32,7 +30,6 @@ use Rattle.sector_model.specs.Texts.{is_refusal}
 use Rattle.sector_model.specs.States.{State}
 use Rattle.floppy_session.specs.declared.shape.Shape.{Shape}
 use Rattle.floppy_session.specs.Shapes.{shape_of}
-use Rattle.floppy_session.specs.Blanks.{blank_request}
 use Rattle.scripts.specs.Scripts.{Script, Ends, RunsScript, StoresLast, IsStored, NotStored, IsStoreFault}
 use Rattle.scripts.specs.Parts.{carries, may_starve, through}
 use Rattle.scripts.proofs.Reading.{last_run, last_stored, prints_status}
@@ -43,8 +40,7 @@ use Rattle.disk_laws.proofs.VerifyRun.{not_put, end_is_whole}
 use Rattle.disk_laws.proofs.PutIn.{opened_shape}
 use Rattle.disk_laws.proofs.TrackParts.{did_all}
 use Rattle.disk_laws.specs.Copied.{SomeStep}
-use Rattle.disk_laws.specs.Requests.{Track, format_each, tracks_of}
-use Rattle.disk_laws.proofs.Steps.{keeps_drives, and_both, or_false, NeverFell, begins, ends_there, never_fell}
+use Rattle.disk_laws.proofs.Steps.{and_both, or_false, NeverFell, begins, ends_there, never_fell}
 use Rattle.disk_laws.proofs.Marks.{some_first, some_second}
 use Rattle.disk_laws.specs.Verified.{IsUnmistaken}
 use Rattle.disk_laws.proofs.Reading.{quiet_parts}
@@ -56,9 +52,9 @@ use Rattle.rescue.specs.declared.outcome.Outcome.{Outcome}
 use Rattle.rescue_commands.specs.Logs.{IsLogFound, IsFound}
 use Rattle.rescue_commands.specs.Rescue.{rescues, asked_keys, outcome_of, last_text, rescues_all, stores_log, rescue_found, rescue_rest, Rescues}
 use Rattle.rescue_commands.proofs.Rests.{by_rest}
-use Rattle.rescue_laws.specs.Rescued.{IsNotStopped, is_write, count_writes, IsLogged, IsSaved, IsSettled, WasNotRead, HasTarget, KeepsEntries, outcome_in, IsRescue, LogsNotFound, WasRefused, log_of, line_at, AreTidy}
+use Rattle.rescue_laws.specs.Rescued.{IsNotStopped, count_writes, IsLogged, IsSaved, IsSettled, WasNotRead, HasTarget, KeepsEntries, outcome_in, IsRescue, LogsNotFound, WasRefused, log_of, line_at, AreTidy}
 use Rattle.rescue_laws.proofs.Gone.{later_fine, not_refused, carried, GoesKeys, keys_gone, Fell, fell_both, keys_fell, line_of_done, gave_reads, never_both}
-use Rattle.rescue_laws.proofs.Opening.{opening, ready_requests, second_request, formats_for, prepares_carried, HasOther, begins_new, begins_again, holds_first}
+use Rattle.rescue_laws.proofs.Opening.{opening, ready_requests, second_request, formats_for, prepares_carried, HasOther, begins_new, begins_again, holds_first, is_plain, plain_facts, plain_keep, opening_plain}
 use Rattle.rescue_laws.proofs.Records.{heads_for, asked_all, asked_distinct, IsGuarded, IsPart, SavesKeys, saves_keys, ReadsKey, some_apart, keys_read, keys_counted}
 use Rattle.rescue_laws.proofs.Telling.{tells_keys}
 
@@ -163,7 +159,8 @@ pub record RescuesDisk (from to log : List ℕ) (disk : Disk) (files : Files) (o
   pub there : IsLogFound (Some files) log (sectors_at disk.rate) found
   pub goes : GoesThrough (opening from to (shape_of disk) (is_some found)) (asked_keys (shape_of disk) found) log files old course new ended
 
-module _ (from to log : List ℕ) (disk : Disk) (files : Files) (old : World) (course : List Taken) (new : World) (ended : Status) (whole : IsEndStatus ended) (fine : IsNotStopped course) (told : old.files ≡ Some files) where
+module _ (from to log : List ℕ) (disk : Disk) (files : Files) (old : World) (course : List Taken) (new : World) (ended : Status) (whole : IsEndStatus ended)
+    (fine : IsNotStopped course) (told : old.files ≡ Some files) where
   -- behind the disk that was put in, by the log that was found
   by_found : {rest : Shape → Script} (a : Passed (Opened from) rest old course new ended) (found : Option (List LogLine))
       → IsLogFound (Some files) log (sectors_at disk.rate) found
@@ -200,31 +197,7 @@ module _ (from to log : List ℕ) (disk : Disk) (files : Files) (old : World) (c
           → RunsScript (Ends line wanted) a.mid a.two new ended → RescuesDisk from to log disk files old course new ended
       never a line wanted bad runs = absurd (ends_not line wanted a.mid a.two new ended whole bad runs)
 
--- ---- requests that neither read nor write
-
-abbrev is_read : Request → Bool
-is_read (request.Read bay key address) = true
-is_read _ = false
-
--- the request is no read and no write, and leaves the drives in their bays
-abbrev is_plain : Request → Bool
-is_plain asked = if is_write asked then false else (if is_read asked then false else keeps_drives asked)
-
-plain_facts : (asked : Request) → is_plain asked ≡ true → (is_write asked ≡ false) × (keeps_drives asked ≡ true)
-plain_facts asked = go (is_write asked) (is_read asked)
-  where
-    go : (writes reads : Bool) → (if writes then false else (if reads then false else keeps_drives asked)) ≡ true
-        → (writes ≡ false) × (keeps_drives asked ≡ true)
-    go true reads e = absurd (true≢false (sym e))
-    go false true e = absurd (true≢false (sym e))
-    go false false e = (refl, e)
-
-plain_keep : (requests : List Request) → list_all is_plain requests ≡ true → list_all keeps_drives requests ≡ true
-plain_keep [] e = refl
-plain_keep (asked ∷ later) e =
-    let both = and_both (is_plain asked) (list_all is_plain later) e in
-    let first = (plain_facts asked both.0).1 in
-    rw first (plain_keep later both.1)
+-- ---- courses that neither read nor write
 
 -- no step of the course reads a key
 plain_reads : (course : List Taken) → list_all is_plain (requests_of course) ≡ true → (key : Chrn) → SomeStep (ReadsKey key) course → ⊥
@@ -263,22 +236,6 @@ done_lines (taken ∷ later) e =
     let first = line_of_done taken.asked taken.answer parts.0 in
     rw first (done_lines later parts.1)
 
-formats_plain : (tracks : List Track) → list_all is_plain (format_each 1 tracks) ≡ true
-formats_plain [] = refl
-formats_plain (track ∷ later) = formats_plain later
-
-ready_plain : (rate : Rate) (formats : List Request) → list_all is_plain formats ≡ true → list_all is_plain (ready_requests rate formats) ≡ true
-ready_plain R500 formats e = e
-ready_plain R250 formats e = e
-
-blank_plain : (from to : List ℕ) (cylinders : ℕ) (rate : Rate) (formats : List Request) → list_all is_plain formats ≡ true → list_all is_plain (request.Insert 0 from ∷ blank_request 1 to cylinders rate ∷ ready_requests rate formats) ≡ true
-blank_plain from to cylinders R500 formats e = e
-blank_plain from to cylinders R250 formats e = e
-
-opening_plain : (from to : List ℕ) (shape : Shape) (logged : Bool) → list_all is_plain (opening from to shape logged) ≡ true
-opening_plain from to shape true = ready_plain shape.rate [] refl
-opening_plain from to shape false = blank_plain from to shape.cylinders shape.rate (format_each 1 (tracks_of shape.cylinders shape.heads)) (formats_plain (tracks_of shape.cylinders shape.heads))
-
 -- a step of a course is one of either part
 some_either : (P : Taken → Type 0) (one two : List Taken) → SomeStep P (one ++ two) → SomeStep P one ⊎ SomeStep P two
 some_either P [] two some = inr some
@@ -308,10 +265,6 @@ last_there files name bytes = at_stored files name bytes name ∙ ap (λ (t : Bo
 other_there : (files : Files) (name bytes other : List ℕ) → other ≢ name → file_at (fin.insert files name bytes) other ≡ file_at files other
 other_there files name bytes other differ = at_stored files name bytes other ∙ ap (λ (t : Bool). cond t (Some bytes) (file_at files other)) (told_apart other name differ)
 
--- and so does what was stored before
-first_there : (files : Files) (one first two second : List ℕ) → one ≢ two → file_at (fin.insert (fin.insert files one first) two second) one ≡ Some first
-first_there files one first two second differ = other_there (fin.insert files one first) two second one differ ∙ last_there files one first
-
 -- ---- what is stored
 
 -- parts of a run whose writes are Tidy
@@ -327,7 +280,7 @@ stores_both : (files : Files) (to log disk lines : List ℕ) (after : Option Fil
     → IfSome after (λ files. file_at files to ≡ Some disk) × IfSome after (λ files. file_at files log ≡ Some lines)
 stores_both files to log disk lines after differ is =
     subst (λ (f : Option Files). IfSome f (λ files. file_at files to ≡ Some disk) × IfSome f (λ files. file_at files log ≡ Some lines)) (sym is)
-    (first_there files to disk log lines differ, last_there (fin.insert files to disk) log lines)
+    (other_there (fin.insert files to disk) log lines to differ ∙ last_there files to disk, last_there (fin.insert files to disk) log lines)
 
 log_under : (before : Option Files) (log lines : List ℕ) (after : Option Files) → after ≡ stored before log lines → IfSome after (λ files. file_at files log ≡ Some lines)
 log_under None log lines after is = subst (λ (f : Option Files). IfSome f (λ files. file_at files log ≡ Some lines)) (sym is) tt
@@ -339,7 +292,9 @@ same_outcome course asked count =
     ap (λ (n : ℕ). record { written = n; asked = asked }) written
 
 -- a rescue that went on to its end, by the log that was found
-module _ (from to log : List ℕ) (disk : Disk) (found : Option (List LogLine)) (files : Files) (old : World) (course : List Taken) (new : World) (ended : Status) (there : IsLogFound (Some files) log (sectors_at disk.rate) found) (image : IsImageOf (Some files) from disk) (p : GoesThrough (opening from to (shape_of disk) (is_some found)) (asked_keys (shape_of disk) found) log files old course new ended) where
+module _ (from to log : List ℕ) (disk : Disk) (found : Option (List LogLine)) (files : Files) (old : World) (course : List Taken) (new : World)
+    (ended : Status) (there : IsLogFound (Some files) log (sectors_at disk.rate) found) (image : IsImageOf (Some files) from disk)
+    (p : GoesThrough (opening from to (shape_of disk) (is_some found)) (asked_keys (shape_of disk) found) log files old course new ended) where
   abbrev requests : List Request
   requests = opening from to (shape_of disk) (is_some found)
 
@@ -383,7 +338,9 @@ module _ (from to log : List ℕ) (disk : Disk) (found : Option (List LogLine)) 
 
   -- no count falls
   fell_top : Fell old p.opened
-  fell_top = never_fell old.state p.opened.state (Some files) p.opened.files requests p.top p.opens (plain_keep requests (opening_plain from to (shape_of disk) (is_some found)))
+  fell_top =
+      never_fell old.state p.opened.state (Some files) p.opened.files requests p.top p.opens
+      (plain_keep requests (opening_plain from to (shape_of disk) (is_some found)))
 
   pub fell_rescued : Fell p.rescued new
   fell_rescued =
@@ -396,7 +353,8 @@ module _ (from to log : List ℕ) (disk : Disk) (found : Option (List LogLine)) 
   pub few : (disk.cylinders ≤ 80) × (disk.heads ≤ 2)
   few = let ranges = image_ranges files from disk image in (ranges.0, ranges.1)
 
-  module _ (target start : Disk) (has : HasOther start to files p.opened.state p.opened.files) (saves : SavesKeys course (log_of course) keys start p.opened p.body p.rescued) where
+  module _ (target start : Disk) (has : HasOther start to files p.opened.state p.opened.files)
+      (saves : SavesKeys course (log_of course) keys start p.opened p.body p.rescued) where
     disk_stored : p.ejected.files ≡ stored (Some files) to (file_of saves.final)
     disk_stored =
         let last = begins p.rescued.state p.ejected.state p.rescued.files p.ejected.files (request.Eject 1) [] p.last p.ejects in

@@ -72,8 +72,6 @@ abbrev pub AreTidy : State → List Taken → Type 0
 AreTidy state [] = Unit {0}
 AreTidy state (taken ∷ later) = IsTidyFor state taken.asked × AreTidy taken.after later
 
--- ---- Its run.
-
 -- no refusal stopped the run: its last answer is none
 abbrev pub IsNotStopped : List Taken → Type 0
 IsNotStopped course = (before : List Taken) (last : Taken) → course ≡ before ++ last ∷ [] → is_refusal last.answer ≡ false
