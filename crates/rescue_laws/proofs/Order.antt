@@ -39,11 +39,11 @@ use Rattle.rescue_laws.proofs.Gone.{behind_step, line_of_refused, line_of_done, 
 use Rattle.rescue_laws.proofs.Opening.{ready_requests, formats_for, second_request, prepares_carried, second_put}
 use Rattle.rescue_laws.proofs.Records.{write_does}
 
--- ---- the other diskette, put in under its name
-
+-- whatever the state is
 abbrev Any : State → Type 0
 Any state = Unit {0}
 
+-- the other diskette was put in under this name
 abbrev Named : List ℕ → State → Type 0
 Named to state = in_bay state.names 1 ≡ Some to
 

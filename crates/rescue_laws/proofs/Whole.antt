@@ -1,5 +1,5 @@
 -- Rescues, by the status with which they end: what is stored and told, and when the log is exactly the keys that aren't found.
-use Rattle.std.proofs.Common.{◌≡◌, ◌∙◌, List, [], ◌∷◌, ◌++◌, ℕ, length, ap, subst, inl, inr, append-nil, Option, Some, arith, ◌+◌, Bool, true, false, true≢false, refl, sym, append_assoc, ◌↔◌, None, ◌≢◌, ◌-◌, ◌≤◌, cond}
+use Rattle.std.proofs.Common.{◌≡◌, ◌∙◌, List, [], ◌∷◌, ◌++◌, ℕ, length, ap, subst, inl, inr, append-nil, Option, Some, arith, ◌+◌, Bool, true, false, true≢false, refl, sym, append_assoc, ◌↔◌, None, ◌≢◌, ◌-◌, cond}
 use Rattle.std.specs.Prelude.{is_some, ◌⊎◌, Contains, IfSome}
 use Rattle.std.specs.List.{list_all}
 use Rattle.std.proofs.lemmas.List.Elements.{All-from_recursion, All-weaker}
@@ -94,8 +94,7 @@ module _ (log : List ℕ) (asked : ℕ) (lines : List LogLine) (old : World) (co
   log_stored (inl runs) = let last = last_stored log (log_text lines) _ _ old course new ended runs in file_stored last.0 last.1
   log_stored (inr starved) = absurd (subst IsEndStatus starved.2 whole)
 
--- ---- the end of a script
-
+-- a last line with another status than 0 or 1 was no such end
 ends_not : (line : List ℕ) (wanted : Status) (old : World) (course : List Taken) (new : World) (ended : Status)
     → IsEndStatus ended → (IsEndStatus wanted → ⊥) → RunsScript (Ends line wanted) old course new ended → ⊥
 ends_not line wanted old course new ended whole bad runs =
@@ -350,9 +349,6 @@ module _ (from to log : List ℕ) (disk : Disk) (found : Option (List LogLine)) 
   pub fell_opened : Fell p.opened new
   fell_opened = fell_both p.opened p.rescued new (keys_fell keys p.opened p.body p.rescued p.goes) fell_rescued
 
-  pub few : (disk.cylinders ≤ 80) × (disk.heads ≤ 2)
-  few = let ranges = image_ranges files from disk image in (ranges.0, ranges.1)
-
   module _ (target start : Disk) (has : HasOther start to files p.opened.state p.opened.files)
       (saves : SavesKeys course (log_of course) keys start p.opened p.body p.rescued) where
     disk_stored : p.ejected.files ≡ stored (Some files) to (file_of saves.final)
@@ -415,6 +411,7 @@ module _ (from to log : List ℕ) (disk : Disk) (found : Option (List LogLine)) 
       → IsRescue disk target to log files old course new ended
   rescued target start differ has guarded faultless keeps =
       let fell = fell_rescued in
+      let few = image_ranges files from disk image in
       let part : IsPart laid_tidy disk (heads_for disk found) course (log_of course) p.body = record {
         steps = outer;
         lines_are = λ line some. subst (λ (row : List LogLine). Contains row line) (sym log_is) some;
@@ -429,6 +426,7 @@ module _ (from to log : List ℕ) (disk : Disk) (found : Option (List LogLine)) 
   -- the log is exactly the records that aren't found
   pub logs_exactly : IsUndisturbed 0 old.state.station.counters new.state.station.counters → IsUnmistaken disk → LogsNotFound disk log files course new
   logs_exactly quiet unmistaken =
+      let few = image_ranges files from disk image in
       let body = keys_fell keys p.opened p.body p.rescued p.goes in
       let parts = quiet_parts old.state.station.counters p.opened.state.station.counters new.state.station.counters fell_top fell_opened quiet in
       let calm = quiet_parts p.opened.state.station.counters p.rescued.state.station.counters new.state.station.counters body fell_rescued parts.1 in
