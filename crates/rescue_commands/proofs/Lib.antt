@@ -1,3 +1,4 @@
 mod Turns
 mod Endings
 mod Opening
+pub mod Rests
