@@ -1,35 +1,40 @@
--- The command that copies goes to its end where nothing disturbs it, from the disk that was put in.
-use Rattle.std.proofs.Common.{arith, ◌≡◌, ◌∙◌, ◌<◌, ◌≤◌, ℕ, Bool, true, false, List, [], ◌∷◌, ◌++◌, refl, sym, ap, subst, Some}
+-- The script of a copy goes to its end where nothing disturbs it.
+use Rattle.std.proofs.Common.{arith, ◌≡◌, ◌∙◌, ◌+◌, ◌-◌, ◌<◌, ◌≤◌, ℕ, Bool, true, false, List, get_or, refl, sym, ap, subst, Some}
 use Rattle.std.specs.Prelude.{is_some}
+use Rattle.flop_base.specs.Shelf.{Files}
 use Rattle.flop_base.specs.Standard.{sectors_at}
 use Rattle.flop_base.specs.declared.answers.Rate.{Rate}
-use Rattle.raw_image.specs.Disk.{Disk, IsDisk, HasTrack}
+use Rattle.raw_image.specs.Disk.{Disk, HasTrack}
 use Rattle.bay_model.specs.Bays.{Two, in_bay}
 use Rattle.bay_model.specs.Counters.{IsUndisturbed}
 use Rattle.track_model.specs.Regular.{IsRegular}
-use Rattle.floppy_requests.specs.declared.request.Request.{Request}
 use Rattle.floppy_requests.specs.declared.request.Request.TheVariants as request
 use Rattle.sector_map.specs.Disks.{IsRegularDisk}
 use Rattle.sector_map.specs.Standard.{key_of}
 use Rattle.sector_map.proofs.KeptTracks.{stays_regular}
 use Rattle.sector_model.specs.declared.reply.Reply.{Reply}
 use Rattle.sector_model.specs.Stations.{StationState, Bay, bay_of}
-use Rattle.sector_model.specs.Steps.{is_loaded, blank_of}
+use Rattle.sector_model.specs.States.{State}
+use Rattle.sector_model.specs.Steps.{is_loaded, blank_of, IsImageOf}
 use Rattle.floppy_session.specs.Blanks.{blank_request}
-use Rattle.floppy_session.specs.Shapes.{shape_of}
-use Rattle.disk_commands.specs.Plans.{Planned, Asks, WritesBack, each, by_track, record_address, write_request, rate_plan, ack_plan, read_track, write_track, copy_track, copy_rest}
-use Rattle.disk_commands.specs.Carried.{Stage}
+use Rattle.scripts.specs.Parts.{each, by_track}
+use Rattle.scripts.specs.Records.{record_address}
+use Rattle.disk_commands.specs.Copy.{write_request, no_marks, reads_record, writes_record, copies_track, copy_script}
 use Rattle.disk_laws.specs.Formatted.{standard_content}
-use Rattle.disk_laws.proofs.Sectors.{track_regular, track_sector, HasContent}
+use Rattle.disk_laws.proofs.BlankDisk.{blank_regular}
+use Rattle.disk_laws.proofs.Prepared.{IsBlank}
+use Rattle.disk_laws.proofs.Sectors.{few_sectors, track_regular, track_sector, HasContent}
+use Rattle.disk_laws.proofs.Verified.{image_ranges}
 use Rattle.disk_laws.proofs.Written.{HasSome}
 use Rattle.disk_completeness.specs.Complete.{IsReadable}
-use Rattle.disk_completeness.proofs.Going.{IsCalm, IsDone, GoesWell, goes_more, goes_then, goes_each, goes_asked, goes_on}
-use Rattle.disk_completeness.proofs.Bays.{HoldsBlank, IsReadyFor, IsAckedWith, format_taken}
-use Rattle.disk_completeness.proofs.Asking.{stops_outside, blank_done, ack_first, ack_second, rate_goes, eject_done}
+use Rattle.disk_completeness.proofs.Going.{Stage, at, IsSafe, IsDone, GoesWell, PartGoes, goes_needs, goes_carries, goes_each}
+use Rattle.disk_completeness.proofs.Still.{IsCalm}
+use Rattle.disk_completeness.proofs.Bays.{HoldsBlank, IsReadyFor, format_taken}
+use Rattle.disk_completeness.proofs.Asking.{safe, blank_done, acknowledges_goes, eject_goes}
 use Rattle.disk_completeness.proofs.FormatGoes.{blank_holds}
+use Rattle.disk_completeness.proofs.PutIn.{opens_goes}
 use Rattle.disk_completeness.proofs.ReadDone.{read_taken}
 use Rattle.disk_completeness.proofs.WriteDone.{HasRecords, write_taken}
-use Rattle.disk_laws.proofs.BlankDisk.{blank_regular}
 
 -- bay 0 has the source and bay 1 a regular disk of its cylinders and rate, of which this holds; both are ready
 pub record IsCopying (source : Disk) (Also : Disk → Type 0) (stage : Stage) : Type 0 where
@@ -72,7 +77,7 @@ module _ (source : Disk) (readable : IsReadable source) (few_cylinders : source.
 
   format_done : (Also : Disk → Type 0) (old : Stage) → IsCopying source Also old → IsDone (λ new. IsOnTrack new) (request.Format 1 c h) old
   format_done Also old copying = record {
-    stops = λ cause new stops. stops_outside (request.Format 1 c h) old.state new.state old.files new.files cause (λ at other same. cc same) stops;
+    safe = safe (request.Format 1 c h) old refl (λ at other same. cc same);
     answers = λ answer new step calm.
         let made = format_taken 1 c h source.rate source.cylinders copying.disk old.state new.state old.files new.files answer refl has.0 (omega (arith, has.1, few_heads)) copying.second calm.second step in
         let small_c : c < 256 = omega (arith, has.0, few_cylinders) in
@@ -99,9 +104,9 @@ module _ (source : Disk) (readable : IsReadable source) (few_cylinders : source.
 
   read_done : (r : ℕ) (old : Stage) → 1 ≤ r → r ≤ sectors → IsOnTrack old → IsDone (λ new. IsOnTrack new) (request.Read 0 (key_of c h r) (record_address r)) old
   read_done r old least most copying = record {
-    stops = λ cause new stops. stops_outside (request.Read 0 (key_of c h r) (record_address r)) old.state new.state old.files new.files cause (λ at other same. cc same) stops;
+    safe = safe (request.Read 0 (key_of c h r) (record_address r)) old refl (λ at other same. cc same);
     answers = λ answer new step calm.
-        let taken = read_taken source c h r old.state new.state old.files new.files answer readable few_cylinders few_heads has least most copying.first calm.first step in (
+        let taken = read_taken source c h r r old.state new.state old.files new.files answer readable few_cylinders few_heads has least most least (omega (arith, most, few_sectors source.rate)) copying.first calm.first step in (
           taken.0,
           record {
             first = ready_still 0 source old.state.station new.state.station (ap (λ (bays : Two Bay). in_bay bays 0) taken.1) copying.first;
@@ -118,7 +123,7 @@ module _ (source : Disk) (readable : IsReadable source) (few_cylinders : source.
       let alike = copying.second.alike in
       let track : HasTrack copying.disk c h = (omega (arith, has.0, alike.cylinders), omega (arith, has.1, few_heads, alike.heads)) in
       record {
-        stops = λ cause new stops. stops_outside (write_request deleted (key_of c h r) (record_address r)) old.state new.state old.files new.files cause (λ at other. puts_none deleted at other) stops;
+        safe = write_safe deleted;
         answers = λ answer new step calm.
             let taken = write_taken source.rate source.cylinders c h r deleted copying.disk old.state new.state old.files new.files answer track copying.regular copying.also least most copying.second (calm_second new deleted answer calm) step in (
               taken.0,
@@ -132,106 +137,68 @@ module _ (source : Disk) (readable : IsReadable source) (few_cylinders : source.
             );
       }
     where
-      puts_none : (d : Bool) (at : ℕ) (other : List ℕ) → write_request d (key_of c h r) (record_address r) ≡ request.Insert at other → ⊥
-      puts_none true at other same = cc same
-      puts_none false at other same = cc same
+      write_safe : (d : Bool) → IsSafe (write_request d (key_of c h r) (record_address r)) old
+      write_safe true = safe (request.WriteDeleted 1 (key_of c h r) (record_address r)) old refl (λ at other same. cc same)
+      write_safe false = safe (request.Write 1 (key_of c h r) (record_address r)) old refl (λ at other same. cc same)
 
       calm_second : (new : Stage) (d : Bool) (answer : Reply) → IsCalm (write_request d (key_of c h r) (record_address r)) answer old.state.station.counters new.state.station.counters → IsUndisturbed 1 old.state.station.counters new.state.station.counters
       calm_second new true answer calm = calm.second
       calm_second new false answer calm = calm.second
 
   -- the reads of its records, and the writes with any marks
-  track_goes : (old : Stage) → IsCopying source AnyDisk old → GoesWell (λ new. IsCopying source AnyDisk new) (copy_track sectors c h) old
-  track_goes old copying =
-      let Top = λ (new : Stage). IsCopying source AnyDisk new in
-      let On = λ (new : Stage). IsOnTrack new in
-      let read : ℕ → List Planned = λ r. Asks (request.Read 0 (key_of c h r) (record_address r)) ∷ [] in
-      let write : ℕ → List Planned = λ r. WritesBack sectors (key_of c h r) (record_address r) ∷ [] in
-      goes_on On Top (request.Format 1 c h) (read_track sectors c h ++ write_track sectors c h) old (format_done AnyDisk old copying) (λ one on.
-      goes_then On Top (read_track sectors c h) (write_track sectors c h) one
-      (goes_each On read 1 sectors one (λ r least below mid there. goes_asked On (request.Read 0 (key_of c h r) (record_address r)) mid (read_done r mid least (omega arith) there)) on)
-      (λ two there.
-      goes_more On Top (write_track sectors c h) two (λ new is. record { first = is.first; disk = is.disk; second = is.second; regular = is.regular; also = tt })
-      (goes_each On write 1 sectors two (λ r least below mid is. λ asked may.
-      subst (λ (q : Request). IsDone On q mid) (sym may.1) (write_done r may.0 mid least (omega arith) is)) there)))
+  read_goes : (r : ℕ) (marks : List Bool) (old : Stage) → 1 ≤ r → r ≤ sectors → IsOnTrack old → PartGoes (λ now new. IsOnTrack new) (reads_record c h r marks) old
+  unfolding reads_record
+  read_goes r marks old least most copying rest behind =
+      goes_needs (λ new. IsOnTrack new) (request.Read 0 (key_of c h r) (record_address r)) _ old (read_done r old least most copying)
+      (λ answer new there. behind _ new there)
+
+  write_goes : (marks : List Bool) (r : ℕ) (old : Stage) → 1 ≤ r → r ≤ sectors → IsOnTrack old → PartGoes (λ none new. IsOnTrack new) (writes_record marks c h r tt) old
+  unfolding writes_record
+  write_goes marks r old least most copying rest behind =
+      let deleted = get_or marks (r - 1) false in
+      goes_carries (λ new. IsOnTrack new) (write_request deleted (key_of c h r) (record_address r)) rest old (write_done r deleted old least most copying)
+      (λ new there. behind tt new there)
+
+  track_goes : (old : Stage) → IsCopying source AnyDisk old → PartGoes (λ none new. IsCopying source AnyDisk new) (copies_track sectors c h tt) old
+  unfolding copies_track
+  track_goes old copying rest behind =
+      goes_carries (λ new. IsOnTrack new) (request.Format 1 c h) _ old (format_done AnyDisk old copying) (λ one on.
+      goes_each (λ marks new. IsOnTrack new) (reads_record c h) 1 sectors no_marks one (λ r least below marks mid there. read_goes r marks mid least (omega arith) there) on _
+      (λ marks two there.
+      goes_each (λ none new. IsOnTrack new) (writes_record marks c h) 1 sectors tt two (λ r least below none mid is. write_goes marks r mid least (omega arith) is) there rest
+      (λ none three is. behind tt three (record { first = is.first; disk = is.disk; second = is.second; regular = is.regular; also = tt }))))
 
 -- all tracks
-pub tracks_go : (source : Disk) (old : Stage) → IsReadable source → source.cylinders ≤ 80 → source.heads ≤ 2 → IsCopying source AnyDisk old → GoesWell (λ new. IsCopying source AnyDisk new) (by_track source.cylinders source.heads (copy_track (sectors_at source.rate))) old
+tracks_go : (source : Disk) (old : Stage) → IsReadable source → source.cylinders ≤ 80 → source.heads ≤ 2 → IsCopying source AnyDisk old
+    → PartGoes (λ none new. IsCopying source AnyDisk new) (by_track source.cylinders source.heads (copies_track (sectors_at source.rate)) tt) old
 tracks_go source old readable few_cylinders few_heads copying =
-    let Top = λ (new : Stage). IsCopying source AnyDisk new in
-    goes_each Top (λ c. each 0 source.heads (λ h. copy_track (sectors_at source.rate) c h)) 0 source.cylinders old (λ c least most one here.
-    goes_each Top (λ h. copy_track (sectors_at source.rate) c h) 0 source.heads one (λ h from below two there.
+    let tracks = copies_track (sectors_at source.rate) in
+    goes_each (λ none new. IsCopying source AnyDisk new) (λ c. each 0 source.heads (tracks c)) 0 source.cylinders tt old (λ c least most same one here.
+    goes_each (λ none new. IsCopying source AnyDisk new) (tracks c) 0 source.heads same one (λ h from below none two there.
     track_goes source readable few_cylinders few_heads c h (omega arith, omega arith) two there) here) copying
 
--- ---- the opening
+-- ---- the command
 
--- the source is in bay 0, and a blank disk in bay 1
-record AreIn (source : Disk) (stage : Stage) : Type 0 where
-  pub first : (bay_of stage.state.station 0).medium ≡ Some source
-  pub second : (bay_of stage.state.station 1).medium ≡ Some (blank_of source.cylinders source.rate)
-
--- bay 0 is ready, and the blank disk still in
-record IsFirstReady (source : Disk) (stage : Stage) : Type 0 where
-  pub first : IsReadyFor 0 source stage.state.station
-  pub second : (bay_of stage.state.station 1).medium ≡ Some (blank_of source.cylinders source.rate)
-
--- bay 0 is acknowledged, and the blank disk still in
-record IsFirstAcked (source : Disk) (stage : Stage) : Type 0 where
-  pub first : IsAckedWith 0 source stage.state.station
-  pub second : (bay_of stage.state.station 1).medium ≡ Some (blank_of source.cylinders source.rate)
-
-first_goes : (source : Disk) (old : Stage) → AreIn source old → GoesWell (λ new. IsFirstReady source new) (ack_plan 0 source.rate) old
-first_goes source old are =
-    goes_on (λ new. IsFirstAcked source new) (λ new. IsFirstReady source new) (request.Ack 0) (rate_plan 0 source.rate) old
-    (ack_first (λ new. IsFirstAcked source new) source old are.first (λ new acked change. record { first = acked; second = ap (λ (s : StationState). (bay_of s 1).medium) change.becomes ∙ are.second }))
-    (λ mid acked.
-    rate_goes (λ new. IsFirstReady source new) 0 source.rate source mid refl refl acked.first
-    (λ ready. record { first = ready; second = acked.second })
-    (λ new ready change. record { first = ready; second = ap (λ (s : StationState). (bay_of s 1).medium) change.becomes ∙ acked.second }))
-
--- both are ready
-record AreReady (source : Disk) (stage : Stage) : Type 0 where
-  pub first : IsReadyFor 0 source stage.state.station
-  pub second : IsReadyFor 1 (blank_of source.cylinders source.rate) stage.state.station
-
-record IsSecondAcked (source : Disk) (stage : Stage) : Type 0 where
-  pub first : IsReadyFor 0 source stage.state.station
-  pub second : IsAckedWith 1 (blank_of source.cylinders source.rate) stage.state.station
-
-second_goes : (source : Disk) (old : Stage) → IsFirstReady source old → GoesWell (λ new. AreReady source new) (ack_plan 1 source.rate) old
-second_goes source old are =
-    let blank = blank_of source.cylinders source.rate in
-    goes_on (λ new. IsSecondAcked source new) (λ new. AreReady source new) (request.Ack 1) (rate_plan 1 source.rate) old
-    (ack_second (λ new. IsSecondAcked source new) blank old are.second (λ new acked change. record { first = ready_still 0 source old.state.station new.state.station (ap (λ (s : StationState). bay_of s 0) change.becomes) are.first; second = acked }))
-    (λ mid acked.
-    rate_goes (λ new. AreReady source new) 1 source.rate blank mid refl refl acked.second
-    (λ ready. record { first = acked.first; second = ready })
-    (λ new ready change. record { first = ready_still 0 source mid.state.station new.state.station (ap (λ (s : StationState). bay_of s 0) change.becomes) acked.first; second = ready }))
-
--- ---- the command, behind the disk that was put in
-
-pub copy_rest_goes : (source : Disk) (to : List ℕ) (old : Stage) → IsReadable source → 1 ≤ source.cylinders → source.cylinders ≤ 80 → source.heads ≤ 2 → (bay_of old.state.station 0).medium ≡ Some source → is_loaded old.state 1 ≡ false → GoesWell (λ new. Unit {0}) (copy_rest to (shape_of source)) old
-copy_rest_goes source to old readable least most few_heads medium empty =
-    let top = λ (new : Stage). Unit {0} in
+pub copy_goes : (from to : List ℕ) (files : Files) (source : Disk) (old : State) → IsReadable source → IsImageOf (Some files) from source → is_loaded old 0 ≡ false → is_loaded old 1 ≡ false
+    → GoesWell (copy_script from to) (at old (Some files))
+unfolding copy_script
+copy_goes from to files source old readable image empty other =
     let rate = source.rate in
     let count = source.cylinders in
     let blank = blank_of count rate in
-    let tracks = by_track count source.heads (copy_track (sectors_at rate)) in
-    let last : List Planned = Asks (request.Eject 1) ∷ [] in
-    let acks = ack_plan 0 rate ++ ack_plan 1 rate in
-    goes_on (λ new. IsDisk blank × AreIn source new) top (blank_request 1 to count rate) (acks ++ (tracks ++ last)) old
-    (blank_done (λ new. IsDisk blank × AreIn source new) 1 rate to count old refl least most empty
-    (λ new is. (is.valid, record { first = ap (λ (s : StationState). (bay_of s 0).medium) is.becomes ∙ medium; second = is.medium })))
-    (λ one are.
-    goes_then (λ new. AreReady source new) top acks (tracks ++ last) one
-    (goes_then (λ new. IsFirstReady source new) (λ new. AreReady source new) (ack_plan 0 rate) (ack_plan 1 rate) one (first_goes source one are.1) (λ two ready. second_goes source two ready))
-    (λ three ready.
-    let copying : IsCopying source AnyDisk three = record {
-      first = ready.first;
+    let ranges = image_ranges files from source image in
+    opens_goes from files source _ old image empty other (λ one put.
+    goes_carries (λ new. IsBlank 1 rate to count one.state one.files new.state new.files) (blank_request 1 to count rate) _ one (blank_done 1 rate to count one refl ranges.2 ranges.0 put.empty) (λ two is.
+    let medium = ap (λ (s : StationState). (bay_of s 0).medium) is.becomes ∙ put.medium in
+    acknowledges_goes 0 1 source _ two refl (λ station value. refl) medium (λ three first.
+    let second = ap (λ (b : Bay). b.medium) first.same ∙ is.medium in
+    acknowledges_goes 1 0 blank _ three refl (λ station value. refl) second (λ four ready.
+    let copying : IsCopying source AnyDisk four = record {
+      first = ready_still 0 source three.state.station four.state.station ready.same first.ready;
       disk = blank;
-      second = blank_holds 1 rate count three.state.station are.0 ready.second;
+      second = blank_holds 1 rate count four.state.station is.valid ready.ready;
       regular = blank_regular count rate;
       also = tt;
     } in
-    goes_then (λ new. IsCopying source AnyDisk new) top tracks last three (tracks_go source three readable most few_heads copying)
-    (λ four there. goes_asked top (request.Eject 1) four (eject_done 1 there.disk four refl there.second.medium))))
+    tracks_go source four readable ranges.0 ranges.1 copying _
+    (λ none five there. eject_goes 1 there.disk _ five refl there.second.medium (λ new. refl))))))

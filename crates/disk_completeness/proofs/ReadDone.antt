@@ -25,7 +25,7 @@ use Rattle.sector_model.specs.Reads.{ReadsDrive, IsReadCause, spoilable}
 use Rattle.sector_model.specs.States.{State}
 use Rattle.sector_model.specs.Steps.{Step, read_reply}
 use Rattle.sector_model.specs.Texts.{is_refusal}
-use Rattle.disk_commands.specs.Plans.{record_address}
+use Rattle.scripts.specs.Records.{record_address}
 use Rattle.disk_laws.proofs.Reading.{reaches}
 use Rattle.disk_laws.proofs.Sectors.{few_sectors}
 use Rattle.disk_completeness.specs.Complete.{IsReadable}
@@ -46,11 +46,11 @@ within_page r least most =
     same_page (record_address r / 65536) ((record_address r + content_size standard_code - 1) / 65536) page.0 page.1
 
 -- such a key can be asked for
-pub sector_asked : (bay c h r : ℕ) → nat_le bay 1 ≡ true → c ≤ 79 → h ≤ 1 → 1 ≤ r → r ≤ 18 → is_sector_request bay (key_of c h r) (record_address r) ≡ true
-sector_asked bay c h r is_one cylinder head least most =
-    let place = both_true _ _ (le-leb c 79 cylinder) (le-leb h 1 head) in
-    let inside : nat_le (record_address r + content_size standard_code) user_bytes ≡ true = le-leb _ _ (omega arith) in
-    both_true _ _ (both_true _ _ (both_true _ _ (both_true _ _ is_one place) refl) (le-leb 1 r least)) inside
+pub sector_asked : (bay c h r place : ℕ) → nat_le bay 1 ≡ true → c ≤ 79 → h ≤ 1 → 1 ≤ r → 1 ≤ place → place ≤ 18 → is_sector_request bay (key_of c h r) (record_address place) ≡ true
+sector_asked bay c h r place is_one cylinder head least from few =
+    let there = both_true _ _ (le-leb c 79 cylinder) (le-leb h 1 head) in
+    let inside : nat_le (record_address place + content_size standard_code) user_bytes ≡ true = le-leb _ _ (omega arith) in
+    both_true _ _ (both_true _ _ (both_true _ _ (both_true _ _ is_one there) refl) (le-leb 1 r least)) inside
 
 read_order : (good crosses acknowledged : Bool) → good ≡ true → crosses ≡ false → acknowledged ≡ true → (if not good then Some BadRequest else (if crosses then Some Page else (if not acknowledged then Some Changed else None))) ≡ None
 read_order good crosses acknowledged e f g = rw (e, f, g) refl
@@ -101,13 +101,12 @@ module _ (source : Disk) (readable : IsReadable source) (c h r : ℕ) (has : Has
   called_taken address (Ok false) drive = (refl, ap (λ (s : StationState). s.bays) drive.found.becomes)
   called_taken address (Err code) drive = absurd (never code drive.refused.cause)
 
-pub read_taken : (source : Disk) (c h r : ℕ) (old new : State) (told after : Option Files) (answer : Reply) → IsReadable source → source.cylinders ≤ 80 → source.heads ≤ 2 → HasTrack source c h → 1 ≤ r → r ≤ sectors_at source.rate → IsReadyFor 0 source old.station → IsUndisturbed 0 old.station.counters new.station.counters → Step (request.Read 0 (key_of c h r) (record_address r)) old told answer new after → (is_refusal answer ≡ false) × (new.station.bays ≡ old.station.bays)
-read_taken source c h r old new told after answer readable few_cylinders few_heads has least most ready calm step =
+pub read_taken : (source : Disk) (c h r place : ℕ) (old new : State) (told after : Option Files) (answer : Reply) → IsReadable source → source.cylinders ≤ 80 → source.heads ≤ 2 → HasTrack source c h → 1 ≤ r → r ≤ sectors_at source.rate → 1 ≤ place → place ≤ 18 → IsReadyFor 0 source old.station → IsUndisturbed 0 old.station.counters new.station.counters → Step (request.Read 0 (key_of c h r) (record_address place)) old told answer new after → (is_refusal answer ≡ false) × (new.station.bays ≡ old.station.bays)
+read_taken source c h r place old new told after answer readable few_cylinders few_heads has least most from few ready calm step =
     let key = key_of c h r in
-    let address = record_address r in
-    let few : r ≤ 18 = omega (arith, most, few_sectors source.rate) in
-    let good = sector_asked 0 c h r refl (omega (arith, has.0, few_cylinders)) (omega (arith, has.1, few_heads)) least few in
-    let free = read_order (is_sector_request 0 key address) (crosses_page address (content_size standard_code)) (is_acknowledged old.station 0) good (within_page r least few) ready.kept in
+    let address = record_address place in
+    let good = sector_asked 0 c h r place refl (omega (arith, has.0, few_cylinders)) (omega (arith, has.1, few_heads)) least from few in
+    let free = read_order (is_sector_request 0 key address) (crosses_page address (content_size standard_code)) (is_acknowledged old.station 0) good (within_page place from few) ready.kept in
     let drive = reaches _ (read_refusal old.station 0 key address) free step.1.2 in
     let there = readable.sectors key (record { track = has; sector = (least, most); size = refl }) in
     let field = has_data source key there.0 readable.regular there.1 there.2 in

@@ -25,7 +25,8 @@ use Rattle.sector_model.specs.Writes.{WritesDrive, WritesTo, IsWriteCause, Chang
 use Rattle.sector_model.specs.States.{State}
 use Rattle.sector_model.specs.Steps.{Step, IsDriverCall, reply_of, blank_of}
 use Rattle.sector_model.specs.Texts.{is_refusal}
-use Rattle.disk_commands.specs.Plans.{record_address, write_request}
+use Rattle.scripts.specs.Records.{record_address}
+use Rattle.disk_commands.specs.Copy.{write_request}
 use Rattle.disk_laws.specs.Copied.{copied_entry}
 use Rattle.disk_laws.proofs.Reading.{reaches}
 use Rattle.disk_laws.proofs.Sectors.{few_sectors}
@@ -125,7 +126,7 @@ called_taken bay rate count c h r deleted disk old new told after answer is_one 
     let at = record_address r in
     let few : r ≤ 18 = omega (arith, most, few_sectors rate) in
     let valid = holds.alike.valid in
-    let good = sector_asked bay c h r is_one (omega (arith, track.0, valid.cylinders.1)) (omega (arith, track.1, valid.heads.1)) least few in
+    let good = sector_asked bay c h r r is_one (omega (arith, track.0, valid.cylinders.1)) (omega (arith, track.1, valid.heads.1)) least least few in
     let bare : is_protected old.station bay ≡ false = protected_by (bay_of old.station bay).medium disk holds.medium holds.alike.protected in
     let free = write_order (is_sector_request bay key at) (crosses_page at (content_size standard_code)) (is_acknowledged old.station bay) (is_protected old.station bay) good (within_page r least few) holds.kept bare in
     let drive = reaches _ (write_refusal old.station bay key at) free call.1.2 in
