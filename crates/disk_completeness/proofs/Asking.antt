@@ -28,8 +28,7 @@ use Rattle.disk_laws.proofs.Prepared.{blanks, IsBlank}
 use Rattle.disk_laws.proofs.Reading.{reaches}
 use Rattle.disk_laws.proofs.Steps.{keeps_drives}
 use Rattle.disk_completeness.proofs.Bays.{IsReadyFor, IsAckedWith, ChangesBay, ack_taken, rate_taken, both_true}
-use Rattle.disk_completeness.proofs.Going.{Stage, at, IsSafe, IsDone, GoesWell, goes_carries}
-use Rattle.disk_completeness.proofs.Still.{IsCalm}
+use Rattle.disk_completeness.proofs.Going.{Stage, at, calm_in, IsSafe, IsDone, GoesWell, goes_carries}
 
 -- ---- requests that the outside alone can stop
 
@@ -105,12 +104,7 @@ pub record IsReadyAlone (bay other : ℕ) (disk : Disk) (old new : Stage) : Type
   pub ready : IsReadyFor bay disk new.state.station
   pub same : bay_of new.state.station other ≡ bay_of old.state.station other
 
-calm_in : (bay : ℕ) (answer : Reply) (old new : Counters) → is_bay bay ≡ true → IsCalm (request.Ack bay) answer old new → IsUndisturbed bay old new
-calm_in zero answer old new is_one calm = calm.first
-calm_in (suc zero) answer old new is_one calm = calm.second
-calm_in (suc (suc n)) answer old new is_one calm = absurd (omega (arith, leb-true (suc (suc n)) 1 is_one))
-
-other_stays : (bay other : ℕ) (old new : StationState) → AreApart bay other → ChangesBay bay old new → bay_of new other ≡ bay_of old other
+pub other_stays : (bay other : ℕ) (old new : StationState) → AreApart bay other → ChangesBay bay old new → bay_of new other ≡ bay_of old other
 other_stays bay other old new apart change = ap (λ (s : StationState). bay_of s other) change.becomes ∙ apart old change.value
 
 ack_done : (bay other : ℕ) (disk : Disk) (old : Stage) → is_bay bay ≡ true → AreApart bay other → (bay_of old.state.station bay).medium ≡ Some disk
@@ -118,7 +112,7 @@ ack_done : (bay other : ℕ) (disk : Disk) (old : Stage) → is_bay bay ≡ true
 ack_done bay other disk old is_one apart medium = record {
   safe = safe (request.Ack bay) old refl (λ at name same. cc same);
   answers = λ answer new step calm.
-      let quiet = calm_in bay answer old.state.station.counters new.state.station.counters is_one calm in
+      let quiet = calm_in bay (request.Ack bay) answer old.state.station.counters new.state.station.counters is_one refl calm in
       let taken = ack_taken bay disk old.state new.state old.files new.files answer is_one medium quiet step in
       (taken.0, record { acked = taken.1; same = other_stays bay other old.state.station new.state.station apart taken.2 });
 }

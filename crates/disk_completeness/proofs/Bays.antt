@@ -88,13 +88,18 @@ format_free bay c h rate count disk station is_one cylinder head holds =
     let free : is_protected station bay ≡ false = protected_by (bay_of station bay).medium disk holds.medium holds.alike.protected in
     format_order (is_format_request station bay c h (gap_at gap)) (is_acknowledged station bay) (is_protected station bay) good holds.kept free
 
+-- a bay was changed, and nothing else but counters
+pub record ChangesBay (bay : ℕ) (old new : StationState) : Type 0 where
+  pub value : Bay
+  pub becomes : Becomes (set_bay old bay value) new
+
 -- what a format of a track does
 pub record Formats (bay : ℕ) (rate : Rate) (count c h : ℕ) (disk : Disk) (old new : StationState) : Type 0 where
   pub next : Disk
   pub holds : HoldsBlank bay rate count next new
   pub keeps : KeepsTracks disk c h next
   pub track : track_of next c h ≡ standard_track rate c h
-  pub becomes : Becomes (set_bay old bay (record (bay_of old bay) { medium = (bay_of new bay).medium })) new
+  pub change : ChangesBay bay old new
 
 formats : (bay c h : ℕ) (rate : Rate) (count : ℕ) (disk : Disk) (old new : StationState) (called : Result (Unit {0}) Code) → c < count → h < 2 → HoldsBlank bay rate count disk old → IsUndisturbed bay old.counters new.counters → old.counters.stalls ≤ new.counters.stalls → FormatsDrive (format_at c h (bay_of old bay).rate (gap_at (bay_of old bay).rate) standard_fill) bay old called new → IsOk called × Formats bay rate count c h disk old new
 formats bay c h rate count disk old new called cylinder head holds calm stalls drive =
@@ -117,7 +122,7 @@ formats bay c h rate count disk old new called cylinder head holds calm stalls d
         };
         keeps = made.2;
         track = made.3 ∙ ap (λ (n : ℕ). formatted format n) alike.words_per_track;
-        becomes = drive.becomes;
+        change = record { value = record (bay_of old bay) { medium = (bay_of new bay).medium }; becomes = drive.becomes };
       },
     )
 
@@ -149,11 +154,6 @@ ack_ok bay disk old new (Err code) medium calm stalls drive = elim drive.refused
   | inl none ↦ absurd (cc (none, medium))
   | inr rose ↦ absurd (omega (arith, rose, calm.faults, calm.together, stalls))
 ]
-
--- the other bay, and what stands elsewhere
-pub record ChangesBay (bay : ℕ) (old new : StationState) : Type 0 where
-  pub value : Bay
-  pub becomes : Becomes (set_bay old bay value) new
 
 pub ack_taken : (bay : ℕ) (disk : Disk) (old new : State) (told after : Option Files) (answer : Reply) → is_bay bay ≡ true → (bay_of old.station bay).medium ≡ Some disk → IsUndisturbed bay old.station.counters new.station.counters → Step (request.Ack bay) old told answer new after → (is_refusal answer ≡ false) × IsAckedWith bay disk new.station × ChangesBay bay old.station new.station
 ack_taken bay disk old new told after answer is_one medium calm step =

@@ -38,7 +38,7 @@ use Rattle.disk_completeness.proofs.FoundAll.{key_is, readable_unmistaken, none_
 pub format_complete : (rate : Rate) (name : List ℕ) (count : ℕ) (old new : World) (ended : Status) → 1 ≤ count → count ≤ 80 → BeginsSound old
     → Runs (RunsScript (format_script name count rate)) old new ended → EndsWellOrOutside (StoresFormatted rate name count old.files new.files) ended
 format_complete rate name count old new ended least most begins runs =
-    let goes = format_goes rate name count (at old.state old.files) least most (fresh_empty old.state 0 begins.fresh) in
+    let goes = format_goes rate count name (at old.state old.files) least most (fresh_empty old.state 0 begins.fresh) in
     completes (format_script name count rate) _ old new runs.course ended begins goes (runs.ties.undisturbed begins.sound) runs.does
     (λ done faultless. format_stores rate name count old new runs.course done faultless.first)
 

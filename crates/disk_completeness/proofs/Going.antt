@@ -1,5 +1,6 @@
 -- Scripts that go to their end where nothing disturbs them.
 use Rattle.std.proofs.Common.{arith, ◌≡◌, ◌+◌, ◌<◌, ◌≤◌, ℕ, zero, suc, Bool, true, false, true≢false, List, [], ◌∷◌, refl, sym, ap, subst, inl, inr, Option}
+use Rattle.std.proofs.lemmas.Bool.{leb-true}
 use Rattle.flop_base.specs.Shelf.{Files}
 use Rattle.flop_base.specs.Sink.{grown}
 use Rattle.flop_base.specs.declared.answers.Status.{Status}
@@ -9,19 +10,71 @@ use Rattle.floppy_requests.specs.declared.request.Request.{Request}
 use Rattle.sector_model.specs.declared.reply.Reply.{Reply}
 use Rattle.sector_model.specs.declared.reply.Reply.TheVariants as reply
 use Rattle.sector_model.specs.declared.reply.Stop.{Stop}
+use Rattle.sector_model.specs.Orders.{is_bay}
 use Rattle.sector_model.specs.States.{State}
 use Rattle.sector_model.specs.Steps.{Step, StopsAt}
 use Rattle.sector_model.specs.Texts.{is_refusal, stop_status}
 use Rattle.sector_model.specs.Runs.{Taken, IsEndStop}
-use Rattle.sector_model.specs.Plays.{World}
+use Rattle.sector_model.specs.Plays.{World, Prints, IsPutFault}
+use Rattle.sector_model.specs.Plays as plays
 use Rattle.sector_model.specs.Ties.{entered_by, AreUndisturbed}
-use Rattle.scripts.specs.Scripts.{Script, Ends, Says, Asks, Stores, MayStarve, RunsScript, IsStored, NotStored, StoresLast, unless_refused}
+use Rattle.scripts.specs.Scripts.{Script, Ends, Says, Asks, Stores, MayStarve, RunsScript, IsStored, NotStored, StoresLast, unless_refused, IsStoreFault}
 use Rattle.scripts.specs.Parts.{Part, asks, needs, carries, through, each}
 use Rattle.scripts.specs.Leading.{with_report}
-use Rattle.disk_laws.proofs.Steps.{keeps_drives}
+use Rattle.disk_laws.proofs.Steps.{keeps_drives, step_never_fell}
 use Rattle.disk_completeness.specs.Complete.{BeginsSound, EndsWellOrOutside}
-use Rattle.disk_completeness.proofs.Endings.{put_fault_outside, store_fault_outside, stop_outside, prints_outside, ends_with}
-use Rattle.disk_completeness.proofs.Still.{IsCalm, IsStill, AreFaultless, step_still, still_both, still_faultless}
+use Rattle.sector_model.specs.declared.reply.Stop.TheVariants as stop
+use Rattle.floppy_requests.specs.declared.request.Request.TheVariants as request
+
+-- ---- Steps that nothing disturbs.
+
+-- neither a fault nor a stall disturbed a step, in any bay
+pub record IsCalm (asked : Request) (answer : Reply) (old new : Counters) : Type 0 where
+  pub first : IsUndisturbed 0 (entered_by old asked answer) new
+  pub second : IsUndisturbed 1 (entered_by old asked answer) new
+
+-- a step that leaves the drives in their bays finds the counters as they were
+entered_same : (old : Counters) (asked : Request) (answer : Reply) → keeps_drives asked ≡ true → entered_by old asked answer ≡ old
+entered_same old (request.Unit bay) answer keeps = absurd (true≢false (sym keeps))
+entered_same old _ answer keeps = refl
+
+-- nothing disturbed the bay of a request that leaves the drives in their bays
+pub calm_in : (bay : ℕ) (asked : Request) (answer : Reply) (old new : Counters) → is_bay bay ≡ true → keeps_drives asked ≡ true → IsCalm asked answer old new → IsUndisturbed bay old new
+calm_in bay asked answer old new is_one keeps calm =
+    let same = entered_same old asked answer keeps in
+    go bay is_one (subst (λ (c : Counters). IsUndisturbed 0 c new) same calm.first) (subst (λ (c : Counters). IsUndisturbed 1 c new) same calm.second)
+  where
+    go : (bay : ℕ) → is_bay bay ≡ true → IsUndisturbed 0 old new → IsUndisturbed 1 old new → IsUndisturbed bay old new
+    go zero is first second = first
+    go (suc zero) is first second = second
+    go (suc (suc n)) is first second = absurd (omega (arith, leb-true (suc (suc n)) 1 is))
+
+-- neither drive had a fault, and no stall came
+pub record IsStill (old new : Counters) : Type 0 where
+  pub first : new.drives.first.faults ≡ old.drives.first.faults
+  pub second : new.drives.second.faults ≡ old.drives.second.faults
+  pub stalls : new.stalls ≡ old.stalls
+
+pub step_still : (old new : State) (told after : Option Files) (asked : Request) (answer : Reply) → Step asked old told answer new after → keeps_drives asked ≡ true
+    → IsCalm asked answer old.station.counters new.station.counters → IsStill old.station.counters new.station.counters
+step_still old new told after asked answer step keeps calm =
+    let fell = step_never_fell old new told after asked answer step keeps in
+    let first = calm_in 0 asked answer old.station.counters new.station.counters refl keeps calm in
+    let second = calm_in 1 asked answer old.station.counters new.station.counters refl keeps calm in
+    record {
+      first = omega (arith, fell.first, fell.stalls, first.together);
+      second = omega (arith, fell.second, fell.stalls, second.together);
+      stalls = omega (arith, fell.first, fell.stalls, first.together);
+    }
+
+pub still_both : (one two three : Counters) → IsStill one two → IsStill two three → IsStill one three
+still_both one two three a b = record {
+  first = omega (arith, a.first, b.first);
+  second = omega (arith, a.second, b.second);
+  stalls = omega (arith, a.stalls, b.stalls);
+}
+
+-- ---- Scripts.
 
 -- what requests change: the state of the session, and the told files
 pub record Stage : Type 0 where
@@ -98,6 +151,36 @@ goes_each P part a (suc n) found old keeps holds = λ rest behind.
     keeps a (omega arith) (omega arith) found old holds (λ now. each (a + 1) n part now rest)
     (λ now mid there. goes_each P part (a + 1) n now mid (λ i least below. keeps i (omega arith) (omega arith)) there rest behind)
 
+-- ---- The outside.
+
+pub put_fault_outside : (Holds : Type 0) (ended : Status) → IsPutFault ended → EndsWellOrOutside Holds ended
+put_fault_outside Holds status.NoMemory fault = tt
+put_fault_outside Holds status.SinkFault fault = tt
+put_fault_outside Holds _ fault = absurd fault
+
+pub store_fault_outside : (Holds : Type 0) (ended : Status) → IsStoreFault ended → EndsWellOrOutside Holds ended
+store_fault_outside Holds status.FileFault fault = tt
+store_fault_outside Holds status.NoMemory fault = tt
+store_fault_outside Holds _ fault = absurd fault
+
+pub stop_outside : (Holds : Type 0) (cause : Stop) → IsEndStop cause → EndsWellOrOutside Holds (stop_status cause)
+stop_outside Holds stop.FileFault only = tt
+stop_outside Holds stop.NoMemory only = tt
+stop_outside Holds _ only = absurd only
+
+-- a last line whose status is such a one
+pub prints_outside : (Holds : Type 0) (report : Option (List ℕ)) (line : List ℕ) (wanted ended : Status) (after : Option (List ℕ)) → EndsWellOrOutside Holds wanted → Prints line wanted report after ended → EndsWellOrOutside Holds ended
+prints_outside Holds report line wanted ended after well (plays.Whole told same) = subst (λ (s : Status). EndsWellOrOutside Holds s) (sym same) well
+prints_outside Holds report line wanted ended after well (plays.Part grows fault) = put_fault_outside Holds ended fault
+
+-- and what holds where it ends well
+pub ends_with : (Here Holds : Type 0) (ended : Status) → EndsWellOrOutside Here ended → (ended ≡ status.AllOk → Here → Holds) → EndsWellOrOutside Holds ended
+ends_with Here Holds status.AllOk here holds = holds refl here
+ends_with Here Holds status.FileFault ends holds = tt
+ends_with Here Holds status.SinkFault ends holds = tt
+ends_with Here Holds status.NoMemory ends holds = tt
+ends_with Here Holds _ ends holds = absurd ends
+
 -- ---- The end.
 
 -- an undisturbed run of a script that goes well ends well, and no count of faults or stalls rose; or the outside failed
@@ -132,6 +215,27 @@ module _ (start : Counters) where
   goes_ends (Stores name bytes line wanted) old new (taken ∷ later) ended well still calm runs = absurd runs
   goes_ends (MayStarve rest) old new course ended goes still calm (inl runs) = goes_ends rest old new course ended goes still calm runs
   goes_ends (MayStarve rest) old new course ended goes still calm (inr none) = subst (λ (s : Status). EndsStill new s) (sym none.2) tt
+
+-- the drives of both bays had no fault, and nothing disturbed that of bay 0
+pub record AreFaultless (old new : Counters) : Type 0 where
+  pub first : IsFaultless 0 old new
+  pub second : IsFaultless 1 old new
+  pub calm : IsUndisturbed 0 old new
+
+pub still_faultless : (old : World) (new : Counters) → BeginsSound old → IsStill old.state.station.counters new → AreFaultless old.state.station.counters new
+still_faultless old new begins still =
+    let first = begins.sound.drives.first.below in
+    let second = begins.sound.drives.second.below in
+    let few = begins.sound.stalls_below in
+    record {
+      first = (omega (arith, still.first), omega (arith, still.first, first));
+      second = (omega (arith, still.second), omega (arith, still.second, second));
+      calm = record {
+        faults = omega (arith, still.first, first);
+        stalls = omega (arith, still.stalls, few);
+        together = omega (arith, still.first, still.stalls);
+      };
+    }
 
 -- where nothing is left to go wrong, a script that goes well ends well and faultless, with what holds then; or the outside failed
 pub completes : (script : Script) (Holds : Type 0) (old new : World) (course : List Taken) (ended : Status) → BeginsSound old → GoesWell script (at old.state old.files)

@@ -3,13 +3,10 @@ pub mod Asking
 pub mod Bays
 pub mod CommandEnds
 pub mod CopyGoes
-pub mod Endings
 pub mod FormatGoes
 pub mod FoundAll
 pub mod Going
+pub mod Making
 pub mod PutIn
 pub mod ReadDone
-pub mod StepAccesses
-pub mod Still
 pub mod VerifyGoes
-pub mod WriteDone

@@ -1,12 +1,13 @@
 -- A read of a standard key of a regular disk that has it is done where nothing disturbs it.
 use Rattle.std.proofs.Common.{arith, ◌≡◌, ◌∙◌, ◌+◌, ◌-◌, ◌≤◌, ℕ, nat_le, Bool, true, false, List, refl, sym, ap, subst, Option, Some, None, Result, Ok, Err, le-leb}
-use Rattle.std.specs.Prelude.{◌/◌, ◌==◌, not, if◌then◌else◌}
+use Rattle.std.specs.Prelude.{◌/◌, ◌==◌, not, is_some, if◌then◌else◌}
 use Rattle.flop_base.specs.Shelf.{Files}
 use Rattle.flop_base.specs.Standard.{sectors_at, standard_code}
 use Rattle.flop_base.specs.declared.key.Chrn.{Chrn}
 use Rattle.flop_base.specs.declared.answers.Code.{Code}
 use Rattle.flop_base.specs.declared.answers.Code.TheVariants.{BadRequest, Page, Changed}
 use Rattle.raw_image.specs.Disk.{Disk, HasTrack, track_of}
+use Rattle.bay_model.specs.Bays.{Two, in_bay}
 use Rattle.bay_model.specs.Counters.{Counters, IsUndisturbed, DisturbedLess}
 use Rattle.bay_model.specs.Memory.{user_bytes}
 use Rattle.track_model.specs.Fields.{IsAddressAt, content_size}
@@ -19,7 +20,7 @@ use Rattle.sector_map.specs.Standard.{key_of}
 use Rattle.sector_map.proofs.MetTracks.{met_track}
 use Rattle.sector_map.proofs.RegularTracks.{clear_address, key_cylinder, one_address}
 use Rattle.sector_model.specs.declared.reply.Reply.{Reply}
-use Rattle.sector_model.specs.Stations.{StationState, bay_of, met}
+use Rattle.sector_model.specs.Stations.{StationState, Bay, bay_of, met}
 use Rattle.sector_model.specs.Orders.{is_sector_request, crosses_page, is_acknowledged, read_refusal}
 use Rattle.sector_model.specs.Reads.{ReadsDrive, IsReadCause, spoilable}
 use Rattle.sector_model.specs.States.{State}
@@ -29,6 +30,8 @@ use Rattle.scripts.specs.Records.{record_address}
 use Rattle.disk_laws.proofs.Reading.{reaches}
 use Rattle.disk_laws.proofs.Sectors.{few_sectors}
 use Rattle.disk_completeness.specs.Complete.{IsReadable}
+use Rattle.disk_completeness.proofs.Going.{Stage, IsDone}
+use Rattle.disk_completeness.proofs.Asking.{safe}
 use Rattle.disk_completeness.proofs.Bays.{IsReadyFor, both_true}
 
 -- ---- a record in memory
@@ -101,7 +104,7 @@ module _ (source : Disk) (readable : IsReadable source) (c h r : ℕ) (has : Has
   called_taken address (Ok false) drive = (refl, ap (λ (s : StationState). s.bays) drive.found.becomes)
   called_taken address (Err code) drive = absurd (never code drive.refused.cause)
 
-pub read_taken : (source : Disk) (c h r place : ℕ) (old new : State) (told after : Option Files) (answer : Reply) → IsReadable source → source.cylinders ≤ 80 → source.heads ≤ 2 → HasTrack source c h → 1 ≤ r → r ≤ sectors_at source.rate → 1 ≤ place → place ≤ 18 → IsReadyFor 0 source old.station → IsUndisturbed 0 old.station.counters new.station.counters → Step (request.Read 0 (key_of c h r) (record_address place)) old told answer new after → (is_refusal answer ≡ false) × (new.station.bays ≡ old.station.bays)
+read_taken : (source : Disk) (c h r place : ℕ) (old new : State) (told after : Option Files) (answer : Reply) → IsReadable source → source.cylinders ≤ 80 → source.heads ≤ 2 → HasTrack source c h → 1 ≤ r → r ≤ sectors_at source.rate → 1 ≤ place → place ≤ 18 → IsReadyFor 0 source old.station → IsUndisturbed 0 old.station.counters new.station.counters → Step (request.Read 0 (key_of c h r) (record_address place)) old told answer new after → (is_refusal answer ≡ false) × (new.station.bays ≡ old.station.bays)
 read_taken source c h r place old new told after answer readable few_cylinders few_heads has least most from few ready calm step =
     let key = key_of c h r in
     let address = record_address place in
@@ -112,3 +115,26 @@ read_taken source c h r place old new told after answer readable few_cylinders f
     let field = has_data source key there.0 readable.regular there.1 there.2 in
     let taken = called_taken source readable c h r has old.station new.station ready calm field address step.1.0 drive in
     (ap is_refusal step.1.1 ∙ taken.0, taken.1)
+
+-- ---- As a request of a script.
+
+pub ready_still : (bay : ℕ) (disk : Disk) (old new : StationState) → bay_of new bay ≡ bay_of old bay → IsReadyFor bay disk old → IsReadyFor bay disk new
+ready_still bay disk old new same ready = record {
+  medium = ap (λ (b : Bay). b.medium) same ∙ ready.medium;
+  bay_rate = ap (λ (b : Bay). b.rate) same ∙ ready.bay_rate;
+  kept = ap (λ (b : Bay). is_some b.acknowledged) same ∙ ready.kept;
+}
+
+-- bay 0 is ready as before, and so is bay 1
+pub record ReadsAlone (source : Disk) (old new : Stage) : Type 0 where
+  pub ready : IsReadyFor 0 source new.state.station
+  pub same : new.state.station.bays ≡ old.state.station.bays
+
+pub read_done : (source : Disk) (c h r place : ℕ) (old : Stage) → IsReadable source → source.cylinders ≤ 80 → source.heads ≤ 2 → HasTrack source c h → 1 ≤ r → r ≤ sectors_at source.rate → 1 ≤ place → place ≤ 18
+    → IsReadyFor 0 source old.state.station → IsDone (λ new. ReadsAlone source old new) (request.Read 0 (key_of c h r) (record_address place)) old
+read_done source c h r place old readable few_cylinders few_heads has least most from few ready = record {
+  safe = safe (request.Read 0 (key_of c h r) (record_address place)) old refl (λ bay name same. cc same);
+  answers = λ answer new step calm.
+      let taken = read_taken source c h r place old.state new.state old.files new.files answer readable few_cylinders few_heads has least most from few ready calm.first step in
+      (taken.0, record { ready = ready_still 0 source old.state.station new.state.station (ap (λ (bays : Two Bay). in_bay bays 0) taken.1) ready; same = taken.1 });
+}

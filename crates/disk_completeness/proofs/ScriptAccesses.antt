@@ -1,22 +1,27 @@
 -- How often a script accesses the station past the driver.
-use Rattle.std.proofs.Common.{arith, ◌≡◌, ◌+◌, ◌≤◌, ℕ, zero, suc, Bool, true, false, List, [], ◌∷◌, refl, sym, ap, subst, inl, inr, get_or, ◌-◌, Some, None}
+use Rattle.std.proofs.Common.{arith, ℕ, ◌+◌, ◌≤◌, [], ◌∷◌, refl, Option, ◌≡◌, zero, suc, Bool, true, false, List, sym, ap, subst, inl, inr, get_or, ◌-◌, Some, None}
+use Rattle.std.proofs.lemmas.List.Sums.{sum_by-cons}
+use Rattle.flop_base.specs.Shelf.{Files}
+use Rattle.floppy_requests.specs.declared.request.Request.{Request}
+use Rattle.floppy_requests.specs.declared.request.Request.TheVariants as request
+use Rattle.sector_model.specs.declared.reply.Reply.{Reply}
+use Rattle.sector_model.specs.declared.reply.Stop.{Stop}
+use Rattle.sector_model.specs.States.{State}
+use Rattle.sector_model.specs.Steps.{Step, StopsAt, AfterStop}
+use Rattle.sector_model.specs.Ties.{accesses_of}
+use Rattle.sector_model.proofs.PlayTies.{ran_ties}
 use Rattle.flop_base.specs.Sink.{grown}
 use Rattle.flop_base.specs.Standard.{sectors_at}
 use Rattle.flop_base.specs.declared.key.Chrn.{Chrn}
 use Rattle.flop_base.specs.declared.answers.Rate.{Rate}
 use Rattle.flop_base.specs.declared.answers.Rate.TheVariants.{R500, R250}
 use Rattle.flop_base.specs.declared.answers.Status.{Status}
-use Rattle.floppy_requests.specs.declared.request.Request.{Request}
-use Rattle.floppy_requests.specs.declared.request.Request.TheVariants as request
 use Rattle.sector_map.specs.Standard.{key_of}
-use Rattle.sector_model.specs.declared.reply.Reply.{Reply}
 use Rattle.sector_model.specs.declared.reply.Reply.TheVariants as reply
 use Rattle.sector_model.specs.Stations.{bay_of}
-use Rattle.sector_model.specs.States.{State}
 use Rattle.sector_model.specs.Texts.{is_refusal}
 use Rattle.sector_model.specs.Runs.{Taken}
 use Rattle.sector_model.specs.Plays.{World}
-use Rattle.sector_model.specs.Ties.{accesses_of}
 use Rattle.floppy_session.specs.Blanks.{blank_request}
 use Rattle.floppy_session.specs.declared.shape.Shape.{Shape}
 use Rattle.floppy_session.specs.Shapes.{shape_in}
@@ -28,7 +33,25 @@ use Rattle.disk_commands.specs.Format.{formats_disk, format_script}
 use Rattle.disk_commands.specs.Verify.{Reads, one_more, tells_failure, verifies_record, verifies_track, verify_script}
 use Rattle.disk_commands.specs.Copy.{write_request, reads_record, writes_record, copies_track, copy_script}
 use Rattle.disk_completeness.specs.Accesses.{AccessesAtMost}
-use Rattle.disk_completeness.proofs.StepAccesses.{RisesBy, step_rises, stop_rises}
+
+-- the count of accesses rose by this or less
+abbrev pub RisesBy : ℕ → State → State → Type 0
+RisesBy most old new = new.station.counters.direct ≤ old.station.counters.direct + most
+
+-- a step
+pub step_rises : (old new : State) (told after : Option Files) (asked : Request) (answer : Reply) → Step asked old told answer new after → RisesBy (accesses_of asked) old new
+step_rises old new told after asked answer step =
+    let ties = ran_ties old new told after (record { asked = asked; answer = answer; after = new } ∷ []) (after, step, (refl, refl)) in
+    let most = ties.by_requests in
+    omega (arith, most, sum_by-cons accesses_of asked [])
+
+stopped_rises : (old new : State) (asked : Request) → AfterStop asked old new → RisesBy (accesses_of asked) old new
+stopped_rises old new (request.Eject bay) stopped = stopped.exchanged.access.accesses
+stopped_rises old new other stopped = let idle = stopped.idle.accesses in omega (arith, idle)
+
+-- a request that stopped the run
+pub stop_rises : (old new : State) (told after : Option Files) (asked : Request) (cause : Stop) → StopsAt asked old told cause new after → RisesBy (accesses_of asked) old new
+stop_rises old new told after asked cause stops = stopped_rises old new asked stops.after
 
 -- the requests of a script make at most so many accesses, whatever the answers are
 abbrev AsksAtMost : ℕ → Script → Type 0

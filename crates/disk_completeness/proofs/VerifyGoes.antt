@@ -25,21 +25,10 @@ use Rattle.disk_completeness.specs.Complete.{IsReadable}
 use Rattle.disk_completeness.proofs.Going.{Stage, at, IsDone, GoesWell, PartGoes, goes_asks, goes_each}
 use Rattle.disk_completeness.proofs.Bays.{IsReadyFor}
 use Rattle.disk_completeness.proofs.Asking.{safe, acknowledges_goes}
-use Rattle.disk_completeness.proofs.CopyGoes.{ready_still}
 use Rattle.disk_completeness.proofs.PutIn.{opens_goes}
-use Rattle.disk_completeness.proofs.ReadDone.{read_taken}
+use Rattle.disk_completeness.proofs.ReadDone.{ReadsAlone, read_done}
 
 module _ (disk : Disk) (readable : IsReadable disk) (few_cylinders : disk.cylinders ≤ 80) (few_heads : disk.heads ≤ 2) where
-  -- a read of a record, to the place of any in memory
-  pub read_done : (c h r place : ℕ) (old : Stage) → HasTrack disk c h → 1 ≤ r → r ≤ sectors_at disk.rate → 1 ≤ place → place ≤ 18 → IsReadyFor 0 disk old.state.station
-      → IsDone (λ new. IsReadyFor 0 disk new.state.station) (request.Read 0 (key_of c h r) (record_address place)) old
-  read_done c h r place old has least most from few ready = record {
-    safe = safe (request.Read 0 (key_of c h r) (record_address place)) old refl (λ bay name same. cc same);
-    answers = λ answer new step calm.
-        let taken = read_taken disk c h r place old.state new.state old.files new.files answer readable few_cylinders few_heads has least most from few ready calm.first step in
-        (taken.0, ready_still 0 disk old.state.station new.state.station (ap (λ (bays : Two _). in_bay bays 0) taken.1) ready);
-  }
-
   -- no read was refused so far
   record IsReading (refused : Bool) (stage : Stage) : Type 0 where
     pub ready : IsReadyFor 0 disk stage.state.station
@@ -59,11 +48,11 @@ module _ (disk : Disk) (readable : IsReadable disk) (few_cylinders : disk.cylind
       → PartGoes (λ now new. IsReading now.refused new) (verifies_record c h r tally) old
   unfolding verifies_record
   record_goes c h r tally old has least most reading rest behind =
-      goes_asks (λ new. IsReadyFor 0 disk new.state.station) (request.Read 0 (key_of c h r) track_address) _ old
-      (read_done c h r 1 old has least most (omega arith) (omega arith) reading.ready)
-      (λ answer new fine ready.
+      goes_asks (λ new. ReadsAlone disk old new) (request.Read 0 (key_of c h r) track_address) _ old
+      (read_done disk c h r 1 old readable few_cylinders few_heads has least most (omega arith) (omega arith) reading.ready)
+      (λ answer new fine alone.
       tells_none (key_of c h r) answer _ new fine
-      (behind (one_more tally (is_refusal answer)) new (record { ready = ready; fine = none_more tally.refused (is_refusal answer) reading.fine fine })))
+      (behind (one_more tally (is_refusal answer)) new (record { ready = alone.ready; fine = none_more tally.refused (is_refusal answer) reading.fine fine })))
 
   track_goes : (c h : ℕ) (tally : Reads) (old : Stage) → HasTrack disk c h → IsReading tally.refused old → PartGoes (λ now new. IsReading now.refused new) (verifies_track (sectors_at disk.rate) c h tally) old
   unfolding verifies_track
