@@ -1,5 +1,3 @@
-mod Carrying
-pub mod Gathering
 mod Working
-mod Ending
-mod Tied
+mod Runs
+mod Turns

@@ -1,5 +1,5 @@
 -- Flat files on a shelf.
-use Rattle.std.specs.Prelude.{◌≡◌, ◌≤◌, ℕ, List, length, Option, Ok, Err, IfSome, IsSomeAnd}
+use Rattle.std.specs.Prelude.{◌≡◌, ◌≤◌, ℕ, List, length, Option, Result, Ok, Err, IfSome, IsSomeAnd}
 use Rattle.flop_base.specs.Shelf.{Files, file_at}
 use Rattle.flop_base.specs.Standard.{sectors_at}
 use Rattle.flop_base.specs.declared.answers.Rate.{Rate}
@@ -38,6 +38,11 @@ IsNotTaken told name (stop.TooLong named most) = (named ≡ name) × (most ≡ m
 IsNotTaken told name (stop.Absent named) = (named ≡ name) × IsAbsent told name
 IsNotTaken told name stop.FileFault = Unit {0}
 IsNotTaken told name stop.NoMemory = Unit {0}
+
+-- what was found under this name: the bytes of a flat file and the rate of their disk, or why it isn't taken
+abbrev pub IsFlatFound : Option Files → List ℕ → Result (List ℕ × Rate) Stop → Type 0
+IsFlatFound told name (Ok (bytes, rate)) = IsFlatFile told name bytes rate
+IsFlatFound told name (Err cause) = IsNotTaken told name cause
 
 -- a refused load of the flat file of this name, and what ends the command
 abbrev pub StopsFor : List ℕ → LoadError → Stop → Type 0

@@ -1,6 +1,5 @@
-pub mod Requests
-pub mod Workload
-pub mod Carried
 pub mod FlatFiles
-pub mod Commands
-pub mod Exercises
+pub mod Import
+pub mod Export
+pub mod Workload
+pub mod Exercise

@@ -1,43 +1,42 @@
 // The import of a flat file to a disk.
-ghost use Rattle.std.specs.Prelude.{◌≡◌, ◌+◌, ◌≤◌, ◌<◌, length, IfOk, IsErrOf, string_bytes};
+ghost use Rattle.std.specs.Prelude.{◌≡◌, ◌+◌, ◌≤◌, ◌<◌, length, IfOk, string_bytes};
 ghost use Rattle.flop_base.specs.Standard.{sectors_at};
 ghost use Rattle.flat_image.specs.Flat.{IsDensity, flat_length};
 ghost use Rattle.floppy_session.specs.Session.{IsRunning};
-ghost use Rattle.disk_commands.specs.Carried.{Went, counted_of};
-ghost use Rattle.disk_commands.specs.Commands.{Runs};
-ghost use Rattle.disk_commands.specs.Worlds.{faulty_of, Ran};
-ghost use Rattle.flat_commands.specs.Requests.{each, by_track, fill_record, fill_track, write_track, import_track, import_requests};
-ghost use Rattle.flat_commands.specs.Carried.{Goes};
-ghost use Rattle.flat_commands.specs.Commands.{import_text, sectors_of, Imports};
+ghost use Rattle.scripts.specs.Parts.{each, by_track};
+ghost use Rattle.scripts.specs.Leading.{Goes, RanPart, Ran, Runs, faulty_of};
+ghost use Rattle.flat_commands.specs.Import.{fills_record, fills_track, writes_track, imports_track, imports_disk, import_text, sectors_of, Imports};
 
-use crate::ask::{Halt, acknowledge, blank_request, carry, record_address, tell_halt};
 use crate::flat_file::load_flat;
 use flat_image::place;
 use flop_base::standard::SIZE_CODE;
 use flop_base::{Chrn, Name, Rate, Shelf, Sink, Status};
-use floppy_report::{put_last, put_last_line};
+use floppy_report::put_last;
 use floppy_requests::Request;
 use floppy_session::Session;
-use sector_model::{Station, Stop};
+use scripts::{acknowledge, blank_request, carry, finish, record_address};
+use sector_model::Station;
 use std::alloc::{AllocError, Global};
 
 /// The cylinders of a disk that has the sectors of a flat file.
-const CYLINDERS: u8 = 80;
+pub(crate) const CYLINDERS: u8 = 80;
 
 /// Sets memory from the address on to the bytes of a record, one request for each byte.
-fn fill_record<S: Shelf, D: Station>(
+fn fill_record<S: Shelf, K: Sink, D: Station>(
+    alloc: Global,
     session: &mut Session<D>,
-    shelf: &mut S,
     flat: &[u8],
     place: usize,
     address: u32,
-) -> Result<(), Halt>
+    shelf: &mut S,
+    out: &mut K,
+) -> Result<(), Status>
     requires running { IsRunning D.shown D.is_ready session.old }
     requires inside { place + 512 ≤ length flat.now }
     requires low { address ≤ 0xF0000 }
-    ensures { Went (Goes (fill_record flat.now place address)) (IsRunning D.shown D.is_ready session.new) (IsErrOf result (Halt.Stopped Stop.FileFault))
-        (counted_of D.shown S.told S.fault_count session.old shelf.old) result
-        (counted_of D.shown S.told S.fault_count session.new shelf.new) }
+    ensures { RanPart (Goes (fills_record flat.now place address tt)) (IsRunning D.shown D.is_ready session.new)
+        (faulty_of D.shown S.told S.fault_count K.told K.fault_count session.old shelf.old out.old) result
+        (faulty_of D.shown S.told S.fault_count K.told K.fault_count session.new shelf.new out.new) }
 {
     for i in 0..512u32 {
         let byte = flat[place + i as usize];
@@ -46,158 +45,167 @@ fn fill_record<S: Shelf, D: Station>(
             length: 1,
             byte,
         };
-        carry(session, shelf, fill)?;
+        carry(alloc, session, &fill, shelf, out)?;
     }
     Ok(())
 }
 
 /// Sets memory to the bytes of a track, each record at its own place.
-fn fill_track<S: Shelf, D: Station>(
+fn fill_track<S: Shelf, K: Sink, D: Station>(
+    alloc: Global,
     session: &mut Session<D>,
-    shelf: &mut S,
     flat: &[u8],
     sectors: u8,
     c: u8,
     h: u8,
-) -> Result<(), Halt>
+    shelf: &mut S,
+    out: &mut K,
+) -> Result<(), Status>
     requires running { IsRunning D.shown D.is_ready session.old }
-    requires density { IsDensity sectors }
     requires most { sectors ≤ 18 }
+    requires density { IsDensity sectors }
     requires whole { length flat.now ≡ flat_length sectors }
     requires cylinder { c < 80 }
     requires head { h < 2 }
-    ensures { Went (Goes (fill_track flat.now sectors c h)) (IsRunning D.shown D.is_ready session.new) (IsErrOf result (Halt.Stopped Stop.FileFault))
-        (counted_of D.shown S.told S.fault_count session.old shelf.old) result
-        (counted_of D.shown S.told S.fault_count session.new shelf.new) }
+    ensures { RanPart (Goes (fills_track flat.now sectors c h)) (IsRunning D.shown D.is_ready session.new)
+        (faulty_of D.shown S.told S.fault_count K.told K.fault_count session.old shelf.old out.old) result
+        (faulty_of D.shown S.told S.fault_count K.told K.fault_count session.new shelf.new out.new) }
 {
     for r in 1..sectors + 1 {
         let from = place(sectors, c, h, r);
-        fill_record(session, shelf, flat, from, record_address(r))?;
+        fill_record(alloc, session, flat, from, record_address(r), shelf, out)?;
     }
     Ok(())
 }
 
 /// Writes the records of a track, each from its own place.
-fn write_track<S: Shelf, D: Station>(
+fn write_track<S: Shelf, K: Sink, D: Station>(
+    alloc: Global,
     session: &mut Session<D>,
-    shelf: &mut S,
     sectors: u8,
     c: u8,
     h: u8,
-) -> Result<(), Halt>
+    shelf: &mut S,
+    out: &mut K,
+) -> Result<(), Status>
     requires running { IsRunning D.shown D.is_ready session.old }
     requires most { sectors ≤ 18 }
-    ensures { Went (Goes (write_track sectors c h)) (IsRunning D.shown D.is_ready session.new) (IsErrOf result (Halt.Stopped Stop.FileFault))
-        (counted_of D.shown S.told S.fault_count session.old shelf.old) result
-        (counted_of D.shown S.told S.fault_count session.new shelf.new) }
+    ensures { RanPart (Goes (writes_track sectors c h)) (IsRunning D.shown D.is_ready session.new)
+        (faulty_of D.shown S.told S.fault_count K.told K.fault_count session.old shelf.old out.old) result
+        (faulty_of D.shown S.told S.fault_count K.told K.fault_count session.new shelf.new out.new) }
 {
+    let n = SIZE_CODE;
     for r in 1..sectors + 1 {
-        let key = Chrn {
-            c,
-            h,
-            r,
-            n: SIZE_CODE,
-        };
-        let address = record_address(r);
         let write = Request::Write {
             bay: 0,
-            key,
-            address,
+            key: Chrn { c, h, r, n },
+            address: record_address(r),
         };
-        carry(session, shelf, write)?;
+        carry(alloc, session, &write, shelf, out)?;
     }
     Ok(())
 }
 
 /// Formats a track and writes the bytes of its records.
-fn import_track<S: Shelf, D: Station>(
+#[tactic(auto, unfolding(crate::specs::Import::imports_track))]
+fn import_track<S: Shelf, K: Sink, D: Station>(
+    alloc: Global,
     session: &mut Session<D>,
-    shelf: &mut S,
     flat: &[u8],
     sectors: u8,
     c: u8,
     h: u8,
-) -> Result<(), Halt>
+    shelf: &mut S,
+    out: &mut K,
+) -> Result<(), Status>
     requires running { IsRunning D.shown D.is_ready session.old }
-    requires density { IsDensity sectors }
     requires most { sectors ≤ 18 }
+    requires density { IsDensity sectors }
     requires whole { length flat.now ≡ flat_length sectors }
     requires cylinder { c < 80 }
     requires head { h < 2 }
-    ensures { Went (Goes (import_track flat.now sectors c h)) (IsRunning D.shown D.is_ready session.new) (IsErrOf result (Halt.Stopped Stop.FileFault))
-        (counted_of D.shown S.told S.fault_count session.old shelf.old) result
-        (counted_of D.shown S.told S.fault_count session.new shelf.new) }
+    ensures { RanPart (Goes (imports_track flat.now sectors c h tt)) (IsRunning D.shown D.is_ready session.new)
+        (faulty_of D.shown S.told S.fault_count K.told K.fault_count session.old shelf.old out.old) result
+        (faulty_of D.shown S.told S.fault_count K.told K.fault_count session.new shelf.new out.new) }
 {
-    carry(session, shelf, Request::Format { bay: 0, c, h })?;
-    fill_track(session, shelf, flat, sectors, c, h)?;
-    write_track(session, shelf, sectors, c, h)
+    let format = Request::Format { bay: 0, c, h };
+    carry(alloc, session, &format, shelf, out)?;
+    fill_track(alloc, session, flat, sectors, c, h, shelf, out)?;
+    write_track(alloc, session, sectors, c, h, shelf, out)
 }
 
 /// Makes the tracks of a cylinder.
-fn import_cylinder<S: Shelf, D: Station>(
+fn import_cylinder<S: Shelf, K: Sink, D: Station>(
+    alloc: Global,
     session: &mut Session<D>,
-    shelf: &mut S,
     flat: &[u8],
     sectors: u8,
     c: u8,
-) -> Result<(), Halt>
+    shelf: &mut S,
+    out: &mut K,
+) -> Result<(), Status>
     requires running { IsRunning D.shown D.is_ready session.old }
-    requires density { IsDensity sectors }
     requires most { sectors ≤ 18 }
+    requires density { IsDensity sectors }
     requires whole { length flat.now ≡ flat_length sectors }
     requires cylinder { c < 80 }
-    ensures { Went (Goes (each 0 2 (import_track flat.now sectors c))) (IsRunning D.shown D.is_ready session.new) (IsErrOf result (Halt.Stopped Stop.FileFault))
-        (counted_of D.shown S.told S.fault_count session.old shelf.old) result
-        (counted_of D.shown S.told S.fault_count session.new shelf.new) }
+    ensures { RanPart (Goes (each 0 2 (imports_track flat.now sectors c) tt)) (IsRunning D.shown D.is_ready session.new)
+        (faulty_of D.shown S.told S.fault_count K.told K.fault_count session.old shelf.old out.old) result
+        (faulty_of D.shown S.told S.fault_count K.told K.fault_count session.new shelf.new out.new) }
 {
     for h in 0..2u8 {
-        import_track(session, shelf, flat, sectors, c, h)?;
+        import_track(alloc, session, flat, sectors, c, h, shelf, out)?;
     }
     Ok(())
 }
 
 /// Makes all tracks, by cylinder, then head.
-fn import_tracks<S: Shelf, D: Station>(
+fn import_tracks<S: Shelf, K: Sink, D: Station>(
+    alloc: Global,
     session: &mut Session<D>,
-    shelf: &mut S,
     flat: &[u8],
     sectors: u8,
-) -> Result<(), Halt>
+    shelf: &mut S,
+    out: &mut K,
+) -> Result<(), Status>
     requires running { IsRunning D.shown D.is_ready session.old }
-    requires density { IsDensity sectors }
     requires most { sectors ≤ 18 }
+    requires density { IsDensity sectors }
     requires whole { length flat.now ≡ flat_length sectors }
-    ensures { Went (Goes (by_track 80 (import_track flat.now sectors))) (IsRunning D.shown D.is_ready session.new) (IsErrOf result (Halt.Stopped Stop.FileFault))
-        (counted_of D.shown S.told S.fault_count session.old shelf.old) result
-        (counted_of D.shown S.told S.fault_count session.new shelf.new) }
+    ensures { RanPart (Goes (by_track 80 2 (imports_track flat.now sectors) tt)) (IsRunning D.shown D.is_ready session.new)
+        (faulty_of D.shown S.told S.fault_count K.told K.fault_count session.old shelf.old out.old) result
+        (faulty_of D.shown S.told S.fault_count K.told K.fault_count session.new shelf.new out.new) }
 {
     for c in 0..CYLINDERS {
-        import_cylinder(session, shelf, flat, sectors, c)?;
+        import_cylinder(alloc, session, flat, sectors, c, shelf, out)?;
     }
     Ok(())
 }
 
-/// Asks all that an import asks.
-fn run_import<S: Shelf, D: Station>(
+/// Makes a disk from the bytes of a flat file, and stores it under the name.
+fn make_disk<S: Shelf, K: Sink, D: Station>(
+    alloc: Global,
     session: &mut Session<D>,
-    shelf: &mut S,
     flat: &[u8],
     name: Name,
     rate: Rate,
-) -> Result<(), Halt>
+    shelf: &mut S,
+    out: &mut K,
+) -> Result<(), Status>
     requires running { IsRunning D.shown D.is_ready session.old }
     requires whole { length flat.now ≡ flat_length (sectors_at rate) }
-    ensures { Went (Goes (import_requests flat.now name rate)) (IsRunning D.shown D.is_ready session.new) (IsErrOf result (Halt.Stopped Stop.FileFault))
-        (counted_of D.shown S.told S.fault_count session.old shelf.old) result
-        (counted_of D.shown S.told S.fault_count session.new shelf.new) }
+    ensures { RanPart (Goes (imports_disk flat.now name rate)) (IsRunning D.shown D.is_ready session.new)
+        (faulty_of D.shown S.told S.fault_count K.told K.fault_count session.old shelf.old out.old) result
+        (faulty_of D.shown S.told S.fault_count K.told K.fault_count session.new shelf.new out.new) }
 {
-    carry(session, shelf, blank_request(name, CYLINDERS, rate))?;
-    acknowledge(session, shelf, rate)?;
-    import_tracks(session, shelf, flat, rate.sectors())?;
-    carry(session, shelf, Request::Eject { bay: 0 })
+    let blank = blank_request(0, name, CYLINDERS, rate);
+    carry(alloc, session, &blank, shelf, out)?;
+    acknowledge(alloc, session, 0, rate, shelf, out)?;
+    import_tracks(alloc, session, flat, rate.sectors(), shelf, out)?;
+    carry(alloc, session, &Request::Eject { bay: 0 }, shelf, out)
 }
 
-#[tactic(auto, unfolding(crate::specs::Commands::import_text))]
+#[tactic(auto, unfolding(crate::specs::Import::import_text))]
 fn import_line(alloc: Global, rate: Rate) -> Result<String, AllocError>
     ensures { IfOk result (λ line. string_bytes line ≡ import_text (sectors_of rate)) }
 {
@@ -221,9 +229,17 @@ pub fn import_disk<S: Shelf, K: Sink, D: Station>(
         (faulty_of D.shown S.told S.fault_count K.told K.fault_count session.new shelf.new out.new) result }
 {
     match load_flat(alloc, shelf, flat) {
-        Ok(loaded) => match run_import(session, shelf, &loaded.bytes, name, loaded.rate) {
-            Ok(()) => put_last_line(out, import_line(alloc, loaded.rate), Status::AllOk),
-            Err(halt) => tell_halt(alloc, out, &halt),
+        Ok(loaded) => match make_disk(
+            alloc,
+            session,
+            &loaded.bytes,
+            name,
+            loaded.rate,
+            shelf,
+            out,
+        ) {
+            Ok(()) => finish(out, import_line(alloc, loaded.rate), Status::AllOk),
+            Err(ended) => ended,
         },
         Err(stop) => put_last(alloc, out, &stop),
     }

@@ -1,8 +1,7 @@
-//! The commands that go between a whole disk and a flat file, and the one that runs a generated workload, over a session. Each is
-//! a run of known requests on the media in memory.
+//! The commands that go between a whole disk and a flat file, and the one that runs a generated workload, over a session. Each is a
+//! script: what it asks, prints and stores, part by part.
 #![tactic(auto)]
 
-mod ask;
 mod draws;
 mod exercise;
 mod export;

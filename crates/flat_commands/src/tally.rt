@@ -1,5 +1,6 @@
 // What the requests of a workload came to.
-ghost use Rattle.std.specs.Prelude.{◌≡◌, ◌+◌, ◌≤◌};
+ghost use Rattle.std.specs.Prelude.{◌≡◌, ◌≤◌};
+ghost use Rattle.flat_commands.specs.Exercise.{no_work, one_done, one_refused, HasRoom, IsOneMore};
 
 /// How many reads and writes were done and how many refused, and the sum of all bytes that were read.
 #[derive(Clone, Copy)]
@@ -12,9 +13,7 @@ pub(crate) struct Tally {
 impl Tally {
     /// No request at all.
     pub fn none() -> Tally
-        ensures done { result.done ≡ 0 }
-        ensures refused { result.refused ≡ 0 }
-        ensures sum { result.sum ≡ 0 }
+        ensures { result ≡ no_work }
     {
         Tally {
             done: 0,
@@ -23,45 +22,29 @@ impl Tally {
         }
     }
 
-    /// A request that was refused.
-    pub fn refused() -> Tally
-        ensures done { result.done ≡ 0 }
-        ensures refused { result.refused ≡ 1 }
-        ensures sum { result.sum ≡ 0 }
+    /// One more request, which was refused.
+    pub fn and_refused(self) -> Tally
+        requires { HasRoom self }
+        ensures value { result ≡ one_refused self }
+        ensures more { IsOneMore self result }
     {
         Tally {
-            done: 0,
-            refused: 1,
-            sum: 0,
+            refused: self.refused + 1,
+            ..self
         }
     }
 
-    /// A request that was done, and read bytes of this sum.
-    pub fn done(sum: u64) -> Tally
-        ensures done { result.done ≡ 1 }
-        ensures refused { result.refused ≡ 0 }
-        ensures sum { result.sum ≡ sum }
+    /// One more request, which was done, and read bytes of this sum.
+    pub fn and_done(self, sum: u64) -> Tally
+        requires room { HasRoom self }
+        requires sum { sum ≤ 130560 }
+        ensures value { result ≡ one_done sum self }
+        ensures more { IsOneMore self result }
     {
         Tally {
-            done: 1,
-            refused: 0,
-            sum,
-        }
-    }
-
-    /// These requests and more.
-    pub fn and(self, more: Tally) -> Tally
-        requires done { self.done + more.done ≤ 4294967295 }
-        requires refused { self.refused + more.refused ≤ 4294967295 }
-        requires sum { self.sum + more.sum ≤ 18446744073709551615 }
-        ensures done { result.done ≡ self.done + more.done }
-        ensures refused { result.refused ≡ self.refused + more.refused }
-        ensures sum { result.sum ≡ self.sum + more.sum }
-    {
-        Tally {
-            done: self.done + more.done,
-            refused: self.refused + more.refused,
-            sum: self.sum + more.sum,
+            done: self.done + 1,
+            sum: self.sum + sum,
+            ..self
         }
     }
 }

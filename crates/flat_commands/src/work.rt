@@ -1,50 +1,26 @@
 // The requests of a workload, which goes on whatever is answered.
-ghost use Rattle.std.specs.Prelude.{◌≡◌, ◌+◌, ◌≤◌, ◌∷◌, [], sum};
+ghost use Rattle.std.specs.Prelude.{◌≡◌, ◌+◌, ◌≤◌, IfOk, sum};
 ghost use Rattle.bay_model.specs.Memory.{user_bytes, bytes_from};
-ghost use Rattle.sector_model.specs.Texts.{is_refusal};
 ghost use Rattle.floppy_session.specs.Session.{state_of, IsRunning};
 ghost use Rattle.floppy_session.specs.Tries.{HasTries};
-ghost use Rattle.disk_commands.specs.Carried.{Went, counted_of};
-ghost use Rattle.flat_commands.specs.Carried.{Answers};
-ghost use Rattle.flat_commands.specs.Workload.{write_requests, drawn_requests, work_requests, number_after};
-ghost use Rattle.flat_commands.specs.Exercises.{RunsOn, Works};
+ghost use Rattle.scripts.specs.Leading.{Goes, RanPart, faulty_of};
+ghost use Rattle.flat_commands.specs.Workload.{number_after};
+ghost use Rattle.flat_commands.specs.Exercise.{no_work, reads_work, write_request, writes_work, works_drawn, works_behind, works, HasRoom, IsOneMore};
 
 use crate::draws::{Draws, Work};
 use crate::tally::Tally;
-use flop_base::{Chrn, Shelf};
+use flop_base::{Chrn, Shelf, Sink, Status};
 use floppy_requests::Request;
 use floppy_session::Session;
-use sector_model::{Reply, Station};
+use scripts::{ask, is_refusal};
+use sector_model::Station;
+use std::alloc::Global;
 
 /// Where a read puts its bytes.
 const READ_ADDRESS: u32 = 0x10000;
 
 /// Where a write takes its bytes.
 const WRITE_ADDRESS: u32 = 0x20000;
-
-/// The answer to a request that neither the shelf nor want of memory can stop.
-fn answer<S: Shelf, D: Station>(session: &mut Session<D>, shelf: &mut S, request: Request) -> Reply
-    requires running { IsRunning D.shown D.is_ready session.old }
-    requires tries { HasTries request }
-    requires runs_on { RunsOn request }
-    ensures { Went (Answers request) (IsRunning D.shown D.is_ready session.new) ⊥
-        (counted_of D.shown S.told S.fault_count session.old shelf.old) result
-        (counted_of D.shown S.told S.fault_count session.new shelf.new) }
-{
-    match session.run(shelf, &request) {
-        Ok(reply) => reply,
-        Err(_) => unreachable!(),
-    }
-}
-
-fn is_refusal(reply: &Reply) -> bool
-    ensures { result ≡ is_refusal reply.now }
-{
-    match reply {
-        Reply::Refused(_) => true,
-        Reply::Done | Reply::DoneDeleted | Reply::Bytes { .. } => false,
-    }
-}
 
 /// The sum of the bytes of a record in memory.
 fn sum_read<D: Station>(session: &Session<D>, address: u32) -> u64
@@ -60,32 +36,39 @@ fn sum_read<D: Station>(session: &Session<D>, address: u32) -> u64
 }
 
 /// Reads the record of a key.
-fn read<S: Shelf, D: Station>(session: &mut Session<D>, shelf: &mut S, key: Chrn) -> Tally
+#[tactic(auto, unfolding(crate::specs::Exercise::reads_work))]
+fn read<S: Shelf, K: Sink, D: Station>(
+    alloc: Global,
+    session: &mut Session<D>,
+    key: Chrn,
+    tally: Tally,
+    shelf: &mut S,
+    out: &mut K,
+) -> Result<Tally, Status>
     requires running { IsRunning D.shown D.is_ready session.old }
-    ensures went { Went (Works (Request.Read 0 key 0x10000 ∷ [])) (IsRunning D.shown D.is_ready session.new) ⊥
-        (counted_of D.shown S.told S.fault_count session.old shelf.old) result
-        (counted_of D.shown S.told S.fault_count session.new shelf.new) }
-    ensures few { result.done + result.refused ≤ 1 }
-    ensures small { result.sum ≤ 130560 }
+    requires room { HasRoom tally }
+    ensures ran { RanPart (Goes (reads_work key tally)) (IsRunning D.shown D.is_ready session.new)
+        (faulty_of D.shown S.told S.fault_count K.told K.fault_count session.old shelf.old out.old) result
+        (faulty_of D.shown S.told S.fault_count K.told K.fault_count session.new shelf.new out.new) }
+    ensures more { IfOk result (IsOneMore tally) }
 {
     let read = Request::Read {
         bay: 0,
         key,
         address: READ_ADDRESS,
     };
-    let reply = answer(session, shelf, read);
+    let reply = ask(alloc, session, &read, shelf, out)?;
     if is_refusal(&reply) {
-        Tally::refused()
+        Ok(tally.and_refused())
     } else {
-        Tally::done(sum_read(session, READ_ADDRESS))
+        Ok(tally.and_done(sum_read(session, READ_ADDRESS)))
     }
 }
 
 /// A write to the record of a key, with its mark.
 fn write_request(deleted: bool, key: Chrn) -> Request
-    ensures value { (result ∷ []) ≡ write_requests deleted key }
+    ensures value { result ≡ write_request deleted key }
     ensures tries { HasTries result }
-    ensures runs_on { RunsOn result }
 {
     let address = WRITE_ADDRESS;
     if deleted {
@@ -104,69 +87,106 @@ fn write_request(deleted: bool, key: Chrn) -> Request
 }
 
 /// Fills memory with a byte and writes it to the record of a key.
-fn write<S: Shelf, D: Station>(
+#[tactic(auto, unfolding(crate::specs::Exercise::writes_work))]
+fn write<S: Shelf, K: Sink, D: Station>(
+    alloc: Global,
     session: &mut Session<D>,
-    shelf: &mut S,
     deleted: bool,
     key: Chrn,
     byte: u8,
-) -> Tally
+    tally: Tally,
+    shelf: &mut S,
+    out: &mut K,
+) -> Result<Tally, Status>
     requires running { IsRunning D.shown D.is_ready session.old }
-    ensures went { Went (Works (Request.Fill 0x20000 512 byte ∷ write_requests deleted key)) (IsRunning D.shown D.is_ready session.new) ⊥
-        (counted_of D.shown S.told S.fault_count session.old shelf.old) result
-        (counted_of D.shown S.told S.fault_count session.new shelf.new) }
-    ensures few { result.done + result.refused ≤ 1 }
-    ensures small { result.sum ≤ 130560 }
+    requires room { HasRoom tally }
+    ensures ran { RanPart (Goes (writes_work deleted key byte tally)) (IsRunning D.shown D.is_ready session.new)
+        (faulty_of D.shown S.told S.fault_count K.told K.fault_count session.old shelf.old out.old) result
+        (faulty_of D.shown S.told S.fault_count K.told K.fault_count session.new shelf.new out.new) }
+    ensures more { IfOk result (IsOneMore tally) }
 {
     let fill = Request::Fill {
         address: WRITE_ADDRESS,
         length: 512,
         byte,
     };
-    answer(session, shelf, fill);
-    let reply = answer(session, shelf, write_request(deleted, key));
+    ask(alloc, session, &fill, shelf, out)?;
+    let reply = ask(alloc, session, &write_request(deleted, key), shelf, out)?;
     if is_refusal(&reply) {
-        Tally::refused()
+        Ok(tally.and_refused())
     } else {
-        Tally::done(0)
+        Ok(tally.and_done(0))
     }
 }
 
 /// Runs what five draws ask for.
-fn run_drawn<S: Shelf, D: Station>(session: &mut Session<D>, shelf: &mut S, work: Work) -> Tally
+#[tactic(auto, unfolding(crate::specs::Exercise::works_drawn))]
+fn run_drawn<S: Shelf, K: Sink, D: Station>(
+    alloc: Global,
+    session: &mut Session<D>,
+    work: Work,
+    tally: Tally,
+    shelf: &mut S,
+    out: &mut K,
+) -> Result<Tally, Status>
     requires running { IsRunning D.shown D.is_ready session.old }
-    ensures went { Went (Works (drawn_requests work.kind work.key work.byte)) (IsRunning D.shown D.is_ready session.new) ⊥
-        (counted_of D.shown S.told S.fault_count session.old shelf.old) result
-        (counted_of D.shown S.told S.fault_count session.new shelf.new) }
-    ensures few { result.done + result.refused ≤ 1 }
-    ensures small { result.sum ≤ 130560 }
+    requires room { HasRoom tally }
+    ensures ran { RanPart (Goes (works_drawn work.kind work.key work.byte tally)) (IsRunning D.shown D.is_ready session.new)
+        (faulty_of D.shown S.told S.fault_count K.told K.fault_count session.old shelf.old out.old) result
+        (faulty_of D.shown S.told S.fault_count K.told K.fault_count session.new shelf.new out.new) }
+    ensures more { IfOk result (IsOneMore tally) }
 {
     if work.kind == 0 {
-        write(session, shelf, false, work.key, work.byte)
+        write(
+            alloc, session, false, work.key, work.byte, tally, shelf, out,
+        )
     } else if work.kind == 3 {
-        write(session, shelf, true, work.key, work.byte)
+        write(alloc, session, true, work.key, work.byte, tally, shelf, out)
     } else {
-        read(session, shelf, work.key)
+        read(alloc, session, work.key, tally, shelf, out)
     }
 }
 
-/// Runs a workload: so many times what five draws ask for, the first behind the seed.
-pub(crate) fn run_work<S: Shelf, D: Station>(
+/// Runs what the next five draws ask for.
+#[tactic(auto, unfolding(crate::specs::Exercise::works_behind))]
+fn run_next<S: Shelf, K: Sink, D: Station>(
+    alloc: Global,
     session: &mut Session<D>,
+    draws: &mut Draws,
+    tally: Tally,
     shelf: &mut S,
+    out: &mut K,
+) -> Result<Tally, Status>
+    requires running { IsRunning D.shown D.is_ready session.old }
+    requires room { HasRoom tally }
+    ensures ran { RanPart (Goes (works_behind draws.old.number tally)) (IsRunning D.shown D.is_ready session.new)
+        (faulty_of D.shown S.told S.fault_count K.told K.fault_count session.old shelf.old out.old) result
+        (faulty_of D.shown S.told S.fault_count K.told K.fault_count session.new shelf.new out.new) }
+    ensures more { IfOk result (IsOneMore tally) }
+    ensures number { draws.new.number ≡ number_after 5 draws.old.number }
+{
+    let work = draws.work();
+    run_drawn(alloc, session, work, tally, shelf, out)
+}
+
+/// Runs a workload: so many times what five draws ask for, the first behind the seed.
+pub(crate) fn run_work<S: Shelf, K: Sink, D: Station>(
+    alloc: Global,
+    session: &mut Session<D>,
     seed: u32,
     count: u16,
-) -> Tally
+    shelf: &mut S,
+    out: &mut K,
+) -> Result<Tally, Status>
     requires running { IsRunning D.shown D.is_ready session.old }
-    ensures { Went (Works (work_requests seed count)) (IsRunning D.shown D.is_ready session.new) ⊥
-        (counted_of D.shown S.told S.fault_count session.old shelf.old) result
-        (counted_of D.shown S.told S.fault_count session.new shelf.new) }
+    ensures { RanPart (Goes (works seed count no_work)) (IsRunning D.shown D.is_ready session.new)
+        (faulty_of D.shown S.told S.fault_count K.told K.fault_count session.old shelf.old out.old) result
+        (faulty_of D.shown S.told S.fault_count K.told K.fault_count session.new shelf.new out.new) }
 {
     let mut draws = Draws { number: seed };
     let mut tally = Tally::none();
-    for _request in 0..count {
-        let work = draws.work();
-        tally = tally.and(run_drawn(session, shelf, work));
+    for _i in 0..count {
+        tally = run_next(alloc, session, &mut draws, tally, shelf, out)?;
     }
-    tally
+    Ok(tally)
 }

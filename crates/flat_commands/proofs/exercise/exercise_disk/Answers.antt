@@ -1,41 +1,30 @@
-use Rattle.flop_base.specs.declared.answers.Status.{Status}
-use Rattle.sector_model.specs.Plays.{Prints}
-use Rattle.std.proofs.Common.{rules, [], subst, refl}
-use Rattle.disk_commands.specs.Carried.{stage_of}
-use Rattle.flat_commands.specs.Exercises.{exercise_text, StarvesFirst}
-use Rattle.flat_commands.proofs.Ending.{told_of, exercised, exercise_halts}
-use Rattle.flat_commands.proofs.Tied.{exercise_runs}
+use Rattle.std.proofs.Common.{rules}
+use Rattle.scripts.proofs.Running.{leads_itself, fed, starved, tied_run}
+use Rattle.flat_commands.specs.Exercise.{exercises, exercise_end, exercise_script}
 use Rattle.flat_commands.proofs.exercise.exercise_disk.Goals as goal
 
-pub returns-in-Ok-make_disk : goal.returns-in-Ok-make_disk
-returns-in-Ok-make_disk g c = record {
-  does =
-      exercise_runs c.args.seed c.args.count (told_of (stage_of g.D.Station.shown g.S.Shelf.told c.args.session.now c.args.shelf.now) (g.K.Sink.told c.args.out.now)) (told_of (stage_of g.D.Station.shown g.S.Shelf.told c.run_work-tally.new.session c.run_work-tally.new.shelf) (g.K.Sink.told c.put_last_line.new.out)) c.put_last_line.result
-      (exercised c.args.seed c.args.count c.run_work-tally.result (stage_of g.D.Station.shown g.S.Shelf.told c.args.session.now c.args.shelf.now) (stage_of g.D.Station.shown g.S.Shelf.told c.make_disk.new.session c.make_disk.new.shelf) (stage_of g.D.Station.shown g.S.Shelf.told c.run_work-tally.new.session c.run_work-tally.new.shelf) (g.K.Sink.told c.args.out.now) (g.K.Sink.told c.put_last_line.new.out) c.put_last_line.result c.in-Ok-make_disk.ensures.goes c.run_work-tally.ensures.goes
-      (subst (λ (wanted : Status). Prints (exercise_text c.args.seed c.args.count c.run_work-tally.result.done c.run_work-tally.result.refused c.run_work-tally.result.sum) wanted (g.K.Sink.told c.args.out.now) (g.K.Sink.told c.put_last_line.new.out) c.put_last_line.result) c.whole_status.ensures.value
-      (c.put_last_line.ensures.prints (exercise_text c.args.seed c.args.count c.run_work-tally.result.done c.run_work-tally.result.refused c.run_work-tally.result.sum) c.exercise_line-line.ensures)));
-  running = search rules;
-  is_form = search rules;
-  shelf_faults = search rules;
-  sink_faults = search rules;
-}
-
-pub returns-in-Err-make_disk : goal.returns-in-Err-make_disk
-returns-in-Err-make_disk g c = record {
-  does =
-      exercise_runs c.args.seed c.args.count (told_of (stage_of g.D.Station.shown g.S.Shelf.told c.args.session.now c.args.shelf.now) (g.K.Sink.told c.args.out.now)) (told_of (stage_of g.D.Station.shown g.S.Shelf.told c.make_disk.new.session c.make_disk.new.shelf) (g.K.Sink.told c.tell_halt.new.out)) c.tell_halt.result
-      (exercise_halts c.args.seed c.args.count (stage_of g.D.Station.shown g.S.Shelf.told c.args.session.now c.args.shelf.now) (stage_of g.D.Station.shown g.S.Shelf.told c.make_disk.new.session c.make_disk.new.shelf) (g.K.Sink.told c.args.out.now) (g.K.Sink.told c.tell_halt.new.out) c.in-Err-make_disk.halt c.tell_halt.result c.in-Err-make_disk.ensures.goes c.tell_halt.ensures.tells);
-  running = search rules;
-  is_form = search rules;
-  shelf_faults = search rules;
-  sink_faults = search rules;
-}
-
 pub returns-in-Err : goal.returns-in-Err
-returns-in-Err g c = record {
-  does = exercise_runs c.args.seed c.args.count (told_of (stage_of g.D.Station.shown g.S.Shelf.told c.args.session.now c.args.shelf.now) (g.K.Sink.told c.args.out.now)) (told_of (stage_of g.D.Station.shown g.S.Shelf.told c.args.session.now c.args.shelf.now) (g.K.Sink.told c.args.out.now)) _ ([], StarvesFirst refl (record { same = refl; status = refl }));
-  running = search rules;
-  is_form = search rules;
-  shelf_faults = search rules;
-  sink_faults = search rules;
-}
+returns-in-Err g c =
+    let script = exercise_script c.args.seed c.args.count in
+    record {
+      does = tied_run script _ _ _ (starved script _ (λ none. exercises c.args.seed c.args.count (exercise_end c.args.seed c.args.count)) _ (leads_itself script _));
+      running = search rules;
+      is_form = search rules;
+      shelf_faults = search rules;
+      sink_faults = search rules;
+    }
+
+pub returns-in-Ok-run_exercise : goal.returns-in-Ok-run_exercise
+returns-in-Ok-run_exercise g c =
+    let script = exercise_script c.args.seed c.args.count in
+    let end = exercise_end c.args.seed c.args.count in
+    let leads = c.in-Ok-run_exercise.ensures.goes script _ end (fed script _ (λ none. exercises c.args.seed c.args.count end) _ (leads_itself script _)) in
+    let does = tied_run script _ _ _ (c.finish.ensures.goes _ _ _ c.exercise_line-line.ensures script _ (rw c.whole_status.ensures.value leads)) in
+    search rules
+
+pub returns-in-Err-run_exercise : goal.returns-in-Err-run_exercise
+returns-in-Err-run_exercise g c =
+    let script = exercise_script c.args.seed c.args.count in
+    let end = exercise_end c.args.seed c.args.count in
+    let does = tied_run script _ _ _ (c.in-Err-run_exercise.ensures.goes script _ end (fed script _ (λ none. exercises c.args.seed c.args.count end) _ (leads_itself script _))) in
+    search rules

@@ -1,41 +1,50 @@
-use Rattle.std.proofs.Common.{rules, [], sym, subst, ℕ, List}
-use Rattle.floppy_session.specs.Session.{state_of}
-use Rattle.disk_commands.specs.Carried.{stage_of}
-use Rattle.flat_commands.specs.Requests.{read_disk}
-use Rattle.flat_commands.specs.Carried.{Gathers}
-use Rattle.flat_commands.proofs.Ending.{told_of, exported_disk, export_halts, open_halts}
-use Rattle.flat_commands.proofs.Tied.{export_runs}
+use Rattle.std.proofs.Common.{rules, List, ℕ, []}
+use Rattle.flop_base.specs.declared.answers.Rate.{Rate}
+use Rattle.flop_base.specs.declared.answers.Status.TheVariants as status
+use Rattle.scripts.specs.Scripts.{Script, Stores}
+use Rattle.scripts.proofs.Running.{leads_itself, tied_run}
+use Rattle.flat_commands.specs.Import.{sectors_of}
+use Rattle.flat_commands.specs.Export.{reads_disk, export_text, export_script}
 use Rattle.flat_commands.proofs.export.export_disk.Goals as goal
 
-pub returns-in-Ok-read_disk : goal.returns-in-Ok-read_disk
-returns-in-Ok-read_disk g c = record {
-  does =
-      export_runs c.args.name c.args.flat (told_of (stage_of g.D.Station.shown g.S.Shelf.told c.args.session.now c.args.shelf.now) (g.K.Sink.told c.args.out.now)) (record { state = state_of g.D.Station.shown c.read_disk.new.session; files = g.S.Shelf.told c.store_flat.new.shelf; report = (g.K.Sink.told c.store_flat.new.out) }) c.store_flat.result
-      (exported_disk c.args.name c.args.flat c.deref.result.now c.in-Ok.shape (stage_of g.D.Station.shown g.S.Shelf.told c.args.session.now c.args.shelf.now) (stage_of g.D.Station.shown g.S.Shelf.told c.open_disk.new.session c.open_disk.new.shelf) (stage_of g.D.Station.shown g.S.Shelf.told c.read_disk.new.session c.read_disk.new.shelf) (g.K.Sink.told c.args.out.now) (g.S.Shelf.told c.store_flat.new.shelf) (g.K.Sink.told c.store_flat.new.out) c.store_flat.result c.in-Ok.ensures.goes (subst (λ (l : List ℕ). Gathers (read_disk c.in-Ok.shape.rate) [] (stage_of g.D.Station.shown g.S.Shelf.told c.open_disk.new.session c.open_disk.new.shelf) l (stage_of g.D.Station.shown g.S.Shelf.told c.read_disk.new.session c.read_disk.new.shelf)) (sym c.deref.ensures.value) c.in-Ok-read_disk.ensures.goes) c.store_flat.ensures.stores);
-  running = search rules;
-  is_form = search rules;
-  shelf_faults = search rules;
-  sink_faults = search rules;
-}
+-- what follows the reads
+abbrev stores : List ℕ → Rate → List ℕ → Script
+stores flat rate bytes = Stores flat bytes (export_text (sectors_of rate)) status.AllOk
 
-pub returns-in-Ok : goal.returns-in-Ok
-returns-in-Ok g c = record {
-  does =
-      export_runs c.args.name c.args.flat (told_of (stage_of g.D.Station.shown g.S.Shelf.told c.args.session.now c.args.shelf.now) (g.K.Sink.told c.args.out.now)) (told_of (stage_of g.D.Station.shown g.S.Shelf.told c.read_disk.new.session c.read_disk.new.shelf) (g.K.Sink.told c.tell_halt.new.out)) c.tell_halt.result
-      (export_halts c.args.name c.args.flat c.in-Ok.shape (stage_of g.D.Station.shown g.S.Shelf.told c.args.session.now c.args.shelf.now) (stage_of g.D.Station.shown g.S.Shelf.told c.open_disk.new.session c.open_disk.new.shelf) (stage_of g.D.Station.shown g.S.Shelf.told c.read_disk.new.session c.read_disk.new.shelf) (g.K.Sink.told c.args.out.now) (g.K.Sink.told c.tell_halt.new.out) c.in-Err-read_disk.halt c.tell_halt.result c.in-Ok.ensures.goes c.in-Err-read_disk.ensures.goes c.tell_halt.ensures.tells);
-  running = search rules;
-  is_form = search rules;
-  shelf_faults = search rules;
-  sink_faults = search rules;
-}
+pub returns-in-Err : goal.returns-in-Err
+returns-in-Err g c =
+    let script = export_script c.args.name c.args.flat in
+    record {
+      does = tied_run script _ _ _ (c.in-Err.ensures.goes script _
+          (λ shape. reads_disk shape.rate [] (stores c.args.flat shape.rate)) (leads_itself script _));
+      running = search rules;
+      is_form = search rules;
+      shelf_faults = search rules;
+      sink_faults = search rules;
+    }
+
+pub returns-in-Ok-read_disk : goal.returns-in-Ok-read_disk
+returns-in-Ok-read_disk g c =
+    let script = export_script c.args.name c.args.flat in
+    let opened = c.in-Ok.ensures.goes script _ (λ shape. reads_disk shape.rate [] (stores c.args.flat shape.rate)) (leads_itself script _) in
+    let read = c.in-Ok-read_disk.ensures.goes script _ (stores c.args.flat c.in-Ok.shape.rate) (rw c.new-bytes.ensures.items opened) in
+    record {
+      does = tied_run script _ _ _ (c.store_last.ensures.goes _ _ c.export_line-line.ensures script _ (rw (c.as_str.ensures, c.deref.ensures.value) read));
+      running = search rules;
+      is_form = search rules;
+      shelf_faults = search rules;
+      sink_faults = search rules;
+    }
 
 pub returns : goal.returns
-returns g c = record {
-  does =
-      export_runs c.args.name c.args.flat (told_of (stage_of g.D.Station.shown g.S.Shelf.told c.args.session.now c.args.shelf.now) (g.K.Sink.told c.args.out.now)) (told_of (stage_of g.D.Station.shown g.S.Shelf.told c.open_disk.new.session c.open_disk.new.shelf) (g.K.Sink.told c.tell_halt-in-Err.new.out)) c.tell_halt-in-Err.result
-      (open_halts c.args.name c.args.flat (stage_of g.D.Station.shown g.S.Shelf.told c.args.session.now c.args.shelf.now) (stage_of g.D.Station.shown g.S.Shelf.told c.open_disk.new.session c.open_disk.new.shelf) (g.K.Sink.told c.args.out.now) (g.K.Sink.told c.tell_halt-in-Err.new.out) c.in-Err.halt c.tell_halt-in-Err.result c.in-Err.ensures.goes c.tell_halt-in-Err.ensures.tells);
-  running = search rules;
-  is_form = search rules;
-  shelf_faults = search rules;
-  sink_faults = search rules;
-}
+returns g c =
+    let script = export_script c.args.name c.args.flat in
+    let opened = c.in-Ok.ensures.goes script _ (λ shape. reads_disk shape.rate [] (stores c.args.flat shape.rate)) (leads_itself script _) in
+    record {
+      does = tied_run script _ _ _ (c.in-Err-read_disk.ensures.goes script _ (stores c.args.flat c.in-Ok.shape.rate)
+          (rw c.new-bytes.ensures.items opened));
+      running = search rules;
+      is_form = search rules;
+      shelf_faults = search rules;
+      sink_faults = search rules;
+    }

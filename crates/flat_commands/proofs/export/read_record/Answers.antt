@@ -1,33 +1,55 @@
-use Rattle.flat_commands.specs.declared.ask.Halt.TheVariants.{Starved}
-use Rattle.std.proofs.Common.{rules, ◌∷◌, [], subst, ℕ}
+use Rattle.std.proofs.Common.{rules, ℕ, List, ◌++◌}
 use Rattle.std.proofs.lemmas.Result.{err_from_is_err_and}
-use Rattle.sector_map.specs.Standard.{key_of}
-use Rattle.floppy_requests.specs.declared.request.Request.TheVariants as request
-use Rattle.disk_commands.specs.Carried.{stage_of}
-use Rattle.flat_commands.specs.Carried.{IsHalted, Gathers}
-use Rattle.flat_commands.proofs.Carrying.{one_halted}
-use Rattle.flat_commands.proofs.Gathering.{one_gathered, starved_behind}
+use Rattle.bay_model.specs.Memory.{bytes_from}
+use Rattle.floppy_session.specs.Session.{state_of}
+use Rattle.sector_model.specs.States.{State}
+use Rattle.scripts.specs.Scripts.{Script}
+use Rattle.scripts.specs.Parts.{may_starve}
+use Rattle.scripts.specs.Records.{record_address}
+use Rattle.scripts.proofs.Running.{fed, starved}
+use Rattle.flat_commands.specs.Export.{reads_record}
 use Rattle.flat_commands.proofs.export.read_record.Goals as goal
 
-pub returns-in_err-ask : goal.returns-in_err-ask
-returns-in_err-ask g c = record {
+-- what follows the read
+abbrev kept : ℕ → List ℕ → (List ℕ → Script) → State → Unit {0} → Script
+kept r bytes rest after none = rest (bytes ++ bytes_from after.station.memory (record_address r) 512)
+
+pub returns-in_err-need : goal.returns-in_err-need
+unfolding reads_record
+returns-in_err-need g c = record {
   goes =
       let p = err_from_is_err_and c.from_residual.result c.from_residual.ensures.1 in
-      rw (p.1, p.2) (subst (λ (a : ℕ). IsHalted (request.Read 0 (key_of c.args.c c.args.h c.args.r) a ∷ []) (stage_of g.D.Station.shown g.S.Shelf.told c.args.session.now c.args.shelf.now) c.in_err-ask.field-0.0 (stage_of g.D.Station.shown g.S.Shelf.told c.ask.new.session c.ask.new.shelf)) c.record_address-address.ensures (one_halted (request.Read 0 (key_of c.args.c c.args.h c.args.r) c.record_address-address.result) (stage_of g.D.Station.shown g.S.Shelf.told c.args.session.now c.args.shelf.now) (stage_of g.D.Station.shown g.S.Shelf.told c.ask.new.session c.ask.new.shelf) c.in_err-ask.field-0.0 c.in_err-ask.ensures.goes));
+      rw (p.1, p.2) (λ whole start rest leads. c.in_err-need.ensures.ran.goes whole start
+      (λ answer after. may_starve (kept c.args.r c.args.flat.now.items rest after)) (rw c.record_address-address.ensures leads));
   running = search rules;
-  faults = search rules;
+  is_form = search rules;
+  shelf_faults = search rules;
+  sink_faults = search rules;
 }
 
 pub returns-in-Ok : goal.returns-in-Ok
+unfolding reads_record
 returns-in-Ok g c = record {
-  goes = (subst (λ (a : ℕ). Gathers (request.Read 0 (key_of c.args.c c.args.h c.args.r) a ∷ []) c.args.flat.now.items (stage_of g.D.Station.shown g.S.Shelf.told c.args.session.now c.args.shelf.now) c.gather.new.flat.items (stage_of g.D.Station.shown g.S.Shelf.told c.ask.new.session c.ask.new.shelf)) c.record_address-address.ensures (one_gathered 0 (key_of c.args.c c.args.h c.args.r) c.record_address-address.result c.in_ok-ask.field-0 c.args.flat.now.items c.gather.new.flat.items (stage_of g.D.Station.shown g.S.Shelf.told c.args.session.now c.args.shelf.now) (stage_of g.D.Station.shown g.S.Shelf.told c.ask.new.session c.ask.new.shelf) c.in_ok-ask.ensures.goes c.in-Ok.ensures));
+  goes = λ whole start rest leads.
+      rw (c.in-Ok.ensures, c.record_address-address.ensures)
+      (fed whole start (kept c.args.r c.args.flat.now.items rest (state_of g.D.Station.shown c.need.new.session)) _
+      (c.in_ok-need.ensures.ran.goes whole start (λ answer after. may_starve (kept c.args.r c.args.flat.now.items rest after))
+      (rw c.record_address-address.ensures leads)));
   running = search rules;
-  faults = search rules;
+  is_form = search rules;
+  shelf_faults = search rules;
+  sink_faults = search rules;
 }
 
-pub returns-in-Err : goal.returns-in-Err
-returns-in-Err g c = record {
-  goes = (subst (λ (a : ℕ). IsHalted (request.Read 0 (key_of c.args.c c.args.h c.args.r) a ∷ []) (stage_of g.D.Station.shown g.S.Shelf.told c.args.session.now c.args.shelf.now) Starved (stage_of g.D.Station.shown g.S.Shelf.told c.ask.new.session c.ask.new.shelf)) c.record_address-address.ensures (starved_behind (request.Read 0 (key_of c.args.c c.args.h c.args.r) c.record_address-address.result) c.in_ok-ask.field-0 (stage_of g.D.Station.shown g.S.Shelf.told c.args.session.now c.args.shelf.now) (stage_of g.D.Station.shown g.S.Shelf.told c.ask.new.session c.ask.new.shelf) c.in_ok-ask.ensures.goes));
+pub returns : goal.returns
+unfolding reads_record
+returns g c = record {
+  goes = λ whole start rest leads.
+      starved whole start (kept c.args.r c.args.flat.now.items rest (state_of g.D.Station.shown c.need.new.session)) _
+      (c.in_ok-need.ensures.ran.goes whole start (λ answer after. may_starve (kept c.args.r c.args.flat.now.items rest after))
+      (rw c.record_address-address.ensures leads));
   running = search rules;
-  faults = search rules;
+  is_form = search rules;
+  shelf_faults = search rules;
+  sink_faults = search rules;
 }

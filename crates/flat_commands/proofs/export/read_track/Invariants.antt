@@ -1,13 +1,15 @@
-use Rattle.std.proofs.Common.{◌≤◌, ◌-◌}
+use Rattle.std.proofs.Common.{◌≡◌, ◌≤◌}
 use Rattle.floppy_session.specs.Session.{IsRunning}
-use Rattle.disk_commands.specs.Carried.{stage_of}
-use Rattle.flat_commands.specs.Requests.{each, read_record}
-use Rattle.flat_commands.specs.Carried.{Gathers}
+use Rattle.scripts.specs.Leading.{world_of, IsAtTurn}
+use Rattle.flat_commands.specs.Export.{reads_record}
 use Rattle.flat_commands.proofs.export.read_track.Given as goal
 
 abbrev pub invariant-loop-r : goal.invariant-loop-r
 invariant-loop-r g l = record {
-  carried : Gathers (each 1 (l.r - 1) (read_record l.fn.c l.fn.h)) l.fn.flat.items (stage_of g.D.Station.shown g.S.Shelf.told l.fn.session l.fn.shelf) l.flat.items (stage_of g.D.Station.shown g.S.Shelf.told l.session l.shelf);
+  turn : IsAtTurn 1 l.fn.sectors (reads_record l.fn.c l.fn.h) l.fn.flat.items
+      (world_of g.D.Station.shown g.S.Shelf.told g.K.Sink.told l.fn.session l.fn.shelf l.fn.out)
+      l.r l.flat.items (world_of g.D.Station.shown g.S.Shelf.told g.K.Sink.told l.session l.shelf l.out);
   running : IsRunning g.D.Station.shown g.D.Station.is_ready l.session;
-  counts : g.S.Shelf.fault_count l.fn.shelf ≤ g.S.Shelf.fault_count l.shelf;
+  counted : g.S.Shelf.fault_count l.fn.shelf ≤ g.S.Shelf.fault_count l.shelf;
+  stays : g.K.Sink.fault_count l.out ≡ g.K.Sink.fault_count l.fn.out;
 }

@@ -1,25 +1,25 @@
-use Rattle.std.proofs.Common.{rules, arith, ◌+◌}
-use Rattle.std.proofs.lemmas.Result.{err_from_is_err_and}
-use Rattle.disk_commands.specs.Carried.{stage_of}
-use Rattle.flat_commands.specs.Requests.{fill_byte}
-use Rattle.flat_commands.proofs.Carrying.{no_number, more_carried, more_halted}
+use Rattle.std.proofs.Common.{rules, arith}
+use Rattle.scripts.proofs.Looping.{turn_begins, turn_goes, turn_ends, turns_over}
+use Rattle.flat_commands.specs.Import.{fills_record, fills_byte}
+use Rattle.flat_commands.proofs.Turns.{given_on}
 use Rattle.flat_commands.proofs.import.fill_record.Goals as goal
 
 pub loop-i-init : goal.loop-i-init
-loop-i-init g c = record { carried = no_number 0 (fill_byte c.args.flat.now c.args.place c.args.address) _; running = c.requires.running; counts = omega arith }
+loop-i-init g c = search (rules, turn_begins)
 
 pub returns-in_err-carry : goal.returns-in_err-carry
-returns-in_err-carry g c = record {
-  goes =
-      let p = err_from_is_err_and c.from_residual.result c.from_residual.ensures.1 in
-      rw (p.1, p.2) (more_halted 0 c.loop-i.i c.loop-i.i 512 (fill_byte c.args.flat.now c.args.place c.args.address) (stage_of g.D.Station.shown g.S.Shelf.told c.args.session.now c.args.shelf.now) (stage_of g.D.Station.shown g.S.Shelf.told c.loop-i.session c.loop-i.shelf) (stage_of g.D.Station.shown g.S.Shelf.told c.carry.new.session c.carry.new.shelf) c.in_err-carry.field-0.0 (omega arith) (omega arith) c.loop-i.invariant.carried c.in_err-carry.ensures.goes);
-  running = search rules;
-  faults = search rules;
-}
+unfolding fills_record fills_byte
+returns-in_err-carry g c =
+    let goes = given_on _ _ _ _ _ c.from_residual.ensures.1
+        (turn_ends _ _ _ _ _ _ _ _ _ _ c.loop-i.invariant.turn c.in_err-carry.ensures.goes (omega arith)) in
+    search rules
 
 pub loop-i-preserved : goal.loop-i-preserved
-loop-i-preserved g c = record {
-  carried = more_carried 0 c.loop-i.i c.loop-i.i (c.loop-i.i + 1) (fill_byte c.args.flat.now c.args.place c.args.address) _ _ _ (omega arith) (omega arith) c.loop-i.invariant.carried c.in_ok-carry.ensures.goes;
-  running = c.carry.ensures.running;
-  counts = omega (arith, c.loop-i.invariant.counts, c.carry.ensures.faults.never_falls);
-}
+unfolding fills_byte
+loop-i-preserved g c =
+    let turn = turn_goes _ _ _ _ _ _ _ _ _ _ c.loop-i.invariant.turn c.in_ok-carry.ensures.goes (omega arith) in
+    search rules
+
+pub returns : goal.returns
+unfolding fills_record fills_byte
+returns g c = let goes = turns_over _ _ _ _ _ _ _ _ c.loop-i.invariant.turn (omega arith) in search rules

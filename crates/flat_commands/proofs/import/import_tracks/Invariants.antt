@@ -1,13 +1,16 @@
-use Rattle.std.proofs.Common.{◌≤◌, ℕ}
+use Rattle.std.proofs.Common.{◌≡◌, ◌≤◌}
 use Rattle.floppy_session.specs.Session.{IsRunning}
-use Rattle.disk_commands.specs.Carried.{stage_of}
-use Rattle.flat_commands.specs.Requests.{each, import_track}
-use Rattle.flat_commands.specs.Carried.{Carries}
+use Rattle.scripts.specs.Parts.{each}
+use Rattle.scripts.specs.Leading.{world_of, IsAtTurn}
+use Rattle.flat_commands.specs.Import.{imports_track}
 use Rattle.flat_commands.proofs.import.import_tracks.Given as goal
 
 abbrev pub invariant-loop-c : goal.invariant-loop-c
 invariant-loop-c g l = record {
-  carried : Carries (each 0 l.c (λ (k : ℕ). each 0 2 (import_track l.fn.flat l.fn.sectors k))) (stage_of g.D.Station.shown g.S.Shelf.told l.fn.session l.fn.shelf) (stage_of g.D.Station.shown g.S.Shelf.told l.session l.shelf);
+  turn : IsAtTurn 0 80 (λ c. each 0 2 (imports_track l.fn.flat l.fn.sectors c)) tt
+      (world_of g.D.Station.shown g.S.Shelf.told g.K.Sink.told l.fn.session l.fn.shelf l.fn.out)
+      l.c tt (world_of g.D.Station.shown g.S.Shelf.told g.K.Sink.told l.session l.shelf l.out);
   running : IsRunning g.D.Station.shown g.D.Station.is_ready l.session;
-  counts : g.S.Shelf.fault_count l.fn.shelf ≤ g.S.Shelf.fault_count l.shelf;
+  counted : g.S.Shelf.fault_count l.fn.shelf ≤ g.S.Shelf.fault_count l.shelf;
+  stays : g.K.Sink.fault_count l.out ≡ g.K.Sink.fault_count l.fn.out;
 }

@@ -1,13 +1,15 @@
-use Rattle.std.proofs.Common.{◌≤◌, ◌-◌}
+use Rattle.std.proofs.Common.{◌≡◌, ◌≤◌}
 use Rattle.floppy_session.specs.Session.{IsRunning}
-use Rattle.disk_commands.specs.Carried.{stage_of}
-use Rattle.flat_commands.specs.Requests.{each, write_record}
-use Rattle.flat_commands.specs.Carried.{Carries}
+use Rattle.scripts.specs.Leading.{world_of, IsAtTurn}
+use Rattle.flat_commands.specs.Import.{writes_record}
 use Rattle.flat_commands.proofs.import.write_track.Given as goal
 
 abbrev pub invariant-loop-r : goal.invariant-loop-r
 invariant-loop-r g l = record {
-  carried : Carries (each 1 (l.r - 1) (write_record l.fn.c l.fn.h)) (stage_of g.D.Station.shown g.S.Shelf.told l.fn.session l.fn.shelf) (stage_of g.D.Station.shown g.S.Shelf.told l.session l.shelf);
+  turn : IsAtTurn 1 l.fn.sectors (writes_record l.fn.c l.fn.h) tt
+      (world_of g.D.Station.shown g.S.Shelf.told g.K.Sink.told l.fn.session l.fn.shelf l.fn.out)
+      l.r tt (world_of g.D.Station.shown g.S.Shelf.told g.K.Sink.told l.session l.shelf l.out);
   running : IsRunning g.D.Station.shown g.D.Station.is_ready l.session;
-  counts : g.S.Shelf.fault_count l.fn.shelf ≤ g.S.Shelf.fault_count l.shelf;
+  counted : g.S.Shelf.fault_count l.fn.shelf ≤ g.S.Shelf.fault_count l.shelf;
+  stays : g.K.Sink.fault_count l.out ≡ g.K.Sink.fault_count l.fn.out;
 }

@@ -1,31 +1,56 @@
-use Rattle.std.proofs.Common.{◌*◌}
-use Rattle.std.proofs.Common.{arith, ◌+◌, subst, ℕ, List}
-use Rattle.floppy_requests.specs.declared.request.Request.{Request}
-use Rattle.disk_commands.specs.Carried.{stage_of}
-use Rattle.flat_commands.specs.Workload.{work_behind, number_after}
-use Rattle.flat_commands.specs.Exercises.{Works}
-use Rattle.flat_commands.proofs.Working.{more_worked, no_number_worked, work_is, number_more, first_number}
+use Rattle.std.proofs.Common.{rules, arith, sym}
+use Rattle.std.proofs.lemmas.Result.{err_from_is_err_and}
+use Rattle.scripts.proofs.Looping.{turn_begins, turn_goes, turn_ends, turns_over}
+use Rattle.flat_commands.proofs.Working.{first_number, number_more}
+use Rattle.flat_commands.specs.Exercise.{works}
 use Rattle.flat_commands.proofs.work.run_work.Goals as goal
 
-pub loop-request-init : goal.loop-request-init
-loop-request-init g c = record {
-  works = no_number_worked 0 (λ (i : ℕ). work_behind (number_after (5 * i) c.args.seed)) (stage_of g.D.Station.shown g.S.Shelf.told c.args.session.now c.args.shelf.now) c.none-tally.result c.none-tally.ensures.done c.none-tally.ensures.refused c.none-tally.ensures.sum;
+pub loop-i-init : goal.loop-i-init
+loop-i-init g c = record {
+  turn = rw c.none-tally.ensures (turn_begins _ _ _ _ _);
+  running = search rules;
+  counted = search rules;
+  stays = search rules;
   number = first_number c.args.seed;
-  few = omega (arith, c.none-tally.ensures.done, c.none-tally.ensures.refused);
-  small = omega (arith, c.none-tally.ensures.sum);
-  running = c.requires.running;
-  counts = omega arith;
+  few = rw c.none-tally.ensures (omega arith);
+  small = rw c.none-tally.ensures (omega arith);
 }
 
-pub loop-request-preserved : goal.loop-request-preserved
-loop-request-preserved g c =
-    let asked = work_is c.work-work.result.kind c.work-work.result.byte (number_after (5 * c.loop-request._request) c.args.seed) c.loop-request.draws.number c.work-work.result.key c.loop-request.invariant.number c.work-work.ensures.kind c.work-work.ensures.key c.work-work.ensures.byte in
-    let works = subst (λ (row : List Request). Works row (stage_of g.D.Station.shown g.S.Shelf.told c.loop-request.session c.loop-request.shelf) c.run_drawn.result (stage_of g.D.Station.shown g.S.Shelf.told c.run_drawn.new.session c.run_drawn.new.shelf)) asked c.run_drawn.ensures.went.goes in
-    record {
-      works = more_worked 0 c.loop-request._request c.loop-request._request (c.loop-request._request + 1) (λ (i : ℕ). work_behind (number_after (5 * i) c.args.seed)) (stage_of g.D.Station.shown g.S.Shelf.told c.args.session.now c.args.shelf.now) (stage_of g.D.Station.shown g.S.Shelf.told c.loop-request.session c.loop-request.shelf) (stage_of g.D.Station.shown g.S.Shelf.told c.run_drawn.new.session c.run_drawn.new.shelf) c.loop-request.tally c.run_drawn.result c.and-tally.result (omega arith) (omega arith) c.loop-request.invariant.works works c.and-tally.ensures.done c.and-tally.ensures.refused c.and-tally.ensures.sum;
-      number = number_more c.args.seed c.loop-request._request c.loop-request.draws.number c.work-work.new.self.number c.loop-request.invariant.number c.work-work.ensures.number;
-      few = omega (arith, c.loop-request.invariant.few, c.run_drawn.ensures.few, c.and-tally.ensures.done, c.and-tally.ensures.refused);
-      small = omega (arith, c.loop-request.invariant.small, c.run_drawn.ensures.small, c.and-tally.ensures.sum);
-      running = c.run_drawn.ensures.went.running;
-      counts = omega (arith, c.loop-request.invariant.counts, c.run_drawn.ensures.went.faults.never_falls);
-    }
+pub returns-in_err-tally : goal.returns-in_err-tally
+unfolding works
+returns-in_err-tally g c = record {
+  goes =
+      let p = err_from_is_err_and c.from_residual.result c.from_residual.ensures.1 in
+      rw (p.1, p.2) (turn_ends _ _ _ _ _ _ _ _ _ _ c.loop-i.invariant.turn (rw (sym c.loop-i.invariant.number) c.in_err-tally.ensures.ran.goes) (omega arith));
+  running = search rules;
+  is_form = search rules;
+  shelf_faults = search rules;
+  sink_faults = search rules;
+}
+
+pub loop-i-preserved : goal.loop-i-preserved
+loop-i-preserved g c = record {
+  turn = turn_goes _ _ _ _ _ _ _ _ _ _ c.loop-i.invariant.turn (rw (sym c.loop-i.invariant.number) c.in_ok-tally.ensures.ran.goes) (omega arith);
+  running = search rules;
+  counted = search rules;
+  stays = search rules;
+  number = number_more c.args.seed c.loop-i._i _ _ c.loop-i.invariant.number c.in_ok-tally.ensures.number;
+  few = omega (arith, c.loop-i.invariant.few, c.in_ok-tally.ensures.more.few);
+  small = omega (arith, c.loop-i.invariant.small, c.in_ok-tally.ensures.more.small);
+}
+
+pub returns : goal.returns
+unfolding works
+returns g c = record {
+  goes = turns_over _ _ _ _ _ _ _ _ c.loop-i.invariant.turn (omega arith);
+  running = search rules;
+  is_form = search rules;
+  shelf_faults = search rules;
+  sink_faults = search rules;
+}
+
+pub run_next-requires-clause-room : goal.run_next-requires-clause-room
+run_next-requires-clause-room g c = record {
+  few = omega (arith, c.loop-i.invariant.few);
+  small = omega (arith, c.loop-i.invariant.small);
+}

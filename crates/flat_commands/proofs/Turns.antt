@@ -1,0 +1,18 @@
+-- What a `?` gives on in a loop.
+use Rattle.std.specs.Prelude.{IsErrAnd}
+use Rattle.std.proofs.Common.{◌≡◌, List, ℕ, Result, Ok, Err, sym, subst}
+use Rattle.flop_base.specs.declared.answers.Status.{Status}
+use Rattle.sector_model.specs.Plays.{World}
+use Rattle.scripts.specs.Parts.{Part}
+use Rattle.scripts.specs.Leading.{Goes}
+use Rattle.flat_commands.specs.Export.{GoesOn}
+
+pub given_on : {Found : Type 0} (part : Part Found) (old new : World) (ended : Status) (result : Result Found Status)
+    → IsErrAnd result (λ given. given ≡ ended) → Goes part old (Err ended) new → Goes part old result new
+given_on part old new ended (Ok found) is goes = absurd is
+given_on part old new ended (Err given) is goes = subst (λ (e : Status). Goes part old (Err e) new) (sym is) goes
+
+pub given_behind : (part : Part (List ℕ)) (bytes : List ℕ) (old new : World) (ended : Status) (result : Result (Unit {0}) Status)
+    → IsErrAnd result (λ given. given ≡ ended) → Goes part old (Err ended) new → GoesOn part bytes old result new
+given_behind part bytes old new ended (Ok done) is goes = absurd is
+given_behind part bytes old new ended (Err given) is goes = subst (λ (e : Status). Goes part old (Err e) new) (sym is) goes
