@@ -16,7 +16,8 @@ use Rattle.sector_model.specs.Steps.{IsImageOf, blank_of}
 use Rattle.sector_model.specs.Runs.{Taken}
 use Rattle.disk_laws.specs.Done.{DoesAll}
 use Rattle.floppy_session.specs.Blanks.{blank_request}
-use Rattle.disk_laws.specs.Requests.{rate_requests, copy_opening}
+use Rattle.scripts.specs.Parts.{rate_requests}
+use Rattle.disk_laws.specs.Requests.{copy_opening}
 use Rattle.disk_laws.proofs.Marks.{is_no_read}
 use Rattle.disk_laws.proofs.Prepared.{blanks, acks, rates}
 use Rattle.disk_laws.proofs.Steps.{begins, ends_there, keeps_drives}

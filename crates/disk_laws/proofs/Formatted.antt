@@ -16,7 +16,8 @@ use Rattle.sector_model.specs.Runs.{Taken}
 use Rattle.disk_laws.specs.Done.{DoesAll}
 use Rattle.disk_laws.specs.Formatted.{IsFormattedDisk, LeavesFormatted, StoresFormatted}
 use Rattle.floppy_session.specs.Blanks.{blank_request}
-use Rattle.disk_laws.specs.Requests.{tracks_of, rate_requests, format_each, formatting, format_requests}
+use Rattle.scripts.specs.Parts.{rate_requests}
+use Rattle.disk_laws.specs.Requests.{tracks_of, format_each, formatting, format_requests}
 use Rattle.disk_laws.proofs.Tracks.{among_all}
 use Rattle.disk_laws.proofs.Steps.{begins, ends_there, splits, never_fell, step_never_fell, keeps_drives}
 use Rattle.disk_laws.proofs.Formatting.{FormatsTracks, each_format}

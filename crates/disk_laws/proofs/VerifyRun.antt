@@ -18,25 +18,24 @@ use Rattle.floppy_requests.specs.declared.request.Request.{Request}
 use Rattle.sector_model.specs.declared.reply.Stop.{Stop}
 use Rattle.sector_model.specs.declared.reply.Stop.TheVariants as stop
 use Rattle.sector_model.specs.Stations.{bay_of}
+use Rattle.sector_model.specs.States.{State}
 use Rattle.sector_model.specs.Steps.{IsImageOf}
 use Rattle.sector_model.specs.Texts.{stop_status}
 use Rattle.sector_model.specs.Runs.{Taken, Run, requests_of, has_refusal}
-use Rattle.sector_model.specs.Plays.{World, IsPutFault, whole_status}
+use Rattle.sector_model.specs.Plays.{World, Prints, IsPutFault, whole_status}
 use Rattle.floppy_session.specs.declared.shape.Shape.{Shape}
 use Rattle.floppy_session.specs.Shapes.{shape_of}
-use Rattle.disk_commands.specs.Plans.{ack_plan, open_plan}
-use Rattle.disk_commands.specs.Commands.{Halts, AtRefusal, AtStop, IsShapePutIn, sectors_of}
-use Rattle.disk_commands.specs.Verifies.{Breaks, ReadStops, LineIsCut, IsReadThrough, ReadThrough, NotOpened, CutShort, VerifiesDisk, Verifies, failures_text, well_read, verify_text}
-use Rattle.disk_laws.specs.Requests.{verify_opening, read_each}
+use Rattle.scripts.specs.Scripts.{RunsScript}
+use Rattle.scripts.proofs.Reading.{IsWhole, prints_status}
+use Rattle.scripts.proofs.Passed.{Did, run_both, over}
+use Rattle.disk_commands.specs.Disks.{sectors_of}
+use Rattle.disk_commands.specs.Verify.{no_reads, verify_text, verify_script}
+use Rattle.disk_laws.specs.Requests.{verify_opening}
 use Rattle.disk_laws.specs.Verified.{ReadsDisk, IsUnmistaken, refused_read, refused_reads, all_told_of}
-use Rattle.disk_laws.specs.VerifyRuns.{failing_line, verify_report, TellsFailing, IsEndStatus}
-use Rattle.disk_laws.proofs.Asked.{asks_plan}
-use Rattle.disk_laws.proofs.Ended.{prints_status}
-use Rattle.disk_laws.proofs.Opening.{opening_not_refused}
-use Rattle.disk_laws.proofs.PutIn.{course_shape, first_shape, run_both}
-use Rattle.disk_laws.proofs.ReadTold.{reads_told}
+use Rattle.disk_laws.specs.VerifyRuns.{failing_line, TellsFailing, IsEndStatus}
+use Rattle.disk_laws.proofs.Opening.{opening_passed}
+use Rattle.disk_laws.proofs.VerifiedKeys.{Tally, Verifies, grown_twice, standard_count, keys_pass}
 use Rattle.disk_laws.proofs.Verified.{disk_tells, opening_tells}
-use Rattle.disk_laws.proofs.VerifyPlan.{open_asks, verify_asks, standard_count}
 
 -- ---- statuses
 
@@ -58,71 +57,53 @@ not_stop (stop.Absent name) whole = whole
 not_stop stop.FileFault whole = whole
 not_stop stop.NoMemory whole = whole
 
-halts_refused : (name : List ℕ) (shape : Shape) (old : World) (course : List Taken) (new : World) (ended : Status) → IsEndStatus ended → (bay_of old.state.station 0).medium ≡ None → IsUndisturbed 0 old.state.station.counters new.state.station.counters → Halts (open_plan name shape) old course new ended → ⊥
-halts_refused name shape old course new ended whole empty quiet (AtRefusal p) = opening_not_refused name shape.rate old course new ended empty quiet p
-halts_refused name shape old course new ended whole empty quiet (AtStop p) =
-    let told = prints_status _ _ (stop_status p.cause) ended _ (not_put ended whole) p.prints in
-    not_stop p.cause (subst IsEndStatus told.1 whole)
 
-breaks_off : (old : World) (asked : Request) (last : List Taken) (new : World) (ended : Status) → IsEndStatus ended → Breaks asked old last new ended → ⊥
-breaks_off old asked last new ended whole (ReadStops cause none stops prints) =
-    let told = prints_status _ _ (stop_status cause) ended _ (not_put ended whole) prints in
-    not_stop cause (subst IsEndStatus told.1 whole)
-breaks_off old asked last new ended whole (LineIsCut answer refused one step part fault) = not_put ended whole fault
+pub end_is_whole : (ended : Status) → IsEndStatus ended → IsWhole ended
+end_is_whole ended is = record { put = not_put ended is; stop = λ cause same. not_stop cause (subst IsEndStatus same is) }
 
--- ---- a verify that read all
+-- ---- a verify that went on to its end
 
-grown_twice : (report : Option (List ℕ)) (one two : List ℕ) → grown (grown report one) two ≡ grown report (one ++ two)
-grown_twice None one two = refl
-grown_twice (Some told) one two = ap (λ (l : List ℕ). Some l) (append_assoc told one two)
+module _ (name : List ℕ) (disk : Disk) (files : Files) (old : World) (course : List Taken) (new : World) (ended : Status) (there : old.files ≡ Some files) (image : IsImageOf (Some files) name disk) (ends : IsEndStatus ended) where
+  whole : IsWhole ended
+  whole = end_is_whole ended ends
 
-module _ (name : List ℕ) (disk : Disk) (failed : List (Chrn × Look)) (files : Files) (old : World) (course : List Taken) (new : World) (ended : Status) (there : old.files ≡ Some files) (image : IsImageOf (Some files) name disk) (whole : IsEndStatus ended) (quiet : IsUndisturbed 0 old.state.station.counters new.state.station.counters) (unmistaken : IsUnmistaken disk) (failing : AreFailing disk (standard_keys disk) failed) where
-  -- of a disk of this shape
-  read_through : IsReadThrough name (shape_of disk) old course new ended → TellsFailing disk (all_told_of failed) old new ended
-  read_through p =
-      let opening = p.opening in
-      let reads = p.reads in
-      let first : requests_of opening ≡ verify_opening name disk = asks_plan _ (verify_opening name disk) opening [] (open_asks name disk) p.opened.asked in
-      let second : requests_of reads ≡ read_each 0 (standard_keys disk) = asks_plan _ (read_each 0 (standard_keys disk)) reads opening (verify_asks disk) p.asked in
-      let run = subst (λ (f : Option Files). Run old.state f opening p.mid p.files) there p.opened.run in
-      let same_length : length opening ≡ length (verify_opening name disk) = sym (length-map opening (λ (taken : Taken). taken.asked)) ∙ ap (λ (l : List Request). length l) first in
-      let taken = take_at opening reads (length (verify_opening name disk)) same_length in
-      let all : ReadsDisk name disk old.state files (opening ++ reads) new.state new.files = record {
-        image = image;
-        run = run_both old.state p.mid new.state (Some files) p.files new.files opening reads run p.run;
-        all = map-append (λ (taken : Taken). taken.asked) opening reads ∙ ap (λ (l : List Request). l ++ requests_of reads) first ∙ ap (λ (l : List Request). verify_opening name disk ++ l) second;
-        opened = ap has_refusal taken ∙ p.opened.fine;
-      } in
-      let tells = disk_tells old.state new.state files name disk (opening ++ reads) new.files failed all quiet unmistaken failing in
-      let refused : refused_reads reads ≡ all_told_of failed = sym (ap (λ (row : List (Chrn × Code)). row ++ refused_reads reads) (opening_tells name disk opening first))
-      ∙ sym (flat_map-append (λ (taken : Taken). refused_read taken.asked taken.answer) opening reads)
-      ∙ tells in
-      let told = reads_told (standard_keys disk) p.mid new.state p.files new.files reads p.run second in
-      let all_sectors = sectors_of (shape_of disk) in
-      let count = standard_count disk in
-      let well : well_read reads ≡ all_sectors - length (refused_reads reads) = omega (arith, told.rest, count) in
-      let printed = prints_status _ _ (whole_status (has_refusal reads)) ended _ (not_put ended whole) p.prints in
+  -- what was asked
+  all_read : (mid last : World) (one two : List Taken) (found : Tally) → Did (verify_opening name disk) old one mid → Verifies (standard_keys disk) no_reads mid two found last → new.state ≡ last.state → ReadsDisk name disk old.state files (one ++ two) new.state last.files
+  all_read mid last one two found opening reads state =
+      let same_length : length one ≡ length (verify_opening name disk) = sym (length-map one (λ (taken : Taken). taken.asked)) ∙ ap (λ (l : List Request). length l) opening.all in
+      let run = run_both old.state mid.state last.state old.files mid.files last.files one two opening.run reads.run in
       record {
-        report = printed.0 ∙ grown_twice old.report (failures_text reads) (verify_text (well_read reads) all_sectors)
-            ∙ ap (λ (text : List ℕ). grown old.report (text ++ verify_text (well_read reads) all_sectors)) told.lines
-            ∙ ap (λ (n : ℕ). grown old.report (flat_map failing_line (refused_reads reads) ++ verify_text n all_sectors)) well
-            ∙ ap (λ (row : List (Chrn × Code)). grown old.report (verify_report all_sectors row)) refused;
-        status = printed.1 ∙ ap whole_status told.has ∙ ap (λ (row : List (Chrn × Code)). whole_status (nat_le 1 (length row))) refused;
+        image = image;
+        run = subst (λ (s : State). Run old.state (Some files) (one ++ two) s last.files) (sym state) (subst (λ (f : Option Files). Run old.state f (one ++ two) last.state last.files) there run);
+        all = map-append (λ (taken : Taken). taken.asked) one two ∙ ap (λ (l : List Request). l ++ requests_of two) opening.all ∙ ap (λ (l : List Request). verify_opening name disk ++ l) reads.all;
+        opened = ap has_refusal (take_at one two (length (verify_opening name disk)) same_length) ∙ opening.fine;
       }
 
-  -- a disk has the shape of its image
-  through_shape : (shape : Shape) → IsShapePutIn course shape → IsReadThrough name shape old course new ended → shape ≡ shape_of disk
-  through_shape shape put p =
-      let run = subst (λ (f : Option Files). Run old.state f p.opening p.mid p.files) there p.opened.run in
-      let here = first_shape p.opening p.reads shape (subst (λ (row : List Taken). IsShapePutIn row shape) p.course_is put) in
-      course_shape name disk files (ack_plan 0 shape.rate) old.state p.mid p.files p.opening shape image run p.opened.asked p.opened.fine here
+  -- what was told
+  all_told : (failed : List (Chrn × Code)) (mid last : World) (two : List Taken) (found : Tally) → mid.report ≡ old.report → Verifies (standard_keys disk) no_reads mid two found last → refused_reads two ≡ failed
+      → Prints (verify_text found.well (sectors_of (shape_of disk))) (whole_status found.refused) last.report new.report ended → TellsFailing disk failed old new ended
+  all_told failed mid last two found kept reads refused prints =
+      let sectors = sectors_of (shape_of disk) in
+      let count = standard_count disk in
+      let well : found.well ≡ sectors - length failed = let sum = reads.well in let size = ap (λ (row : List (Chrn × Code)). length row) refused in omega (arith, sum, count, size) in
+      let printed = prints_status _ _ (whole_status found.refused) ended _ whole.put prints in
+      record {
+        report = printed.0 ∙ ap (λ r. grown r (verify_text found.well sectors)) (reads.report ∙ ap (λ r. grown r (flat_map failing_line (refused_reads two))) kept)
+            ∙ grown_twice old.report (flat_map failing_line (refused_reads two)) (verify_text found.well sectors)
+            ∙ ap (λ (row : List (Chrn × Code)). grown old.report (flat_map failing_line row ++ verify_text found.well sectors)) refused
+            ∙ ap (λ (n : ℕ). grown old.report (flat_map failing_line failed ++ verify_text n sectors)) well;
+        status = printed.1 ∙ ap whole_status reads.refused ∙ ap (λ (row : List (Chrn × Code)). whole_status (nat_le 1 (length row))) refused;
+      }
 
-  disk_verified : (shape : Shape) → IsShapePutIn course shape → (bay_of old.state.station 0).medium ≡ None → VerifiesDisk name shape old course new ended → TellsFailing disk (all_told_of failed) old new ended
-  disk_verified shape put empty (ReadThrough p) =
-      read_through (subst (λ (s : Shape). IsReadThrough name s old course new ended) (through_shape shape put p) p)
-  disk_verified shape put empty (NotOpened p) = absurd (halts_refused name shape old course new ended whole empty quiet p)
-  disk_verified shape put empty (CutShort p) = absurd (breaks_off p.broken _ p.last new ended whole p.breaks)
-
-pub verify_tells : (name : List ℕ) (old new : World) (course : List Taken) (ended : Status) (files : Files) (disk : Disk) (failed : List (Chrn × Look)) → Verifies name old course new ended → IsEndStatus ended → old.files ≡ Some files → IsImageOf (Some files) name disk → (bay_of old.state.station 0).medium ≡ None → IsUndisturbed 0 old.state.station.counters new.state.station.counters → IsUnmistaken disk → AreFailing disk (standard_keys disk) failed → TellsFailing disk (all_told_of failed) old new ended
-verify_tells name old new course ended files disk failed verifies whole there image empty quiet unmistaken failing =
-    disk_verified name disk failed files old course new ended there image whole quiet unmistaken failing verifies.0 verifies.1 empty verifies.2
+pub verify_tells : (name : List ℕ) (old new : World) (course : List Taken) (ended : Status) (files : Files) (disk : Disk) (failed : List (Chrn × Look)) → RunsScript (verify_script name) old course new ended → IsEndStatus ended → old.files ≡ Some files → IsImageOf (Some files) name disk → (bay_of old.state.station 0).medium ≡ None → IsUndisturbed 0 old.state.station.counters new.state.station.counters → IsUnmistaken disk → AreFailing disk (standard_keys disk) failed → TellsFailing disk (all_told_of failed) old new ended
+unfolding verify_script
+verify_tells name old new course ended files disk failed runs ends there image empty quiet unmistaken failing =
+    let whole = end_is_whole ended ends in
+    let opened = opening_passed name disk files _ old course new ended whole there image empty quiet runs in
+    let over = over ended _ (Verifies (standard_keys disk) no_reads) _ _ (keys_pass ended whole disk) opened.mid opened.two new opened.left in
+    let all = all_read name disk files old course new ended there image ends opened.mid over.mid opened.one opened.two over.found opened.knows over.knows over.state in
+    let tells = disk_tells old.state new.state files name disk (opened.one ++ opened.two) over.mid.files failed all quiet unmistaken failing in
+    let refused : refused_reads opened.two ≡ all_told_of failed =
+    sym (ap (λ (row : List (Chrn × Code)). row ++ refused_reads opened.two) (opening_tells name disk opened.one opened.knows.all))
+    ∙ sym (flat_map-append (λ (taken : Taken). refused_read taken.asked taken.answer) opened.one opened.two) ∙ tells in
+    all_told name disk files old course new ended there image ends (all_told_of failed) opened.mid over.mid opened.two over.found opened.knows.report over.knows refused over.prints
