@@ -1,13 +1,11 @@
 -- Which requests of a command are done where nothing disturbs them, and what stands behind them.
-use Rattle.std.proofs.Common.{arith, ◌≡◌, ◌∙◌, ◌≤◌, ℕ, zero, suc, Bool, true, false, List, refl, sym, ap, Option, Some, None, le-leb}
+use Rattle.std.proofs.Common.{◌≡◌, ◌∙◌, ◌≤◌, ℕ, Bool, true, false, List, refl, sym, ap, Option, Some, None, le-leb}
 use Rattle.std.specs.Prelude.{is_some, ◌==◌, if◌then◌else◌}
-use Rattle.std.proofs.lemmas.Bool.{leb-true}
 use Rattle.flop_base.specs.Shelf.{Files}
 use Rattle.flop_base.specs.declared.answers.Rate.{Rate}
 use Rattle.flop_base.specs.declared.answers.Rate.TheVariants.{R500, R250}
 use Rattle.raw_image.specs.Disk.{Disk}
 use Rattle.bay_model.specs.Bays.{Two, in_bay}
-use Rattle.bay_model.specs.Counters.{Counters, IsUndisturbed}
 use Rattle.floppy_requests.specs.declared.request.Request.{Request}
 use Rattle.floppy_requests.specs.declared.request.Request.TheVariants as request
 use Rattle.sector_model.specs.declared.reply.Reply.{Reply}
@@ -28,7 +26,7 @@ use Rattle.disk_laws.proofs.Prepared.{blanks, IsBlank}
 use Rattle.disk_laws.proofs.Reading.{reaches}
 use Rattle.disk_laws.proofs.Steps.{keeps_drives}
 use Rattle.disk_completeness.proofs.Bays.{IsReadyFor, IsAckedWith, ChangesBay, ack_taken, rate_taken, both_true}
-use Rattle.disk_completeness.proofs.Going.{Stage, at, calm_in, IsSafe, IsDone, GoesWell, goes_carries}
+use Rattle.disk_completeness.proofs.Going.{Stage, calm_in, IsSafe, IsDone, GoesWell, goes_carries}
 
 -- ---- requests that the outside alone can stop
 

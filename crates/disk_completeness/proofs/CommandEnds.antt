@@ -1,5 +1,5 @@
 -- The commands end well, or the outside failed.
-use Rattle.std.proofs.Common.{◌≡◌, ◌≤◌, ℕ, List, [], length, refl, ap, ◌∙◌, sym, subst, inl, Option, Some, None}
+use Rattle.std.proofs.Common.{◌≡◌, ◌≤◌, ℕ, List, [], length, ap, ◌∙◌, sym, subst, inl, Option, Some}
 use Rattle.std.proofs.lemmas.List.{length-replicate}
 use Rattle.flop_base.specs.Shelf.{Files}
 use Rattle.flop_base.specs.declared.answers.Rate.{Rate}
@@ -15,7 +15,7 @@ use Rattle.sector_model.specs.Stations.{StationState, Bay, IsFresh}
 use Rattle.sector_model.specs.Steps.{IsImageOf}
 use Rattle.sector_model.specs.Runs.{Taken}
 use Rattle.sector_model.specs.Plays.{World}
-use Rattle.scripts.specs.Scripts.{Script, RunsScript}
+use Rattle.scripts.specs.Scripts.{RunsScript}
 use Rattle.scripts.specs.Leading.{Runs}
 use Rattle.disk_commands.specs.Format.{format_script}
 use Rattle.disk_commands.specs.Verify.{verify_script}

@@ -1,6 +1,5 @@
 -- The script of a copy goes to its end where nothing disturbs it.
-use Rattle.std.proofs.Common.{arith, ◌≡◌, ◌∙◌, ◌+◌, ◌-◌, ◌<◌, ◌≤◌, ℕ, Bool, true, false, List, get_or, refl, sym, ap, subst, Some}
-use Rattle.std.specs.Prelude.{is_some}
+use Rattle.std.proofs.Common.{arith, ◌≡◌, ◌∙◌, ◌-◌, ◌≤◌, ℕ, Bool, false, List, get_or, refl, ap, Some}
 use Rattle.flop_base.specs.Shelf.{Files}
 use Rattle.flop_base.specs.Standard.{sectors_at}
 use Rattle.raw_image.specs.Disk.{Disk, HasTrack}
@@ -18,7 +17,7 @@ use Rattle.disk_laws.proofs.Prepared.{IsBlank}
 use Rattle.disk_laws.proofs.Sectors.{few_sectors}
 use Rattle.disk_laws.proofs.Verified.{image_ranges}
 use Rattle.disk_completeness.specs.Complete.{IsReadable}
-use Rattle.disk_completeness.proofs.Going.{Stage, at, IsDone, GoesWell, PartGoes, goes_needs, goes_carries, goes_each}
+use Rattle.disk_completeness.proofs.Going.{Stage, at, GoesWell, PartGoes, goes_needs, goes_carries, goes_each}
 use Rattle.disk_completeness.proofs.Bays.{IsReadyFor}
 use Rattle.disk_completeness.proofs.Asking.{blank_done, acknowledges_goes, eject_goes}
 use Rattle.disk_completeness.proofs.Making.{IsMaking, AnyDisk, HasRecords, MakesAlone, any_made, blank_made, made_still, format_done, write_done}

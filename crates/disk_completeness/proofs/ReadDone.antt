@@ -28,7 +28,6 @@ use Rattle.sector_model.specs.Steps.{Step, read_reply}
 use Rattle.sector_model.specs.Texts.{is_refusal}
 use Rattle.scripts.specs.Records.{record_address}
 use Rattle.disk_laws.proofs.Reading.{reaches}
-use Rattle.disk_laws.proofs.Sectors.{few_sectors}
 use Rattle.disk_completeness.specs.Complete.{IsReadable}
 use Rattle.disk_completeness.proofs.Going.{Stage, IsDone}
 use Rattle.disk_completeness.proofs.Asking.{safe}

@@ -28,7 +28,7 @@ use Rattle.floppy_session.specs.Shapes.{shape_in}
 use Rattle.scripts.specs.Scripts.{Script, Ends, Says, Asks, Stores, MayStarve, RunsScript, StoresLast, IsStored, NotStored, unless_refused}
 use Rattle.scripts.specs.Parts.{Part, asks, says, needs, carries, with_shape, opens, sets_rate, acknowledges, through, each, by_track, formats}
 use Rattle.scripts.specs.Leading.{with_report}
-use Rattle.scripts.specs.Records.{record_address, track_address}
+use Rattle.scripts.specs.Records.{record_address}
 use Rattle.disk_commands.specs.Format.{formats_disk, format_script}
 use Rattle.disk_commands.specs.Verify.{Reads, one_more, tells_failure, verifies_record, verifies_track, verify_script}
 use Rattle.disk_commands.specs.Copy.{write_request, reads_record, writes_record, copies_track, copy_script}

@@ -1,13 +1,11 @@
 -- The script of a verify goes to its end where nothing disturbs it, and lists no record.
-use Rattle.std.proofs.Common.{arith, ◌≡◌, ◌∙◌, ◌+◌, ◌<◌, ◌≤◌, ℕ, Bool, true, false, true≢false, List, refl, sym, ap, subst, Some}
+use Rattle.std.proofs.Common.{arith, ◌≡◌, ◌≤◌, ℕ, Bool, false, true≢false, List, refl, ap, Some}
 use Rattle.std.specs.Prelude.{◌||◌}
 use Rattle.flop_base.specs.Shelf.{Files}
 use Rattle.flop_base.specs.Standard.{sectors_at}
 use Rattle.flop_base.specs.declared.key.Chrn.{Chrn}
-use Rattle.flop_base.specs.declared.answers.Status.{Status}
 use Rattle.flop_base.specs.declared.answers.Status.TheVariants as status
 use Rattle.raw_image.specs.Disk.{Disk, HasTrack}
-use Rattle.bay_model.specs.Bays.{Two, in_bay}
 use Rattle.floppy_requests.specs.declared.request.Request.TheVariants as request
 use Rattle.sector_map.specs.Standard.{key_of}
 use Rattle.sector_model.specs.declared.reply.Reply.{Reply}
@@ -18,13 +16,13 @@ use Rattle.sector_model.specs.Texts.{is_refusal}
 use Rattle.sector_model.specs.Plays.{whole_status}
 use Rattle.scripts.specs.Scripts.{Script}
 use Rattle.scripts.specs.Parts.{each, by_track}
-use Rattle.scripts.specs.Records.{record_address, track_address}
+use Rattle.scripts.specs.Records.{track_address}
 use Rattle.disk_commands.specs.Verify.{Reads, no_reads, one_more, tells_failure, verifies_record, verifies_track, verify_script}
 use Rattle.disk_laws.proofs.Verified.{image_ranges}
 use Rattle.disk_completeness.specs.Complete.{IsReadable}
-use Rattle.disk_completeness.proofs.Going.{Stage, at, IsDone, GoesWell, PartGoes, goes_asks, goes_each}
+use Rattle.disk_completeness.proofs.Going.{Stage, at, GoesWell, PartGoes, goes_asks, goes_each}
 use Rattle.disk_completeness.proofs.Bays.{IsReadyFor}
-use Rattle.disk_completeness.proofs.Asking.{safe, acknowledges_goes}
+use Rattle.disk_completeness.proofs.Asking.{acknowledges_goes}
 use Rattle.disk_completeness.proofs.PutIn.{opens_goes}
 use Rattle.disk_completeness.proofs.ReadDone.{ReadsAlone, read_done}
 

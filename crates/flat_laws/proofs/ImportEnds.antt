@@ -1,48 +1,113 @@
 -- The command that imports ends well, or the outside failed.
-use Rattle.std.proofs.Common.{arith, ◌≡◌, ◌∙◌, ◌<◌, ◌≤◌, ℕ, true, List, [], ◌∷◌, ◌++◌, length, refl, sym, ap, subst, append-nil, Option, Some, None, Result, Ok, Err}
-use Rattle.std.specs.Prelude.{IsSomeAnd}
-use Rattle.std.specs.List.{list_all}
+use Rattle.std.proofs.Common.{arith, ◌≡◌, ◌∙◌, ◌+◌, ◌<◌, ◌≤◌, ℕ, true, false, List, length, refl, sym, ap, subst, Option, Some, None, Result, Ok, Err, le-leb}
+use Rattle.std.specs.Prelude.{IsSomeAnd, nat_le, slice_index}
 use Rattle.flop_base.specs.Shelf.{Files, file_at}
 use Rattle.flop_base.specs.Standard.{sectors_at}
 use Rattle.flop_base.specs.declared.answers.Rate.{Rate}
 use Rattle.flop_base.specs.declared.answers.Rate.TheVariants.{R500, R250}
 use Rattle.flop_base.specs.declared.answers.Status.{Status}
-use Rattle.flop_base.specs.declared.answers.Status.TheVariants as status
 use Rattle.raw_image.specs.declared.error.ImageError.{ImageError}
-use Rattle.bay_model.specs.Counters.{IsFaultless}
-use Rattle.flat_image.specs.Flat.{sectors_told}
-use Rattle.floppy_requests.specs.declared.request.Request.{Request}
+use Rattle.bay_model.specs.Memory.{user_bytes}
+use Rattle.flat_image.specs.Flat.{sector_place, sectors_told}
 use Rattle.floppy_requests.specs.declared.request.Request.TheVariants as request
+use Rattle.sector_map.specs.Standard.{key_of}
 use Rattle.sector_model.specs.declared.reply.Stop.{Stop}
 use Rattle.sector_model.specs.declared.reply.Stop.TheVariants as stop
-use Rattle.sector_model.specs.States.{State}
-use Rattle.sector_model.specs.Runs.{Taken, IsEndStop, requests_of}
+use Rattle.sector_model.specs.Stations.{StationState, bay_of}
+use Rattle.sector_model.specs.Steps.{refusal_of, is_loaded, blank_of}
+use Rattle.sector_model.specs.Texts.{is_refusal, stop_text, stop_status}
+use Rattle.sector_model.specs.Runs.{Taken, IsEndStop}
 use Rattle.sector_model.specs.Plays.{World}
 use Rattle.sector_model.specs.Ties.{AreUndisturbed}
 use Rattle.floppy_session.specs.Blanks.{blank_request}
-use Rattle.disk_commands.specs.Commands.{Runs}
-use Rattle.disk_commands.specs.Plans.{Asks}
-use Rattle.flat_commands.specs.Requests.{each, by_track, rate_requests, ack_requests, import_track, import_requests}
-use Rattle.flat_commands.specs.Commands.{Imports, Imported, NotTaken, ImportHalts}
-use Rattle.flat_commands.specs.FlatFiles.{IsFlatFile, IsNotTaken, most_flat_bytes}
-use Rattle.disk_laws.proofs.Asked.{asks_all}
-use Rattle.disk_laws.proofs.Copied.{keeps-append, all_and}
-use Rattle.disk_laws.proofs.Formatted.{blank_keeps}
-use Rattle.disk_laws.proofs.Steps.{keeps_drives}
+use Rattle.scripts.specs.Scripts.{RunsScript}
+use Rattle.scripts.specs.Parts.{each, by_track}
+use Rattle.scripts.specs.Leading.{Runs}
+use Rattle.scripts.specs.Records.{record_address}
+use Rattle.scripts.proofs.Reading.{last_run}
+use Rattle.flat_commands.specs.FlatFiles.{IsFlatFile, IsFlatFound, IsNotTaken, most_flat_bytes}
+use Rattle.flat_commands.specs.Import.{Imports, fills_byte, fills_record, fills_track, writes_record, writes_track, imports_track, import_script}
+use Rattle.disk_laws.proofs.Prepared.{IsBlank}
+use Rattle.disk_laws.proofs.Reading.{reaches}
 use Rattle.disk_completeness.specs.Complete.{BeginsSound, EndsWellOrOutside}
-use Rattle.disk_completeness.proofs.CopyStored.{fresh_memory}
-use Rattle.disk_completeness.proofs.Endings.{Ends, prints_outside, stop_outside, ends_with}
-use Rattle.disk_completeness.proofs.FormatGoes.{fresh_empty}
-use Rattle.disk_completeness.proofs.Going.{at, reaches_next}
+use Rattle.disk_completeness.proofs.Asking.{safe, fresh_empty, blank_done, acknowledges_goes, eject_goes}
+use Rattle.disk_completeness.proofs.CommandEnds.{fresh_memory}
+use Rattle.disk_completeness.proofs.Going.{Stage, at, IsDone, GoesWell, PartGoes, goes_carries, goes_each, prints_outside, stop_outside, completes}
+use Rattle.disk_completeness.proofs.Making.{IsMaking, AnyDisk, HasRecords, MakesAlone, any_made, blank_made, made_still, format_done, write_done}
 use Rattle.flat_laws.specs.Imported.{StoresDisk, StoresImported}
-use Rattle.flat_laws.proofs.Asks.{AllAnswered, asked_own, begun_parts, halts_outside, run_faultless}
-use Rattle.flat_laws.proofs.Each.{keeps_each}
-use Rattle.flat_laws.proofs.Halted.{halts_not_ok, stop_not_ok}
-use Rattle.flat_laws.proofs.ImportedTrack.{track_keeps}
-use Rattle.flat_laws.proofs.ImportGoes.{import_goes}
 use Rattle.flat_laws.proofs.ImportRun.{import_stores}
+use Rattle.flat_laws.proofs.Places.{some_sectors}
 
--- ---- the flat file
+-- ---- A track.
+
+module _ (rate : Rate) (bytes : List ℕ) (c h : ℕ) (cylinder : c < 80) (head : h < 2) where
+  abbrev sectors : ℕ
+  sectors = sectors_at rate
+
+  -- the track was formatted in bay 0
+  abbrev IsOnTrack : Stage → Type 0
+  IsOnTrack stage = IsMaking 0 rate 80 (HasRecords sectors c h) stage.state.station
+
+  abbrev Makes : Stage → Stage → Type 0
+  Makes old new = MakesAlone 0 1 rate 80 (HasRecords sectors c h) old new
+
+  fill_done : (address byte : ℕ) (old : Stage) → address + 1 ≤ user_bytes → IsOnTrack old → IsDone IsOnTrack (request.Fill address 1 byte) old
+  fill_done address byte old inside making = record {
+    safe = safe (request.Fill address 1 byte) old refl (λ bay name same. cc same);
+    answers = λ answer new step calm.
+        let good : nat_le (address + 1) user_bytes ≡ true = le-leb (address + 1) user_bytes inside in
+        let free : refusal_of old.state (request.Fill address 1 byte) ≡ None = rw good refl in
+        let does = reaches _ (refusal_of old.state (request.Fill address 1 byte)) free step in
+        let still = ap (λ (s : StationState). bay_of s 0) does.2.becomes in
+        (ap is_refusal does.0, made_still 0 rate 80 _ old.state.station new.state.station still making);
+  }
+
+  byte_goes : (place address i : ℕ) (old : Stage) → address + i + 1 ≤ user_bytes → IsOnTrack old → PartGoes (λ none new. IsOnTrack new) (fills_byte bytes place address i tt) old
+  unfolding fills_byte
+  byte_goes place address i old inside making rest behind =
+      let byte = slice_index bytes (place + i) in
+      goes_carries IsOnTrack (request.Fill (address + i) 1 byte) rest old (fill_done (address + i) byte old inside making) (λ new there. behind tt new there)
+
+  fills_go : (old : Stage) → IsOnTrack old → PartGoes (λ none new. IsOnTrack new) (fills_track bytes sectors c h) old
+  unfolding fills_track fills_record
+  fills_go old making =
+      let some = some_sectors rate in
+      goes_each (λ none new. IsOnTrack new) (λ r. fills_record bytes (sector_place sectors c h r) (record_address r)) 1 sectors tt old (λ r least below none one there.
+      goes_each (λ none new. IsOnTrack new) (fills_byte bytes (sector_place sectors c h r) (record_address r)) 0 512 none one (λ i from small same two here.
+      byte_goes (sector_place sectors c h r) (record_address r) i two (omega (arith, below, some.1, small)) here) there) making
+
+  record_goes : (r : ℕ) (old : Stage) → 1 ≤ r → r ≤ sectors → IsOnTrack old → PartGoes (λ none new. IsOnTrack new) (writes_record c h r tt) old
+  unfolding writes_record
+  record_goes r old least most making rest behind =
+      goes_carries (Makes old) (request.Write 0 (key_of c h r) (record_address r)) rest old
+      (write_done 0 1 rate 80 c h r false refl (λ station value. refl) cylinder head least most old making) (λ new alone. behind tt new alone.made)
+
+  track_goes : (old : Stage) → IsMaking 0 rate 80 AnyDisk old.state.station → PartGoes (λ none new. IsMaking 0 rate 80 AnyDisk new.state.station) (imports_track bytes sectors c h tt) old
+  unfolding imports_track writes_track
+  track_goes old making rest behind =
+      goes_carries (Makes old) (request.Format 0 c h) _ old (format_done 0 1 rate 80 c h AnyDisk old refl (λ station value. refl) cylinder head making) (λ one alone.
+      fills_go one alone.made _ (λ none two there.
+      goes_each (λ none new. IsOnTrack new) (writes_record c h) 1 sectors tt two (λ r least below same mid is. record_goes r mid least (omega (arith, below)) is) there rest
+      (λ same three is. behind tt three (any_made 0 rate 80 _ three.state.station is))))
+
+-- ---- The whole script.
+
+tracks_go : (rate : Rate) (bytes : List ℕ) (old : Stage) → IsMaking 0 rate 80 AnyDisk old.state.station
+    → PartGoes (λ none new. IsMaking 0 rate 80 AnyDisk new.state.station) (by_track 80 2 (imports_track bytes (sectors_at rate)) tt) old
+tracks_go rate bytes old making =
+    let Top : Unit {0} → Stage → Type 0 = λ none new. IsMaking 0 rate 80 AnyDisk new.state.station in
+    let track = imports_track bytes (sectors_at rate) in
+    goes_each Top (λ c. each 0 2 (track c)) 0 80 tt old (λ c least cylinder none one here.
+    goes_each Top (track c) 0 2 none one (λ h from head same two there. track_goes rate bytes c h (omega (arith, cylinder)) (omega (arith, head)) two there) here) making
+
+import_goes : (bytes name : List ℕ) (rate : Rate) (old : Stage) → is_loaded old.state 0 ≡ false → GoesWell (import_script (Ok (bytes, rate)) name) old
+import_goes bytes name rate old empty =
+    goes_carries (λ new. IsBlank 0 rate name 80 old.state old.files new.state new.files) (blank_request 0 name 80 rate) _ old (blank_done 0 rate name 80 old refl (omega arith) (omega arith) empty) (λ one is.
+    acknowledges_goes 0 1 (blank_of 80 rate) _ one refl (λ station value. refl) is.medium (λ two alone.
+    tracks_go rate bytes two (blank_made 0 rate 80 two.state.station is.valid alone.ready) _ (λ none three made.
+    eject_goes 0 made.disk _ three refl made.holds.medium (λ new. refl))))
+
+-- ---- The flat file.
 
 -- a flat file is taken, unless the outside fails
 taken_flat : (files : Files) (flat bytes : List ℕ) (rate : Rate) (cause : Stop) → IsFlatFile (Some files) flat bytes rate → IsNotTaken (Some files) flat cause → IsEndStop cause
@@ -88,58 +153,29 @@ one_rate : (a b : Rate) (one two : List ℕ) → one ≡ two → sectors_told (l
 one_rate a b one two same first second =
     same_rate a b (as_sectors (sectors_told (length two)) (sectors_at a) (sectors_at b) (ap (λ (l : List ℕ). sectors_told (length l)) (sym same) ∙ first) second)
 
--- ---- its requests
+-- ---- The command.
 
-rates_keep : (rate : Rate) → list_all keeps_drives (rate_requests rate) ≡ true
-rates_keep R500 = refl
-rates_keep R250 = refl
+-- a disk of what the flat file of this name has
+same_file : (files : Files) (flat name bytes : List ℕ) (rate : Rate) (after : Option Files) → IsFlatFile (Some files) flat bytes rate → StoresImported flat name (Some files) after → StoresDisk bytes name rate (Some files) after
+same_file files flat name bytes rate after is made =
+    let same = one_flat files flat made.0 bytes made.1 rate made.2 is in
+    subst (λ (a : Rate). StoresDisk bytes name a (Some files) after) (one_rate made.1 rate made.0 bytes same made.2.sectors is.sectors)
+    (subst (λ (row : List ℕ). StoresDisk row name made.1 (Some files) after) same made.3)
 
-import_keeps : (bytes name : List ℕ) (rate : Rate) → list_all keeps_drives (import_requests bytes name rate) ≡ true
-import_keeps bytes name rate =
-    let sectors = sectors_at rate in
-    let tracks = by_track 80 (import_track bytes sectors) in
-    let eject : List Request = request.Eject 0 ∷ [] in
-    let all_tracks = keeps_each (λ c. each 0 2 (import_track bytes sectors c)) 0 80 (λ c. keeps_each (import_track bytes sectors c) 0 2 (λ h. track_keeps bytes sectors c h)) in
-    let body = keeps-append tracks eject all_tracks refl in
-    all_and (keeps_drives (blank_request 0 name 80 rate)) (list_all keeps_drives (ack_requests rate ++ (tracks ++ eject))) (blank_keeps 0 rate name 80)
-    (keeps-append (ack_requests rate) (tracks ++ eject) (rates_keep rate) body)
-
-import_answered : (bytes name : List ℕ) (rate : Rate) (old : World) (course : List Taken) → BeginsSound old → AllAnswered (import_requests bytes name rate) old course
-import_answered bytes name rate old course begins before tail asked later mid files is begun calm =
-    let goes = import_goes bytes name rate (at old.state old.files) (fresh_empty old.state 0 begins.fresh) in
-    let parts = begun_parts (import_requests bytes name rate) before asked later begun.parts in
-    reaches_next (λ new. Unit {0}) (asks_all (import_requests bytes name rate)) (asks_all (requests_of before)) (Asks asked) (asks_all later) [] before old.state mid old.files files parts goes begun.run (asked_own [] before) calm
-
--- ---- the command
-
-import_ends : (flat name : List ℕ) (old new : World) (course : List Taken) (ended : Status) (files : Files) (bytes : List ℕ) (rate : Rate) → BeginsSound old → old.files ≡ Some files → IsFlatFile (Some files) flat bytes rate → AreUndisturbed old.state.station.counters course → Imports flat name old course new ended → Ends ended
-import_ends flat name old new course ended files bytes rate begins told is calm (Imported row at_rate there p) = prints_outside (Unit {0}) _ _ status.AllOk ended _ tt p.prints
-import_ends flat name old new course ended files bytes rate begins told is calm (NotTaken cause not p) =
-    let here = subst (λ (f : Option Files). IsNotTaken f flat cause) told not in
-    prints_outside (Unit {0}) _ _ _ ended _ (stop_outside (Unit {0}) cause (taken_flat files flat bytes rate cause is here)) p.tells.prints
-import_ends flat name old new course ended files bytes rate begins told is calm (ImportHalts row at_rate there p) =
-    halts_outside (import_requests row name at_rate) old course new ended (import_answered row name at_rate old course begins) calm p
-
--- the drive had no fault in an import that ends well
-import_faultless : (flat name : List ℕ) (old new : World) (course : List Taken) → BeginsSound old → AreUndisturbed old.state.station.counters course → Imports flat name old course new status.AllOk → IsFaultless 0 old.state.station.counters new.state.station.counters
-import_faultless flat name old new course begins calm (Imported row rate there p) = run_faultless old (import_requests row name rate) course new.state new.files begins calm p.run p.all (import_keeps row name rate)
-import_faultless flat name old new course begins calm (NotTaken cause not p) = absurd (stop_not_ok _ cause _ p.tells.prints)
-import_faultless flat name old new course begins calm (ImportHalts row rate there p) = absurd (halts_not_ok (import_requests row name rate) old course new p)
-
-stores : (flat name : List ℕ) (old new : World) (ended : Status) (files : Files) (bytes : List ℕ) (rate : Rate) → BeginsSound old → old.files ≡ Some files → IsFlatFile (Some files) flat bytes rate → Runs (Imports flat name) old new ended → status.AllOk ≡ ended → StoresDisk bytes name rate (Some files) new.files
-stores flat name old new ended files bytes rate begins told is runs well =
-    let imports = subst (λ (s : Status). Imports flat name old runs.course new s) (sym well) runs.does in
-    let faultless = import_faultless flat name old new runs.course begins (runs.ties.undisturbed begins.sound) imports in
-    let made = import_stores flat name old new runs.course imports (fresh_memory old.state.station begins.fresh) faultless in
-    let there = subst (λ (f : Option Files). IsFlatFile f flat made.0 made.1) told made.2 in
-    let disk = subst (λ (f : Option Files). StoresDisk made.0 name made.1 f new.files) told made.3 in
-    let same = one_flat files flat made.0 bytes made.1 rate there is in
-    subst (λ (a : Rate). StoresDisk bytes name a (Some files) new.files) (one_rate made.1 rate made.0 bytes same there.sectors is.sectors)
-    (subst (λ (row : List ℕ). StoresDisk row name made.1 (Some files) new.files) same disk)
+module _ (flat name : List ℕ) (old new : World) (course : List Taken) (ended : Status) (files : Files) (bytes : List ℕ) (rate : Rate) (begins : BeginsSound old) (told : old.files ≡ Some files) (is : IsFlatFile (Some files) flat bytes rate) (calm : AreUndisturbed old.state.station.counters course) where
+  import_ends : (found : Result (List ℕ × Rate) Stop) → IsFlatFound old.files flat found → RunsScript (import_script found name) old course new ended → EndsWellOrOutside (StoresDisk bytes name rate (Some files) new.files) ended
+  import_ends (Ok (row, at_rate)) there runs =
+      completes (import_script (Ok (row, at_rate)) name) _ old new course ended begins (import_goes row name at_rate (at old.state old.files) (fresh_empty old.state 0 begins.fresh)) calm runs
+      (λ done faultless.
+      same_file files flat name bytes rate new.files is
+      (subst (λ (f : Option Files). StoresImported flat name f new.files) told
+      (import_stores flat name old new course (Ok (row, at_rate), there, done) (fresh_memory old.state.station begins.fresh) faultless.first)))
+  import_ends (Err cause) not runs =
+      let only = taken_flat files flat bytes rate cause is (subst (λ (f : Option Files). IsNotTaken f flat cause) told not) in
+      prints_outside _ _ _ _ ended _ (stop_outside _ cause only) (last_run (stop_text cause) (stop_status cause) old course new ended runs).1.report
 
 -- where nothing is left to go wrong, an import goes to its end, or the outside failed
-pub import_complete : (flat name : List ℕ) (old new : World) (ended : Status) (files : Files) (bytes : List ℕ) (rate : Rate) → BeginsSound old → old.files ≡ Some files → IsFlatFile (Some files) flat bytes rate → Runs (Imports flat name) old new ended → EndsWellOrOutside (StoresDisk bytes name rate (Some files) new.files) ended
+pub import_complete : (flat name : List ℕ) (old new : World) (ended : Status) (files : Files) (bytes : List ℕ) (rate : Rate) → BeginsSound old → old.files ≡ Some files → IsFlatFile (Some files) flat bytes rate
+    → Runs (Imports flat name) old new ended → EndsWellOrOutside (StoresDisk bytes name rate (Some files) new.files) ended
 import_complete flat name old new ended files bytes rate begins told is runs =
-    ends_with (StoresDisk bytes name rate (Some files) new.files) ended
-    (import_ends flat name old new runs.course ended files bytes rate begins told is (runs.ties.undisturbed begins.sound) runs.does)
-    (λ well. stores flat name old new ended files bytes rate begins told is runs well)
+    import_ends flat name old new runs.course ended files bytes rate begins told is (runs.ties.undisturbed begins.sound) runs.does.0 runs.does.1 runs.does.2
