@@ -1,5 +1,5 @@
 -- The run of the command that copies, from its opening to its last request.
-use Rattle.std.proofs.Common.{arith, ◌≡◌, ◌∙◌, ◌+◌, ◌-◌, ℕ, Bool, List, [], ◌∷◌, ◌++◌, length, refl, sym, ap, subst, inl, Option, Some}
+use Rattle.std.proofs.Common.{arith, ◌≡◌, ◌∙◌, ℕ, Bool, List, [], ◌∷◌, ◌++◌, length, refl, sym, ap, subst, inl, Option, Some}
 use Rattle.std.proofs.lemmas.List.{append-nil}
 use Rattle.flop_base.specs.Shelf.{Files, stored}
 use Rattle.raw_image.specs.Disk.{Disk, HasTrack}

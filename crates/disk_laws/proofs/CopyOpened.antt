@@ -19,7 +19,7 @@ use Rattle.floppy_session.specs.Blanks.{blank_request}
 use Rattle.scripts.specs.Parts.{rate_requests}
 use Rattle.disk_laws.specs.Requests.{copy_opening}
 use Rattle.disk_laws.proofs.Marks.{is_no_read}
-use Rattle.disk_laws.proofs.Prepared.{blanks, acks, rates}
+use Rattle.disk_laws.proofs.Prepared.{blanks, readies}
 use Rattle.disk_laws.proofs.Steps.{begins, ends_there, keeps_drives}
 use Rattle.disk_laws.proofs.Verified.{one_image}
 
@@ -58,60 +58,6 @@ are_in from to disk files rest old new after course image all size =
       behind = two.behind;
     }
 
--- bay 0 is ready, and bay 1 as it was
-record IsFirstReady (disk : Disk) (old : State) (told : Option Files) (rest : List Request) (new : State) (after : Option Files) : Type 0 where
-  pub mid : State
-  pub files : Option Files
-  pub course : List Taken
-  pub first : (bay_of mid.station 0).medium ≡ Some disk
-  pub second : bay_of mid.station 1 ≡ bay_of old.station 1
-  pub memory : mid.station.memory ≡ old.station.memory
-  pub names : mid.names ≡ old.names
-  pub same_files : files ≡ told
-  pub behind : DoesAll rest mid files course new after
-
-first_ready : (disk : Disk) (rest : List Request) (old new : State) (told after : Option Files) (course : List Taken) → DoesAll (request.Ack 0 ∷ (rate_requests disk.rate 0 ++ rest)) old told course new after → (bay_of old.station 0).medium ≡ Some disk → IsFirstReady disk old told rest new after
-first_ready disk rest old new told after course all medium =
-    let one = begins old new told after (request.Ack 0) (rate_requests disk.rate 0 ++ rest) course all in
-    let acked = acks 0 disk old one.mid told one.files one.answer one.does one.done medium in
-    let rated = rates 0 disk.rate disk rest one.mid new one.files after one.later one.behind refl acked.medium acked.high in
-    record {
-      mid = rated.mid;
-      files = rated.files;
-      course = rated.course;
-      first = rated.medium;
-      second = ap (λ (b : Two Bay). in_bay b 1) rated.bays ∙ ap (λ (s : StationState). bay_of s 1) acked.becomes;
-      memory = rated.memory ∙ ap (λ (s : StationState). s.memory) acked.becomes;
-      names = rated.names ∙ acked.names;
-      same_files = rated.same_files ∙ acked.files;
-      behind = rated.behind;
-    }
-
--- bay 1 is ready
-record IsSecondReady (disk : Disk) (old : State) (told : Option Files) (new : State) (after : Option Files) : Type 0 where
-  pub medium : (bay_of new.station 1).medium ≡ Some disk
-  pub rate : (bay_of new.station 1).rate ≡ disk.rate
-  pub first : bay_of new.station 0 ≡ bay_of old.station 0
-  pub memory : new.station.memory ≡ old.station.memory
-  pub names : new.names ≡ old.names
-  pub files : after ≡ told
-
-second_ready : (disk : Disk) (old new : State) (told after : Option Files) (course : List Taken) → DoesAll (request.Ack 1 ∷ rate_requests disk.rate 1) old told course new after → (bay_of old.station 1).medium ≡ Some disk → IsSecondReady disk old told new after
-second_ready disk old new told after course all medium =
-    let one = begins old new told after (request.Ack 1) (rate_requests disk.rate 1) course all in
-    let acked = acks 1 disk old one.mid told one.files one.answer one.does one.done medium in
-    let whole = subst (λ (requests : List Request). DoesAll requests one.mid one.files one.later new after) (sym (append-nil (rate_requests disk.rate 1))) one.behind in
-    let rated = rates 1 disk.rate disk [] one.mid new one.files after one.later whole refl acked.medium acked.high in
-    let end = ends_there rated.mid new rated.files after rated.course rated.behind in
-    record {
-      medium = ap (λ (s : State). (bay_of s.station 1).medium) end.0 ∙ rated.medium;
-      rate = ap (λ (s : State). (bay_of s.station 1).rate) end.0 ∙ rated.rate;
-      first = ap (λ (s : State). bay_of s.station 0) end.0 ∙ ap (λ (b : Two Bay). in_bay b 0) rated.bays ∙ ap (λ (s : StationState). bay_of s 0) acked.becomes;
-      memory = ap (λ (s : State). s.station.memory) end.0 ∙ rated.memory ∙ ap (λ (s : StationState). s.memory) acked.becomes;
-      names = ap (λ (s : State). s.names) end.0 ∙ rated.names ∙ acked.names;
-      files = end.1 ∙ rated.same_files ∙ acked.files;
-    }
-
 -- bay 1 after the opening
 pub record IsCopyOpened (disk : Disk) (to : List ℕ) (files : Files) (new : State) (after : Option Files) : Type 0 where
   pub valid : IsDisk (blank_of disk.cylinders disk.rate)
@@ -126,17 +72,19 @@ pub opens_copy : (from to : List ℕ) (disk : Disk) (files : Files) (old new : S
 opens_copy from to disk files old new after course image all size =
     let second = request.Ack 1 ∷ rate_requests disk.rate 1 in
     let put = are_in from to disk files (request.Ack 0 ∷ (rate_requests disk.rate 0 ++ second)) old new after course image all size in
-    let first = first_ready disk second put.mid new put.mid_files after put.course put.behind put.first in
-    let medium = ap (λ (b : Bay). b.medium) first.second ∙ put.second in
-    let ready = second_ready (blank_of disk.cylinders disk.rate) first.mid new first.files after first.course first.behind medium in
+    let one = readies 0 disk second put.mid new put.mid_files after put.course put.behind put.first in
+    let medium = ap (λ (b : Two Bay). (in_bay b 1).medium) one.bays ∙ put.second in
+    let whole = subst (λ (requests : List Request). DoesAll (request.Ack 1 ∷ requests) one.mid one.files one.course new after) (sym (append-nil (rate_requests disk.rate 1))) one.behind in
+    let two = readies 1 (blank_of disk.cylinders disk.rate) [] one.mid new one.files after one.course whole medium in
+    let end = ends_there two.mid new two.files after two.course two.behind in
     record {
       valid = put.valid;
-      first = ap (λ (b : Bay). b.medium) ready.first ∙ first.first;
-      medium = ready.medium;
-      rate = ready.rate;
-      size = ap (λ (m : List ℕ). length m) (ready.memory ∙ first.memory) ∙ put.size;
-      named = ap (λ (n : Two (Option (List ℕ))). in_bay n 1) (ready.names ∙ first.names) ∙ put.named;
-      same_files = ready.files ∙ first.same_files ∙ put.same_files;
+      first = ap (λ (s : State). (bay_of s.station 0).medium) end.0 ∙ ap (λ (b : Two Bay). (in_bay b 0).medium) two.bays ∙ one.medium;
+      medium = ap (λ (s : State). (bay_of s.station 1).medium) end.0 ∙ two.medium;
+      rate = ap (λ (s : State). (bay_of s.station 1).rate) end.0 ∙ two.rate;
+      size = ap (λ (s : State). length s.station.memory) end.0 ∙ ap (λ (m : List ℕ). length m) (two.memory ∙ one.memory) ∙ put.size;
+      named = ap (λ (s : State). in_bay s.names 1) end.0 ∙ ap (λ (n : Two (Option (List ℕ))). in_bay n 1) (two.names ∙ one.names) ∙ put.named;
+      same_files = end.1 ∙ two.same_files ∙ one.same_files ∙ put.same_files;
     }
 
 pub opening_keeps : (rate : Rate) (to : List ℕ) (cylinders : ℕ) (from : List ℕ) → list_all keeps_drives (request.Insert 0 from ∷ blank_request 1 to cylinders rate ∷ request.Ack 0 ∷ (rate_requests rate 0 ++ (request.Ack 1 ∷ rate_requests rate 1))) ≡ true

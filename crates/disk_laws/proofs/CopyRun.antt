@@ -1,5 +1,5 @@
 -- The command that copies asks the requests of a copy, and stores one.
-use Rattle.std.proofs.Common.{arith, ◌≡◌, ◌∙◌, ◌≤◌, ◌+◌, ℕ, Bool, true, false, List, [], ◌∷◌, ◌++◌, length, take, drop, refl, sym, ap, subst, append_assoc, Option, Some}
+use Rattle.std.proofs.Common.{arith, ◌≡◌, ◌∙◌, ℕ, Bool, true, false, List, [], ◌∷◌, ◌++◌, length, take, drop, refl, sym, ap, subst, append_assoc, Option, Some}
 use Rattle.std.specs.List.{list_all}
 use Rattle.std.proofs.lemmas.List.{append-nil, length-replicate, take_at, drop_at}
 use Rattle.flop_base.specs.Shelf.{Files}
@@ -19,13 +19,12 @@ use Rattle.sector_model.specs.Runs.{Taken}
 use Rattle.sector_model.specs.Plays.{World}
 use Rattle.floppy_session.specs.Blanks.{blank_request}
 use Rattle.floppy_session.specs.declared.shape.Shape.{Shape}
-use Rattle.floppy_session.specs.Shapes.{shape_of}
 use Rattle.scripts.specs.Scripts.{RunsScript}
-use Rattle.scripts.specs.Parts.{Part, carries, acknowledges, through, each, by_track, opens, rate_requests}
-use Rattle.scripts.proofs.Passed.{Known, Passes, Passed, Does, Did, Then, did_both, did_nothing, both_pass, does_both, known, same_part, through_passes, carries_passes, acknowledges_passes, opens_passes, Opened, over, Over}
+use Rattle.scripts.specs.Parts.{Part, through, by_track, rate_requests}
+use Rattle.scripts.proofs.Reading.{last_run}
+use Rattle.scripts.proofs.Passed.{Known, Passes, Did, joined, joined_did, did_both, did_nothing, same_part, through_passes, carries_passes, acknowledges_passes, opens_passes}
 use Rattle.disk_commands.specs.Copy.{reads_record, writes_record, copies_track, copy_text, copy_script}
 use Rattle.disk_commands.specs.Copy as copy
-use Rattle.disk_commands.specs.Disks.{sectors_of}
 use Rattle.disk_laws.specs.Requests.{Track, tracks_of, read_records, write_records, copy_track, copy_each, copy_opening, copy_requests, marks_read}
 use Rattle.disk_laws.specs.Done.{DoesAll}
 use Rattle.disk_laws.specs.Copied.{CopiesDisk, StoresCopy}
@@ -34,7 +33,6 @@ use Rattle.disk_laws.proofs.CopiedTrack.{track_keys_from}
 use Rattle.disk_laws.proofs.CopyOpened.{opening_reads_none}
 use Rattle.disk_laws.proofs.KeptMarks.{ReadsMarks, reads_pass, writes_of, writes_are, writes_pass}
 use Rattle.disk_laws.proofs.Marks.{is_no_read, marks-append, no_marks, writes_are_none}
-use Rattle.disk_laws.proofs.Records.{keys_from}
 use Rattle.disk_laws.proofs.Sectors.{few_sectors}
 use Rattle.disk_laws.proofs.PutIn.{opened_shape}
 use Rattle.disk_laws.proofs.TrackParts.{tracks_part, over_all}
@@ -85,19 +83,13 @@ track_copied rate track old mid last new one reads writes found format marked wr
 
 track_passes : (rate : Rate) (track : Track) → Passes status.AllOk (copies_track (sectors_at rate) track.0 track.1 tt) (CopiedTrack rate track)
 unfolding copies_track
-track_passes rate track =
+track_passes rate track rest old course new runs =
     let sectors = sectors_at rate in
-    let Reads = ReadsMarks track.0 track.1 1 sectors unknown in
-    let Writes : List Bool → Known (Unit {0}) = λ found. Does (writes_of found track.0 track.1 1 sectors) in
-    let Formats : Known (Unit {0}) = Does (request.Format 1 track.0 track.1 ∷ []) in
-    known status.AllOk (copies_track sectors track.0 track.1 tt) (Then Formats (λ none. Then Reads Writes)) (CopiedTrack rate track)
-    (λ old course none new all.
-    let rest = all.behind in
-    subst (λ (l : List Taken). CopiedTrack rate track old l tt new) (sym (all.course_is ∙ ap (λ (l : List Taken). all.one ++ l) rest.course_is))
-    (track_copied rate track old all.mid rest.mid new all.one rest.one rest.two rest.first all.before rest.before rest.behind))
-    (both_pass status.AllOk (carries (request.Format 1 track.0 track.1)) _ Formats (λ none. Then Reads Writes) (carries_passes (request.Format 1 track.0 track.1))
-    (λ none. both_pass status.AllOk (each 1 sectors (reads_record track.0 track.1) unknown) (λ marks. each 1 sectors (writes_record marks track.0 track.1) tt) Reads Writes
-    (reads_pass track.0 track.1 sectors 1 unknown) (λ found. writes_pass found track.0 track.1 1 sectors)))
+    let format = carries_passes (request.Format 1 track.0 track.1) _ old course new runs in
+    let reads = reads_pass track.0 track.1 sectors 1 unknown _ format.mid format.two new format.left in
+    let writes = writes_pass reads.found track.0 track.1 1 sectors _ reads.mid reads.two new reads.left in
+    joined format (joined {Knows = λ o c f m. Unit {0}} reads writes tt)
+    (track_copied rate track old format.mid reads.mid writes.mid format.one reads.one writes.one reads.found format.knows reads.knows writes.knows)
 
 -- ---- all tracks
 
@@ -125,65 +117,45 @@ tracks_pass rate cylinders heads =
 
 -- ---- the whole copy
 
--- the new disk is made, and both are acknowledged
-abbrev preparing : List ℕ → ℕ → Rate → List Request
-preparing to cylinders rate = blank_request 1 to cylinders rate ∷ request.Ack 0 ∷ (rate_requests rate 0 ++ (request.Ack 1 ∷ rate_requests rate 1))
+all_did : (from to : List ℕ) (disk : Disk) (old mid last new : World) (one two three : List Taken) → Did (copy_opening from to disk) old one mid → CopiesEach disk.rate (tracks_of disk.cylinders disk.heads) tt mid two tt last
+    → Did (request.Eject 1 ∷ []) last three new → (course : List Taken) → course ≡ one ++ (two ++ three) → Did (copy_requests from to disk (marks_read course)) old course new
+all_did from to disk old mid last new one two three opening tracks eject course is =
+    let told = ap marks_read is ∙ middle_marks one two three (silent _ old mid one opening (opening_reads_none disk.rate to disk.cylinders from)) (silent _ last new three eject refl) in
+    subst (λ (l : List Taken). Did (copy_requests from to disk (marks_read course)) old l new) (sym is)
+    (subst (λ (row : List Bool). Did (copy_requests from to disk row) old (one ++ (two ++ three)) new) (sym told)
+    (three_did (copy_opening from to disk) _ (request.Eject 1 ∷ []) old mid last new one two three opening tracks eject))
 
--- what comes behind the disk that was put in
-abbrev copies_rest : List ℕ → Shape → Part (Unit {0})
-copies_rest to shape rest =
-    carries (blank_request 1 to shape.cylinders shape.rate) (λ none.
-    acknowledges 0 shape.rate (λ none.
-    acknowledges 1 shape.rate (λ none.
-    by_track shape.cylinders shape.heads (copies_track (sectors_at shape.rate)) tt (λ none. carries (request.Eject 1) rest))))
-
-abbrev CopiesRest : List ℕ → Shape → Known (Unit {0})
-CopiesRest to shape =
-    Then {First = Unit {0}} (Does (preparing to shape.cylinders shape.rate))
-    (λ none. Then {First = Unit {0}} (CopiesEach shape.rate (tracks_of shape.cylinders shape.heads) tt) (λ none. Does (request.Eject 1 ∷ [])))
-
-rest_passes : (to : List ℕ) (shape : Shape) → Passes status.AllOk (copies_rest to shape) (CopiesRest to shape)
-rest_passes to shape =
-    let rate = shape.rate in
-    let blank = blank_request 1 to shape.cylinders rate in
-    let first = request.Ack 0 ∷ rate_requests rate 0 in
-    let second = request.Ack 1 ∷ rate_requests rate 1 in
-    let Each = CopiesEach rate (tracks_of shape.cylinders shape.heads) tt in
-    let Ejects : Known (Unit {0}) = Does (request.Eject 1 ∷ []) in
-    both_pass status.AllOk _ _ (Does (preparing to shape.cylinders rate)) (λ none. Then Each (λ none. Ejects))
-    (does_both status.AllOk (carries blank) _ (blank ∷ []) (first ++ second) (carries_passes blank)
-    (does_both status.AllOk (acknowledges 0 rate) (acknowledges 1 rate) first second (acknowledges_passes 0 rate) (acknowledges_passes 1 rate)))
-    (λ none. both_pass status.AllOk (by_track shape.cylinders shape.heads (copies_track (sectors_at rate)) tt) (λ none. carries (request.Eject 1)) Each (λ none. Ejects)
-    (tracks_pass rate shape.cylinders shape.heads) (λ none. carries_passes (request.Eject 1)))
-
-all_did : (from to : List ℕ) (disk : Disk) (old mid new : World) (one two course : List Taken) → Did (request.Insert 0 from ∷ []) old one mid → CopiesRest to (shape_of disk) mid two tt new
-    → course ≡ one ++ two → Did (copy_requests from to disk (marks_read course)) old course new
-all_did from to disk old mid new one two course insert rest is =
-    let opening = copy_opening from to disk in
-    let tracks = tracks_of disk.cylinders disk.heads in
-    let last = rest.behind in
-    let opens = did_both (request.Insert 0 from ∷ []) (preparing to disk.cylinders disk.rate) old mid rest.mid one rest.one insert rest.before in
-    let parts : course ≡ (one ++ rest.one) ++ (last.one ++ last.two) =
-    is ∙ ap (λ (l : List Taken). one ++ l) rest.course_is ∙ ap (λ (l : List Taken). one ++ (rest.one ++ l)) last.course_is ∙ sym (append_assoc one rest.one (last.one ++ last.two)) in
-    let told = ap marks_read parts ∙ middle_marks (one ++ rest.one) last.one last.two (silent opening old rest.mid (one ++ rest.one) opens (opening_reads_none disk.rate to disk.cylinders from)) (silent _ last.mid new last.two last.behind refl) in
-    subst (λ (l : List Taken). Did (copy_requests from to disk (marks_read course)) old l new) (sym parts)
-    (subst (λ (row : List Bool). Did (copy_requests from to disk row) old ((one ++ rest.one) ++ (last.one ++ last.two)) new) (sym told)
-    (three_did opening (copy_each disk.rate tracks (marks_read last.one)) (request.Eject 1 ∷ []) old rest.mid last.mid new (one ++ rest.one) last.one last.two opens last.before last.behind))
+-- what a copy of a disk of this shape opens with, behind the disk that is put in
+abbrev preparing : List ℕ → Shape → List Request
+preparing to shape = blank_request 1 to shape.cylinders shape.rate ∷ request.Ack 0 ∷ (rate_requests shape.rate 0 ++ (request.Ack 1 ∷ rate_requests shape.rate 1))
 
 pub copy_done : (from to : List ℕ) (old new : World) (course : List Taken) (files : Files) (disk : Disk) → RunsScript (copy_script from to) old course new status.AllOk → old.files ≡ Some files → IsImageOf (Some files) from disk
     → CopiesDisk from to disk old.state files course new.state new.files
 unfolding copy_script
 copy_done from to old new course files disk runs there image =
     let put = opens_passes from _ old course new runs in
+    let rate = put.found.rate in
+    let blank = carries_passes (blank_request 1 to put.found.cylinders rate) _ put.mid put.two new put.left in
+    let first = acknowledges_passes 0 rate _ blank.mid blank.two new blank.left in
+    let second = acknowledges_passes 1 rate _ first.mid first.two new first.left in
+    let ready = joined_did _ _ blank (joined_did _ _ first second) in
+    let tracks = tracks_pass rate put.found.cylinders put.found.heads _ second.mid second.two new second.left in
+    let eject = carries_passes (request.Eject 1) _ tracks.mid tracks.two new tracks.left in
+    let end = last_run _ _ eject.mid eject.two new status.AllOk eject.left in
     let same = opened_shape from disk files old put.mid put.one put.found image there put.knows in
-    let rest = over status.AllOk (copies_rest to put.found) (CopiesRest to put.found) _ _ (rest_passes to put.found) put.mid put.two new put.left in
-    let knows = subst (λ (s : Shape). CopiesRest to s put.mid put.two tt rest.mid) same rest.knows in
-    let did = all_did from to disk old put.mid rest.mid put.one put.two course put.knows.did knows put.course_is in
+    let opens = did_both (request.Insert 0 from ∷ []) (preparing to put.found) old put.mid second.mid put.one ready.one put.knows.did ready.knows in
+    let parts : course ≡ (put.one ++ ready.one) ++ (tracks.one ++ eject.one) =
+    put.course_is ∙ ap (λ (l : List Taken). put.one ++ l) (ready.course_is ∙ ap (λ (l : List Taken). ready.one ++ l) (tracks.course_is
+    ∙ ap (λ (l : List Taken). tracks.one ++ l) (eject.course_is ∙ ap (λ (l : List Taken). eject.one ++ l) end.0 ∙ append-nil eject.one)))
+    ∙ sym (append_assoc put.one ready.one (tracks.one ++ eject.one)) in
+    let did = all_did from to disk old second.mid tracks.mid eject.mid (put.one ++ ready.one) tracks.one eject.one
+    (subst (λ (s : Shape). Did (request.Insert 0 from ∷ preparing to s) old (put.one ++ ready.one) second.mid) same opens)
+    (subst (λ (s : Shape). CopiesEach s.rate (tracks_of s.cylinders s.heads) tt second.mid tracks.one tt tracks.mid) same tracks.knows) eject.knows course parts in
     let requests = copy_requests from to disk (marks_read course) in
     record {
       image = image;
       all = subst (λ (f : Option Files). DoesAll requests old.state f course new.state new.files) there
-          (over_all requests old course rest.mid did new rest.state rest.files);
+          (over_all requests old course eject.mid did new end.1.state end.1.files);
     }
 
 -- a copy that succeeds stores a copy

@@ -1,5 +1,5 @@
 -- The command that formats asks the requests of a format, and stores a formatted disk.
-use Rattle.std.proofs.Common.{◌≡◌, ◌*◌, ℕ, List, [], ◌∷◌, ◌++◌, sym, ap, subst, append_assoc}
+use Rattle.std.proofs.Common.{◌*◌, ℕ, List, [], ◌∷◌, ◌++◌, sym, subst, append_assoc}
 use Rattle.flop_base.specs.declared.answers.Rate.{Rate}
 use Rattle.flop_base.specs.declared.answers.Status.TheVariants as status
 use Rattle.bay_model.specs.Counters.{IsFaultless}

@@ -1,7 +1,7 @@
 -- The reads and the writes of a copied track: each record is written with the mark that its read told.
-use Rattle.std.proofs.Common.{arith, ◌≡◌, ◌∙◌, ◌+◌, ◌-◌, ◌<◌, ◌≤◌, ℕ, suc, Bool, true, false, true≢false, List, [], ◌∷◌, ◌++◌, length, map, set, get_or, refl, sym, ap, subst, Option, Result, Ok, Err}
+use Rattle.std.proofs.Common.{arith, ◌≡◌, ◌∙◌, ◌+◌, ◌-◌, ◌<◌, ◌≤◌, ℕ, suc, Bool, true, false, true≢false, List, [], ◌∷◌, ◌++◌, length, set, get_or, refl, sym, ap, subst, Option, Result, Ok, Err}
 use Rattle.std.specs.List.{flat_map, range_with_len}
-use Rattle.std.proofs.lemmas.List.{get_or-set_same, get_or-set_other, length-set, length-append}
+use Rattle.std.proofs.lemmas.List.{get_or-set_same, get_or-set_other, length-set}
 use Rattle.flop_base.specs.Shelf.{Files}
 use Rattle.flop_base.specs.declared.key.Chrn.{Chrn}
 use Rattle.flop_base.specs.declared.answers.Code.{Code}
@@ -17,7 +17,7 @@ use Rattle.sector_model.specs.Runs.{Taken}
 use Rattle.sector_model.specs.Plays.{World}
 use Rattle.scripts.specs.Parts.{each}
 use Rattle.scripts.specs.Records.{record_address}
-use Rattle.scripts.proofs.Passed.{Passes, Does, Did, IsTaken, did_nothing, did_both, taken_did, known, needs_passes, carries_passes, numbers_pass, each_does}
+use Rattle.scripts.proofs.Passed.{Passes, Does, Did, IsTaken, did_nothing, did_both, taken_did, needs_passes, carries_passes, numbers_pass, each_does}
 use Rattle.disk_commands.specs.Copy.{tells_deleted, write_request, reads_record, writes_record}
 use Rattle.disk_laws.specs.Requests.{read_records, write_record, write_records, mark_of, marks_read}
 use Rattle.disk_laws.proofs.Marks.{marks-append}

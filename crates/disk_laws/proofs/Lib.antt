@@ -22,7 +22,6 @@ pub mod TrackParts
 pub mod Tracks
 pub mod UserMemory
 pub mod Verified
-pub mod VerifiedKeys
 pub mod VerifyRun
 pub mod WholeWindow
 pub mod Written

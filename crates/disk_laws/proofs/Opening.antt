@@ -1,13 +1,11 @@
 -- The opening of a verify isn't refused where bay 0 was empty and nothing disturbs its drive.
-use Rattle.std.proofs.Common.{arith, ◌≡◌, ◌∙◌, ℕ, false, true≢false, List, [], ◌∷◌, ◌++◌, refl, sym, ap, subst, append_assoc, Option, Some, None, Result, Ok, Err, inl, inr}
+use Rattle.std.proofs.Common.{arith, ◌≡◌, ◌∙◌, ℕ, false, true≢false, List, [], ◌∷◌, refl, ap, subst, Option, Some, None, Result, Ok, Err, inl, inr}
 use Rattle.flop_base.specs.Shelf.{Files}
 use Rattle.flop_base.specs.declared.answers.Code.{Code}
-use Rattle.flop_base.specs.declared.answers.Rate.{Rate}
-use Rattle.flop_base.specs.declared.answers.Rate.TheVariants.{R500, R250}
+use Rattle.flop_base.specs.declared.answers.Rate.TheVariants.{R250}
 use Rattle.flop_base.specs.declared.answers.Status.{Status}
 use Rattle.raw_image.specs.Disk.{Disk}
-use Rattle.bay_model.specs.Counters.{IsUndisturbed, faults_of}
-use Rattle.floppy_requests.specs.declared.request.Request.{Request}
+use Rattle.bay_model.specs.Counters.{IsUndisturbed}
 use Rattle.floppy_requests.specs.declared.request.Request.TheVariants as request
 use Rattle.sector_model.specs.declared.reply.Reply.{Reply}
 use Rattle.sector_model.specs.Stations.{StationState, bay_of}
@@ -25,7 +23,7 @@ use Rattle.floppy_session.specs.Shapes.{shape_of}
 use Rattle.scripts.specs.Scripts.{Script, RunsScript}
 use Rattle.scripts.specs.Parts.{opens, sets_rate, acknowledges, rate_requests}
 use Rattle.scripts.proofs.Reading.{IsWhole, IsRefused}
-use Rattle.scripts.proofs.Passed.{Passed, Does, Did, did_both, carries_passed, sets_rate_passed, opens_passed}
+use Rattle.scripts.proofs.Passed.{Passed, Does, Did, joined, joined_did, did_both, carries_passed, sets_rate_passed, opens_passed}
 use Rattle.disk_laws.specs.Requests.{verify_opening}
 use Rattle.disk_laws.proofs.Prepared.{acks}
 use Rattle.disk_laws.proofs.PutIn.{opened_shape}
@@ -65,8 +63,8 @@ rate_taken count old new told after answer acknowledged step =
 
 -- ---- in a script
 
-not_done : (answer : Reply) (cause : Reason) → answer ≡ reply.Refused cause → is_refusal answer ≡ false → ⊥
-not_done answer cause is done = true≢false (subst (λ (r : Reply). is_refusal r ≡ false) is done)
+not_done : (cause : Reason) → is_refusal (reply.Refused cause) ≡ false → ⊥
+not_done cause done = absurd (true≢false done)
 
 -- the disk is in
 record IsIn (disk : Disk) (old mid : World) : Type 0 where
@@ -93,49 +91,28 @@ acked disk old mid course did medium =
 
 module _ (name : List ℕ) (disk : Disk) (files : Files) (rest : Shape → Unit {0} → Script) (old : World) (course : List Taken) (new : World) (ended : Status) (whole : IsWhole ended) (there : old.files ≡ Some files) (image : IsImageOf (Some files) name disk) (empty : (bay_of old.state.station 0).medium ≡ None) (quiet : IsUndisturbed 0 old.state.station.counters new.state.station.counters) where
   no_insert : IsRefused (request.Insert 0 name) old course new ended → ⊥
-  no_insert run = not_done (reply.Refused run.cause) run.cause refl (insert_taken name old.state new.state old.files new.files (reply.Refused run.cause) empty run.step)
+  no_insert run = not_done run.cause (insert_taken name old.state new.state old.files new.files (reply.Refused run.cause) empty run.step)
 
-  module _ (mid : World) (later : List Taken) (is : IsIn disk old mid) where
-    no_ack : IsRefused (request.Ack 0) mid later new ended → ⊥
-    no_ack run =
-        let last = step_never_fell mid.state new.state mid.files new.files (request.Ack 0) (reply.Refused run.cause) run.step refl in
-        let calm = (quiet_parts old.state.station.counters mid.state.station.counters new.state.station.counters is.fell last quiet).1 in
-        not_done (reply.Refused run.cause) run.cause refl (ack_taken disk mid.state new.state mid.files new.files (reply.Refused run.cause) is.medium calm last run.step)
+  no_ack : (mid : World) (later : List Taken) → IsIn disk old mid → IsRefused (request.Ack 0) mid later new ended → ⊥
+  no_ack mid later is run =
+      let last = step_never_fell mid.state new.state mid.files new.files (request.Ack 0) (reply.Refused run.cause) run.step refl in
+      let calm = (quiet_parts old.state.station.counters mid.state.station.counters new.state.station.counters is.fell last quiet).1 in
+      not_done run.cause (ack_taken disk mid.state new.state mid.files new.files (reply.Refused run.cause) is.medium calm last run.step)
 
-    no_rate : (end : World) (between left : List Taken) → Did (request.Ack 0 ∷ []) mid between end → IsRefused (request.SetRate 0 R250) end left new ended → ⊥
-    no_rate end between left did run =
-        let kept = acked disk mid end between did is.medium in
-        not_done (reply.Refused run.cause) run.cause refl (rate_taken kept.0 end.state new.state end.files new.files (reply.Refused run.cause) kept.1 run.step)
-
-    -- bay 0 is made ready
-    made_ready : (next : Unit {0} → Script) → RunsScript (acknowledges 0 disk.rate next) mid later new ended → Passed (Does (request.Ack 0 ∷ rate_requests disk.rate 0)) next mid later new ended
-    unfolding acknowledges
-    made_ready next runs =
-        let a = carries_passed (request.Ack 0) (λ none. sets_rate 0 disk.rate next) mid later new ended whole no_ack runs in
-        let b = sets_rate_passed 0 disk.rate next a.mid a.two new ended whole (no_rate a.mid a.one a.two a.knows) a.left in
-        record {
-          one = a.one ++ b.one;
-          two = b.two;
-          found = tt;
-          mid = b.mid;
-          course_is = a.course_is ∙ ap (λ (l : List Taken). a.one ++ l) b.course_is ∙ sym (append_assoc a.one b.one b.two);
-          knows = did_both (request.Ack 0 ∷ []) (rate_requests disk.rate 0) mid a.mid b.mid a.one b.one a.knows b.knows;
-          left = b.left;
-        }
+  no_rate : (mid end : World) (between left : List Taken) → IsIn disk old mid → Did (request.Ack 0 ∷ []) mid between end → IsRefused (request.SetRate 0 R250) end left new ended → ⊥
+  no_rate mid end between left is did run =
+      let kept = acked disk mid end between did is.medium in
+      not_done run.cause (rate_taken kept.0 end.state new.state end.files new.files (reply.Refused run.cause) kept.1 run.step)
 
   -- the disk is put in, and the bay made ready
   pub opening_passed : RunsScript (opens name (λ shape. acknowledges 0 shape.rate (rest shape))) old course new ended → Passed (Does (verify_opening name disk)) (rest (shape_of disk)) old course new ended
+  unfolding acknowledges
   opening_passed runs =
       let a = opens_passed name (λ shape. acknowledges 0 shape.rate (rest shape)) old course new ended whole no_insert runs in
       let same = opened_shape name disk files old a.mid a.one a.found image there a.knows in
+      let is = put_in name disk files old a.mid a.one there image a.knows.did in
       let left = subst (λ (s : Shape). RunsScript (acknowledges 0 s.rate (rest s)) a.mid a.two new ended) same a.left in
-      let b = made_ready a.mid a.two (put_in name disk files old a.mid a.one there image a.knows.did) (rest (shape_of disk)) left in
-      record {
-        one = a.one ++ b.one;
-        two = b.two;
-        found = tt;
-        mid = b.mid;
-        course_is = a.course_is ∙ ap (λ (l : List Taken). a.one ++ l) b.course_is ∙ sym (append_assoc a.one b.one b.two);
-        knows = did_both (request.Insert 0 name ∷ []) (request.Ack 0 ∷ rate_requests disk.rate 0) old a.mid b.mid a.one b.one a.knows.did b.knows;
-        left = b.left;
-      }
+      let b = carries_passed (request.Ack 0) (λ none. sets_rate 0 disk.rate (rest (shape_of disk))) a.mid a.two new ended whole (no_ack a.mid a.two is) left in
+      let c = sets_rate_passed 0 disk.rate (rest (shape_of disk)) b.mid b.two new ended whole (no_rate a.mid b.mid b.one b.two is b.knows) b.left in
+      let ready = joined_did (request.Ack 0 ∷ []) (rate_requests disk.rate 0) b c in
+      joined a ready (did_both (request.Insert 0 name ∷ []) (request.Ack 0 ∷ rate_requests disk.rate 0) old a.mid ready.mid a.one ready.one a.knows.did ready.knows)

@@ -1,18 +1,17 @@
 -- Parts of scripts on the tracks and the keys of a disk.
-use Rattle.std.proofs.Common.{◌≡◌, ◌∙◌, ℕ, List, [], ◌∷◌, refl, sym, subst}
-use Rattle.std.specs.List.{flat_map, range_with_len}
+use Rattle.std.proofs.Common.{◌≡◌, ℕ, List, [], ◌∷◌, refl, sym, subst}
+use Rattle.std.specs.List.{flat_map}
 use Rattle.std.proofs.lemmas.List.Concat.{flat_map_single}
 use Rattle.flop_base.specs.declared.key.Chrn.{Chrn}
-use Rattle.flop_base.specs.declared.answers.Status.{Status}
 use Rattle.flop_base.specs.declared.answers.Status.TheVariants as status
 use Rattle.floppy_requests.specs.declared.request.Request.{Request}
 use Rattle.floppy_requests.specs.declared.request.Request.TheVariants as request
-use Rattle.sector_map.specs.Standard.{key_of, track_keys, cylinder_keys}
+use Rattle.sector_map.specs.Standard.{key_of, track_keys}
 use Rattle.sector_model.specs.Runs.{Taken}
 use Rattle.sector_model.specs.Plays.{World}
 use Rattle.scripts.specs.Scripts.{Script}
-use Rattle.scripts.specs.Parts.{Part, carries, through, each, by_track, formats}
-use Rattle.scripts.proofs.Passed.{Known, Passes, Does, Did, Over, known, same_part, carries_passes, through_does, each_named, each_nested}
+use Rattle.scripts.specs.Parts.{Part, through, each, by_track, formats}
+use Rattle.scripts.proofs.Passed.{Passes, Does, Did, same_part, carries_passes, through_does, each_named, each_nested}
 use Rattle.disk_laws.specs.Requests.{Track, heads_of, tracks_of, format_each}
 use Rattle.disk_laws.specs.Done.{DoesAll}
 

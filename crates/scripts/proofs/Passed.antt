@@ -46,6 +46,26 @@ Passes {Found = Found} ended part Knows =
     (rest : Found → Script) (old : World) (course : List Taken) (new : World)
     → RunsScript (part rest) old course new ended → Passed Knows rest old course new ended
 
+-- two parts that were gone through, one behind the other, are one
+abbrev pub joined : {First Found : Type 0} {Before : Known First} {Behind Knows : Known Found} {next : First → Script} {rest : Found → Script}
+    {old : World} {course : List Taken} {new : World} {ended : Status}
+    → (a : Passed Before next old course new ended) (b : Passed Behind rest a.mid a.two new ended) → Knows old (a.one ++ b.one) b.found b.mid → Passed Knows rest old course new ended
+joined a b knows = record {
+  one = a.one ++ b.one;
+  two = b.two;
+  found = b.found;
+  mid = b.mid;
+  course_is = a.course_is ∙ ap (λ (l : List Taken). a.one ++ l) b.course_is ∙ sym (append_assoc a.one b.one b.two);
+  knows = knows;
+  left = b.left;
+}
+
+-- nothing is done before what follows
+pub at_once : {Found : Type 0} {Knows : Known Found} {rest : Found → Script} {old : World} {course : List Taken} {new : World} {ended : Status} (found : Found)
+    → RunsScript (rest found) old course new ended → Knows old [] found old → Passed Knows rest old course new ended
+at_once {old = old} {course = course} found runs knows =
+    record { one = []; two = course; found = found; mid = old; course_is = refl; knows = knows; left = runs }
+
 -- so it was, where more is known than is asked
 passed_known : {Found : Type 0} (Knows Wanted : Known Found)
     → ((old : World) (course : List Taken) (found : Found) (mid : World) → Knows old course found mid → Wanted old course found mid)
@@ -223,24 +243,22 @@ pub both_pass : {First Found : Type 0} (ended : Status) (part : Part First) (nex
 both_pass ended part next Before Behind passes then rest old course new runs =
     let a = passes (λ first. next first rest) old course new runs in
     let b = then a.found rest a.mid a.two new a.left in
-    record {
-      one = a.one ++ b.one;
-      two = b.two;
-      found = b.found;
-      mid = b.mid;
-      course_is = a.course_is ∙ ap (λ (l : List Taken). a.one ++ l) b.course_is ∙ sym (append_assoc a.one b.one b.two);
-      knows = record { one = a.one; two = b.one; first = a.found; mid = a.mid; course_is = refl; before = a.knows; behind = b.knows };
-      left = b.left;
-    }
+    joined a b
+    (record { one = a.one; two = b.one; first = a.found; mid = a.mid; course_is = refl; before = a.knows; behind = b.knows })
+
+-- two parts that asked requests
+abbrev pub joined_did : {First Found : Type 0} (first second : List Request) {next : First → Script} {rest : Found → Script}
+    {old : World} {course : List Taken} {new : World} {ended : Status}
+    → (a : Passed (Does first) next old course new ended) → Passed (Does second) rest a.mid a.two new ended → Passed (Does (first ++ second)) rest old course new ended
+joined_did first second {old = old} a b = joined a b (did_both first second old a.mid b.mid a.one b.one a.knows b.knows)
 
 -- where each asks requests, both do
 pub does_both : {Found : Type 0} (ended : Status) (part : Part (Unit {0})) (next : Part Found) (first second : List Request)
     → Passes ended part (Does first) → Passes ended next (Does second)
     → Passes ended (λ (rest : Found → Script). part (λ none. next rest)) (Does (first ++ second))
-does_both {Found} ended part next first second passes then =
-    known ended (λ (rest : Found → Script). part (λ none. next rest)) (Then (Does first) (λ none. Does second)) (Does (first ++ second))
-    (λ old course found mid both. subst (λ (c : List Taken). Did (first ++ second) old c mid) (sym both.course_is) (did_both first second old both.mid mid both.one both.two both.before both.behind))
-    (both_pass ended part (λ none. next) (Does first) (λ none. Does second) passes (λ none. then))
+does_both ended part next first second passes then rest old course new runs =
+    let a = passes (λ none. next rest) old course new runs in
+    joined_did first second a (then rest a.mid a.two new a.left)
 
 -- ---- A part for each thing of a list.
 
@@ -252,27 +270,12 @@ pub through_passes : {Thing Found : Type 0} (ended : Status) (part : Thing → F
     → ((thing : Thing) (found : Found) → Passes ended (part thing found) (One thing found))
     → (things : List Thing) (found : Found) → Passes ended (through part things found) (All things found)
 unfolding through
-through_passes ended part One All none more passes [] found rest old course new runs = record {
-  one = [];
-  two = course;
-  found = found;
-  mid = old;
-  course_is = refl;
-  knows = none found old;
-  left = runs;
-}
-through_passes ended part One All none more passes (thing ∷ things) found rest old course new runs =
-    let a = passes thing found (λ now. through part things now rest) old course new runs in
+through_passes {Found = Found} ended part One All none more passes [] found rest old course new runs = at_once found runs (none found old)
+through_passes {Found = Found} ended part One All none more passes (thing ∷ things) found rest old course new runs =
+    let next = λ (now : Found). through part things now rest in
+    let a = passes thing found next old course new runs in
     let b = through_passes ended part One All none more passes things a.found rest a.mid a.two new a.left in
-    record {
-      one = a.one ++ b.one;
-      two = b.two;
-      found = b.found;
-      mid = b.mid;
-      course_is = a.course_is ∙ ap (λ (l : List Taken). a.one ++ l) b.course_is ∙ sym (append_assoc a.one b.one b.two);
-      knows = more thing things found a.found b.found old a.mid b.mid a.one b.one a.knows b.knows;
-      left = b.left;
-    }
+    joined a b (more thing things found a.found b.found old a.mid b.mid a.one b.one a.knows b.knows)
 
 -- where each asks requests, all do
 pub through_does : {Thing : Type 0} (ended : Status) (part : Thing → Unit {0} → Part (Unit {0})) (requests : Thing → List Request)
@@ -297,27 +300,12 @@ pub numbers_pass : {Found : Type 0} (ended : Status) (part : ℕ → Found → P
     → ((i : ℕ) (found : Found) → Passes ended (part i found) (One i found))
     → (count start : ℕ) (found : Found) → Passes ended (each start count part found) (All start count found)
 unfolding each through
-numbers_pass ended part One All none more passes zero start found rest old course new runs = record {
-  one = [];
-  two = course;
-  found = found;
-  mid = old;
-  course_is = refl;
-  knows = none start found old;
-  left = runs;
-}
-numbers_pass ended part One All none more passes (suc n) start found rest old course new runs =
-    let a = passes start found (λ now. each (start + 1) n part now rest) old course new runs in
+numbers_pass {Found = Found} ended part One All none more passes zero start found rest old course new runs = at_once found runs (none start found old)
+numbers_pass {Found = Found} ended part One All none more passes (suc n) start found rest old course new runs =
+    let next = λ (now : Found). each (start + 1) n part now rest in
+    let a = passes start found next old course new runs in
     let b = numbers_pass ended part One All none more passes n (start + 1) a.found rest a.mid a.two new a.left in
-    record {
-      one = a.one ++ b.one;
-      two = b.two;
-      found = b.found;
-      mid = b.mid;
-      course_is = a.course_is ∙ ap (λ (l : List Taken). a.one ++ l) b.course_is ∙ sym (append_assoc a.one b.one b.two);
-      knows = more start n found a.found b.found old a.mid b.mid a.one b.one a.knows b.knows;
-      left = b.left;
-    }
+    joined a b (more start n found a.found b.found old a.mid b.mid a.one b.one a.knows b.knows)
 
 pub each_does : (ended : Status) (start count : ℕ) (part : ℕ → Unit {0} → Part (Unit {0})) (requests : ℕ → List Request)
     → ((i : ℕ) → Passes ended (part i tt) (Does (requests i))) → Passes ended (each start count part tt) (Does (flat_map requests (range_with_len start count)))
@@ -379,15 +367,7 @@ pub sets_rate_passed : (bay : ℕ) (rate : Rate) (rest : Unit {0} → Script) (o
     → IsWhole ended → (IsRefused (request.SetRate bay R250) old course new ended → ⊥) → RunsScript (sets_rate bay rate rest) old course new ended
     → Passed (Does (rate_requests rate bay)) rest old course new ended
 unfolding sets_rate
-sets_rate_passed bay R500 rest old course new ended whole fine runs = record {
-  one = [];
-  two = course;
-  found = tt;
-  mid = old;
-  course_is = refl;
-  knows = did_nothing old;
-  left = runs;
-}
+sets_rate_passed bay R500 rest old course new ended whole fine runs = at_once tt runs (did_nothing old)
 sets_rate_passed bay R250 rest old course new ended whole fine runs = carries_passed (request.SetRate bay R250) rest old course new ended whole fine runs
 
 pub sets_rate_passes : (bay : ℕ) (rate : Rate) → Passes status.AllOk (sets_rate bay rate) (Does (rate_requests rate bay))
@@ -462,15 +442,7 @@ says_passes ended whole line rest old course new (inr cut) = absurd (whole.put c
 -- memory that was there
 pub starve_passes : (ended : Status) → IsWhole ended → Passes ended may_starve (Does [])
 unfolding may_starve
-starve_passes ended whole rest old course new (inl runs) = record {
-  one = [];
-  two = course;
-  found = tt;
-  mid = old;
-  course_is = refl;
-  knows = did_nothing old;
-  left = runs;
-}
+starve_passes ended whole rest old course new (inl runs) = at_once tt runs (did_nothing old)
 starve_passes ended whole rest old course new (inr none) = absurd (whole.put (subst IsPutFault (sym none.2) tt))
 
 -- ---- The end.
