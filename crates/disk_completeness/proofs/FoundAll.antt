@@ -1,17 +1,17 @@
 -- A regular disk that has each of its standard keys: none of them fails, and none can be mistaken.
-use Rattle.std.proofs.Common.{arith, ◌≡◌, ◌+◌, ◌<◌, ◌≤◌, ℕ, Bool, zero, suc, List, [], ◌∷◌, ◌++◌, map, refl, ap, sym}
-use Rattle.std.specs.List.{flat_map, range_with_len}
-use Rattle.flop_base.specs.Standard.{sectors_at, standard_code}
+use Rattle.std.proofs.Common.{arith, ◌≡◌, ℕ, Bool, suc, List, [], ◌∷◌, refl, ap, sym}
+use Rattle.std.specs.Prelude.{All}
+use Rattle.flop_base.specs.Standard.{standard_code}
 use Rattle.flop_base.specs.declared.answers.Rate.{Rate}
 use Rattle.flop_base.specs.declared.key.Chrn.{Chrn}
 use Rattle.raw_image.specs.Disk.{Disk}
-use Rattle.track_model.specs.declared.Look.{Look}
 use Rattle.track_model.specs.declared.Look.TheVariants.{Found}
 use Rattle.sector_map.specs.Disks.{LookOn}
 use Rattle.sector_map.specs.Failing.{AreFailing}
-use Rattle.sector_map.specs.Standard.{key_of, track_keys, cylinder_keys, standard_keys}
+use Rattle.sector_map.specs.Standard.{key_of, standard_keys}
 use Rattle.disk_laws.specs.Formatted.{IsFormattedDisk, formatted_entry}
 use Rattle.disk_laws.specs.Verified.{IsStandardKey, IsUnmistaken}
+use Rattle.disk_laws.proofs.Verified.{standard_all}
 use Rattle.disk_laws.proofs.Sectors.{formatted_regular, formatted_sector}
 use Rattle.disk_completeness.specs.Complete.{IsReadable}
 use Rattle.disk_completeness.proofs.ReadDone.{has_data}
@@ -50,29 +50,12 @@ module _ (disk : Disk) (readable : IsReadable disk) where
         },
       )
 
-  -- no key of a row fails
-  none_both : (one two : List Chrn) → AreFailing disk one [] → AreFailing disk two [] → AreFailing disk (one ++ two) []
-  none_both [] two first second = second
-  none_both (key ∷ one) two (look, [], on, is, rest) second = (look, [], on, is, none_both one two rest second)
-  none_both (key ∷ one) two (look, failed ∷ more, on, is, rest) second = absurd (go _ failed more is)
-    where
-      go : (front : List (Chrn × Look)) (one : Chrn × Look) (later : List (Chrn × Look)) → [] ≡ front ++ one ∷ later → ⊥
-      go [] one later same = cc same
-      go (x ∷ front) one later same = cc same
+  none_of : (keys : List Chrn) → All (IsStandardKey disk) keys → AreFailing disk keys []
+  none_of [] all = refl
+  none_of (key ∷ keys) all =
+      let here = looks key (all 0 key (omega arith)) in
+      (Found here.1 here.0, [], here.2, refl, none_of keys (λ k d below. all (suc k) d (omega (arith, below))))
 
-  none_each : (f : ℕ → List Chrn) (a n : ℕ) → ((k : ℕ) → a ≤ k → k < a + n → AreFailing disk (f k) []) → AreFailing disk (flat_map f (range_with_len a n)) []
-  none_each f a zero each = refl
-  none_each f a (suc n) each = none_both (f a) (flat_map f (range_with_len (a + 1) n)) (each a (omega arith) (omega arith)) (none_each f (a + 1) n (λ k least most. each k (omega arith) (omega arith)))
-
-  none_keys : (c h a n : ℕ) → ((r : ℕ) → a ≤ r → r < a + n → IsStandardKey disk (key_of c h r)) → AreFailing disk (map (key_of c h) (range_with_len a n)) []
-  none_keys c h a zero each = refl
-  none_keys c h a (suc n) each =
-      let here = looks (key_of c h a) (each a (omega arith) (omega arith)) in
-      (Found here.1 here.0, [], here.2, refl, none_keys c h (a + 1) n (λ r least most. each r (omega arith) (omega arith)))
-
+  -- none of its standard keys fails
   pub none_failing : AreFailing disk (standard_keys disk) []
-  unfolding standard_keys cylinder_keys track_keys
-  none_failing =
-      none_each (cylinder_keys (sectors_at disk.rate) disk.heads) 0 disk.cylinders (λ c least cylinder.
-      none_each (track_keys (sectors_at disk.rate) c) 0 disk.heads (λ h from head.
-      none_keys c h 1 (sectors_at disk.rate) (λ r first most. record { track = (omega arith, omega arith); sector = (first, omega arith); size = refl })))
+  none_failing = none_of (standard_keys disk) (standard_all disk)

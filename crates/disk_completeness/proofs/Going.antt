@@ -19,7 +19,7 @@ use Rattle.sector_model.specs.Plays.{World, Prints, IsPutFault}
 use Rattle.sector_model.specs.Plays as plays
 use Rattle.sector_model.specs.Ties.{entered_by, AreUndisturbed}
 use Rattle.scripts.specs.Scripts.{Script, Ends, Says, Asks, Stores, MayStarve, RunsScript, IsStored, NotStored, StoresLast, unless_refused, IsStoreFault}
-use Rattle.scripts.specs.Parts.{Part, asks, needs, carries, through, each}
+use Rattle.scripts.specs.Parts.{Part, asks, needs, carries, through, each, by_track}
 use Rattle.scripts.specs.Leading.{with_report}
 use Rattle.disk_laws.proofs.Steps.{keeps_drives, step_never_fell}
 use Rattle.disk_completeness.specs.Complete.{BeginsSound, EndsWellOrOutside}
@@ -150,6 +150,13 @@ goes_each P part a zero found old keeps holds = λ rest behind. behind found old
 goes_each P part a (suc n) found old keeps holds = λ rest behind.
     keeps a (omega arith) (omega arith) found old holds (λ now. each (a + 1) n part now rest)
     (λ now mid there. goes_each P part (a + 1) n now mid (λ i least below. keeps i (omega arith) (omega arith)) there rest behind)
+
+-- so each track, by cylinder, then head
+pub goes_tracks : {Found : Type 0} (P : Found → Stage → Type 0) (cylinders heads : ℕ) (part : ℕ → ℕ → Found → Part Found) (found : Found) (old : Stage)
+    → ((c h : ℕ) → c < cylinders → h < heads → (now : Found) (mid : Stage) → P now mid → PartGoes P (part c h now) mid) → P found old → PartGoes P (by_track cylinders heads part found) old
+goes_tracks P cylinders heads part found old keeps holds =
+    goes_each P (λ c. each 0 heads (part c)) 0 cylinders found old (λ c least most now mid here.
+    goes_each P (part c) 0 heads now mid (λ h from below so end there. keeps c h (omega (arith, most)) (omega (arith, below)) so end there) here) holds
 
 -- ---- The outside.
 

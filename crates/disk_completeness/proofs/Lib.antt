@@ -1,12 +1,7 @@
-pub mod ScriptAccesses
-pub mod Asking
 pub mod Bays
 pub mod CommandEnds
-pub mod CopyGoes
-pub mod FormatGoes
 pub mod FoundAll
 pub mod Going
 pub mod Making
-pub mod PutIn
 pub mod ReadDone
-pub mod VerifyGoes
+pub mod ScriptAccesses

@@ -1,9 +1,9 @@
 -- A disk that is made in a bay: its tracks are formatted, and their records written.
-use Rattle.std.proofs.Common.{arith, ◌≡◌, ◌≢◌, ◌∙◌, ◌<◌, ◌≤◌, ℕ, Bool, true, false, List, refl, sym, ap, subst, inl, inr, Option, Some, None, Result, Ok, Err, IsOk}
+use Rattle.std.proofs.Common.{arith, ◌≡◌, ◌≢◌, ◌∙◌, ◌<◌, ◌≤◌, ℕ, Bool, true, false, List, refl, sym, ap, subst, inl, inr, Option, Some, None, Result, Ok, Err, IsOk, nat_le, le-leb, lit≤}
 use Rattle.std.specs.Prelude.{not, is_some, IfErr, if◌then◌else◌}
 use Rattle.std.proofs.lemmas.Bool.{cases_eq}
 use Rattle.flop_base.specs.Shelf.{Files}
-use Rattle.flop_base.specs.Standard.{sectors_at, standard_code}
+use Rattle.flop_base.specs.Standard.{sectors_at, standard_code, words_at, gap_at, standard_fill}
 use Rattle.flop_base.specs.declared.key.Chrn.{Chrn}
 use Rattle.flop_base.specs.declared.answers.Code.{Code}
 use Rattle.flop_base.specs.declared.answers.Code.TheVariants.{BadRequest, Page, Changed, Protected}
@@ -21,28 +21,40 @@ use Rattle.sector_map.proofs.KeptTracks.{with_track_keeps, alike_both, alike_its
 use Rattle.sector_map.proofs.MetTracks.{met_track}
 use Rattle.sector_model.specs.declared.reply.Reply.{Reply}
 use Rattle.sector_model.specs.Stations.{StationState, Bay, bay_of, met}
-use Rattle.sector_model.specs.Orders.{is_bay, is_sector_request, crosses_page, is_acknowledged, is_protected, write_refusal}
+use Rattle.sector_model.specs.Orders.{is_bay, is_sector_request, crosses_page, is_acknowledged, is_protected, write_refusal, is_format_request, most_format_gap, format_refusal}
 use Rattle.sector_model.specs.Writes.{WritesDrive, WritesTo, IsWriteCause, ChangesAlone, written_from}
 use Rattle.sector_model.specs.States.{State}
 use Rattle.sector_model.specs.Steps.{Step, IsDriverCall, reply_of, blank_of}
 use Rattle.sector_model.specs.Texts.{is_refusal}
 use Rattle.scripts.specs.Records.{record_address}
 use Rattle.disk_laws.specs.Copied.{copied_entry}
-use Rattle.disk_laws.specs.Formatted.{standard_content}
+use Rattle.disk_laws.specs.Formatted.{standard_content, standard_track}
 use Rattle.disk_laws.proofs.BlankDisk.{blank_regular}
 use Rattle.disk_laws.proofs.Prepared.{in_with}
 use Rattle.disk_laws.proofs.Reading.{reaches}
 use Rattle.disk_laws.proofs.Sectors.{few_sectors, track_regular, track_sector, HasContent}
 use Rattle.disk_laws.proofs.Written.{HasSome}
+use Rattle.std.specs.Option.{option_map_or}
+use Rattle.flop_base.specs.declared.answers.Rate.TheVariants.{R500, R250}
+use Rattle.sector_map.specs.Layings.{format_keys, IsFormattable, formatted}
+use Rattle.sector_map.specs.LaidDisks.{format_at}
+use Rattle.sector_map.specs.KeptDisks.{AreAlike}
+use Rattle.sector_map.proofs.Laid.{format_fits}
+use Rattle.track_model.specs.Layouts.{Fits, laid_words}
+use Rattle.sector_model.specs.Formats.{FormatsDrive}
+use Rattle.disk_laws.proofs.Formatting.{drive_formats}
 use Rattle.disk_completeness.proofs.Going.{Stage, IsSafe, IsDone, calm_in}
-use Rattle.disk_completeness.proofs.Bays.{HoldsBlank, IsReadyFor, ChangesBay, ok_taken, protected_by, format_taken}
-use Rattle.disk_completeness.proofs.Asking.{AreApart, safe, other_stays}
+use Rattle.disk_completeness.proofs.Bays.{AreApart, IsReadyFor, both_true, safe, ok_taken, other_stays}
 use Rattle.disk_completeness.proofs.ReadDone.{sector_asked, within_page, disturbed_less}
 
--- a bay is ready with a regular disk of a rate and so many cylinders, of which this holds
+-- a bay has a disk of a rate and so many cylinders, of which this holds: it is regular, and protected and laid out as a blank one; the bay is
+-- acknowledged, at that rate
 pub record IsMaking (bay : ℕ) (rate : Rate) (count : ℕ) (Also : Disk → Type 0) (station : StationState) : Type 0 where
   pub disk : Disk
-  pub holds : HoldsBlank bay rate count disk station
+  pub medium : (bay_of station bay).medium ≡ Some disk
+  pub alike : AreAlike (blank_of count rate) disk
+  pub bay_rate : (bay_of station bay).rate ≡ rate
+  pub kept : is_acknowledged station bay ≡ true
   pub regular : IsRegularDisk disk
   pub also : Also disk
 
@@ -55,69 +67,122 @@ abbrev pub HasRecords : ℕ → ℕ → ℕ → Disk → Type 0
 HasRecords sectors c h disk = (r : ℕ) → 1 ≤ r → r ≤ sectors → HasSome disk c h r
 
 module _ (bay : ℕ) (rate : Rate) (count : ℕ) where
-  pub any_made : (Also : Disk → Type 0) (station : StationState) → IsMaking bay rate count Also station → IsMaking bay rate count AnyDisk station
-  any_made Also station made = record { disk = made.disk; holds = made.holds; regular = made.regular; also = tt }
-
   -- a blank disk, once its bay is ready
   pub blank_made : (station : StationState) → IsDisk (blank_of count rate) → IsReadyFor bay (blank_of count rate) station → IsMaking bay rate count AnyDisk station
   blank_made station valid ready = record {
     disk = blank_of count rate;
-    holds = record {
-      medium = ready.medium;
-      alike = alike_itself (blank_of count rate) valid;
-      bay_rate = ready.bay_rate;
-      kept = ready.kept;
-    };
+    medium = ready.medium;
+    alike = alike_itself (blank_of count rate) valid;
+    bay_rate = ready.bay_rate;
+    kept = ready.kept;
     regular = blank_regular count rate;
     also = tt;
   }
 
-  -- so it is where the bay stays
-  pub made_still : (Also : Disk → Type 0) (old new : StationState) → bay_of new bay ≡ bay_of old bay → IsMaking bay rate count Also old → IsMaking bay rate count Also new
-  made_still Also old new same made = record {
+  -- where less is wanted of the disk, and the bay stays
+  pub made_still : (Also Less : Disk → Type 0) (old new : StationState) → ((disk : Disk) → Also disk → Less disk) → bay_of new bay ≡ bay_of old bay → IsMaking bay rate count Also old → IsMaking bay rate count Less new
+  made_still Also Less old new less same made = record {
     disk = made.disk;
-    holds = record {
-      medium = ap (λ (b : Bay). b.medium) same ∙ made.holds.medium;
-      alike = made.holds.alike;
-      bay_rate = ap (λ (b : Bay). b.rate) same ∙ made.holds.bay_rate;
-      kept = ap (λ (b : Bay). is_some b.acknowledged) same ∙ made.holds.kept;
-    };
+    medium = ap (λ (b : Bay). b.medium) same ∙ made.medium;
+    alike = made.alike;
+    bay_rate = ap (λ (b : Bay). b.rate) same ∙ made.bay_rate;
+    kept = ap (λ (b : Bay). is_some b.acknowledged) same ∙ made.kept;
     regular = made.regular;
-    also = made.also;
+    also = less made.disk made.also;
   }
 
--- and the other bay is as it was
+  pub any_made : (Also : Disk → Type 0) (station : StationState) → IsMaking bay rate count Also station → IsMaking bay rate count AnyDisk station
+  any_made Also station made = made_still Also AnyDisk station station (λ disk also. tt) refl made
+
+-- the disk is so in one bay, and the other bay is as it was
 pub record MakesAlone (bay other : ℕ) (rate : Rate) (count : ℕ) (Also : Disk → Type 0) (old new : Stage) : Type 0 where
   pub made : IsMaking bay rate count Also new.state.station
   pub same : bay_of new.state.station other ≡ bay_of old.state.station other
 
 -- ---- A track is formatted.
 
-pub format_done : (bay other : ℕ) (rate : Rate) (count c h : ℕ) (Also : Disk → Type 0) (old : Stage) → is_bay bay ≡ true → AreApart bay other → c < count → h < 2
-    → IsMaking bay rate count Also old.state.station → IsDone (λ new. MakesAlone bay other rate count (HasRecords (sectors_at rate) c h) old new) (request.Format bay c h) old
-format_done bay other rate count c h Also old is_one apart cylinder head made = record {
-  safe = safe (request.Format bay c h) old refl (λ at name same. cc same);
-  answers = λ answer new step calm.
-      let quiet = calm_in bay (request.Format bay c h) answer old.state.station.counters new.state.station.counters is_one refl calm in
-      let taken = format_taken bay c h rate count made.disk old.state new.state old.files new.files answer is_one cylinder head made.holds quiet step in
-      let it = taken.1 in
-      let alike = it.holds.alike in
+-- the sectors of a rate fit on its tracks
+standard_fits : (rate : Rate) (c h words : ℕ) → words ≡ words_at rate → Fits (format_keys (format_at c h rate (gap_at rate) standard_fill)) standard_code (gap_at rate) words
+standard_fits rate c h words same = (format_fits (format_at c h rate (gap_at rate) standard_fill) words).1 (go rate words same)
+  where
+    go : (r : Rate) (w : ℕ) → w ≡ words_at r → laid_words (sectors_at r) standard_code (gap_at r) ≤ w
+    go R500 w is = subst (λ (n : ℕ). laid_words 18 2 0x6C ≤ n) (sym is) (lit≤ tt)
+    go R250 w is = subst (λ (n : ℕ). laid_words 9 2 0x50 ≤ n) (sym is) (lit≤ tt)
+
+gap_asked : (rate : Rate) → (nat_le 16 (gap_at rate) ≡ true) × (nat_le (gap_at rate) (most_format_gap rate) ≡ true)
+gap_asked R500 = (refl, refl)
+gap_asked R250 = (refl, refl)
+
+-- a medium that isn't protected
+pub protected_by : (medium : Option Disk) (disk : Disk) → medium ≡ Some disk → disk.protected ≡ false → option_map_or (λ (d : Disk). d.protected) medium false ≡ false
+protected_by medium disk is free = rw (is, free) refl
+
+format_order : (good acknowledged protected : Bool) → good ≡ true → acknowledged ≡ true → protected ≡ false → (if not good then Some BadRequest else (if not acknowledged then Some Changed else (if protected then Some Protected else None))) ≡ None
+format_order good acknowledged protected e f g = rw (e, f, g) refl
+
+module _ (bay other : ℕ) (rate : Rate) (count c h : ℕ) (is_one : is_bay bay ≡ true) (apart : AreApart bay other) (cylinder : c < count) (head : h < 2) (Also : Disk → Type 0) (old : Stage) (made : IsMaking bay rate count Also old.state.station) where
+  abbrev station : StationState
+  station = old.state.station
+
+  format_free : format_refusal station bay c h (gap_at (bay_of station bay).rate) ≡ None
+  format_free =
+      let gap = (bay_of station bay).rate in
+      let gaps = gap_asked gap in
+      let alike = made.alike in
+      let place_c : nat_le c 79 ≡ true = le-leb c 79 (omega (arith, cylinder, alike.cylinders, alike.valid.cylinders.1)) in
+      let place_h : nat_le h 1 ≡ true = le-leb h 1 (omega (arith, head)) in
+      let good = both_true _ _ (both_true _ _ (both_true _ _ is_one (both_true _ _ place_c place_h)) gaps.0) gaps.1 in
+      let free : is_protected station bay ≡ false = protected_by (bay_of station bay).medium made.disk made.medium alike.protected in
+      format_order (is_format_request station bay c h (gap_at gap)) (is_acknowledged station bay) (is_protected station bay) good made.kept free
+
+  formatted_done : (answer : Reply) (new : Stage) → Step (request.Format bay c h) old.state old.files answer new.state new.files → IsUndisturbed bay station.counters new.state.station.counters
+      → (is_refusal answer ≡ false) × MakesAlone bay other rate count (HasRecords (sectors_at rate) c h) old new
+  formatted_done answer new step calm =
+      let disk = made.disk in
+      let alike = made.alike in
+      let called = step.1.0 in
+      let stalls = step.0.counts.stalls in
       let small_c : c < 256 = omega (arith, cylinder, alike.cylinders, alike.valid.cylinders.1) in
       let small_h : h < 256 = omega (arith, head) in
-      let track : HasTrack it.next c h = (omega (arith, cylinder, alike.cylinders), omega (arith, head, alike.heads)) in
+      let format = format_at c h rate (gap_at rate) standard_fill in
+      let reached = reaches _ (format_refusal station bay c h (gap_at (bay_of station bay).rate)) format_free step.1.2 in
+      let drive = subst (λ (r : Rate). FormatsDrive (format_at c h r (gap_at r) standard_fill) bay station called new.state.station) made.bay_rate reached in
+      let track : HasTrack disk c h = (omega (arith, cylinder, alike.cylinders), omega (arith, head, alike.heads)) in
+      let formattable : IsFormattable format (bay_of station bay).medium = (disk, made.medium, record { track = track; rate = alike.rate; fits = standard_fits rate c h disk.words_per_track alike.words_per_track }) in
+      let ok : IsOk called = (drive.exactly calm).1 formattable in
+      let laid = drive_formats bay rate c h disk station new.state.station called drive ok (omega (arith, calm.together, stalls), calm.faults) made.medium alike.valid in
+      let next = laid.0 in
+      let keeps = laid.2 in
+      let is : track_of next c h ≡ standard_track rate c h = laid.3 ∙ ap (λ (n : ℕ). formatted format n) alike.words_per_track in
+      let after = alike_both (blank_of count rate) disk next alike keeps.alike in
+      let on_next : HasTrack next c h = (omega (arith, cylinder, after.cylinders), omega (arith, head, after.heads)) in
       let records = λ (r : ℕ) (least : 1 ≤ r) (most : r ≤ sectors_at rate).
       let there = track_sector rate c h r small_c small_h least most in
-      let on = subst (λ (t : List ℕ). HasContent t there.0 (key_of c h r) standard_content) (sym it.track) there.1 in
-      let some : HasSome it.next c h r = (there.0, false, standard_content, record { track = track; address = on.address; content = on.found }) in
+      let on = subst (λ (t : List ℕ). HasContent t there.0 (key_of c h r) standard_content) (sym is) there.1 in
+      let some : HasSome next c h r = (there.0, false, standard_content, record { track = on_next; address = on.address; content = on.found }) in
       some in
-      let laid = subst (λ (t : List ℕ). IsRegular t c h) (sym it.track) (track_regular rate c h small_c small_h) in (
-        taken.0,
+      let value : Bay = record (bay_of station bay) { medium = (bay_of new.state.station bay).medium } in
+      let at_bay = ap (λ (s : StationState). bay_of s bay) drive.becomes ∙ in_with station.bays bay value in (
+        ok_taken called answer step.1.1 ok,
         record {
-          made = record { disk = it.next; holds = it.holds; regular = stays_regular made.disk c h it.next it.keeps made.regular laid; also = records };
-          same = other_stays bay other old.state.station new.state.station apart it.change;
+          made = record {
+            disk = next;
+            medium = laid.1;
+            alike = after;
+            bay_rate = ap (λ (b : Bay). b.rate) at_bay ∙ made.bay_rate;
+            kept = ap (λ (b : Bay). is_some b.acknowledged) at_bay ∙ made.kept;
+            regular = stays_regular disk c h next keeps made.regular (subst (λ (t : List ℕ). IsRegular t c h) (sym is) (track_regular rate c h small_c small_h));
+            also = records;
+          };
+          same = other_stays bay other station new.state.station value apart drive.becomes;
         },
-      );
-}
+      )
+
+  pub format_done : IsDone (λ new. MakesAlone bay other rate count (HasRecords (sectors_at rate) c h) old new) (request.Format bay c h) old
+  format_done = record {
+    safe = safe (request.Format bay c h) old refl (λ at name same. cc same);
+    answers = λ answer new step calm. formatted_done answer new step (calm_in bay (request.Format bay c h) answer station.counters new.state.station.counters is_one refl calm);
+  }
 
 -- ---- A record is written.
 
@@ -140,85 +205,76 @@ write_order good crosses acknowledged protected e f g i = rw (e, f, g, i) refl
 other_key : (c h r s : ℕ) → (r ≡ s → ⊥) → key_of c h r ≢ key_of c h s
 other_key c h r s differ e = differ (ap (λ (k : Chrn). k.r) e)
 
-module _ (bay : ℕ) (rate : Rate) (count sectors c h r : ℕ) (deleted : Bool) (least : 1 ≤ r) (most : r ≤ sectors) (old new : StationState) (making : IsMaking bay rate count (HasRecords sectors c h) old) (track : HasTrack making.disk c h) (calm : IsUndisturbed bay old.counters new.counters) (stalls : old.counters.stalls ≤ new.counters.stalls) (called : Result (Unit {0}) Code) (drive : WritesDrive (written_from old (key_of c h r) (record_address r) deleted) bay old called new) where
+module _ (bay other : ℕ) (rate : Rate) (count c h r : ℕ) (deleted : Bool) (is_one : is_bay bay ≡ true) (apart : AreApart bay other) (cylinder : c < count) (head : h < 2) (least : 1 ≤ r) (most : r ≤ sectors_at rate) (old : Stage) (making : IsMaking bay rate count (HasRecords (sectors_at rate) c h) old.state.station) where
+  abbrev before : StationState
+  before = old.state.station
+
   abbrev written : Written
-  written = written_from old (key_of c h r) (record_address r) deleted
+  written = written_from before (key_of c h r) (record_address r) deleted
 
   abbrev place : ℕ
   place = (making.also r least most).0
 
-  met_is : met (bay_of old bay) c h ≡ track_of making.disk c h
-  met_is =
-      let holds = making.holds in
-      met_track (bay_of old bay).medium (bay_of old bay).rate c h making.disk (record { is_in = holds.medium; has = track; same_rate = holds.alike.rate ∙ sym holds.bay_rate })
+  track : HasTrack making.disk c h
+  track = (omega (arith, cylinder, making.alike.cylinders), omega (arith, head, making.alike.heads))
 
-  address : IsAddressAt (met (bay_of old bay) c h) place (key_of c h r)
+  met_is : met (bay_of before bay) c h ≡ track_of making.disk c h
+  met_is = met_track (bay_of before bay).medium (bay_of before bay).rate c h making.disk (record { is_in = making.medium; has = track; same_rate = making.alike.rate ∙ sym making.bay_rate })
+
+  address : IsAddressAt (met (bay_of before bay) c h) place (key_of c h r)
   address = subst (λ (t : List ℕ). IsAddressAt t place (key_of c h r)) (sym met_is) (making.also r least most).3.address
 
-  never : (code : Code) → IsWriteCause written (met (bay_of old bay) c h) (met (bay_of new bay) c h) drive.changes bay old code new → ⊥
-  never code cause =
-      let on = subst (λ (t : List ℕ). IsRegular t c h) (sym met_is) (making.regular c h track) in
-      cause.never on place address (inr calm) (disturbed_less old.tries bay old.counters new.counters calm)
-
-  ok : IsOk called
-  ok = go called drive.refused
-    where
-      go : (answer : Result (Unit {0}) Code) → IfErr answer (λ code. IsWriteCause written (met (bay_of old bay) c h) (met (bay_of new bay) c h) drive.changes bay old code new) → IsOk answer
-      go (Ok u) cause = refl
-      go (Err code) cause = absurd (never code cause)
-
-  alone : ChangesAlone written bay place making.disk old called new
-  alone = (drive.regular making.disk making.holds.medium making.regular).one place address (inr calm)
-
-  few_faults : FaultsRoseLess 2 bay old.counters new.counters
-  few_faults = (omega (arith, calm.together, stalls), calm.faults)
-
-  still : HasRecords sectors c h alone.after
-  still s from below = elim (cases_eq s r) [
-    | inl same ↦ subst (λ (k : ℕ). HasSome alone.after c h k) (sym same) (place, deleted, written.content, alone.entry ok (inl few_faults))
-    | inr other ↦
-        let had = making.also s from below in
-        (had.0, had.1, had.2, (alone.others (copied_entry c h s had.0 had.1 had.2) (other_key c h s r other)).0 had.3)
-  ]
-
-  writes : IsMaking bay rate count (HasRecords sectors c h) new × ChangesBay bay old new
-  writes =
-      let kept : Bay = record (bay_of old bay) { medium = (bay_of new bay).medium } in
-      let at_bay = ap (λ (s : StationState). bay_of s bay) drive.becomes ∙ in_with old.bays bay kept in
-      let holds = making.holds in (
-        record {
-          disk = alone.after;
-          holds = record {
-            medium = alone.medium;
-            alike = alike_both (blank_of count rate) making.disk alone.after holds.alike (with_track_keeps making.disk alone.after c h _ alone.cut).alike;
-            bay_rate = ap (λ (b : Bay). b.rate) at_bay ∙ holds.bay_rate;
-            kept = ap (λ (b : Bay). is_some b.acknowledged) at_bay ∙ holds.kept;
-          };
-          regular = alone.regular;
-          also = still;
-        },
-        record { value = kept; becomes = drive.becomes },
-      )
-
-module _ (bay other : ℕ) (rate : Rate) (count c h r : ℕ) (deleted : Bool) (is_one : is_bay bay ≡ true) (apart : AreApart bay other) (cylinder : c < count) (head : h < 2) (least : 1 ≤ r) (most : r ≤ sectors_at rate) (old : Stage) (making : IsMaking bay rate count (HasRecords (sectors_at rate) c h) old.state.station) where
-  taken : (answer : Reply) (new : Stage) → Calls bay (key_of c h r) (record_address r) deleted old.state old.files answer new.state new.files → IsUndisturbed bay old.state.station.counters new.state.station.counters
-      → (is_refusal answer ≡ false) × MakesAlone bay other rate count (HasRecords (sectors_at rate) c h) old new
-  taken answer new call calm =
-      let station = old.state.station in
-      let key = key_of c h r in
-      let at = record_address r in
+  write_free : write_refusal before bay (key_of c h r) (record_address r) ≡ None
+  write_free =
       let few : r ≤ 18 = omega (arith, most, few_sectors rate) in
-      let alike = making.holds.alike in
-      let track : HasTrack making.disk c h = (omega (arith, cylinder, alike.cylinders), omega (arith, head, alike.heads)) in
-      let good = sector_asked bay c h r r is_one (omega (arith, track.0, alike.valid.cylinders.1)) (omega (arith, head)) least least few in
-      let bare : is_protected station bay ≡ false = protected_by (bay_of station bay).medium making.disk making.holds.medium alike.protected in
-      let free = write_order (is_sector_request bay key at) (crosses_page at (content_size standard_code)) (is_acknowledged station bay) (is_protected station bay) good (within_page r least few) making.holds.kept bare in
-      let drive = reaches _ (write_refusal station bay key at) free call.1.2 in
-      let stalls = call.0.counts.stalls in
-      let made = writes bay rate count (sectors_at rate) c h r deleted least most station new.state.station making track calm stalls call.1.0 drive in (
-        ok_taken call.1.0 answer call.1.1 (ok bay rate count (sectors_at rate) c h r deleted least most station new.state.station making track calm stalls call.1.0 drive),
-        record { made = made.0; same = other_stays bay other station new.state.station apart made.1 },
-      )
+      let good = sector_asked bay c h r r is_one (omega (arith, track.0, making.alike.valid.cylinders.1)) (omega (arith, head)) least least few in
+      let bare : is_protected before bay ≡ false = protected_by (bay_of before bay).medium making.disk making.medium making.alike.protected in
+      write_order (is_sector_request bay (key_of c h r) (record_address r)) (crosses_page (record_address r) (content_size standard_code)) (is_acknowledged before bay) (is_protected before bay)
+      good (within_page r least few) making.kept bare
+
+  module _ (new : Stage) (calm : IsUndisturbed bay before.counters new.state.station.counters) (stalls : before.counters.stalls ≤ new.state.station.counters.stalls) (called : Result (Unit {0}) Code) (drive : WritesDrive written bay before called new.state.station) where
+    never : (code : Code) → IsWriteCause written (met (bay_of before bay) c h) (met (bay_of new.state.station bay) c h) drive.changes bay before code new.state.station → ⊥
+    never code cause =
+        let on = subst (λ (t : List ℕ). IsRegular t c h) (sym met_is) (making.regular c h track) in
+        cause.never on place address (inr calm) (disturbed_less before.tries bay before.counters new.state.station.counters calm)
+
+    ok : IsOk called
+    ok = go called drive.refused
+      where
+        go : (answer : Result (Unit {0}) Code) → IfErr answer (λ code. IsWriteCause written (met (bay_of before bay) c h) (met (bay_of new.state.station bay) c h) drive.changes bay before code new.state.station) → IsOk answer
+        go (Ok u) cause = refl
+        go (Err code) cause = absurd (never code cause)
+
+    alone : ChangesAlone written bay place making.disk before called new.state.station
+    alone = (drive.regular making.disk making.medium making.regular).one place address (inr calm)
+
+    few_faults : FaultsRoseLess 2 bay before.counters new.state.station.counters
+    few_faults = (omega (arith, calm.together, stalls), calm.faults)
+
+    still : HasRecords (sectors_at rate) c h alone.after
+    still s from below = elim (cases_eq s r) [
+      | inl same ↦ subst (λ (k : ℕ). HasSome alone.after c h k) (sym same) (place, deleted, written.content, alone.entry ok (inl few_faults))
+      | inr other ↦
+          let had = making.also s from below in
+          (had.0, had.1, had.2, (alone.others (copied_entry c h s had.0 had.1 had.2) (other_key c h s r other)).0 had.3)
+    ]
+
+    writes : MakesAlone bay other rate count (HasRecords (sectors_at rate) c h) old new
+    writes =
+        let value : Bay = record (bay_of before bay) { medium = (bay_of new.state.station bay).medium } in
+        let at_bay = ap (λ (s : StationState). bay_of s bay) drive.becomes ∙ in_with before.bays bay value in
+        record {
+          made = record {
+            disk = alone.after;
+            medium = alone.medium;
+            alike = alike_both (blank_of count rate) making.disk alone.after making.alike (with_track_keeps making.disk alone.after c h _ alone.cut).alike;
+            bay_rate = ap (λ (b : Bay). b.rate) at_bay ∙ making.bay_rate;
+            kept = ap (λ (b : Bay). is_some b.acknowledged) at_bay ∙ making.kept;
+            regular = alone.regular;
+            also = still;
+          };
+          same = other_stays bay other before new.state.station value apart drive.becomes;
+        }
 
   write_safe : (d : Bool) → IsSafe (write_to bay d (key_of c h r) (record_address r)) old
   write_safe true = safe (request.WriteDeleted bay (key_of c h r) (record_address r)) old refl (λ at name same. cc same)
@@ -228,6 +284,8 @@ module _ (bay other : ℕ) (rate : Rate) (count c h r : ℕ) (deleted : Bool) (i
   write_done = record {
     safe = write_safe deleted;
     answers = λ answer new step calm.
-        let quiet = calm_in bay (write_to bay deleted (key_of c h r) (record_address r)) answer old.state.station.counters new.state.station.counters is_one (write_safe deleted).keeps calm in
-        taken answer new (write_called bay (key_of c h r) (record_address r) deleted old.state new.state old.files new.files answer step) quiet;
+        let quiet = calm_in bay (write_to bay deleted (key_of c h r) (record_address r)) answer before.counters new.state.station.counters is_one (write_safe deleted).keeps calm in
+        let call = write_called bay (key_of c h r) (record_address r) deleted old.state new.state old.files new.files answer step in
+        let drive = reaches _ (write_refusal before bay (key_of c h r) (record_address r)) write_free call.1.2 in
+        (ok_taken call.1.0 answer call.1.1 (ok new quiet call.0.counts.stalls call.1.0 drive), writes new quiet call.0.counts.stalls call.1.0 drive);
   }

@@ -1,7 +1,6 @@
 -- A read of a standard key of a regular disk that has it is done where nothing disturbs it.
-use Rattle.std.proofs.Common.{arith, ◌≡◌, ◌∙◌, ◌+◌, ◌-◌, ◌≤◌, ℕ, nat_le, Bool, true, false, List, refl, sym, ap, subst, Option, Some, None, Result, Ok, Err, le-leb}
-use Rattle.std.specs.Prelude.{◌/◌, ◌==◌, not, is_some, if◌then◌else◌}
-use Rattle.flop_base.specs.Shelf.{Files}
+use Rattle.std.proofs.Common.{arith, ◌≡◌, ◌∙◌, ◌+◌, ◌-◌, ◌≤◌, ℕ, nat_le, Bool, true, false, List, refl, sym, ap, subst, Some, None, Result, Ok, Err, le-leb}
+use Rattle.std.specs.Prelude.{◌/◌, ◌==◌, not, if◌then◌else◌}
 use Rattle.flop_base.specs.Standard.{sectors_at, standard_code}
 use Rattle.flop_base.specs.declared.key.Chrn.{Chrn}
 use Rattle.flop_base.specs.declared.answers.Code.{Code}
@@ -19,19 +18,16 @@ use Rattle.sector_map.specs.Met.{HasClearAddress, AllFound}
 use Rattle.sector_map.specs.Standard.{key_of}
 use Rattle.sector_map.proofs.MetTracks.{met_track}
 use Rattle.sector_map.proofs.RegularTracks.{clear_address, key_cylinder, one_address}
-use Rattle.sector_model.specs.declared.reply.Reply.{Reply}
 use Rattle.sector_model.specs.Stations.{StationState, Bay, bay_of, met}
 use Rattle.sector_model.specs.Orders.{is_sector_request, crosses_page, is_acknowledged, read_refusal}
 use Rattle.sector_model.specs.Reads.{ReadsDrive, IsReadCause, spoilable}
-use Rattle.sector_model.specs.States.{State}
-use Rattle.sector_model.specs.Steps.{Step, read_reply}
+use Rattle.sector_model.specs.Steps.{read_reply}
 use Rattle.sector_model.specs.Texts.{is_refusal}
 use Rattle.scripts.specs.Records.{record_address}
 use Rattle.disk_laws.proofs.Reading.{reaches}
 use Rattle.disk_completeness.specs.Complete.{IsReadable}
 use Rattle.disk_completeness.proofs.Going.{Stage, IsDone}
-use Rattle.disk_completeness.proofs.Asking.{safe}
-use Rattle.disk_completeness.proofs.Bays.{IsReadyFor, both_true}
+use Rattle.disk_completeness.proofs.Bays.{IsReadyFor, both_true, ready_still, safe}
 
 -- ---- a record in memory
 
@@ -103,37 +99,27 @@ module _ (source : Disk) (readable : IsReadable source) (c h r : ℕ) (has : Has
   called_taken address (Ok false) drive = (refl, ap (λ (s : StationState). s.bays) drive.found.becomes)
   called_taken address (Err code) drive = absurd (never code drive.refused.cause)
 
-read_taken : (source : Disk) (c h r place : ℕ) (old new : State) (told after : Option Files) (answer : Reply) → IsReadable source → source.cylinders ≤ 80 → source.heads ≤ 2 → HasTrack source c h → 1 ≤ r → r ≤ sectors_at source.rate → 1 ≤ place → place ≤ 18 → IsReadyFor 0 source old.station → IsUndisturbed 0 old.station.counters new.station.counters → Step (request.Read 0 (key_of c h r) (record_address place)) old told answer new after → (is_refusal answer ≡ false) × (new.station.bays ≡ old.station.bays)
-read_taken source c h r place old new told after answer readable few_cylinders few_heads has least most from few ready calm step =
-    let key = key_of c h r in
-    let address = record_address place in
-    let good = sector_asked 0 c h r place refl (omega (arith, has.0, few_cylinders)) (omega (arith, has.1, few_heads)) least from few in
-    let free = read_order (is_sector_request 0 key address) (crosses_page address (content_size standard_code)) (is_acknowledged old.station 0) good (within_page place from few) ready.kept in
-    let drive = reaches _ (read_refusal old.station 0 key address) free step.1.2 in
-    let there = readable.sectors key (record { track = has; sector = (least, most); size = refl }) in
-    let field = has_data source key there.0 readable.regular there.1 there.2 in
-    let taken = called_taken source readable c h r has old.station new.station ready calm field address step.1.0 drive in
-    (ap is_refusal step.1.1 ∙ taken.0, taken.1)
-
--- ---- As a request of a script.
-
-pub ready_still : (bay : ℕ) (disk : Disk) (old new : StationState) → bay_of new bay ≡ bay_of old bay → IsReadyFor bay disk old → IsReadyFor bay disk new
-ready_still bay disk old new same ready = record {
-  medium = ap (λ (b : Bay). b.medium) same ∙ ready.medium;
-  bay_rate = ap (λ (b : Bay). b.rate) same ∙ ready.bay_rate;
-  kept = ap (λ (b : Bay). is_some b.acknowledged) same ∙ ready.kept;
-}
-
 -- bay 0 is ready as before, and so is bay 1
 pub record ReadsAlone (source : Disk) (old new : Stage) : Type 0 where
   pub ready : IsReadyFor 0 source new.state.station
   pub same : new.state.station.bays ≡ old.state.station.bays
 
+-- a read of a record, to the place of any in memory
 pub read_done : (source : Disk) (c h r place : ℕ) (old : Stage) → IsReadable source → source.cylinders ≤ 80 → source.heads ≤ 2 → HasTrack source c h → 1 ≤ r → r ≤ sectors_at source.rate → 1 ≤ place → place ≤ 18
     → IsReadyFor 0 source old.state.station → IsDone (λ new. ReadsAlone source old new) (request.Read 0 (key_of c h r) (record_address place)) old
 read_done source c h r place old readable few_cylinders few_heads has least most from few ready = record {
   safe = safe (request.Read 0 (key_of c h r) (record_address place)) old refl (λ bay name same. cc same);
   answers = λ answer new step calm.
-      let taken = read_taken source c h r place old.state new.state old.files new.files answer readable few_cylinders few_heads has least most from few ready calm.first step in
-      (taken.0, record { ready = ready_still 0 source old.state.station new.state.station (ap (λ (bays : Two Bay). in_bay bays 0) taken.1) ready; same = taken.1 });
+      let key = key_of c h r in
+      let address = record_address place in
+      let station = old.state.station in
+      let good = sector_asked 0 c h r place refl (omega (arith, has.0, few_cylinders)) (omega (arith, has.1, few_heads)) least from few in
+      let free = read_order (is_sector_request 0 key address) (crosses_page address (content_size standard_code)) (is_acknowledged station 0) good (within_page place from few) ready.kept in
+      let drive = reaches _ (read_refusal station 0 key address) free step.1.2 in
+      let there = readable.sectors key (record { track = has; sector = (least, most); size = refl }) in
+      let field = has_data source key there.0 readable.regular there.1 there.2 in
+      let taken = called_taken source readable c h r has station new.state.station ready calm.first field address step.1.0 drive in (
+        ap is_refusal step.1.1 ∙ taken.0,
+        record { ready = ready_still 0 source station new.state.station (ap (λ (bays : Two Bay). in_bay bays 0) taken.1) ready; same = taken.1 },
+      );
 }

@@ -13,17 +13,15 @@ use Rattle.sector_model.specs.Steps.{is_loaded, IsImageOf}
 use Rattle.sector_model.specs.Runs.{Taken}
 use Rattle.sector_model.specs.Plays.{World}
 use Rattle.scripts.specs.Scripts.{RunsScript}
-use Rattle.scripts.specs.Parts.{may_starve, each, by_track}
+use Rattle.scripts.specs.Parts.{may_starve}
 use Rattle.scripts.specs.Leading.{Runs}
 use Rattle.scripts.specs.Records.{record_address}
 use Rattle.flat_commands.specs.Export.{reads_record, reads_track, export_script}
 use Rattle.disk_laws.proofs.Verified.{one_image}
 use Rattle.disk_completeness.specs.Complete.{BeginsSound, EndsWellOrOutside}
-use Rattle.disk_completeness.proofs.Asking.{fresh_empty, acknowledges_goes}
-use Rattle.disk_completeness.proofs.Bays.{IsReadyFor}
+use Rattle.disk_completeness.proofs.Bays.{IsReadyFor, fresh_empty, acknowledges_goes, opens_goes}
 use Rattle.disk_completeness.proofs.CommandEnds.{fresh_memory}
-use Rattle.disk_completeness.proofs.Going.{Stage, at, GoesWell, PartGoes, goes_needs, goes_each, completes}
-use Rattle.disk_completeness.proofs.PutIn.{opens_goes}
+use Rattle.disk_completeness.proofs.Going.{Stage, at, GoesWell, PartGoes, goes_needs, goes_each, goes_tracks, completes}
 use Rattle.disk_completeness.proofs.ReadDone.{ReadsAlone, read_done}
 use Rattle.flat_laws.specs.Complete.{IsWholeDisk}
 use Rattle.flat_laws.specs.Exported.{StoresExported, StoresFlatOf}
@@ -46,21 +44,15 @@ module _ (disk : Disk) (is : IsWholeDisk disk) where
       (read_done disk c h r r old is.readable (omega (arith, count)) (omega (arith, heads)) track least most least (omega (arith, most, few)) ready)
       (λ answer new alone. behind (bytes ++ bytes_from new.state.station.memory (record_address r) 512) new alone.ready)
 
-  reads_go : (old : Stage) → IsReady [] old → PartGoes IsReady (by_track 80 2 (reads_track (sectors_at disk.rate)) []) old
-  unfolding reads_track
-  reads_go old ready =
-      let sectors = sectors_at disk.rate in
-      goes_each IsReady (λ c. each 0 2 (reads_track sectors c)) 0 80 [] old (λ c least cylinder bytes one here.
-      goes_each IsReady (reads_track sectors c) 0 2 bytes one (λ h from head row two there.
-      goes_each IsReady (reads_record c h) 1 sectors row two (λ r first below now three is_there.
-      record_goes c h r now three (omega (arith, cylinder)) (omega (arith, head)) first (omega (arith, below)) is_there) there) here) ready
-
 export_goes : (name flat : List ℕ) (files : Files) (disk : Disk) (old : State) → IsWholeDisk disk → IsImageOf (Some files) name disk → is_loaded old 0 ≡ false → is_loaded old 1 ≡ false
     → GoesWell (export_script name flat) (at old (Some files))
+unfolding reads_track
 export_goes name flat files disk old whole image empty other =
     opens_goes name files disk _ old image empty other (λ one put.
-    acknowledges_goes 0 1 disk _ one refl (λ station value. refl) put.medium (λ two alone.
-    reads_go disk whole two alone.ready _ (λ bytes three ready. refl)))
+    acknowledges_goes 0 1 disk refl (λ station value. refl) _ one put.medium (λ two alone.
+    goes_tracks (IsReady disk whole) 80 2 (reads_track (sectors_at disk.rate)) [] two (λ c h cylinder head bytes mid there.
+    goes_each (IsReady disk whole) (reads_record c h) 1 (sectors_at disk.rate) bytes mid (λ r least below now three ready.
+    record_goes disk whole c h r now three cylinder head least (omega (arith, below)) ready) there) alone.ready _ (λ bytes three ready. refl)))
 
 -- the flat file of what the reads gave is that of the disk
 same_flat : (disk : Disk) (files : Files) (name flat : List ℕ) (old new : Counters) (course : List Taken) (after : Option Files) → IsWholeDisk disk → IsImageOf (Some files) name disk → IsFaultless 0 old new

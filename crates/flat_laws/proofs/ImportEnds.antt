@@ -1,6 +1,6 @@
 -- The command that imports ends well, or the outside failed.
 use Rattle.std.proofs.Common.{arith, ◌≡◌, ◌∙◌, ◌+◌, ◌<◌, ◌≤◌, ℕ, true, false, List, length, refl, sym, ap, subst, Option, Some, None, Result, Ok, Err, le-leb}
-use Rattle.std.specs.Prelude.{IsSomeAnd, nat_le, slice_index}
+use Rattle.std.specs.Prelude.{nat_le, slice_index}
 use Rattle.flop_base.specs.Shelf.{Files, file_at}
 use Rattle.flop_base.specs.Standard.{sectors_at}
 use Rattle.flop_base.specs.declared.answers.Rate.{Rate}
@@ -21,18 +21,17 @@ use Rattle.sector_model.specs.Plays.{World}
 use Rattle.sector_model.specs.Ties.{AreUndisturbed}
 use Rattle.floppy_session.specs.Blanks.{blank_request}
 use Rattle.scripts.specs.Scripts.{RunsScript}
-use Rattle.scripts.specs.Parts.{each, by_track}
 use Rattle.scripts.specs.Leading.{Runs}
 use Rattle.scripts.specs.Records.{record_address}
 use Rattle.scripts.proofs.Reading.{last_run}
-use Rattle.flat_commands.specs.FlatFiles.{IsFlatFile, IsFlatFound, IsNotTaken, most_flat_bytes}
+use Rattle.flat_commands.specs.FlatFiles.{IsFlatFile, IsFlatFound, IsNotTaken}
 use Rattle.flat_commands.specs.Import.{Imports, fills_byte, fills_record, fills_track, writes_record, writes_track, imports_track, import_script}
 use Rattle.disk_laws.proofs.Prepared.{IsBlank}
 use Rattle.disk_laws.proofs.Reading.{reaches}
 use Rattle.disk_completeness.specs.Complete.{BeginsSound, EndsWellOrOutside}
-use Rattle.disk_completeness.proofs.Asking.{safe, fresh_empty, blank_done, acknowledges_goes, eject_goes}
+use Rattle.disk_completeness.proofs.Bays.{of_one, safe, fresh_empty, blank_done, acknowledges_goes, eject_goes}
 use Rattle.disk_completeness.proofs.CommandEnds.{fresh_memory}
-use Rattle.disk_completeness.proofs.Going.{Stage, at, IsDone, GoesWell, PartGoes, goes_carries, goes_each, prints_outside, stop_outside, completes}
+use Rattle.disk_completeness.proofs.Going.{Stage, at, IsDone, GoesWell, PartGoes, goes_carries, goes_each, goes_tracks, prints_outside, stop_outside, completes}
 use Rattle.disk_completeness.proofs.Making.{IsMaking, AnyDisk, HasRecords, MakesAlone, any_made, blank_made, made_still, format_done, write_done}
 use Rattle.flat_laws.specs.Imported.{StoresDisk, StoresImported}
 use Rattle.flat_laws.proofs.ImportRun.{import_stores}
@@ -59,7 +58,7 @@ module _ (rate : Rate) (bytes : List ℕ) (c h : ℕ) (cylinder : c < 80) (head 
         let free : refusal_of old.state (request.Fill address 1 byte) ≡ None = rw good refl in
         let does = reaches _ (refusal_of old.state (request.Fill address 1 byte)) free step in
         let still = ap (λ (s : StationState). bay_of s 0) does.2.becomes in
-        (ap is_refusal does.0, made_still 0 rate 80 _ old.state.station new.state.station still making);
+        (ap is_refusal does.0, made_still 0 rate 80 (HasRecords sectors c h) (HasRecords sectors c h) old.state.station new.state.station (λ disk has. has) still making);
   }
 
   byte_goes : (place address i : ℕ) (old : Stage) → address + i + 1 ≤ user_bytes → IsOnTrack old → PartGoes (λ none new. IsOnTrack new) (fills_byte bytes place address i tt) old
@@ -85,27 +84,20 @@ module _ (rate : Rate) (bytes : List ℕ) (c h : ℕ) (cylinder : c < 80) (head 
   track_goes : (old : Stage) → IsMaking 0 rate 80 AnyDisk old.state.station → PartGoes (λ none new. IsMaking 0 rate 80 AnyDisk new.state.station) (imports_track bytes sectors c h tt) old
   unfolding imports_track writes_track
   track_goes old making rest behind =
-      goes_carries (Makes old) (request.Format 0 c h) _ old (format_done 0 1 rate 80 c h AnyDisk old refl (λ station value. refl) cylinder head making) (λ one alone.
+      goes_carries (Makes old) (request.Format 0 c h) _ old (format_done 0 1 rate 80 c h refl (λ station value. refl) cylinder head AnyDisk old making) (λ one alone.
       fills_go one alone.made _ (λ none two there.
       goes_each (λ none new. IsOnTrack new) (writes_record c h) 1 sectors tt two (λ r least below same mid is. record_goes r mid least (omega (arith, below)) is) there rest
       (λ same three is. behind tt three (any_made 0 rate 80 _ three.state.station is))))
 
 -- ---- The whole script.
 
-tracks_go : (rate : Rate) (bytes : List ℕ) (old : Stage) → IsMaking 0 rate 80 AnyDisk old.state.station
-    → PartGoes (λ none new. IsMaking 0 rate 80 AnyDisk new.state.station) (by_track 80 2 (imports_track bytes (sectors_at rate)) tt) old
-tracks_go rate bytes old making =
-    let Top : Unit {0} → Stage → Type 0 = λ none new. IsMaking 0 rate 80 AnyDisk new.state.station in
-    let track = imports_track bytes (sectors_at rate) in
-    goes_each Top (λ c. each 0 2 (track c)) 0 80 tt old (λ c least cylinder none one here.
-    goes_each Top (track c) 0 2 none one (λ h from head same two there. track_goes rate bytes c h (omega (arith, cylinder)) (omega (arith, head)) two there) here) making
-
 import_goes : (bytes name : List ℕ) (rate : Rate) (old : Stage) → is_loaded old.state 0 ≡ false → GoesWell (import_script (Ok (bytes, rate)) name) old
 import_goes bytes name rate old empty =
     goes_carries (λ new. IsBlank 0 rate name 80 old.state old.files new.state new.files) (blank_request 0 name 80 rate) _ old (blank_done 0 rate name 80 old refl (omega arith) (omega arith) empty) (λ one is.
-    acknowledges_goes 0 1 (blank_of 80 rate) _ one refl (λ station value. refl) is.medium (λ two alone.
-    tracks_go rate bytes two (blank_made 0 rate 80 two.state.station is.valid alone.ready) _ (λ none three made.
-    eject_goes 0 made.disk _ three refl made.holds.medium (λ new. refl))))
+    acknowledges_goes 0 1 (blank_of 80 rate) refl (λ station value. refl) _ one is.medium (λ two alone.
+    goes_tracks (λ none new. IsMaking 0 rate 80 AnyDisk new.state.station) 80 2 (imports_track bytes (sectors_at rate)) tt two
+    (λ c h cylinder head none mid made. track_goes rate bytes c h cylinder head mid made) (blank_made 0 rate 80 two.state.station is.valid alone.ready) _
+    (λ none three made. eject_goes 0 made.disk _ three refl made.medium (λ new. refl))))
 
 -- ---- The flat file.
 
@@ -113,32 +105,23 @@ import_goes bytes name rate old empty =
 taken_flat : (files : Files) (flat bytes : List ℕ) (rate : Rate) (cause : Stop) → IsFlatFile (Some files) flat bytes rate → IsNotTaken (Some files) flat cause → IsEndStop cause
 taken_flat files flat bytes rate stop.FileFault is not = tt
 taken_flat files flat bytes rate stop.NoMemory is not = tt
-taken_flat files flat bytes rate (stop.BadImage named error) is not = absurd (go (file_at files flat) is.there not.1)
+taken_flat files flat bytes rate (stop.BadImage named error) is not =
+    let both = of_one (file_at files flat) is.there not.1 in
+    let clash : sectors_told (length bytes) ≡ Err error = ap (λ (l : List ℕ). sectors_told (length l)) (sym both.2.0) ∙ both.3.1 in
+    absurd (differ (sectors_told (length bytes)) is.sectors clash)
   where
-    clash : (told : Result ℕ ImageError) → told ≡ Ok (sectors_at rate) → told ≡ Err error → ⊥
-    clash told e f = cc (e, f)
-
-    go : (o : Option (List ℕ)) → IsSomeAnd o (λ there. (there ≡ bytes) × (length there ≤ most_flat_bytes)) → IsSomeAnd o (λ row. (length row ≤ most_flat_bytes) × (sectors_told (length row) ≡ Err error)) → ⊥
-    go None x y = x
-    go (Some row) x y = clash (sectors_told (length row)) (ap (λ (l : List ℕ). sectors_told (length l)) x.0 ∙ is.sectors) y.1
-taken_flat files flat bytes rate (stop.TooLong named most) is not = absurd (go (file_at files flat) is.there not.2)
-  where
-    go : (o : Option (List ℕ)) → IsSomeAnd o (λ there. (there ≡ bytes) × (length there ≤ most_flat_bytes)) → IsSomeAnd o (λ row. most_flat_bytes < length row) → ⊥
-    go None x y = x
-    go (Some row) x y = omega (arith, x.1, y)
-taken_flat files flat bytes rate (stop.Absent named) is not = absurd (go (file_at files flat) is.there not.1)
-  where
-    go : (o : Option (List ℕ)) → IsSomeAnd o (λ there. (there ≡ bytes) × (length there ≤ most_flat_bytes)) → o ≡ None → ⊥
-    go None x y = x
-    go (Some row) x y = cc y
+    differ : (told : Result ℕ ImageError) → told ≡ Ok (sectors_at rate) → told ≡ Err error → ⊥
+    differ told e f = cc (e, f)
+taken_flat files flat bytes rate (stop.TooLong named most) is not = let both = of_one (file_at files flat) is.there not.2 in absurd (omega (arith, both.2.1, both.3))
+taken_flat files flat bytes rate (stop.Absent named) is not =
+    let one = of_one (file_at files flat) is.there is.there in
+    let none = not.1 in
+    let there = one.1 in
+    absurd (cc (none, there))
 
 -- the flat file of a name has one content
 one_flat : (files : Files) (flat one two : List ℕ) (a b : Rate) → IsFlatFile (Some files) flat one a → IsFlatFile (Some files) flat two b → one ≡ two
-one_flat files flat one two a b first second = go (file_at files flat) first.there second.there
-  where
-    go : (o : Option (List ℕ)) → IsSomeAnd o (λ there. (there ≡ one) × (length there ≤ most_flat_bytes)) → IsSomeAnd o (λ there. (there ≡ two) × (length there ≤ most_flat_bytes)) → one ≡ two
-    go None x y = absurd x
-    go (Some row) x y = sym x.0 ∙ y.0
+one_flat files flat one two a b first second = let both = of_one (file_at files flat) first.there second.there in sym both.2.0 ∙ both.3.0
 
 same_rate : (a b : Rate) → sectors_at a ≡ sectors_at b → a ≡ b
 same_rate R500 R500 same = refl
