@@ -27,7 +27,7 @@ use Rattle.disk_laws.proofs.FormatRun.{format_stores}
 use Rattle.disk_laws.proofs.CopyRun.{copy_stores}
 use Rattle.disk_laws.proofs.VerifyRun.{verify_tells}
 use Rattle.disk_completeness.specs.Complete.{BeginsSound, EndsWellOrOutside, IsReadable, HaveSameSector, StoresSameSectors}
-use Rattle.disk_completeness.proofs.FoundAll.{key_is, readable_unmistaken, none_failing}
+use Rattle.disk_completeness.proofs.Readable.{key_is, readable_unmistaken, none_failing, ReadsAlone, read_done}
 use Rattle.flop_base.specs.Standard.{sectors_at}
 use Rattle.floppy_requests.specs.declared.request.Request.TheVariants as request
 use Rattle.floppy_session.specs.Blanks.{blank_request}
@@ -44,7 +44,6 @@ use Rattle.sector_model.specs.Texts.{is_refusal}
 use Rattle.disk_completeness.proofs.Bays.{IsReadyFor, ready_still, fresh_empty, blank_done, acknowledges_goes, eject_goes, opens_goes}
 use Rattle.disk_completeness.proofs.Going.{Stage, at, GoesWell, PartGoes, goes_asks, goes_needs, goes_carries, goes_each, goes_tracks, completes}
 use Rattle.disk_completeness.proofs.Making.{IsMaking, AnyDisk, HasRecords, MakesAlone, any_made, blank_made, made_still, format_done, write_done}
-use Rattle.disk_completeness.proofs.ReadDone.{ReadsAlone, read_done}
 
 -- ---- Format.
 

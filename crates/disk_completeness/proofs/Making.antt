@@ -45,7 +45,7 @@ use Rattle.sector_model.specs.Formats.{FormatsDrive}
 use Rattle.disk_laws.proofs.Formatting.{drive_formats}
 use Rattle.disk_completeness.proofs.Going.{Stage, IsSafe, IsDone, calm_in}
 use Rattle.disk_completeness.proofs.Bays.{AreApart, IsReadyFor, both_true, safe, ok_taken, other_stays}
-use Rattle.disk_completeness.proofs.ReadDone.{sector_asked, within_page, disturbed_less}
+use Rattle.disk_completeness.proofs.Readable.{sector_asked, within_page, disturbed_less}
 
 -- a bay has a disk of a rate and so many cylinders, of which this holds: it is regular, and protected and laid out as a blank one; the bay is
 -- acknowledged, at that rate

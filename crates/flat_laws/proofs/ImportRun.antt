@@ -36,8 +36,7 @@ use Rattle.disk_laws.proofs.Steps.{step_never_fell}
 use Rattle.disk_laws.proofs.Formatted.{blank_keeps}
 use Rattle.flat_laws.specs.Imported.{StoresDisk, StoresImported}
 use Rattle.flat_laws.proofs.ImportedTrack.{IsImporting, track_imported}
-use Rattle.flat_laws.proofs.Readied.{readied}
-use Rattle.flat_laws.proofs.Taking.{Since, counts, did_fell, one_done, tracks_take}
+use Rattle.flat_laws.proofs.Taking.{readied, Since, counts, did_fell, one_done, tracks_take}
 
 -- the length of a flat file
 pub flat_size : (rate : Rate) (n : ℕ) → sectors_told n ≡ Ok (sectors_at rate) → n ≡ flat_length (sectors_at rate)

@@ -1,10 +1,5 @@
-pub mod ExportEnds
 pub mod ExportRun
-pub mod Filled
-pub mod Given
-pub mod ImportEnds
+pub mod FlatEnds
 pub mod ImportRun
 pub mod ImportedTrack
-pub mod Places
-pub mod Readied
 pub mod Taking

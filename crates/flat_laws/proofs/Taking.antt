@@ -1,5 +1,9 @@
--- Parts of a script for each number that each take what holds of it to what holds of the next.
-use Rattle.std.proofs.Common.{arith, ◌≡◌, ◌∙◌, ◌+◌, ◌*◌, ◌<◌, ◌≤◌, ℕ, zero, suc, true, List, [], ◌∷◌, ◌++◌, refl, sym, ap, subst, append-nil, append_assoc, inl, inr, Option, false}
+-- Parts of a script for each number that each take what holds of it to what holds of the next; places, and a bay that is made ready.
+use Rattle.std.proofs.Common.{arith, ◌≡◌, ◌+◌, ◌-◌, ◌*◌, ◌<◌, ◌≤◌, ℕ, ◌∙◌, zero, suc, true, List, [], ◌∷◌, ◌++◌, refl, sym, ap, subst, append-nil, append_assoc, inl, inr, Option, false, Some}
+use Rattle.flop_base.specs.Standard.{sectors_at}
+use Rattle.flop_base.specs.declared.answers.Rate.{Rate}
+use Rattle.flop_base.specs.declared.answers.Rate.TheVariants.{R500, R250}
+use Rattle.flat_image.specs.Flat.{IsSector, sector_place, flat_length}
 use Rattle.std.specs.List.{list_all}
 use Rattle.flop_base.specs.Shelf.{Files}
 use Rattle.flop_base.specs.declared.answers.Status.TheVariants as status
@@ -12,11 +16,42 @@ use Rattle.sector_model.specs.Texts.{is_refusal}
 use Rattle.sector_model.specs.Runs.{Taken}
 use Rattle.sector_model.specs.Plays.{World}
 use Rattle.scripts.specs.Scripts.{Script, RunsScript}
-use Rattle.scripts.specs.Parts.{Part, may_starve, through, each, by_track}
+use Rattle.scripts.specs.Parts.{Part, may_starve, through, each, by_track, rate_requests}
 use Rattle.scripts.proofs.Passed.{Known, Passes, Did}
 use Rattle.disk_laws.proofs.CopiedTrack.{both_fell}
 use Rattle.disk_laws.proofs.Steps.{NeverFell, begins, ends_there, done_does, never_fell, keeps_drives}
 use Rattle.disk_laws.proofs.TrackParts.{did_all}
+use Rattle.raw_image.specs.Disk.{Disk}
+use Rattle.floppy_requests.specs.declared.request.Request.TheVariants as request
+use Rattle.sector_model.specs.Stations.{bay_of}
+use Rattle.disk_laws.specs.Done.{DoesAll}
+use Rattle.disk_laws.proofs.Prepared.{readies}
+
+-- ---- Where the sectors of a flat file stand.
+
+-- the sectors before a track
+pub next_track : (rate : Rate) (t : ℕ) → (t + 1) * sectors_at rate ≡ t * sectors_at rate + sectors_at rate
+next_track R500 t = omega arith
+next_track R250 t = omega arith
+
+pub some_sectors : (rate : Rate) → (1 ≤ sectors_at rate) × (sectors_at rate ≤ 18)
+some_sectors R500 = (omega arith, omega arith)
+some_sectors R250 = (omega arith, omega arith)
+
+-- a sector is inside the file
+pub place_inside : (rate : Rate) (c h r : ℕ) → IsSector (sectors_at rate) c h r → sector_place (sectors_at rate) c h r + 512 ≤ flat_length (sectors_at rate)
+place_inside R500 c h r is = omega (arith, is.cylinder, is.head, is.from_first, is.to_last)
+place_inside R250 c h r is = omega (arith, is.cylinder, is.head, is.from_first, is.to_last)
+
+-- it stands behind the sectors of the tracks before its own
+pub place_is : (sectors c h r w : ℕ) → 1 ≤ r → (c * 2 + h) * sectors ≡ w → sector_place sectors c h r ≡ w * 512 + 512 * (r - 1)
+place_is sectors c h r w least same = omega (arith, same, least)
+
+-- a track's number tells its cylinder and its head
+pub one_track : (c h b g : ℕ) → h < 2 → g < 2 → c * 2 + h ≡ b * 2 + g → (c ≡ b) × (h ≡ g)
+one_track c h b g small other same = (omega arith, omega arith)
+
+-- ---- Parts for numbers.
 
 -- what holds at some time: of what was found, the course so far, and the world
 abbrev pub Fact : Type 0 → Type 1
@@ -113,3 +148,33 @@ since_on start P Q old new since fell more = record {
       more (omega (arith, before.first, fell.first, faultless.0), faultless.1)
       (since.holds (omega (arith, before.first, fell.first, faultless.0), omega (arith, fell.first, faultless.1)));
 }
+
+-- ---- Bay 0 is made ready with the disk that is in it.
+
+ready_keeps : (rate : Rate) → list_all keeps_drives (request.Ack 0 ∷ rate_requests rate 0) ≡ true
+ready_keeps R500 = refl
+ready_keeps R250 = refl
+
+pub record IsReadied (disk : Disk) (old new : World) : Type 0 where
+  pub medium : (bay_of new.state.station 0).medium ≡ Some disk
+  pub rate : (bay_of new.state.station 0).rate ≡ disk.rate
+  pub memory : new.state.station.memory ≡ old.state.station.memory
+  pub names : new.state.names ≡ old.state.names
+  pub files : new.files ≡ old.files
+  pub fell : NeverFell (counts old) (counts new)
+
+pub readied : (rate : Rate) (disk : Disk) (old new : World) (course : List Taken) → Did (request.Ack 0 ∷ rate_requests rate 0) old course new → disk.rate ≡ rate
+    → (bay_of old.state.station 0).medium ≡ Some disk → IsReadied disk old new
+readied rate disk old new course did is medium =
+    let all = did_all (request.Ack 0 ∷ rate_requests rate 0) old course new did in
+    let row = ap (λ (r : Rate). request.Ack 0 ∷ rate_requests r 0) (sym is) ∙ ap (λ (l : List Request). request.Ack 0 ∷ l) (sym (append-nil (rate_requests disk.rate 0))) in
+    let ready = readies 0 disk [] old.state new.state old.files new.files course (subst (λ (l : List Request). DoesAll l old.state old.files course new.state new.files) row all) medium in
+    let end = ends_there ready.mid new.state ready.files new.files ready.course ready.behind in
+    record {
+      medium = ap (λ (s : State). (bay_of s.station 0).medium) end.0 ∙ ready.medium;
+      rate = ap (λ (s : State). (bay_of s.station 0).rate) end.0 ∙ ready.rate;
+      memory = ap (λ (s : State). s.station.memory) end.0 ∙ ready.memory;
+      names = ap (λ (s : State). s.names) end.0 ∙ ready.names;
+      files = end.1 ∙ ready.same_files;
+      fell = did_fell (request.Ack 0 ∷ rate_requests rate 0) old new course did (ready_keeps rate);
+    }

@@ -1,6 +1,6 @@
--- A read of a standard key of a regular disk that has it is done where nothing disturbs it.
-use Rattle.std.proofs.Common.{arith, ◌≡◌, ◌∙◌, ◌+◌, ◌-◌, ◌≤◌, ℕ, nat_le, Bool, true, false, List, refl, sym, ap, subst, Some, None, Result, Ok, Err, le-leb}
-use Rattle.std.specs.Prelude.{◌/◌, ◌==◌, not, if◌then◌else◌}
+-- A regular disk that has each of its standard keys: none of them fails, and a read of any is done where nothing disturbs it.
+use Rattle.std.proofs.Common.{arith, ◌≡◌, ◌∙◌, ◌+◌, ◌-◌, ◌≤◌, ℕ, nat_le, Bool, true, false, List, refl, sym, ap, subst, Some, None, Result, Ok, Err, le-leb, suc, [], ◌∷◌}
+use Rattle.std.specs.Prelude.{◌/◌, ◌==◌, not, if◌then◌else◌, All}
 use Rattle.flop_base.specs.Standard.{sectors_at, standard_code}
 use Rattle.flop_base.specs.declared.key.Chrn.{Chrn}
 use Rattle.flop_base.specs.declared.answers.Code.{Code}
@@ -13,9 +13,9 @@ use Rattle.track_model.specs.Fields.{IsAddressAt, content_size}
 use Rattle.track_model.specs.Looks.{LookAt}
 use Rattle.track_model.specs.declared.Look.TheVariants as look
 use Rattle.floppy_requests.specs.declared.request.Request.TheVariants as request
-use Rattle.sector_map.specs.Disks.{Entry, IsOnMap, IsRegularDisk}
+use Rattle.sector_map.specs.Disks.{Entry, IsOnMap, IsRegularDisk, LookOn}
 use Rattle.sector_map.specs.Met.{HasClearAddress, AllFound}
-use Rattle.sector_map.specs.Standard.{key_of}
+use Rattle.sector_map.specs.Standard.{key_of, standard_keys}
 use Rattle.sector_map.proofs.MetTracks.{met_track}
 use Rattle.sector_map.proofs.RegularTracks.{clear_address, key_cylinder, one_address}
 use Rattle.sector_model.specs.Stations.{StationState, Bay, bay_of, met}
@@ -25,6 +25,13 @@ use Rattle.sector_model.specs.Steps.{read_reply}
 use Rattle.sector_model.specs.Texts.{is_refusal}
 use Rattle.scripts.specs.Records.{record_address}
 use Rattle.disk_laws.proofs.Reading.{reaches}
+use Rattle.flop_base.specs.declared.answers.Rate.{Rate}
+use Rattle.track_model.specs.declared.Look.TheVariants.{Found}
+use Rattle.sector_map.specs.Failing.{AreFailing}
+use Rattle.disk_laws.specs.Formatted.{IsFormattedDisk, formatted_entry}
+use Rattle.disk_laws.specs.Verified.{IsStandardKey, IsUnmistaken}
+use Rattle.disk_laws.proofs.Verified.{standard_all}
+use Rattle.disk_laws.proofs.Sectors.{formatted_regular, formatted_sector}
 use Rattle.disk_completeness.specs.Complete.{IsReadable}
 use Rattle.disk_completeness.proofs.Going.{Stage, IsDone}
 use Rattle.disk_completeness.proofs.Bays.{IsReadyFor, both_true, ready_still, safe}
@@ -123,3 +130,49 @@ read_done source c h r place old readable few_cylinders few_heads has least most
         record { ready = ready_still 0 source station new.state.station (ap (λ (bays : Two Bay). in_bay bays 0) taken.1) ready; same = taken.1 },
       );
 }
+
+-- ---- No key fails.
+
+-- a standard key, by its cylinder, head and record
+pub key_is : (key : Chrn) → key.n ≡ standard_code → key_of key.c key.h key.r ≡ key
+key_is key size = ap (λ (n : ℕ). record { c = key.c; h = key.h; r = key.r; n = n }) (sym size)
+
+-- a formatted disk is such a one
+pub formatted_readable : (rate : Rate) (count : ℕ) (disk : Disk) → IsFormattedDisk rate count disk → IsReadable disk
+formatted_readable rate count disk is = record {
+  regular = formatted_regular rate count disk is;
+  sectors = λ key standard.
+      let there = formatted_sector rate count disk is key.c key.h key.r standard.track standard.sector.0 standard.sector.1 in
+      (formatted_entry key.c key.h key.r there.0, there.1, key_is key standard.size);
+}
+
+pub readable_unmistaken : (disk : Disk) → IsReadable disk → IsUnmistaken disk
+readable_unmistaken disk readable = record {
+  plain = λ c h has. (readable.regular c h has).plain;
+  single = λ key standard p q a b. (readable.regular key.c key.h standard.track).keys.distinct p q key a b;
+}
+
+module _ (disk : Disk) (readable : IsReadable disk) where
+  -- the look for a standard key
+  looks : (key : Chrn) → IsStandardKey disk key → (place : ℕ) × (deleted : Bool) × LookOn disk key (Found deleted place)
+  looks key standard =
+      let there = readable.sectors key standard in
+      let on = has_data disk key there.0 readable.regular there.1 there.2 in
+      let distinct = (readable.regular key.c key.h standard.track).keys.distinct in (
+        on.2,
+        on.1,
+        record {
+          there = λ has. (on.0, record { address = on.3; none_before = λ k before other. let same = distinct k on.0 key other on.3 in absurd (omega arith) }, on.4);
+          absent = λ none. absurd (none standard.track);
+        },
+      )
+
+  none_of : (keys : List Chrn) → All (IsStandardKey disk) keys → AreFailing disk keys []
+  none_of [] all = refl
+  none_of (key ∷ keys) all =
+      let here = looks key (all 0 key (omega arith)) in
+      (Found here.1 here.0, [], here.2, refl, none_of keys (λ k d below. all (suc k) d (omega (arith, below))))
+
+  -- none of its standard keys fails
+  pub none_failing : AreFailing disk (standard_keys disk) []
+  none_failing = none_of (standard_keys disk) (standard_all disk)
