@@ -65,7 +65,7 @@ pub format_complete : (rate : Rate) (name : List ℕ) (count : ℕ) (old new : W
     → Runs (RunsScript (format_script name count rate)) old new ended → EndsWellOrOutside (StoresFormatted rate name count old.files new.files) ended
 format_complete rate name count old new ended least most begins runs =
     let goes = format_goes rate name count (at old.state old.files) least most (fresh_empty old.state 0 begins.fresh) in
-    completes (format_script name count rate) _ old new runs.course ended begins goes (runs.ties.undisturbed begins.sound) runs.does
+    completes (format_script name count rate) _ old new runs.course ended old.files refl begins goes (runs.ties.undisturbed begins.sound) runs.does
     (λ done faultless. format_stores rate name count old new runs.course done faultless.first)
 
 -- ---- Copy.
@@ -166,8 +166,7 @@ pub copy_complete : (from to : List ℕ) (old new : World) (ended : Status) (fil
     → Runs (RunsScript (copy_script from to)) old new ended → EndsWellOrOutside (StoresSameSectors disk to (Some files) new.files) ended
 copy_complete from to old new ended files disk begins told image readable runs =
     let goes = copy_goes from to files disk old.state readable image (fresh_empty old.state 0 begins.fresh) (fresh_empty old.state 1 begins.fresh) in
-    let here = subst (λ (f : Option Files). GoesWell (copy_script from to) (at old.state f)) (sym told) goes in
-    completes (copy_script from to) _ old new runs.course ended begins here (runs.ties.undisturbed begins.sound) runs.does
+    completes (copy_script from to) _ old new runs.course ended (Some files) told begins goes (runs.ties.undisturbed begins.sound) runs.does
     (λ done faultless.
     same_sectors disk to old.state.station.counters new.state.station.counters runs.course (Some files) new.files (readable.regular, inl faultless.first)
     (copy_stores from to old new runs.course files disk done told image (fresh_memory old.state.station begins.fresh) faultless.second))
@@ -218,8 +217,7 @@ pub verify_complete : (name : List ℕ) (old new : World) (ended : Status) (file
     → Runs (RunsScript (verify_script name)) old new ended → EndsWellOrOutside (TellsFailing disk [] old new status.AllOk) ended
 verify_complete name old new ended files disk begins told image readable runs =
     let goes = verify_goes name files disk old.state readable image (fresh_empty old.state 0 begins.fresh) (fresh_empty old.state 1 begins.fresh) in
-    let here = subst (λ (f : Option Files). GoesWell (verify_script name) (at old.state f)) (sym told) goes in
     let empty = ap (λ (bays : Two Bay). (in_bay bays 0).medium) begins.fresh.bays in
-    completes (verify_script name) _ old new runs.course ended begins here (runs.ties.undisturbed begins.sound) runs.does
+    completes (verify_script name) _ old new runs.course ended (Some files) told begins goes (runs.ties.undisturbed begins.sound) runs.does
     (λ done faultless.
     verify_tells name old new runs.course status.AllOk files disk [] done tt told image empty faultless.calm (readable_unmistaken disk readable) (none_failing disk readable))

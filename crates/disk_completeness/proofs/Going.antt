@@ -245,11 +245,12 @@ still_faultless old new begins still =
     }
 
 -- where nothing is left to go wrong, a script that goes well ends well and faultless, with what holds then; or the outside failed
-pub completes : (script : Script) (Holds : Type 0) (old new : World) (course : List Taken) (ended : Status) → BeginsSound old → GoesWell script (at old.state old.files)
-    → AreUndisturbed old.state.station.counters course → RunsScript script old course new ended
+pub completes : (script : Script) (Holds : Type 0) (old new : World) (course : List Taken) (ended : Status) (told : Option Files) → old.files ≡ told
+    → BeginsSound old → GoesWell script (at old.state told) → AreUndisturbed old.state.station.counters course → RunsScript script old course new ended
     → (RunsScript script old course new status.AllOk → AreFaultless old.state.station.counters new.state.station.counters → Holds) → EndsWellOrOutside Holds ended
-completes script Holds old new course ended begins goes calm runs gives =
+completes script Holds old new course ended told is begins goes calm runs gives =
+    let here = subst (λ (files : Option Files). GoesWell script (at old.state files)) (sym is) goes in
     let counters = old.state.station.counters in
     let still : IsStill counters counters = record { first = refl; second = refl; stalls = refl } in
-    ends_with (IsStill counters new.state.station.counters) Holds ended (goes_ends counters script old new course ended goes still calm runs)
+    ends_with (IsStill counters new.state.station.counters) Holds ended (goes_ends counters script old new course ended here still calm runs)
     (λ well end. gives (subst (λ (s : Status). RunsScript script old course new s) well runs) (still_faultless old new.state.station.counters begins end))

@@ -20,7 +20,7 @@ use Rattle.sector_map.specs.Standard.{key_of}
 use Rattle.sector_map.proofs.KeptTracks.{with_track_keeps, alike_both, alike_itself, stays_regular}
 use Rattle.sector_map.proofs.MetTracks.{met_track}
 use Rattle.sector_model.specs.declared.reply.Reply.{Reply}
-use Rattle.sector_model.specs.Stations.{StationState, Bay, bay_of, met}
+use Rattle.sector_model.specs.Stations.{StationState, Bay, Becomes, bay_of, set_bay, met}
 use Rattle.sector_model.specs.Orders.{is_bay, is_sector_request, crosses_page, is_acknowledged, is_protected, write_refusal, is_format_request, most_format_gap, format_refusal}
 use Rattle.sector_model.specs.Writes.{WritesDrive, WritesTo, IsWriteCause, ChangesAlone, written_from}
 use Rattle.sector_model.specs.States.{State}
@@ -99,6 +99,27 @@ pub record MakesAlone (bay other : ℕ) (rate : Rate) (count : ℕ) (Also : Disk
   pub made : IsMaking bay rate count Also new.state.station
   pub same : bay_of new.state.station other ≡ bay_of old.state.station other
 
+-- a call that changed the medium of a bay alone
+remade : (bay other : ℕ) (rate : Rate) (count : ℕ) (Before Also : Disk → Type 0) (old new : Stage) (next : Disk) → AreApart bay other → IsMaking bay rate count Before old.state.station
+    → Becomes (set_bay old.state.station bay (record (bay_of old.state.station bay) { medium = (bay_of new.state.station bay).medium })) new.state.station
+    → (bay_of new.state.station bay).medium ≡ Some next → AreAlike (blank_of count rate) next → IsRegularDisk next → Also next → MakesAlone bay other rate count Also old new
+remade bay other rate count Before Also old new next apart made becomes medium alike regular also =
+    let station = old.state.station in
+    let value : Bay = record (bay_of station bay) { medium = (bay_of new.state.station bay).medium } in
+    let at_bay = ap (λ (s : StationState). bay_of s bay) becomes ∙ in_with station.bays bay value in
+    record {
+      made = record {
+        disk = next;
+        medium = medium;
+        alike = alike;
+        bay_rate = ap (λ (b : Bay). b.rate) at_bay ∙ made.bay_rate;
+        kept = ap (λ (b : Bay). is_some b.acknowledged) at_bay ∙ made.kept;
+        regular = regular;
+        also = also;
+      };
+      same = other_stays bay other station new.state.station value apart becomes;
+    }
+
 -- ---- A track is formatted.
 
 -- the sectors of a rate fit on its tracks
@@ -161,22 +182,8 @@ module _ (bay other : ℕ) (rate : Rate) (count c h : ℕ) (is_one : is_bay bay 
       let on = subst (λ (t : List ℕ). HasContent t there.0 (key_of c h r) standard_content) (sym is) there.1 in
       let some : HasSome next c h r = (there.0, false, standard_content, record { track = on_next; address = on.address; content = on.found }) in
       some in
-      let value : Bay = record (bay_of station bay) { medium = (bay_of new.state.station bay).medium } in
-      let at_bay = ap (λ (s : StationState). bay_of s bay) drive.becomes ∙ in_with station.bays bay value in (
-        ok_taken called answer step.1.1 ok,
-        record {
-          made = record {
-            disk = next;
-            medium = laid.1;
-            alike = after;
-            bay_rate = ap (λ (b : Bay). b.rate) at_bay ∙ made.bay_rate;
-            kept = ap (λ (b : Bay). is_some b.acknowledged) at_bay ∙ made.kept;
-            regular = stays_regular disk c h next keeps made.regular (subst (λ (t : List ℕ). IsRegular t c h) (sym is) (track_regular rate c h small_c small_h));
-            also = records;
-          };
-          same = other_stays bay other station new.state.station value apart drive.becomes;
-        },
-      )
+      let laid_so = subst (λ (t : List ℕ). IsRegular t c h) (sym is) (track_regular rate c h small_c small_h) in
+      (ok_taken called answer step.1.1 ok, remade bay other rate count Also _ old new next apart made drive.becomes laid.1 after (stays_regular disk c h next keeps made.regular laid_so) records)
 
   pub format_done : IsDone (λ new. MakesAlone bay other rate count (HasRecords (sectors_at rate) c h) old new) (request.Format bay c h) old
   format_done = record {
@@ -261,20 +268,8 @@ module _ (bay other : ℕ) (rate : Rate) (count c h r : ℕ) (deleted : Bool) (i
 
     writes : MakesAlone bay other rate count (HasRecords (sectors_at rate) c h) old new
     writes =
-        let value : Bay = record (bay_of before bay) { medium = (bay_of new.state.station bay).medium } in
-        let at_bay = ap (λ (s : StationState). bay_of s bay) drive.becomes ∙ in_with before.bays bay value in
-        record {
-          made = record {
-            disk = alone.after;
-            medium = alone.medium;
-            alike = alike_both (blank_of count rate) making.disk alone.after making.alike (with_track_keeps making.disk alone.after c h _ alone.cut).alike;
-            bay_rate = ap (λ (b : Bay). b.rate) at_bay ∙ making.bay_rate;
-            kept = ap (λ (b : Bay). is_some b.acknowledged) at_bay ∙ making.kept;
-            regular = alone.regular;
-            also = still;
-          };
-          same = other_stays bay other before new.state.station value apart drive.becomes;
-        }
+        let alike = alike_both (blank_of count rate) making.disk alone.after making.alike (with_track_keeps making.disk alone.after c h _ alone.cut).alike in
+        remade bay other rate count _ _ old new alone.after apart making drive.becomes alone.medium alike alone.regular still
 
   write_safe : (d : Bool) → IsSafe (write_to bay d (key_of c h r) (record_address r)) old
   write_safe true = safe (request.WriteDeleted bay (key_of c h r) (record_address r)) old refl (λ at name same. cc same)

@@ -192,14 +192,10 @@ verified_quiet : (c h r : ℕ) (tally : Reads) → IsQuiet (verifies_record c h 
 unfolding verifies_record asks
 verified_quiet c h r tally n rest most = (n, omega arith, λ answer after. tells_quiet (key_of c h r) answer n _ (λ none. most (one_more tally (is_refusal answer))))
 
-verified_track_quiet : (sectors c h : ℕ) (tally : Reads) → IsQuiet (verifies_track sectors c h tally)
-unfolding verifies_track
-verified_track_quiet sectors c h tally = each_quiet (verifies_record c h) (verified_quiet c h) 1 sectors tally
-
 pub verify_rises : (name : List ℕ) (old new : World) (course : List Taken) (ended : Status) → RunsScript (verify_script name) old course new ended → AccessesAtMost 1 old new
-unfolding verify_script
+unfolding verify_script verifies_track
 verify_rises name old new course ended runs =
     script_rises 1 _ old new course ended
     (opens_most 0 name _ (λ shape.
     acknowledges_quiet 0 shape.rate 0 _ (λ none.
-    tracks_quiet (verifies_track (sectors_at shape.rate)) (verified_track_quiet (sectors_at shape.rate)) shape.cylinders shape.heads _ 0 _ (λ tally. tt)))) runs
+    tracks_quiet (verifies_track (sectors_at shape.rate)) (λ c h tally. each_quiet (verifies_record c h) (verified_quiet c h) 1 (sectors_at shape.rate) tally) shape.cylinders shape.heads _ 0 _ (λ tally. tt)))) runs

@@ -160,7 +160,7 @@ same_file files flat name bytes rate after is made =
 module _ (flat name : List ℕ) (old new : World) (course : List Taken) (ended : Status) (files : Files) (bytes : List ℕ) (rate : Rate) (begins : BeginsSound old) (told : old.files ≡ Some files) (is : IsFlatFile (Some files) flat bytes rate) (calm : AreUndisturbed old.state.station.counters course) where
   import_ends : (found : Result (List ℕ × Rate) Stop) → IsFlatFound old.files flat found → RunsScript (import_script found name) old course new ended → EndsWellOrOutside (StoresDisk bytes name rate (Some files) new.files) ended
   import_ends (Ok (row, at_rate)) there runs =
-      completes (import_script (Ok (row, at_rate)) name) _ old new course ended begins (import_goes row name at_rate (at old.state old.files) (fresh_empty old.state 0 begins.fresh)) calm runs
+      completes (import_script (Ok (row, at_rate)) name) _ old new course ended old.files refl begins (import_goes row name at_rate (at old.state old.files) (fresh_empty old.state 0 begins.fresh)) calm runs
       (λ done faultless.
       same_file files flat name bytes rate new.files is
       (subst (λ (f : Option Files). StoresImported flat name f new.files) told
@@ -220,8 +220,7 @@ pub export_complete : (name flat : List ℕ) (old new : World) (ended : Status) 
     → Runs (RunsScript (export_script name flat)) old new ended → EndsWellOrOutside (StoresFlatOf disk flat (Some files) new.files) ended
 export_complete name flat old new ended files disk begins told image whole runs =
     let goes = export_goes name flat files disk old.state whole image (fresh_empty old.state 0 begins.fresh) (fresh_empty old.state 1 begins.fresh) in
-    let here = subst (λ (f : Option Files). GoesWell (export_script name flat) (at old.state f)) (sym told) goes in
-    completes (export_script name flat) _ old new runs.course ended begins here (runs.ties.undisturbed begins.sound) runs.does
+    completes (export_script name flat) _ old new runs.course ended (Some files) told begins goes (runs.ties.undisturbed begins.sound) runs.does
     (λ done faultless.
     same_flat disk files name flat old.state.station.counters new.state.station.counters runs.course new.files whole image faultless.first
     (subst (λ (f : Option Files). StoresExported name flat old.state.station.counters f runs.course new.state.station.counters new.files) told
