@@ -40,7 +40,8 @@ pub both_true : (a b : Bool) → a ≡ true → b ≡ true → (a && b) ≡ true
 both_true a b e f = rw (e, f) refl
 
 -- a request that puts no file in is stopped by the outside alone
-stops_outside : (asked : Request) (old new : State) (told after : Option Files) (cause : Stop) → ((bay : ℕ) (name : List ℕ) → asked ≡ request.Insert bay name → ⊥) → StopsAt asked old told cause new after → IsEndStop cause
+stops_outside : (asked : Request) (old new : State) (told after : Option Files) (cause : Stop)
+    → ((bay : ℕ) (name : List ℕ) → asked ≡ request.Insert bay name → ⊥) → StopsAt asked old told cause new after → IsEndStop cause
 stops_outside asked old new told after stop.FileFault other stops = tt
 stops_outside asked old new told after stop.NoMemory other stops = tt
 stops_outside asked old new told after (stop.BadImage name error) other stops = let is = stops.cause.0 in absurd (other is.0 name is.1)
@@ -62,7 +63,8 @@ ok_taken (Err code) answer is ok = absurd (true≢false (sym ok))
 abbrev pub AreApart : ℕ → ℕ → Type 0
 AreApart bay other = (station : StationState) (value : Bay) → bay_of (set_bay station bay value) other ≡ bay_of station other
 
-pub other_stays : (bay other : ℕ) (old new : StationState) (value : Bay) → AreApart bay other → Becomes (set_bay old bay value) new → bay_of new other ≡ bay_of old other
+pub other_stays : (bay other : ℕ) (old new : StationState) (value : Bay) → AreApart bay other → Becomes (set_bay old bay value) new
+    → bay_of new other ≡ bay_of old other
 other_stays bay other old new value apart becomes = ap (λ (s : StationState). bay_of s other) becomes ∙ apart old value
 
 -- ---- Blank media.
@@ -79,21 +81,30 @@ blank_order : (good loaded : Bool) → good ≡ true → loaded ≡ false → un
 blank_order good loaded e f = rw (e, f) refl
 
 -- a request for a blank medium: it is safe, and isn't refused where this order of refusals refuses none
-blank_fine : (bay : ℕ) (rate : Rate) (name : List ℕ) (count : ℕ) (old : Stage) → unless_bad (is_blank_request bay count) (if is_loaded old.state bay then Some reason.Busy else None) ≡ None
+blank_fine : (bay : ℕ) (rate : Rate) (name : List ℕ) (count : ℕ) (old : Stage)
+    → unless_bad (is_blank_request bay count) (if is_loaded old.state bay then Some reason.Busy else None) ≡ None
     → IsSafe (blank_request bay name count rate) old
     × ((answer : Reply) (new : Stage) → Step (blank_request bay name count rate) old.state old.files answer new.state new.files → is_refusal answer ≡ false)
-blank_fine bay R500 name count old free = (safe (request.Blank bay name count) old refl (λ at other same. cc same), λ answer new step. ap is_refusal (reaches _ (refusal_of old.state (request.Blank bay name count)) free step).0)
-blank_fine bay R250 name count old free = (safe (request.BlankDd bay name count) old refl (λ at other same. cc same), λ answer new step. ap is_refusal (reaches _ (refusal_of old.state (request.BlankDd bay name count)) free step).0)
+blank_fine bay R500 name count old free = (
+  safe (request.Blank bay name count) old refl (λ at other same. cc same),
+  λ answer new step. ap is_refusal (reaches _ (refusal_of old.state (request.Blank bay name count)) free step).0,
+)
+blank_fine bay R250 name count old free = (
+  safe (request.BlankDd bay name count) old refl (λ at other same. cc same),
+  λ answer new step. ap is_refusal (reaches _ (refusal_of old.state (request.BlankDd bay name count)) free step).0,
+)
 
 -- a blank medium is put into an empty bay
-pub blank_done : (bay : ℕ) (rate : Rate) (name : List ℕ) (count : ℕ) (old : Stage) → is_bay bay ≡ true → 1 ≤ count → count ≤ 80 → is_loaded old.state bay ≡ false
+pub blank_done : (bay : ℕ) (rate : Rate) (name : List ℕ) (count : ℕ) (old : Stage) → is_bay bay ≡ true → 1 ≤ count → count ≤ 80
+    → is_loaded old.state bay ≡ false
     → IsDone (λ new. IsBlank bay rate name count old.state old.files new.state new.files) (blank_request bay name count rate) old
 blank_done bay rate name count old is_one least most empty =
     let good : is_blank_request bay count ≡ true = both_true _ _ (both_true _ _ is_one (le-leb 1 count least)) (le-leb count 80 most) in
     let fine = blank_fine bay rate name count old (blank_order (is_blank_request bay count) (is_loaded old.state bay) good empty) in
     record {
       safe = fine.0;
-      answers = λ answer new step calm. let done = fine.1 answer new step in (done, blanks bay rate name count old.state new.state old.files new.files answer step done);
+      answers = λ answer new step calm. let done = fine.1 answer new step in
+          (done, blanks bay rate name count old.state new.state old.files new.files answer step done);
     }
 
 -- ---- A bay is made ready.
@@ -174,14 +185,16 @@ module _ (bay other : ℕ) (disk : Disk) (is_one : is_bay bay ≡ true) (apart :
       })
   rate_goes R250 rest old mid is acked behind =
       let same = other_stays bay other old.state.station mid.state.station acked.value apart acked.becomes in
-      goes_carries (λ new. IsReadyAlone bay other disk mid new) (request.SetRate bay R250) rest mid (rate_done mid is acked.medium (ap (λ (o : Option ℕ). is_some o) acked.kept))
+      goes_carries (λ new. IsReadyAlone bay other disk mid new) (request.SetRate bay R250) rest mid
+      (rate_done mid is acked.medium (ap (λ (o : Option ℕ). is_some o) acked.kept))
       (λ new alone. behind new (record { ready = alone.ready; same = alone.same ∙ same }))
 
   pub acknowledges_goes : (rest : Unit {0} → Script) (old : Stage) → (bay_of old.state.station bay).medium ≡ Some disk
       → ((new : Stage) → IsReadyAlone bay other disk old new → GoesWell (rest tt) new) → GoesWell (acknowledges bay disk.rate rest) old
   unfolding acknowledges
   acknowledges_goes rest old medium behind =
-      goes_carries (λ new. IsAcked bay disk old.state old.files new.state new.files) (request.Ack bay) (λ none. sets_rate bay disk.rate rest) old (ack_done bay disk old is_one medium)
+      goes_carries (λ new. IsAcked bay disk old.state old.files new.state new.files) (request.Ack bay) (λ none. sets_rate bay disk.rate rest) old
+      (ack_done bay disk old is_one medium)
       (λ mid acked. rate_goes disk.rate rest old mid refl acked behind)
 
 -- ---- A disk is taken out.
@@ -218,7 +231,8 @@ insert_stops from files disk old new after stop.NoMemory image stops = tt
 insert_stops from files disk old new after (stop.BadImage name error) image stops =
     let e = stops.cause.0.1 in
     let same : name ≡ from = cc e in
-    let both = of_one (file_at files from) image (subst (λ (n : List ℕ). IsSomeAnd (file_at files n) (λ bytes. (length bytes ≤ most_image_bytes) × (image_of bytes ≡ Err error))) same stops.cause.1) in
+    let both = of_one (file_at files from) image (subst
+    (λ (n : List ℕ). IsSomeAnd (file_at files n) (λ bytes. (length bytes ≤ most_image_bytes) × (image_of bytes ≡ Err error))) same stops.cause.1) in
     absurd (clash (image_of both.0) both.2.1 both.3.1)
   where
     clash : (r : Result Disk ImageError) → r ≡ Ok disk → r ≡ Err error → ⊥
@@ -238,8 +252,9 @@ insert_stops from files disk old new after (stop.Absent name) image stops =
     clash o e f = cc (e, f)
 
 -- it is put into an empty bay 0, and its shape is found
-pub opens_goes : (from : List ℕ) (files : Files) (disk : Disk) (rest : Shape → Script) (old : State) → IsImageOf (Some files) from disk → is_loaded old 0 ≡ false
-    → is_loaded old 1 ≡ false → ((new : Stage) → IsPutIn disk new → GoesWell (rest (shape_of disk)) new) → GoesWell (opens from rest) (at old (Some files))
+pub opens_goes : (from : List ℕ) (files : Files) (disk : Disk) (rest : Shape → Script) (old : State) → IsImageOf (Some files) from disk
+    → is_loaded old 0 ≡ false → is_loaded old 1 ≡ false → ((new : Stage) → IsPutIn disk new → GoesWell (rest (shape_of disk)) new)
+    → GoesWell (opens from rest) (at old (Some files))
 unfolding opens
 opens_goes from files disk rest old image empty other behind =
     let free : refusal_of old (request.Insert 0 from) ≡ None = rw empty refl in

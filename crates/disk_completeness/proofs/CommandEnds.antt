@@ -1,5 +1,5 @@
 -- The commands go to their end where nothing disturbs them, or the outside failed.
-use Rattle.std.proofs.Common.{◌≡◌, ◌≤◌, ℕ, List, [], length, refl, ap, ◌∙◌, sym, subst, inl, Option, Some, arith, false, ◌-◌, Bool, get_or, true≢false}
+use Rattle.std.proofs.Common.{◌≡◌, ◌≤◌, ℕ, List, [], length, refl, ap, ◌∙◌, subst, inl, Option, Some, arith, false, ◌-◌, Bool, get_or, true≢false}
 use Rattle.std.proofs.lemmas.List.{length-replicate}
 use Rattle.flop_base.specs.Shelf.{Files}
 use Rattle.flop_base.specs.declared.answers.Rate.{Rate}
@@ -47,11 +47,13 @@ use Rattle.disk_completeness.proofs.Making.{IsMaking, AnyDisk, HasRecords, Makes
 
 -- ---- Format.
 
-format_goes : (rate : Rate) (name : List ℕ) (count : ℕ) (old : Stage) → 1 ≤ count → count ≤ 80 → is_loaded old.state 0 ≡ false → GoesWell (format_script name count rate) old
+format_goes : (rate : Rate) (name : List ℕ) (count : ℕ) (old : Stage) → 1 ≤ count → count ≤ 80 → is_loaded old.state 0 ≡ false
+    → GoesWell (format_script name count rate) old
 unfolding format_script formats_disk
 format_goes rate name count old least most empty =
     let Making : Unit {0} → Stage → Type 0 = λ none stage. IsMaking 0 rate count AnyDisk stage.state.station in
-    goes_carries (λ new. IsBlank 0 rate name count old.state old.files new.state new.files) (blank_request 0 name count rate) _ old (blank_done 0 rate name count old refl least most empty) (λ one is.
+    goes_carries (λ new. IsBlank 0 rate name count old.state old.files new.state new.files) (blank_request 0 name count rate) _ old
+    (blank_done 0 rate name count old refl least most empty) (λ one is.
     acknowledges_goes 0 1 (blank_of count rate) refl (λ station value. refl) _ one is.medium (λ two alone.
     goes_tracks Making count 2 (formats 0) tt two (λ c h cylinder head none mid made. λ rest behind.
     goes_carries (λ new. MakesAlone 0 1 rate count (HasRecords (sectors_at rate) c h) mid new) (request.Format 0 c h) rest mid
@@ -84,40 +86,49 @@ module _ (source : Disk) (readable : IsReadable source) (few_cylinders : source.
   IsOnTrack stage = IsCopying source (HasRecords sectors c h) stage
 
   -- something was done in bay 1
-  made_on : (old new : Stage) → IsReadyFor 0 source old.state.station → MakesAlone 1 0 source.rate source.cylinders (HasRecords sectors c h) old new → IsOnTrack new
+  made_on : (old new : Stage) → IsReadyFor 0 source old.state.station → MakesAlone 1 0 source.rate source.cylinders (HasRecords sectors c h) old new
+      → IsOnTrack new
   made_on old new ready alone = record { first = ready_still 0 source old.state.station new.state.station alone.same ready; second = alone.made }
 
-  copy_read_goes : (r : ℕ) (marks : List Bool) (old : Stage) → 1 ≤ r → r ≤ sectors → IsOnTrack old → PartGoes (λ now new. IsOnTrack new) (reads_record c h r marks) old
+  copy_read_goes : (r : ℕ) (marks : List Bool) (old : Stage) → 1 ≤ r → r ≤ sectors → IsOnTrack old
+      → PartGoes (λ now new. IsOnTrack new) (reads_record c h r marks) old
   unfolding reads_record
   copy_read_goes r marks old least most copying rest behind =
       goes_needs (λ new. ReadsAlone source old new) (request.Read 0 (key_of c h r) (record_address r)) _ old
       (read_done source c h r r old readable few_cylinders few_heads has least most least (omega (arith, most, few_sectors source.rate)) copying.first)
       (λ answer new alone. behind _ new (record {
         first = alone.ready;
-        second = made_still 1 source.rate source.cylinders (HasRecords sectors c h) (HasRecords sectors c h) old.state.station new.state.station (λ disk has. has) (ap (λ (bays : Two Bay). in_bay bays 1) alone.same) copying.second;
+        second = made_still 1 source.rate source.cylinders (HasRecords sectors c h) (HasRecords sectors c h) old.state.station new.state.station
+            (λ disk has. has) (ap (λ (bays : Two Bay). in_bay bays 1) alone.same) copying.second;
       }))
 
   -- whatever its mark is
-  write_goes : (marks : List Bool) (r : ℕ) (old : Stage) → 1 ≤ r → r ≤ sectors → IsOnTrack old → PartGoes (λ none new. IsOnTrack new) (writes_record marks c h r tt) old
+  write_goes : (marks : List Bool) (r : ℕ) (old : Stage) → 1 ≤ r → r ≤ sectors → IsOnTrack old
+      → PartGoes (λ none new. IsOnTrack new) (writes_record marks c h r tt) old
   unfolding writes_record
   write_goes marks r old least most copying rest behind =
       let deleted = get_or marks (r - 1) false in
-      goes_carries (λ new. MakesAlone 1 0 source.rate source.cylinders (HasRecords sectors c h) old new) (write_request deleted (key_of c h r) (record_address r)) rest old
-      (write_done 1 0 source.rate source.cylinders c h r deleted refl (λ station value. refl) has.0 (omega (arith, has.1, few_heads)) least most old copying.second)
+      goes_carries (λ new. MakesAlone 1 0 source.rate source.cylinders (HasRecords sectors c h) old new)
+      (write_request deleted (key_of c h r) (record_address r)) rest old
+      (write_done 1 0 source.rate source.cylinders c h r deleted refl (λ station value. refl) has.0
+      (omega (arith, has.1, few_heads)) least most old copying.second)
       (λ new alone. behind tt new (made_on old new copying.first alone))
 
   copied_goes : (old : Stage) → IsCopying source AnyDisk old → PartGoes (λ none new. IsCopying source AnyDisk new) (copies_track sectors c h tt) old
   unfolding copies_track
   copied_goes old copying rest behind =
       goes_carries (λ new. MakesAlone 1 0 source.rate source.cylinders (HasRecords sectors c h) old new) (request.Format 1 c h) _ old
-      (format_done 1 0 source.rate source.cylinders c h refl (λ station value. refl) has.0 (omega (arith, has.1, few_heads)) AnyDisk old copying.second) (λ one alone.
-      goes_each (λ marks new. IsOnTrack new) (reads_record c h) 1 sectors no_marks one (λ r least below marks mid there. copy_read_goes r marks mid least (omega arith) there)
+      (format_done 1 0 source.rate source.cylinders c h refl (λ station value. refl) has.0 (omega (arith, has.1, few_heads)) AnyDisk old copying.second)
+      (λ one alone.
+      goes_each (λ marks new. IsOnTrack new) (reads_record c h) 1 sectors no_marks one
+      (λ r least below marks mid there. copy_read_goes r marks mid least (omega arith) there)
       (made_on old one copying.first alone) _ (λ marks two there.
-      goes_each (λ none new. IsOnTrack new) (writes_record marks c h) 1 sectors tt two (λ r least below none mid is. write_goes marks r mid least (omega arith) is) there rest
+      goes_each (λ none new. IsOnTrack new) (writes_record marks c h) 1 sectors tt two
+      (λ r least below none mid is. write_goes marks r mid least (omega arith) is) there rest
       (λ none three is. behind tt three (record { first = is.first; second = any_made 1 source.rate source.cylinders _ three.state.station is.second }))))
 
-copy_goes : (from to : List ℕ) (files : Files) (source : Disk) (old : State) → IsReadable source → IsImageOf (Some files) from source → is_loaded old 0 ≡ false → is_loaded old 1 ≡ false
-    → GoesWell (copy_script from to) (at old (Some files))
+copy_goes : (from to : List ℕ) (files : Files) (source : Disk) (old : State) → IsReadable source → IsImageOf (Some files) from source → is_loaded old 0 ≡ false
+    → is_loaded old 1 ≡ false → GoesWell (copy_script from to) (at old (Some files))
 unfolding copy_script
 copy_goes from to files source old readable image empty other =
     let rate = source.rate in
@@ -125,7 +136,8 @@ copy_goes from to files source old readable image empty other =
     let blank = blank_of count rate in
     let ranges = image_ranges files from source image in
     opens_goes from files source _ old image empty other (λ one put.
-    goes_carries (λ new. IsBlank 1 rate to count one.state one.files new.state new.files) (blank_request 1 to count rate) _ one (blank_done 1 rate to count one refl ranges.2 ranges.0 put.empty) (λ two is.
+    goes_carries (λ new. IsBlank 1 rate to count one.state one.files new.state new.files) (blank_request 1 to count rate) _ one
+    (blank_done 1 rate to count one refl ranges.2 ranges.0 put.empty) (λ two is.
     let medium = ap (λ (s : StationState). (bay_of s 0).medium) is.becomes ∙ put.medium in
     acknowledges_goes 0 1 source refl (λ station value. refl) _ two medium (λ three first.
     let second = ap (λ (b : Bay). b.medium) first.same ∙ is.medium in
@@ -162,8 +174,9 @@ same_sectors disk to old new course told after sure stores = record {
 }
 
 -- so does a copy of a readable disk
-pub copy_complete : (from to : List ℕ) (old new : World) (ended : Status) (files : Files) (disk : Disk) → BeginsSound old → old.files ≡ Some files → IsImageOf (Some files) from disk → IsReadable disk
-    → Runs (RunsScript (copy_script from to)) old new ended → EndsWellOrOutside (StoresSameSectors disk to (Some files) new.files) ended
+pub copy_complete : (from to : List ℕ) (old new : World) (ended : Status) (files : Files) (disk : Disk) → BeginsSound old → old.files ≡ Some files
+    → IsImageOf (Some files) from disk → IsReadable disk → Runs (RunsScript (copy_script from to)) old new ended
+    → EndsWellOrOutside (StoresSameSectors disk to (Some files) new.files) ended
 copy_complete from to old new ended files disk begins told image readable runs =
     let goes = copy_goes from to files disk old.state readable image (fresh_empty old.state 0 begins.fresh) (fresh_empty old.state 1 begins.fresh) in
     completes (copy_script from to) _ old new runs.course ended (Some files) told begins goes (runs.ties.undisturbed begins.sound) runs.does
@@ -179,7 +192,8 @@ module _ (disk : Disk) (readable : IsReadable disk) (few_cylinders : disk.cylind
     pub ready : IsReadyFor 0 disk stage.state.station
     pub fine : refused ≡ false
 
-  tells_none : (key : Chrn) (answer : Reply) (rest : Unit {0} → Script) (old : Stage) → is_refusal answer ≡ false → GoesWell (rest tt) old → GoesWell (tells_failure key answer rest) old
+  tells_none : (key : Chrn) (answer : Reply) (rest : Unit {0} → Script) (old : Stage) → is_refusal answer ≡ false → GoesWell (rest tt) old
+      → GoesWell (tells_failure key answer rest) old
   unfolding tells_failure
   tells_none key (reply.Refused cause) rest old fine goes = absurd (true≢false fine)
   tells_none key reply.Done rest old fine goes = goes
@@ -199,25 +213,29 @@ module _ (disk : Disk) (readable : IsReadable disk) (few_cylinders : disk.cylind
       tells_none (key_of c h r) answer _ new fine
       (behind (one_more tally (is_refusal answer)) new (record { ready = alone.ready; fine = none_more tally.refused (is_refusal answer) reading.fine fine })))
 
-verify_goes : (name : List ℕ) (files : Files) (disk : Disk) (old : State) → IsReadable disk → IsImageOf (Some files) name disk → is_loaded old 0 ≡ false → is_loaded old 1 ≡ false
-    → GoesWell (verify_script name) (at old (Some files))
+verify_goes : (name : List ℕ) (files : Files) (disk : Disk) (old : State) → IsReadable disk → IsImageOf (Some files) name disk → is_loaded old 0 ≡ false
+    → is_loaded old 1 ≡ false → GoesWell (verify_script name) (at old (Some files))
 unfolding verify_script verifies_track
 verify_goes name files disk old readable image empty other =
     let ranges = image_ranges files name disk image in
     opens_goes name files disk _ old image empty other (λ one put.
     acknowledges_goes 0 1 disk refl (λ station value. refl) _ one put.medium (λ two alone.
-    goes_tracks (λ now new. IsReading disk readable ranges.0 ranges.1 now.refused new) disk.cylinders disk.heads (verifies_track (sectors_at disk.rate)) no_reads two (λ c h cylinder head tally mid there.
-    goes_each (λ now new. IsReading disk readable ranges.0 ranges.1 now.refused new) (verifies_record c h) 1 (sectors_at disk.rate) tally mid (λ r least below now one is.
+    goes_tracks (λ now new. IsReading disk readable ranges.0 ranges.1 now.refused new) disk.cylinders disk.heads
+    (verifies_track (sectors_at disk.rate)) no_reads two (λ c h cylinder head tally mid there.
+    goes_each (λ now new. IsReading disk readable ranges.0 ranges.1 now.refused new) (verifies_record c h) 1 (sectors_at disk.rate) tally mid
+    (λ r least below now one is.
     verified_goes disk readable ranges.0 ranges.1 c h r now one (cylinder, head) least (omega (arith, below)) is) there)
     (record { ready = alone.ready; fine = refl }) _
     (λ tally three there. ap whole_status there.fine)))
 
 -- so does a verify of a readable disk, which finds each key
-pub verify_complete : (name : List ℕ) (old new : World) (ended : Status) (files : Files) (disk : Disk) → BeginsSound old → old.files ≡ Some files → IsImageOf (Some files) name disk → IsReadable disk
-    → Runs (RunsScript (verify_script name)) old new ended → EndsWellOrOutside (TellsFailing disk [] old new status.AllOk) ended
+pub verify_complete : (name : List ℕ) (old new : World) (ended : Status) (files : Files) (disk : Disk) → BeginsSound old → old.files ≡ Some files
+    → IsImageOf (Some files) name disk → IsReadable disk → Runs (RunsScript (verify_script name)) old new ended
+    → EndsWellOrOutside (TellsFailing disk [] old new status.AllOk) ended
 verify_complete name old new ended files disk begins told image readable runs =
     let goes = verify_goes name files disk old.state readable image (fresh_empty old.state 0 begins.fresh) (fresh_empty old.state 1 begins.fresh) in
     let empty = ap (λ (bays : Two Bay). (in_bay bays 0).medium) begins.fresh.bays in
     completes (verify_script name) _ old new runs.course ended (Some files) told begins goes (runs.ties.undisturbed begins.sound) runs.does
     (λ done faultless.
-    verify_tells name old new runs.course status.AllOk files disk [] done tt told image empty faultless.calm (readable_unmistaken disk readable) (none_failing disk readable))
+    verify_tells name old new runs.course status.AllOk files disk [] done tt told image empty faultless.calm (readable_unmistaken disk readable)
+    (none_failing disk readable))

@@ -39,7 +39,8 @@ entered_same old (request.Unit bay) answer keeps = absurd (true≢false (sym kee
 entered_same old _ answer keeps = refl
 
 -- nothing disturbed the bay of a request that leaves the drives in their bays
-pub calm_in : (bay : ℕ) (asked : Request) (answer : Reply) (old new : Counters) → is_bay bay ≡ true → keeps_drives asked ≡ true → IsCalm asked answer old new → IsUndisturbed bay old new
+pub calm_in : (bay : ℕ) (asked : Request) (answer : Reply) (old new : Counters) → is_bay bay ≡ true → keeps_drives asked ≡ true → IsCalm asked answer old new
+    → IsUndisturbed bay old new
 calm_in bay asked answer old new is_one keeps calm =
     let same = entered_same old asked answer keeps in
     go bay is_one (subst (λ (c : Counters). IsUndisturbed 0 c new) same calm.first) (subst (λ (c : Counters). IsUndisturbed 1 c new) same calm.second)
@@ -55,8 +56,8 @@ pub record IsStill (old new : Counters) : Type 0 where
   pub second : new.drives.second.faults ≡ old.drives.second.faults
   pub stalls : new.stalls ≡ old.stalls
 
-pub step_still : (old new : State) (told after : Option Files) (asked : Request) (answer : Reply) → Step asked old told answer new after → keeps_drives asked ≡ true
-    → IsCalm asked answer old.station.counters new.station.counters → IsStill old.station.counters new.station.counters
+pub step_still : (old new : State) (told after : Option Files) (asked : Request) (answer : Reply) → Step asked old told answer new after
+    → keeps_drives asked ≡ true → IsCalm asked answer old.station.counters new.station.counters → IsStill old.station.counters new.station.counters
 step_still old new told after asked answer step keeps calm =
     let fell = step_never_fell old new told after asked answer step keeps in
     let first = calm_in 0 asked answer old.station.counters new.station.counters refl keeps calm in
@@ -115,7 +116,8 @@ goes_asks P asked rest old done next = (
   λ answer new step calm. let it = done.answers answer new step calm in next answer new it.0 it.1,
 )
 
-unrefused : (asked : Request) (answer : Reply) (later : Script) (old : Stage) → is_refusal answer ≡ false → GoesWell later old → GoesWell (unless_refused asked answer later) old
+unrefused : (asked : Request) (answer : Reply) (later : Script) (old : Stage) → is_refusal answer ≡ false → GoesWell later old
+    → GoesWell (unless_refused asked answer later) old
 unrefused asked (reply.Refused cause) later old fine goes = absurd (true≢false fine)
 unrefused asked reply.Done later old fine goes = goes
 unrefused asked reply.DoneDeleted later old fine goes = goes
@@ -153,7 +155,8 @@ goes_each P part a (suc n) found old keeps holds = λ rest behind.
 
 -- so each track, by cylinder, then head
 pub goes_tracks : {Found : Type 0} (P : Found → Stage → Type 0) (cylinders heads : ℕ) (part : ℕ → ℕ → Found → Part Found) (found : Found) (old : Stage)
-    → ((c h : ℕ) → c < cylinders → h < heads → (now : Found) (mid : Stage) → P now mid → PartGoes P (part c h now) mid) → P found old → PartGoes P (by_track cylinders heads part found) old
+    → ((c h : ℕ) → c < cylinders → h < heads → (now : Found) (mid : Stage) → P now mid → PartGoes P (part c h now) mid) → P found old
+    → PartGoes P (by_track cylinders heads part found) old
 goes_tracks P cylinders heads part found old keeps holds =
     goes_each P (λ c. each 0 heads (part c)) 0 cylinders found old (λ c least most now mid here.
     goes_each P (part c) 0 heads now mid (λ h from below so end there. keeps c h (omega (arith, most)) (omega (arith, below)) so end there) here) holds
@@ -195,13 +198,15 @@ module _ (start : Counters) where
   abbrev EndsStill : World → Status → Type 0
   EndsStill new ended = EndsWellOrOutside (IsStill start new.state.station.counters) ended
 
-  stored_ends : (name bytes line : List ℕ) (old new : World) (ended : Status) → IsStill start old.state.station.counters → StoresLast name bytes line status.AllOk old new ended → EndsStill new ended
+  stored_ends : (name bytes line : List ℕ) (old new : World) (ended : Status) → IsStill start old.state.station.counters
+      → StoresLast name bytes line status.AllOk old new ended → EndsStill new ended
   stored_ends name bytes line old new ended still (IsStored state files prints) =
       prints_outside _ old.report line status.AllOk ended new.report (subst (λ (s : State). IsStill start s.station.counters) (sym state) still) prints
   stored_ends name bytes line old new ended still (NotStored same fault) = store_fault_outside _ ended fault
 
-  goes_ends : (script : Script) (old new : World) (course : List Taken) (ended : Status) → GoesWell script (at old.state old.files) → IsStill start old.state.station.counters
-      → AreUndisturbed old.state.station.counters course → RunsScript script old course new ended → EndsStill new ended
+  goes_ends : (script : Script) (old new : World) (course : List Taken) (ended : Status) → GoesWell script (at old.state old.files)
+      → IsStill start old.state.station.counters → AreUndisturbed old.state.station.counters course → RunsScript script old course new ended
+      → EndsStill new ended
   goes_ends (Ends line wanted) old new [] ended well still calm runs =
       let here = subst (λ (s : State). IsStill start s.station.counters) (sym runs.state) still in
       prints_outside _ old.report line wanted ended new.report (subst (λ (s : Status). EndsStill new s) (sym well) here) runs.report
@@ -213,9 +218,11 @@ module _ (start : Counters) where
       let only = goes.0.stops runs.0 (at new.state new.files) runs.1 in
       prints_outside _ old.report _ (stop_status runs.0) ended new.report (stop_outside _ runs.0 only) runs.2
   goes_ends (Asks asked rest) old new (taken ∷ later) ended goes still calm runs =
-      let quiet = subst (λ (q : Request). IsCalm q taken.answer old.state.station.counters taken.after.station.counters) runs.0 (record { first = calm.0; second = calm.1 }) in
+      let quiet = subst (λ (q : Request). IsCalm q taken.answer old.state.station.counters taken.after.station.counters) runs.0
+      (record { first = calm.0; second = calm.1 }) in
       let here = step_still old.state taken.after old.files runs.1 asked taken.answer runs.2 goes.0.keeps quiet in
-      goes_ends (rest taken.answer taken.after) (with_report taken.after runs.1 old.report) new later ended (goes.1 taken.answer (at taken.after runs.1) runs.2 quiet)
+      goes_ends (rest taken.answer taken.after) (with_report taken.after runs.1 old.report) new later ended
+      (goes.1 taken.answer (at taken.after runs.1) runs.2 quiet)
       (still_both start old.state.station.counters taken.after.station.counters still here) calm.2 runs.3
   goes_ends (Stores name bytes line wanted) old new [] ended well still calm runs =
       stored_ends name bytes line old new ended still (subst (λ (s : Status). StoresLast name bytes line s old new ended) well runs)
@@ -247,7 +254,8 @@ still_faultless old new begins still =
 -- where nothing is left to go wrong, a script that goes well ends well and faultless, with what holds then; or the outside failed
 pub completes : (script : Script) (Holds : Type 0) (old new : World) (course : List Taken) (ended : Status) (told : Option Files) → old.files ≡ told
     → BeginsSound old → GoesWell script (at old.state told) → AreUndisturbed old.state.station.counters course → RunsScript script old course new ended
-    → (RunsScript script old course new status.AllOk → AreFaultless old.state.station.counters new.state.station.counters → Holds) → EndsWellOrOutside Holds ended
+    → (RunsScript script old course new status.AllOk → AreFaultless old.state.station.counters new.state.station.counters → Holds)
+    → EndsWellOrOutside Holds ended
 completes script Holds old new course ended told is begins goes calm runs gives =
     let here = subst (λ (files : Option Files). GoesWell script (at old.state files)) (sym is) goes in
     let counters = old.state.station.counters in

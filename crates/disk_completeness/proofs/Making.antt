@@ -68,7 +68,8 @@ HasRecords sectors c h disk = (r : ℕ) → 1 ≤ r → r ≤ sectors → HasSom
 
 module _ (bay : ℕ) (rate : Rate) (count : ℕ) where
   -- a blank disk, once its bay is ready
-  pub blank_made : (station : StationState) → IsDisk (blank_of count rate) → IsReadyFor bay (blank_of count rate) station → IsMaking bay rate count AnyDisk station
+  pub blank_made : (station : StationState) → IsDisk (blank_of count rate) → IsReadyFor bay (blank_of count rate) station
+      → IsMaking bay rate count AnyDisk station
   blank_made station valid ready = record {
     disk = blank_of count rate;
     medium = ready.medium;
@@ -80,7 +81,8 @@ module _ (bay : ℕ) (rate : Rate) (count : ℕ) where
   }
 
   -- where less is wanted of the disk, and the bay stays
-  pub made_still : (Also Less : Disk → Type 0) (old new : StationState) → ((disk : Disk) → Also disk → Less disk) → bay_of new bay ≡ bay_of old bay → IsMaking bay rate count Also old → IsMaking bay rate count Less new
+  pub made_still : (Also Less : Disk → Type 0) (old new : StationState) → ((disk : Disk) → Also disk → Less disk) → bay_of new bay ≡ bay_of old bay
+      → IsMaking bay rate count Also old → IsMaking bay rate count Less new
   made_still Also Less old new less same made = record {
     disk = made.disk;
     medium = ap (λ (b : Bay). b.medium) same ∙ made.medium;
@@ -100,9 +102,11 @@ pub record MakesAlone (bay other : ℕ) (rate : Rate) (count : ℕ) (Also : Disk
   pub same : bay_of new.state.station other ≡ bay_of old.state.station other
 
 -- a call that changed the medium of a bay alone
-remade : (bay other : ℕ) (rate : Rate) (count : ℕ) (Before Also : Disk → Type 0) (old new : Stage) (next : Disk) → AreApart bay other → IsMaking bay rate count Before old.state.station
+remade : (bay other : ℕ) (rate : Rate) (count : ℕ) (Before Also : Disk → Type 0) (old new : Stage) (next : Disk) → AreApart bay other
+    → IsMaking bay rate count Before old.state.station
     → Becomes (set_bay old.state.station bay (record (bay_of old.state.station bay) { medium = (bay_of new.state.station bay).medium })) new.state.station
-    → (bay_of new.state.station bay).medium ≡ Some next → AreAlike (blank_of count rate) next → IsRegularDisk next → Also next → MakesAlone bay other rate count Also old new
+    → (bay_of new.state.station bay).medium ≡ Some next → AreAlike (blank_of count rate) next → IsRegularDisk next → Also next
+    → MakesAlone bay other rate count Also old new
 remade bay other rate count Before Also old new next apart made becomes medium alike regular also =
     let station = old.state.station in
     let value : Bay = record (bay_of station bay) { medium = (bay_of new.state.station bay).medium } in
@@ -141,7 +145,8 @@ protected_by medium disk is free = rw (is, free) refl
 format_order : (good acknowledged protected : Bool) → good ≡ true → acknowledged ≡ true → protected ≡ false → (if not good then Some BadRequest else (if not acknowledged then Some Changed else (if protected then Some Protected else None))) ≡ None
 format_order good acknowledged protected e f g = rw (e, f, g) refl
 
-module _ (bay other : ℕ) (rate : Rate) (count c h : ℕ) (is_one : is_bay bay ≡ true) (apart : AreApart bay other) (cylinder : c < count) (head : h < 2) (Also : Disk → Type 0) (old : Stage) (made : IsMaking bay rate count Also old.state.station) where
+module _ (bay other : ℕ) (rate : Rate) (count c h : ℕ) (is_one : is_bay bay ≡ true) (apart : AreApart bay other) (cylinder : c < count) (head : h < 2)
+    (Also : Disk → Type 0) (old : Stage) (made : IsMaking bay rate count Also old.state.station) where
   abbrev station : StationState
   station = old.state.station
 
@@ -156,7 +161,8 @@ module _ (bay other : ℕ) (rate : Rate) (count c h : ℕ) (is_one : is_bay bay 
       let free : is_protected station bay ≡ false = protected_by (bay_of station bay).medium made.disk made.medium alike.protected in
       format_order (is_format_request station bay c h (gap_at gap)) (is_acknowledged station bay) (is_protected station bay) good made.kept free
 
-  formatted_done : (answer : Reply) (new : Stage) → Step (request.Format bay c h) old.state old.files answer new.state new.files → IsUndisturbed bay station.counters new.state.station.counters
+  formatted_done : (answer : Reply) (new : Stage) → Step (request.Format bay c h) old.state old.files answer new.state new.files
+      → IsUndisturbed bay station.counters new.state.station.counters
       → (is_refusal answer ≡ false) × MakesAlone bay other rate count (HasRecords (sectors_at rate) c h) old new
   formatted_done answer new step calm =
       let disk = made.disk in
@@ -169,9 +175,11 @@ module _ (bay other : ℕ) (rate : Rate) (count c h : ℕ) (is_one : is_bay bay 
       let reached = reaches _ (format_refusal station bay c h (gap_at (bay_of station bay).rate)) format_free step.1.2 in
       let drive = subst (λ (r : Rate). FormatsDrive (format_at c h r (gap_at r) standard_fill) bay station called new.state.station) made.bay_rate reached in
       let track : HasTrack disk c h = (omega (arith, cylinder, alike.cylinders), omega (arith, head, alike.heads)) in
-      let formattable : IsFormattable format (bay_of station bay).medium = (disk, made.medium, record { track = track; rate = alike.rate; fits = standard_fits rate c h disk.words_per_track alike.words_per_track }) in
+      let formattable : IsFormattable format (bay_of station bay).medium =
+      (disk, made.medium, record { track = track; rate = alike.rate; fits = standard_fits rate c h disk.words_per_track alike.words_per_track }) in
       let ok : IsOk called = (drive.exactly calm).1 formattable in
-      let laid = drive_formats bay rate c h disk station new.state.station called drive ok (omega (arith, calm.together, stalls), calm.faults) made.medium alike.valid in
+      let laid = drive_formats bay rate c h disk station new.state.station called drive ok
+      (omega (arith, calm.together, stalls), calm.faults) made.medium alike.valid in
       let next = laid.0 in
       let keeps = laid.2 in
       let is : track_of next c h ≡ standard_track rate c h = laid.3 ∙ ap (λ (n : ℕ). formatted format n) alike.words_per_track in
@@ -182,13 +190,17 @@ module _ (bay other : ℕ) (rate : Rate) (count c h : ℕ) (is_one : is_bay bay 
       let on = subst (λ (t : List ℕ). HasContent t there.0 (key_of c h r) standard_content) (sym is) there.1 in
       let some : HasSome next c h r = (there.0, false, standard_content, record { track = on_next; address = on.address; content = on.found }) in
       some in
-      let laid_so = subst (λ (t : List ℕ). IsRegular t c h) (sym is) (track_regular rate c h small_c small_h) in
-      (ok_taken called answer step.1.1 ok, remade bay other rate count Also _ old new next apart made drive.becomes laid.1 after (stays_regular disk c h next keeps made.regular laid_so) records)
+      let laid_so = subst (λ (t : List ℕ). IsRegular t c h) (sym is) (track_regular rate c h small_c small_h) in (
+        ok_taken called answer step.1.1 ok,
+        remade bay other rate count Also _ old new next apart made drive.becomes laid.1 after
+            (stays_regular disk c h next keeps made.regular laid_so) records,
+      )
 
   pub format_done : IsDone (λ new. MakesAlone bay other rate count (HasRecords (sectors_at rate) c h) old new) (request.Format bay c h) old
   format_done = record {
     safe = safe (request.Format bay c h) old refl (λ at name same. cc same);
-    answers = λ answer new step calm. formatted_done answer new step (calm_in bay (request.Format bay c h) answer station.counters new.state.station.counters is_one refl calm);
+    answers = λ answer new step calm. formatted_done answer new step
+        (calm_in bay (request.Format bay c h) answer station.counters new.state.station.counters is_one refl calm);
   }
 
 -- ---- A record is written.
@@ -202,7 +214,8 @@ abbrev Calls : ℕ → Chrn → ℕ → Bool → State → Option Files → Repl
 Calls bay key address deleted old told answer new after =
     IsDriverCall old told new after × ((called : Result (Unit {0}) Code) × (answer ≡ reply_of called) × WritesTo bay key address deleted old.station called new.station)
 
-write_called : (bay : ℕ) (key : Chrn) (address : ℕ) (deleted : Bool) (old new : State) (told after : Option Files) (answer : Reply) → Step (write_to bay deleted key address) old told answer new after → Calls bay key address deleted old told answer new after
+write_called : (bay : ℕ) (key : Chrn) (address : ℕ) (deleted : Bool) (old new : State) (told after : Option Files) (answer : Reply)
+    → Step (write_to bay deleted key address) old told answer new after → Calls bay key address deleted old told answer new after
 write_called bay key address true old new told after answer step = step
 write_called bay key address false old new told after answer step = step
 
@@ -212,7 +225,9 @@ write_order good crosses acknowledged protected e f g i = rw (e, f, g, i) refl
 other_key : (c h r s : ℕ) → (r ≡ s → ⊥) → key_of c h r ≢ key_of c h s
 other_key c h r s differ e = differ (ap (λ (k : Chrn). k.r) e)
 
-module _ (bay other : ℕ) (rate : Rate) (count c h r : ℕ) (deleted : Bool) (is_one : is_bay bay ≡ true) (apart : AreApart bay other) (cylinder : c < count) (head : h < 2) (least : 1 ≤ r) (most : r ≤ sectors_at rate) (old : Stage) (making : IsMaking bay rate count (HasRecords (sectors_at rate) c h) old.state.station) where
+module _ (bay other : ℕ) (rate : Rate) (count c h r : ℕ) (deleted : Bool) (is_one : is_bay bay ≡ true) (apart : AreApart bay other) (cylinder : c < count)
+    (head : h < 2) (least : 1 ≤ r) (most : r ≤ sectors_at rate) (old : Stage)
+    (making : IsMaking bay rate count (HasRecords (sectors_at rate) c h) old.state.station) where
   abbrev before : StationState
   before = old.state.station
 
@@ -226,7 +241,8 @@ module _ (bay other : ℕ) (rate : Rate) (count c h r : ℕ) (deleted : Bool) (i
   track = (omega (arith, cylinder, making.alike.cylinders), omega (arith, head, making.alike.heads))
 
   met_is : met (bay_of before bay) c h ≡ track_of making.disk c h
-  met_is = met_track (bay_of before bay).medium (bay_of before bay).rate c h making.disk (record { is_in = making.medium; has = track; same_rate = making.alike.rate ∙ sym making.bay_rate })
+  met_is = met_track (bay_of before bay).medium (bay_of before bay).rate c h making.disk
+      (record { is_in = making.medium; has = track; same_rate = making.alike.rate ∙ sym making.bay_rate })
 
   address : IsAddressAt (met (bay_of before bay) c h) place (key_of c h r)
   address = subst (λ (t : List ℕ). IsAddressAt t place (key_of c h r)) (sym met_is) (making.also r least most).3.address
@@ -236,11 +252,15 @@ module _ (bay other : ℕ) (rate : Rate) (count c h r : ℕ) (deleted : Bool) (i
       let few : r ≤ 18 = omega (arith, most, few_sectors rate) in
       let good = sector_asked bay c h r r is_one (omega (arith, track.0, making.alike.valid.cylinders.1)) (omega (arith, head)) least least few in
       let bare : is_protected before bay ≡ false = protected_by (bay_of before bay).medium making.disk making.medium making.alike.protected in
-      write_order (is_sector_request bay (key_of c h r) (record_address r)) (crosses_page (record_address r) (content_size standard_code)) (is_acknowledged before bay) (is_protected before bay)
+      write_order (is_sector_request bay (key_of c h r) (record_address r)) (crosses_page (record_address r) (content_size standard_code))
+      (is_acknowledged before bay) (is_protected before bay)
       good (within_page r least few) making.kept bare
 
-  module _ (new : Stage) (calm : IsUndisturbed bay before.counters new.state.station.counters) (stalls : before.counters.stalls ≤ new.state.station.counters.stalls) (called : Result (Unit {0}) Code) (drive : WritesDrive written bay before called new.state.station) where
-    never : (code : Code) → IsWriteCause written (met (bay_of before bay) c h) (met (bay_of new.state.station bay) c h) drive.changes bay before code new.state.station → ⊥
+  module _ (new : Stage) (calm : IsUndisturbed bay before.counters new.state.station.counters)
+      (stalls : before.counters.stalls ≤ new.state.station.counters.stalls) (called : Result (Unit {0}) Code)
+      (drive : WritesDrive written bay before called new.state.station) where
+    never : (code : Code)
+        → IsWriteCause written (met (bay_of before bay) c h) (met (bay_of new.state.station bay) c h) drive.changes bay before code new.state.station → ⊥
     never code cause =
         let on = subst (λ (t : List ℕ). IsRegular t c h) (sym met_is) (making.regular c h track) in
         cause.never on place address (inr calm) (disturbed_less before.tries bay before.counters new.state.station.counters calm)
@@ -248,7 +268,9 @@ module _ (bay other : ℕ) (rate : Rate) (count c h r : ℕ) (deleted : Bool) (i
     ok : IsOk called
     ok = go called drive.refused
       where
-        go : (answer : Result (Unit {0}) Code) → IfErr answer (λ code. IsWriteCause written (met (bay_of before bay) c h) (met (bay_of new.state.station bay) c h) drive.changes bay before code new.state.station) → IsOk answer
+        go : (answer : Result (Unit {0}) Code)
+            → IfErr answer (λ code. IsWriteCause written (met (bay_of before bay) c h)
+            (met (bay_of new.state.station bay) c h) drive.changes bay before code new.state.station) → IsOk answer
         go (Ok u) cause = refl
         go (Err code) cause = absurd (never code cause)
 
@@ -275,11 +297,13 @@ module _ (bay other : ℕ) (rate : Rate) (count c h r : ℕ) (deleted : Bool) (i
   write_safe true = safe (request.WriteDeleted bay (key_of c h r) (record_address r)) old refl (λ at name same. cc same)
   write_safe false = safe (request.Write bay (key_of c h r) (record_address r)) old refl (λ at name same. cc same)
 
-  pub write_done : IsDone (λ new. MakesAlone bay other rate count (HasRecords (sectors_at rate) c h) old new) (write_to bay deleted (key_of c h r) (record_address r)) old
+  pub write_done : IsDone (λ new. MakesAlone bay other rate count (HasRecords (sectors_at rate) c h) old new)
+      (write_to bay deleted (key_of c h r) (record_address r)) old
   write_done = record {
     safe = write_safe deleted;
     answers = λ answer new step calm.
-        let quiet = calm_in bay (write_to bay deleted (key_of c h r) (record_address r)) answer before.counters new.state.station.counters is_one (write_safe deleted).keeps calm in
+        let quiet = calm_in bay (write_to bay deleted (key_of c h r) (record_address r)) answer before.counters new.state.station.counters is_one
+        (write_safe deleted).keeps calm in
         let call = write_called bay (key_of c h r) (record_address r) deleted old.state new.state old.files new.files answer step in
         let drive = reaches _ (write_refusal before bay (key_of c h r) (record_address r)) write_free call.1.2 in
         (ok_taken call.1.0 answer call.1.1 (ok new quiet call.0.counts.stalls call.1.0 drive), writes new quiet call.0.counts.stalls call.1.0 drive);

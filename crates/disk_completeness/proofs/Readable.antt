@@ -51,7 +51,8 @@ within_page r least most =
     same_page (record_address r / 65536) ((record_address r + content_size standard_code - 1) / 65536) page.0 page.1
 
 -- such a key can be asked for
-pub sector_asked : (bay c h r place : ℕ) → nat_le bay 1 ≡ true → c ≤ 79 → h ≤ 1 → 1 ≤ r → 1 ≤ place → place ≤ 18 → is_sector_request bay (key_of c h r) (record_address place) ≡ true
+pub sector_asked : (bay c h r place : ℕ) → nat_le bay 1 ≡ true → c ≤ 79 → h ≤ 1 → 1 ≤ r → 1 ≤ place → place ≤ 18
+    → is_sector_request bay (key_of c h r) (record_address place) ≡ true
 sector_asked bay c h r place is_one cylinder head least from few =
     let there = both_true _ _ (le-leb c 79 cylinder) (le-leb h 1 head) in
     let inside : nat_le (record_address place + content_size standard_code) user_bytes ≡ true = le-leb _ _ (omega arith) in
@@ -112,8 +113,9 @@ pub record ReadsAlone (source : Disk) (old new : Stage) : Type 0 where
   pub same : new.state.station.bays ≡ old.state.station.bays
 
 -- a read of a record, to the place of any in memory
-pub read_done : (source : Disk) (c h r place : ℕ) (old : Stage) → IsReadable source → source.cylinders ≤ 80 → source.heads ≤ 2 → HasTrack source c h → 1 ≤ r → r ≤ sectors_at source.rate → 1 ≤ place → place ≤ 18
-    → IsReadyFor 0 source old.state.station → IsDone (λ new. ReadsAlone source old new) (request.Read 0 (key_of c h r) (record_address place)) old
+pub read_done : (source : Disk) (c h r place : ℕ) (old : Stage) → IsReadable source → source.cylinders ≤ 80 → source.heads ≤ 2 → HasTrack source c h → 1 ≤ r
+    → r ≤ sectors_at source.rate → 1 ≤ place → place ≤ 18 → IsReadyFor 0 source old.state.station
+    → IsDone (λ new. ReadsAlone source old new) (request.Read 0 (key_of c h r) (record_address place)) old
 read_done source c h r place old readable few_cylinders few_heads has least most from few ready = record {
   safe = safe (request.Read 0 (key_of c h r) (record_address place)) old refl (λ bay name same. cc same);
   answers = λ answer new step calm.
@@ -121,7 +123,8 @@ read_done source c h r place old readable few_cylinders few_heads has least most
       let address = record_address place in
       let station = old.state.station in
       let good = sector_asked 0 c h r place refl (omega (arith, has.0, few_cylinders)) (omega (arith, has.1, few_heads)) least from few in
-      let free = read_order (is_sector_request 0 key address) (crosses_page address (content_size standard_code)) (is_acknowledged station 0) good (within_page place from few) ready.kept in
+      let free = read_order (is_sector_request 0 key address) (crosses_page address (content_size standard_code)) (is_acknowledged station 0) good
+      (within_page place from few) ready.kept in
       let drive = reaches _ (read_refusal station 0 key address) free step.1.2 in
       let there = readable.sectors key (record { track = has; sector = (least, most); size = refl }) in
       let field = has_data source key there.0 readable.regular there.1 there.2 in

@@ -62,8 +62,10 @@ record ReadGives (source : Disk) (c h r : ℕ) (bytes : List ℕ) (old new : Wor
   pub files : new.files ≡ old.files
   pub fell : NeverFell (counts old) (counts new)
 
-read_gives : (source : Disk) (c h r : ℕ) (old new : World) (course : List Taken) (found : State) → IsTaken (request.Read 0 (key_of c h r) (record_address r)) behind old course found new → 1 ≤ r → r ≤ 18
-    → (bay_of old.state.station 0).medium ≡ Some source → length old.state.station.memory ≡ user_bytes → ReadGives source c h r (bytes_from found.station.memory (record_address r) 512) old new course
+read_gives : (source : Disk) (c h r : ℕ) (old new : World) (course : List Taken) (found : State)
+    → IsTaken (request.Read 0 (key_of c h r) (record_address r)) behind old course found new → 1 ≤ r → r ≤ 18
+    → (bay_of old.state.station 0).medium ≡ Some source → length old.state.station.memory ≡ user_bytes
+    → ReadGives source c h r (bytes_from found.station.memory (record_address r) 512) old new course
 read_gives source c h r old new course found given least most medium size =
     let key = key_of c h r in
     let address = record_address r in
@@ -72,16 +74,20 @@ read_gives source c h r old new course found given least most medium size =
     let taken = is.taken in
     let same = is.after in
     let step = subst (λ (s : State). Step asked old.state old.files taken.answer s new.files) (sym same) is.step in
-    let one = one_record c h r source old.state new.state old.files new.files taken.answer (done_does old.state new.state old.files new.files asked taken.answer step given.fine) given.fine medium in
+    let one = one_record c h r source old.state new.state old.files new.files taken.answer
+        (done_does old.state new.state old.files new.files asked taken.answer step given.fine) given.fine medium in
     let sized = one.sized in
     let fits : address + length one.content ≤ length old.state.station.memory = omega (arith, size, sized, most) in
     let long = length-with_items old.state.station.memory address one.content fits in
-    let stands : bytes_from new.state.station.memory address 512 ≡ one.content = ap (λ (m : List ℕ). bytes_from m address 512) one.memory ∙ at_stands old.state.station.memory address one.content 512 sized fits in
-    let from_found : bytes_from found.station.memory address 512 ≡ bytes_from new.state.station.memory address 512 = ap (λ (s : State). bytes_from s.station.memory address 512) (is.found_is ∙ sym same) in
+    let stands : bytes_from new.state.station.memory address 512 ≡ one.content = ap (λ (m : List ℕ). bytes_from m address 512) one.memory
+        ∙ at_stands old.state.station.memory address one.content 512 sized fits in
+    let from_found : bytes_from found.station.memory address 512 ≡ bytes_from new.state.station.memory address 512 =
+        ap (λ (s : State). bytes_from s.station.memory address 512) (is.found_is ∙ sym same) in
     let placed : one.content ≡ bytes_from found.station.memory address 512 = sym (from_found ∙ stands) in
     let mark : mark_of taken.asked taken.answer ≡ one.deleted ∷ [] = ap (λ (q : Request). mark_of q taken.answer) is.asked_is ∙ one.mark in
     let content = ap (λ (s : State). bytes_from s.station.memory address 512) is.found_is in
-    let gave : Gave key one.deleted (bytes_from found.station.memory address 512) taken = record { address = address; asked = is.asked_is; mark = mark; content = content } in
+    let gave : Gave key one.deleted (bytes_from found.station.memory address 512) taken =
+        record { address = address; asked = is.asked_is; mark = mark; content = content } in
     record {
       deleted = one.deleted;
       sized = ap length (sym placed) ∙ sized;
@@ -122,10 +128,12 @@ pub record IsGathered (start : Counters) (disk : Disk) (told : Option Files) (t 
   pub size : length now.state.station.memory ≡ user_bytes
   pub files : now.files ≡ told
   pub count : length bytes ≡ (t * sectors_at disk.rate + i) * 512
-  pub given : (c h r : ℕ) → IsSector (sectors_at disk.rate) c h r → IsBefore t i c h r → IsGivenAt (IsSure disk start (counts now)) disk (sectors_at disk.rate) c h r bytes course
+  pub given : (c h r : ℕ) → IsSector (sectors_at disk.rate) c h r → IsBefore t i c h r
+      → IsGivenAt (IsSure disk start (counts now)) disk (sectors_at disk.rate) c h r bytes course
 
 -- what was given stays
-given_stays : (sure later : Type 0) (disk : Disk) (sectors c h r : ℕ) (bytes more : List ℕ) (before steps : List Taken) → (later → sure) → IsGivenAt sure disk sectors c h r bytes before → IsGivenAt later disk sectors c h r (bytes ++ more) (before ++ steps)
+given_stays : (sure later : Type 0) (disk : Disk) (sectors c h r : ℕ) (bytes more : List ℕ) (before steps : List Taken) → (later → sure)
+    → IsGivenAt sure disk sectors c h r bytes before → IsGivenAt later disk sectors c h r (bytes ++ more) (before ++ steps)
 given_stays sure later disk sectors c h r bytes more before steps less given =
     let inside = given.inside in
     let same = sym (before_stays bytes more (sector_place sectors c h r) inside) in
@@ -136,8 +144,9 @@ given_stays sure later disk sectors c h r bytes more before steps less given =
     }
 
 module _ (start : Counters) (disk : Disk) (told : Option Files) where
-  gathers_record : (c h r : ℕ) → h < 2 → 1 ≤ r → r ≤ 18 → (old new : World) (so_far : List ℕ) (before steps : List Taken) (found : State) → IsTaken (request.Read 0 (key_of c h r) (record_address r)) behind old steps found new
-      → IsGathered start disk told (c * 2 + h) (r - 1) so_far before old → IsGathered start disk told (c * 2 + h) r (so_far ++ bytes_from found.station.memory (record_address r) 512) (before ++ steps) new
+  gathers_record : (c h r : ℕ) → h < 2 → 1 ≤ r → r ≤ 18 → (old new : World) (so_far : List ℕ) (before steps : List Taken) (found : State)
+      → IsTaken (request.Read 0 (key_of c h r) (record_address r)) behind old steps found new → IsGathered start disk told (c * 2 + h) (r - 1) so_far before old
+      → IsGathered start disk told (c * 2 + h) r (so_far ++ bytes_from found.station.memory (record_address r) 512) (before ++ steps) new
   gathers_record c h r head least most old new so_far before steps found taken holds =
       let sectors = sectors_at disk.rate in
       let place = sector_place sectors c h r in
@@ -151,7 +160,8 @@ module _ (start : Counters) (disk : Disk) (told : Option Files) where
       let fell = both_fell start (counts old) (counts new) holds.fell read.fell in
       let sure = IsSure disk start (counts new) in
       let parts = λ (s : sure). sure_parts disk start (counts old) (counts new) holds.fell read.fell s in
-      let whole : IsAsRead sure (before ++ steps) disk c h r bytes = record { deleted = read.deleted; step = some_second _ before steps read.step; field = read.field; sector = λ s. read.sector (parts s).1 } in
+      let whole : IsAsRead sure (before ++ steps) disk c h r bytes =
+          record { deleted = read.deleted; step = some_second _ before steps read.step; field = read.field; sector = λ s. read.sector (parts s).1 } in
       let own : IsGivenAt sure disk sectors c h r (so_far ++ bytes) (before ++ steps) =
           record { inside = omega (arith, at, long, sized); read = subst (λ (row : List ℕ). IsAsRead sure (before ++ steps) disk c h r row) stands whole } in
       let kept = λ (b g q : ℕ) (sector : IsSector sectors b g q) (which : IsBefore (c * 2 + h) (r - 1) b g q).
@@ -176,7 +186,8 @@ module _ (start : Counters) (disk : Disk) (told : Option Files) where
       }
 
   -- all records of a track
-  whole_track : (t : ℕ) (bytes : List ℕ) (course : List Taken) (now : World) → IsGathered start disk told t (sectors_at disk.rate) bytes course now → IsGathered start disk told (t + 1) 0 bytes course now
+  whole_track : (t : ℕ) (bytes : List ℕ) (course : List Taken) (now : World) → IsGathered start disk told t (sectors_at disk.rate) bytes course now
+      → IsGathered start disk told (t + 1) 0 bytes course now
   whole_track t bytes course now holds =
       let next = next_track disk.rate t in
       let count = holds.count in
@@ -198,13 +209,15 @@ module _ (start : Counters) (disk : Disk) (told : Option Files) where
   -- ---- in the script
 
   record_gathered : (c h r : ℕ) → h < 2 → 1 ≤ r → r < 1 + sectors_at disk.rate → (bytes : List ℕ)
-      → Passes status.AllOk (reads_record c h r bytes) (Takes (IsGathered start disk told (c * 2 + h) (r - 1)) (IsGathered start disk told (c * 2 + h) (r + 1 - 1)) bytes)
+      → Passes status.AllOk (reads_record c h r bytes) (Takes (IsGathered start disk told (c * 2 + h) (r - 1))
+      (IsGathered start disk told (c * 2 + h) (r + 1 - 1)) bytes)
   unfolding reads_record
   record_gathered c h r head least most bytes rest old course new runs =
       let some = some_sectors disk.rate in
       let next : r ≡ r + 1 - 1 = omega arith in
       let asked = request.Read 0 (key_of c h r) (record_address r) in
-      let one = needs_passes asked behind (λ after. may_starve (λ none. rest (bytes ++ bytes_from after.station.memory (record_address r) 512))) old course new runs in
+      let one = needs_passes asked behind (λ after. may_starve
+          (λ none. rest (bytes ++ bytes_from after.station.memory (record_address r) 512))) old course new runs in
       let now = bytes ++ bytes_from one.found.station.memory (record_address r) 512 in
       record {
         one = one.one;
@@ -218,7 +231,8 @@ module _ (start : Counters) (disk : Disk) (told : Option Files) where
       }
 
   pub track_gathered : (c h : ℕ) → h < 2 → (bytes : List ℕ)
-      → Passes status.AllOk (reads_track (sectors_at disk.rate) c h bytes) (Takes (IsGathered start disk told (c * 2 + h) 0) (IsGathered start disk told (c * 2 + h + 1) 0) bytes)
+      → Passes status.AllOk (reads_track (sectors_at disk.rate) c h bytes)
+      (Takes (IsGathered start disk told (c * 2 + h) 0) (IsGathered start disk told (c * 2 + h + 1) 0) bytes)
   unfolding reads_track
   track_gathered c h head bytes =
       let sectors = sectors_at disk.rate in
@@ -262,8 +276,9 @@ put_in name shape old new course opened =
     }
 
 -- and ready for its reads
-begun : (name : List ℕ) (shape : Shape) (old one two : World) (row course : List Taken) → (put : IsPutIn name shape old one) → Did (request.Ack 0 ∷ rate_requests shape.rate 0) one course two
-    → length old.state.station.memory ≡ user_bytes → IsGathered (counts old) put.disk old.files 0 0 [] row two
+begun : (name : List ℕ) (shape : Shape) (old one two : World) (row course : List Taken) → (put : IsPutIn name shape old one)
+    → Did (request.Ack 0 ∷ rate_requests shape.rate 0) one course two → length old.state.station.memory ≡ user_bytes
+    → IsGathered (counts old) put.disk old.files 0 0 [] row two
 begun name shape old one two row course put did size =
     let ready = readied shape.rate put.disk one two course did put.rate put.medium in
     record {
@@ -279,13 +294,14 @@ begun name shape old one two row course put did size =
     }
 
 -- a file that was stored, where the status tells it
-stored_well : (flat bytes line : List ℕ) (mid new : World) → StoresLast flat bytes line status.AllOk mid new status.AllOk → (new.state ≡ mid.state) × (new.files ≡ stored mid.files flat bytes)
+stored_well : (flat bytes line : List ℕ) (mid new : World) → StoresLast flat bytes line status.AllOk mid new status.AllOk
+    → (new.state ≡ mid.state) × (new.files ≡ stored mid.files flat bytes)
 stored_well flat bytes line mid new (IsStored state files prints) = (state, files)
 stored_well flat bytes line mid new (NotStored same fault) = absurd fault
 
 -- an export that succeeds stores what its reads gave
-pub export_stores : (name flat : List ℕ) (old new : World) (course : List Taken) → RunsScript (export_script name flat) old course new status.AllOk → length old.state.station.memory ≡ user_bytes
-    → StoresExported name flat (counts old) old.files course (counts new) new.files
+pub export_stores : (name flat : List ℕ) (old new : World) (course : List Taken) → RunsScript (export_script name flat) old course new status.AllOk
+    → length old.state.station.memory ≡ user_bytes → StoresExported name flat (counts old) old.files course (counts new) new.files
 export_stores name flat old new course runs size =
     let one = opens_passes name _ old course new runs in
     let shape = one.found in
@@ -293,15 +309,18 @@ export_stores name flat old new course runs size =
     let put = put_in name shape old one.mid one.one one.knows in
     let disk = put.disk in
     let Gathered = λ (t : ℕ). IsGathered (counts old) disk old.files t 0 in
-    let left = subst (λ (rate : Rate). RunsScript (by_track 80 2 (reads_track (sectors_at rate)) [] (λ bytes. Stores flat bytes (export_text (sectors_of shape.rate)) status.AllOk)) two.mid two.two new status.AllOk) (sym put.rate) two.left in
-    let three = tracks_take Gathered (reads_track (sectors_at disk.rate)) (λ c h cylinder head bytes. track_gathered (counts old) disk old.files c h head bytes) []
+    let left = subst (λ (rate : Rate). RunsScript (by_track 80 2 (reads_track (sectors_at rate)) []
+        (λ bytes. Stores flat bytes (export_text (sectors_of shape.rate)) status.AllOk)) two.mid two.two new status.AllOk) (sym put.rate) two.left in
+    let three = tracks_take Gathered (reads_track (sectors_at disk.rate))
+        (λ c h cylinder head bytes. track_gathered (counts old) disk old.files c h head bytes) []
         (λ bytes. Stores flat bytes (export_text (sectors_of shape.rate)) status.AllOk) two.mid two.two new left in
     let before = one.one ++ two.one in
     let full = three.knows before (begun name shape old one.mid two.mid before two.one put two.knows size) in
     let last = last_stored flat three.found (export_text (sectors_of shape.rate)) status.AllOk three.mid three.two new status.AllOk three.left in
     let end = stored_well flat three.found (export_text (sectors_of shape.rate)) three.mid new last.1 in
     let whole : course ≡ before ++ three.one =
-        one.course_is ∙ ap (λ (l : List Taken). one.one ++ l) (two.course_is ∙ ap (λ (l : List Taken). two.one ++ l) (three.course_is ∙ ap (λ (l : List Taken). three.one ++ l) last.0 ∙ append-nil three.one))
+        one.course_is ∙ ap (λ (l : List Taken). one.one ++ l)
+            (two.course_is ∙ ap (λ (l : List Taken). two.one ++ l) (three.course_is ∙ ap (λ (l : List Taken). three.one ++ l) last.0 ∙ append-nil three.one))
         ∙ sym (append_assoc one.one two.one three.one) in
     let count = full.count in
     subst (λ (steps : List Taken). StoresExported name flat (counts old) old.files steps (counts new) new.files) (sym whole)

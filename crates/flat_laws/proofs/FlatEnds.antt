@@ -70,10 +70,12 @@ module _ (rate : Rate) (bytes : List ℕ) (c h : ℕ) (cylinder : c < 80) (head 
         let free : refusal_of old.state (request.Fill address 1 byte) ≡ None = rw good refl in
         let does = reaches _ (refusal_of old.state (request.Fill address 1 byte)) free step in
         let still = ap (λ (s : StationState). bay_of s 0) does.2.becomes in
-        (ap is_refusal does.0, made_still 0 rate 80 (HasRecords sectors c h) (HasRecords sectors c h) old.state.station new.state.station (λ disk has. has) still making);
+        (ap is_refusal does.0, made_still 0 rate 80 (HasRecords sectors c h) (HasRecords sectors c h) old.state.station new.state.station
+            (λ disk has. has) still making);
   }
 
-  byte_goes : (place address i : ℕ) (old : Stage) → address + i + 1 ≤ user_bytes → IsOnTrack old → PartGoes (λ none new. IsOnTrack new) (fills_byte bytes place address i tt) old
+  byte_goes : (place address i : ℕ) (old : Stage) → address + i + 1 ≤ user_bytes → IsOnTrack old
+      → PartGoes (λ none new. IsOnTrack new) (fills_byte bytes place address i tt) old
   unfolding fills_byte
   byte_goes place address i old inside making rest behind =
       let byte = slice_index bytes (place + i) in
@@ -83,7 +85,8 @@ module _ (rate : Rate) (bytes : List ℕ) (c h : ℕ) (cylinder : c < 80) (head 
   unfolding fills_track fills_record
   fills_go old making =
       let some = some_sectors rate in
-      goes_each (λ none new. IsOnTrack new) (λ r. fills_record bytes (sector_place sectors c h r) (record_address r)) 1 sectors tt old (λ r least below none one there.
+      goes_each (λ none new. IsOnTrack new) (λ r. fills_record bytes (sector_place sectors c h r) (record_address r)) 1 sectors tt old
+          (λ r least below none one there.
       goes_each (λ none new. IsOnTrack new) (fills_byte bytes (sector_place sectors c h r) (record_address r)) 0 512 none one (λ i from small same two here.
       byte_goes (sector_place sectors c h r) (record_address r) i two (omega (arith, below, some.1, small)) here) there) making
 
@@ -93,19 +96,23 @@ module _ (rate : Rate) (bytes : List ℕ) (c h : ℕ) (cylinder : c < 80) (head 
       goes_carries (Makes old) (request.Write 0 (key_of c h r) (record_address r)) rest old
       (write_done 0 1 rate 80 c h r false refl (λ station value. refl) cylinder head least most old making) (λ new alone. behind tt new alone.made)
 
-  track_goes : (old : Stage) → IsMaking 0 rate 80 AnyDisk old.state.station → PartGoes (λ none new. IsMaking 0 rate 80 AnyDisk new.state.station) (imports_track bytes sectors c h tt) old
+  track_goes : (old : Stage) → IsMaking 0 rate 80 AnyDisk old.state.station
+      → PartGoes (λ none new. IsMaking 0 rate 80 AnyDisk new.state.station) (imports_track bytes sectors c h tt) old
   unfolding imports_track writes_track
   track_goes old making rest behind =
-      goes_carries (Makes old) (request.Format 0 c h) _ old (format_done 0 1 rate 80 c h refl (λ station value. refl) cylinder head AnyDisk old making) (λ one alone.
+      goes_carries (Makes old) (request.Format 0 c h) _ old (format_done 0 1 rate 80 c h refl (λ station value. refl) cylinder head AnyDisk old making)
+          (λ one alone.
       fills_go one alone.made _ (λ none two there.
-      goes_each (λ none new. IsOnTrack new) (writes_record c h) 1 sectors tt two (λ r least below same mid is. written_goes r mid least (omega (arith, below)) is) there rest
+      goes_each (λ none new. IsOnTrack new) (writes_record c h) 1 sectors tt two
+          (λ r least below same mid is. written_goes r mid least (omega (arith, below)) is) there rest
       (λ same three is. behind tt three (any_made 0 rate 80 _ three.state.station is))))
 
 -- ---- The whole script.
 
 import_goes : (bytes name : List ℕ) (rate : Rate) (old : Stage) → is_loaded old.state 0 ≡ false → GoesWell (import_script (Ok (bytes, rate)) name) old
 import_goes bytes name rate old empty =
-    goes_carries (λ new. IsBlank 0 rate name 80 old.state old.files new.state new.files) (blank_request 0 name 80 rate) _ old (blank_done 0 rate name 80 old refl (omega arith) (omega arith) empty) (λ one is.
+    goes_carries (λ new. IsBlank 0 rate name 80 old.state old.files new.state new.files) (blank_request 0 name 80 rate) _ old
+        (blank_done 0 rate name 80 old refl (omega arith) (omega arith) empty) (λ one is.
     acknowledges_goes 0 1 (blank_of 80 rate) refl (λ station value. refl) _ one is.medium (λ two alone.
     goes_tracks (λ none new. IsMaking 0 rate 80 AnyDisk new.state.station) 80 2 (imports_track bytes (sectors_at rate)) tt two
     (λ c h cylinder head none mid made. track_goes rate bytes c h cylinder head mid made) (blank_made 0 rate 80 two.state.station is.valid alone.ready) _
@@ -124,7 +131,8 @@ taken_flat files flat bytes rate (stop.BadImage named error) is not =
   where
     differ : (told : Result ℕ ImageError) → told ≡ Ok (sectors_at rate) → told ≡ Err error → ⊥
     differ told e f = cc (e, f)
-taken_flat files flat bytes rate (stop.TooLong named most) is not = let both = of_one (file_at files flat) is.there not.2 in absurd (omega (arith, both.2.1, both.3))
+taken_flat files flat bytes rate (stop.TooLong named most) is not = let both =
+    of_one (file_at files flat) is.there not.2 in absurd (omega (arith, both.2.1, both.3))
 taken_flat files flat bytes rate (stop.Absent named) is not =
     let one = of_one (file_at files flat) is.there is.there in
     let none = not.1 in
@@ -151,16 +159,20 @@ one_rate a b one two same first second =
 -- ---- The command.
 
 -- a disk of what the flat file of this name has
-same_file : (files : Files) (flat name bytes : List ℕ) (rate : Rate) (after : Option Files) → IsFlatFile (Some files) flat bytes rate → StoresImported flat name (Some files) after → StoresDisk bytes name rate (Some files) after
+same_file : (files : Files) (flat name bytes : List ℕ) (rate : Rate) (after : Option Files) → IsFlatFile (Some files) flat bytes rate
+    → StoresImported flat name (Some files) after → StoresDisk bytes name rate (Some files) after
 same_file files flat name bytes rate after is made =
     let same = one_flat files flat made.0 bytes made.1 rate made.2 is in
     subst (λ (a : Rate). StoresDisk bytes name a (Some files) after) (one_rate made.1 rate made.0 bytes same made.2.sectors is.sectors)
     (subst (λ (row : List ℕ). StoresDisk row name made.1 (Some files) after) same made.3)
 
-module _ (flat name : List ℕ) (old new : World) (course : List Taken) (ended : Status) (files : Files) (bytes : List ℕ) (rate : Rate) (begins : BeginsSound old) (told : old.files ≡ Some files) (is : IsFlatFile (Some files) flat bytes rate) (calm : AreUndisturbed old.state.station.counters course) where
-  import_ends : (found : Result (List ℕ × Rate) Stop) → IsFlatFound old.files flat found → RunsScript (import_script found name) old course new ended → EndsWellOrOutside (StoresDisk bytes name rate (Some files) new.files) ended
+module _ (flat name : List ℕ) (old new : World) (course : List Taken) (ended : Status) (files : Files) (bytes : List ℕ) (rate : Rate) (begins : BeginsSound old)
+    (told : old.files ≡ Some files) (is : IsFlatFile (Some files) flat bytes rate) (calm : AreUndisturbed old.state.station.counters course) where
+  import_ends : (found : Result (List ℕ × Rate) Stop) → IsFlatFound old.files flat found → RunsScript (import_script found name) old course new ended
+      → EndsWellOrOutside (StoresDisk bytes name rate (Some files) new.files) ended
   import_ends (Ok (row, at_rate)) there runs =
-      completes (import_script (Ok (row, at_rate)) name) _ old new course ended old.files refl begins (import_goes row name at_rate (at old.state old.files) (fresh_empty old.state 0 begins.fresh)) calm runs
+      completes (import_script (Ok (row, at_rate)) name) _ old new course ended old.files refl begins
+          (import_goes row name at_rate (at old.state old.files) (fresh_empty old.state 0 begins.fresh)) calm runs
       (λ done faultless.
       same_file files flat name bytes rate new.files is
       (subst (λ (f : Option Files). StoresImported flat name f new.files) told
@@ -170,8 +182,9 @@ module _ (flat name : List ℕ) (old new : World) (course : List Taken) (ended :
       prints_outside _ _ _ _ ended _ (stop_outside _ cause only) (last_run (stop_text cause) (stop_status cause) old course new ended runs).1.report
 
 -- where nothing is left to go wrong, an import goes to its end, or the outside failed
-pub import_complete : (flat name : List ℕ) (old new : World) (ended : Status) (files : Files) (bytes : List ℕ) (rate : Rate) → BeginsSound old → old.files ≡ Some files → IsFlatFile (Some files) flat bytes rate
-    → Runs (Imports flat name) old new ended → EndsWellOrOutside (StoresDisk bytes name rate (Some files) new.files) ended
+pub import_complete : (flat name : List ℕ) (old new : World) (ended : Status) (files : Files) (bytes : List ℕ) (rate : Rate) → BeginsSound old
+    → old.files ≡ Some files → IsFlatFile (Some files) flat bytes rate → Runs (Imports flat name) old new ended
+    → EndsWellOrOutside (StoresDisk bytes name rate (Some files) new.files) ended
 import_complete flat name old new ended files bytes rate begins told is runs =
     import_ends flat name old new runs.course ended files bytes rate begins told is (runs.ties.undisturbed begins.sound) runs.does.0 runs.does.1 runs.does.2
 
@@ -182,7 +195,8 @@ module _ (disk : Disk) (is : IsWholeDisk disk) where
   abbrev IsReady : List ℕ → Stage → Type 0
   IsReady bytes stage = IsReadyFor 0 disk stage.state.station
 
-  record_goes : (c h r : ℕ) (bytes : List ℕ) (old : Stage) → c < 80 → h < 2 → 1 ≤ r → r ≤ sectors_at disk.rate → IsReady bytes old → PartGoes IsReady (reads_record c h r bytes) old
+  record_goes : (c h r : ℕ) (bytes : List ℕ) (old : Stage) → c < 80 → h < 2 → 1 ≤ r → r ≤ sectors_at disk.rate → IsReady bytes old
+      → PartGoes IsReady (reads_record c h r bytes) old
   unfolding reads_record may_starve
   record_goes c h r bytes old cylinder head least most ready rest behind =
       let count = is.cylinders in
@@ -193,8 +207,8 @@ module _ (disk : Disk) (is : IsWholeDisk disk) where
       (read_done disk c h r r old is.readable (omega (arith, count)) (omega (arith, heads)) track least most least (omega (arith, most, few)) ready)
       (λ answer new alone. behind (bytes ++ bytes_from new.state.station.memory (record_address r) 512) new alone.ready)
 
-export_goes : (name flat : List ℕ) (files : Files) (disk : Disk) (old : State) → IsWholeDisk disk → IsImageOf (Some files) name disk → is_loaded old 0 ≡ false → is_loaded old 1 ≡ false
-    → GoesWell (export_script name flat) (at old (Some files))
+export_goes : (name flat : List ℕ) (files : Files) (disk : Disk) (old : State) → IsWholeDisk disk → IsImageOf (Some files) name disk → is_loaded old 0 ≡ false
+    → is_loaded old 1 ≡ false → GoesWell (export_script name flat) (at old (Some files))
 unfolding reads_track
 export_goes name flat files disk old whole image empty other =
     opens_goes name files disk _ old image empty other (λ one put.
@@ -204,8 +218,9 @@ export_goes name flat files disk old whole image empty other =
     record_goes disk whole c h r now three cylinder head least (omega (arith, below)) ready) there) alone.ready _ (λ bytes three ready. refl)))
 
 -- the flat file of what the reads gave is that of the disk
-same_flat : (disk : Disk) (files : Files) (name flat : List ℕ) (old new : Counters) (course : List Taken) (after : Option Files) → IsWholeDisk disk → IsImageOf (Some files) name disk → IsFaultless 0 old new
-    → StoresExported name flat old (Some files) course new after → StoresFlatOf disk flat (Some files) after
+same_flat : (disk : Disk) (files : Files) (name flat : List ℕ) (old new : Counters) (course : List Taken) (after : Option Files) → IsWholeDisk disk
+    → IsImageOf (Some files) name disk → IsFaultless 0 old new → StoresExported name flat old (Some files) course new after
+    → StoresFlatOf disk flat (Some files) after
 same_flat disk files name flat old new course after whole image faultless stores =
     subst (λ (d : Disk). IsWholeDisk d → StoresFlatOf d flat (Some files) after) (one_image files name stores.disk disk stores.image image)
     (λ there. record {
@@ -216,8 +231,9 @@ same_flat disk files name flat old new course after whole image faultless stores
     }) whole
 
 -- where nothing is left to go wrong, an export of such a disk goes to its end, or the outside failed
-pub export_complete : (name flat : List ℕ) (old new : World) (ended : Status) (files : Files) (disk : Disk) → BeginsSound old → old.files ≡ Some files → IsImageOf (Some files) name disk → IsWholeDisk disk
-    → Runs (RunsScript (export_script name flat)) old new ended → EndsWellOrOutside (StoresFlatOf disk flat (Some files) new.files) ended
+pub export_complete : (name flat : List ℕ) (old new : World) (ended : Status) (files : Files) (disk : Disk) → BeginsSound old → old.files ≡ Some files
+    → IsImageOf (Some files) name disk → IsWholeDisk disk → Runs (RunsScript (export_script name flat)) old new ended
+    → EndsWellOrOutside (StoresFlatOf disk flat (Some files) new.files) ended
 export_complete name flat old new ended files disk begins told image whole runs =
     let goes = export_goes name flat files disk old.state whole image (fresh_empty old.state 0 begins.fresh) (fresh_empty old.state 1 begins.fresh) in
     completes (export_script name flat) _ old new runs.course ended (Some files) told begins goes (runs.ties.undisturbed begins.sound) runs.does

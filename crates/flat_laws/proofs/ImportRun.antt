@@ -57,8 +57,8 @@ module _ (bytes name : List ℕ) (rate : Rate) (whole : length bytes ≡ flat_le
   IsSoFar old t now = Since (counts old) (IsImporting bytes rate name old.files t) now
 
   -- a blank disk of 80 cylinders is put in, and the bay made ready
-  opened : (old one two : World) (first second : List Taken) → Did (blank_request 0 name 80 rate ∷ []) old first one → Did (request.Ack 0 ∷ rate_requests rate 0) one second two
-      → length old.state.station.memory ≡ user_bytes → IsSoFar old 0 two
+  opened : (old one two : World) (first second : List Taken) → Did (blank_request 0 name 80 rate ∷ []) old first one
+      → Did (request.Ack 0 ∷ rate_requests rate 0) one second two → length old.state.station.memory ≡ user_bytes → IsSoFar old 0 two
   opened old one two first second blanked acked size =
       let blank = blank_of 80 rate in
       let done = one_done (blank_request 0 name 80 rate) old one first blanked in
@@ -81,7 +81,8 @@ module _ (bytes name : List ℕ) (rate : Rate) (whole : length bytes ≡ flat_le
       }
 
   -- it is taken out, and stored
-  ejected : (old full new : World) (course : List Taken) → Did (request.Eject 0 ∷ []) full course new → IsFaultless 0 (counts old) (counts new) → IsSoFar old 160 full → StoresDisk bytes name rate old.files new.files
+  ejected : (old full new : World) (course : List Taken) → Did (request.Eject 0 ∷ []) full course new → IsFaultless 0 (counts old) (counts new)
+      → IsSoFar old 160 full → StoresDisk bytes name rate old.files new.files
   ejected old full new course did faultless so_far =
       let fell = did_fell (request.Eject 0 ∷ []) full new course did refl in
       let before = so_far.fell in
@@ -104,8 +105,8 @@ module _ (bytes name : List ℕ) (rate : Rate) (whole : length bytes ≡ flat_le
             ∙ ap (λ (f : Option Files). stored f name (file_of holds.disk)) holds.files;
       }
 
-  imports_disk : (old new : World) (course : List Taken) → RunsScript (import_script (Ok (bytes, rate)) name) old course new status.AllOk → length old.state.station.memory ≡ user_bytes
-      → IsFaultless 0 (counts old) (counts new) → StoresDisk bytes name rate old.files new.files
+  imports_disk : (old new : World) (course : List Taken) → RunsScript (import_script (Ok (bytes, rate)) name) old course new status.AllOk
+      → length old.state.station.memory ≡ user_bytes → IsFaultless 0 (counts old) (counts new) → StoresDisk bytes name rate old.files new.files
   imports_disk old new course runs size faultless =
       let one = carries_passes (blank_request 0 name 80 rate) _ old course new runs in
       let two = acknowledges_passes 0 rate _ one.mid one.two new one.left in
@@ -118,12 +119,14 @@ module _ (bytes name : List ℕ) (rate : Rate) (whole : length bytes ≡ flat_le
       subst (λ (f : Option Files). StoresDisk bytes name rate old.files f) (sym last.1.files) (ejected old three.mid four.mid four.one four.knows calm full)
 
 -- an import that succeeds stores a disk of the flat file
-pub import_stores : (flat name : List ℕ) (old new : World) (course : List Taken) → Imports flat name old course new status.AllOk → length old.state.station.memory ≡ user_bytes
-    → IsFaultless 0 (counts old) (counts new) → StoresImported flat name old.files new.files
+pub import_stores : (flat name : List ℕ) (old new : World) (course : List Taken) → Imports flat name old course new status.AllOk
+    → length old.state.station.memory ≡ user_bytes → IsFaultless 0 (counts old) (counts new) → StoresImported flat name old.files new.files
 import_stores flat name old new course imports size faultless = go imports.0 imports.1 imports.2
   where
-    go : (found : Result (List ℕ × Rate) Stop) → IsFlatFound old.files flat found → RunsScript (import_script found name) old course new status.AllOk → StoresImported flat name old.files new.files
-    go (Ok (bytes, rate)) is runs = (bytes, rate, is, imports_disk bytes name rate (flat_size rate (length bytes) is.sectors) old new course runs size faultless)
+    go : (found : Result (List ℕ × Rate) Stop) → IsFlatFound old.files flat found → RunsScript (import_script found name) old course new status.AllOk
+        → StoresImported flat name old.files new.files
+    go (Ok (bytes, rate)) is runs = (bytes, rate, is, imports_disk bytes name rate
+        (flat_size rate (length bytes) is.sectors) old new course runs size faultless)
     go (Err cause) is runs =
         let last = last_run (stop_text cause) (stop_status cause) old course new status.AllOk runs in
         absurd (no_stop_is_ok cause (prints_status _ _ (stop_status cause) status.AllOk _ (λ fault. fault) last.1.report).1)

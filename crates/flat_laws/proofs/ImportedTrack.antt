@@ -70,7 +70,9 @@ one_more memory bytes from n address byte size at few is filled j below =
       | inr other ↦ with_items_before memory address one fits (0x10000 + j) (omega (arith, at, below, other)) ∙ filled j (omega (arith, below, other))
     ]
 
-fills_one : (bytes : List ℕ) (from n address byte : ℕ) (bays : Two Bay) (names : Two (Option (List ℕ))) (told : Option Files) (old new : World) (steps : List Taken) → address ≡ 0x10000 + n → n < 9216 → byte ≡ get_or bytes (from + n) 0 → Did (request.Fill address 1 byte ∷ []) old steps new → IsFilled bytes from n bays names told old → IsFilled bytes from (n + 1) bays names told new
+fills_one : (bytes : List ℕ) (from n address byte : ℕ) (bays : Two Bay) (names : Two (Option (List ℕ))) (told : Option Files) (old new : World)
+    (steps : List Taken) → address ≡ 0x10000 + n → n < 9216 → byte ≡ get_or bytes (from + n) 0 → Did (request.Fill address 1 byte ∷ []) old steps new
+    → IsFilled bytes from n bays names told old → IsFilled bytes from (n + 1) bays names told new
 fills_one bytes from n address byte bays names told old new steps at few is did holds =
     let does = (one_done (request.Fill address 1 byte) old new steps did).does in
     let fills = does.2 in
@@ -105,7 +107,8 @@ module _ (ready : World) (bytes : List ℕ) (sectors c h w : ℕ) (few : sectors
   }
 
   byte_takes : (r i : ℕ) → 1 ≤ r → r < 1 + sectors → i < 512 → (none : Unit {0})
-      → Passes status.AllOk (fills_byte bytes (sector_place sectors c h r) (record_address r) i none) (Takes (HasFilled (512 * (r - 1) + i)) (HasFilled (512 * (r - 1) + (i + 1))) none)
+      → Passes status.AllOk (fills_byte bytes (sector_place sectors c h r) (record_address r) i none)
+      (Takes (HasFilled (512 * (r - 1) + i)) (HasFilled (512 * (r - 1) + (i + 1))) none)
   unfolding fills_byte
   byte_takes r i least most small none =
       let base = 512 * (r - 1) in
@@ -115,16 +118,19 @@ module _ (ready : World) (bytes : List ℕ) (sectors c h w : ℕ) (few : sectors
       let at : address ≡ 0x10000 + (base + i) = omega arith in
       let from : sector_place sectors c h r + i ≡ w * 512 + (base + i) = omega (arith, place) in
       let more : base + i + 1 ≡ base + (i + 1) = omega arith in
-      known status.AllOk (carries (request.Fill address 1 byte)) (Does (request.Fill address 1 byte ∷ [])) (Takes (HasFilled (base + i)) (HasFilled (base + (i + 1))) none)
+      known status.AllOk (carries (request.Fill address 1 byte)) (Does (request.Fill address 1 byte ∷ []))
+          (Takes (HasFilled (base + i)) (HasFilled (base + (i + 1))) none)
       (λ old course found mid did. λ before filled. record {
         fell = both_fell (counts ready) (counts old) (counts mid) filled.fell (did_fell (request.Fill address 1 byte ∷ []) old mid course did refl);
         fills = λ size. subst (λ k. Fills k mid) more
-            (fills_one bytes (w * 512) (base + i) address byte ready.state.station.bays ready.state.names ready.files old mid course at (omega (arith, few, most, small, least)) (ap (λ k. get_or bytes k 0) from) did (filled.fills size));
+            (fills_one bytes (w * 512) (base + i) address byte ready.state.station.bays ready.state.names ready.files old mid course at
+                (omega (arith, few, most, small, least)) (ap (λ k. get_or bytes k 0) from) did (filled.fills size));
       })
       (carries_passes (request.Fill address 1 byte))
 
   record_takes : (r : ℕ) → 1 ≤ r → r < 1 + sectors → (none : Unit {0})
-      → Passes status.AllOk (fills_record bytes (sector_place sectors c h r) (record_address r) none) (Takes (HasFilled (512 * (r - 1))) (HasFilled (512 * (r + 1 - 1))) none)
+      → Passes status.AllOk (fills_record bytes (sector_place sectors c h r) (record_address r) none)
+      (Takes (HasFilled (512 * (r - 1))) (HasFilled (512 * (r + 1 - 1))) none)
   unfolding fills_record
   record_takes r least most none =
       let base = 512 * (r - 1) in
@@ -148,7 +154,8 @@ module _ (ready : World) (bytes : List ℕ) (sectors c h w : ℕ) (few : sectors
       (λ r least most none. record_takes r least most none) tt))
 
   -- then each record stands at its own place
-  pub record_stands : (now : World) (r : ℕ) → Fills (512 * sectors) now → 1 ≤ r → r ≤ sectors → sector_place sectors c h r + 512 ≤ length bytes → bytes_from now.state.station.memory (record_address r) 512 ≡ sector_bytes bytes sectors c h r
+  pub record_stands : (now : World) (r : ℕ) → Fills (512 * sectors) now → 1 ≤ r → r ≤ sectors → sector_place sectors c h r + 512 ≤ length bytes
+      → bytes_from now.state.station.memory (record_address r) 512 ≡ sector_bytes bytes sectors c h r
   record_stands now r holds least most inside =
       let memory = now.state.station.memory in
       let size = holds.size in
@@ -182,7 +189,8 @@ pub record IsImporting (bytes : List ℕ) (rate : Rate) (name : List ℕ) (told 
 
 -- ---- The writes.
 
-writes_are : (c h a n : ℕ) → flat_map (λ r. request.Write 0 (key_of c h r) (record_address r) ∷ []) (range_with_len a n) ≡ write_records 0 (keys_from c h a n) (replicate n false)
+writes_are : (c h a n : ℕ)
+    → flat_map (λ r. request.Write 0 (key_of c h r) (record_address r) ∷ []) (range_with_len a n) ≡ write_records 0 (keys_from c h a n) (replicate n false)
 writes_are c h a zero = refl
 writes_are c h a (suc n) = ap (λ (rest : List Request). request.Write 0 (key_of c h a) (record_address a) ∷ rest) (writes_are c h (a + 1) n)
 
@@ -215,7 +223,8 @@ sector_stays : (bytes : List ℕ) (sectors : ℕ) (disk : Disk) (c h : ℕ) (aft
 sector_stays bytes sectors disk c h after b g r keeps other had =
     (had.0, (elsewhere_on_map disk c h after keeps (copied_entry b g r had.0 false (sector_bytes bytes sectors b g r)) other).0 had.1)
 
-module _ (bytes : List ℕ) (rate : Rate) (name : List ℕ) (told : Option Files) (c h : ℕ) (whole : length bytes ≡ flat_length (sectors_at rate)) (cylinder : c < 80) (head : h < 2) where
+module _ (bytes : List ℕ) (rate : Rate) (name : List ℕ) (told : Option Files) (c h : ℕ) (whole : length bytes ≡ flat_length (sectors_at rate))
+    (cylinder : c < 80) (head : h < 2) where
   abbrev sectors : ℕ
   sectors = sectors_at rate
 
@@ -233,18 +242,22 @@ module _ (bytes : List ℕ) (rate : Rate) (name : List ℕ) (told : Option Files
   abbrev FilledFrom : World → ℕ → Unit {0} → List Taken → World → Type 0
   FilledFrom ready = HasFilled ready bytes sectors c h before few refl
 
-  track_done : (none : Unit {0}) (old ready full new : World) (one two three : List Taken) → Did (request.Format 0 c h ∷ []) old one ready → FilledFrom ready (512 * sectors) none two full → Did (writes_of sectors c h) full three new
-      → (start : Counters) → IsSoFar start (c * 2 + h) old → IsSoFar start (c * 2 + h + 1) new
+  track_done : (none : Unit {0}) (old ready full new : World) (one two three : List Taken) → Did (request.Format 0 c h ∷ []) old one ready
+      → FilledFrom ready (512 * sectors) none two full → Did (writes_of sectors c h) full three new → (start : Counters) → IsSoFar start (c * 2 + h) old
+      → IsSoFar start (c * 2 + h + 1) new
   track_done none old ready full new one two three format filled writes start since =
       let fell_format = did_fell (request.Format 0 c h ∷ []) old ready one format refl in
       let fell_fill = filled.fell in
       let fell_write = did_fell (writes_of sectors c h) full new three writes (writes_keep 0 (keys_from c h 1 sectors) (replicate sectors false)) in
       since_on start (IsImporting bytes rate name told (c * 2 + h)) (IsImporting bytes rate name told (c * 2 + h + 1)) old new since
-      (both_fell (counts old) (counts ready) (counts new) fell_format (both_fell (counts ready) (counts full) (counts new) fell_fill fell_write)) (λ faultless holds.
+      (both_fell (counts old) (counts ready) (counts new) fell_format (both_fell (counts ready) (counts full) (counts new) fell_fill fell_write))
+          (λ faultless holds.
       let disk = holds.disk in
       let done = one_done (request.Format 0 c h) old ready one format in
-      let calm_format : IsFaultless 0 (counts old) (counts ready) = (omega (arith, fell_format.first, fell_fill.first, fell_write.first, faultless.0), omega (arith, fell_fill.first, fell_write.first, faultless.1)) in
-      let calm_write : IsFaultless 0 (counts full) (counts new) = (omega (arith, fell_format.first, fell_fill.first, fell_write.first, faultless.0), faultless.1) in
+      let calm_format : IsFaultless 0 (counts old) (counts ready) =
+          (omega (arith, fell_format.first, fell_fill.first, fell_write.first, faultless.0), omega (arith, fell_fill.first, fell_write.first, faultless.1)) in
+      let calm_write : IsFaultless 0 (counts full) (counts new) =
+          (omega (arith, fell_format.first, fell_fill.first, fell_write.first, faultless.0), faultless.1) in
       let track : HasTrack disk c h = (omega (arith, cylinder, holds.alike.cylinders), omega (arith, head, holds.alike.heads)) in
       let small_c : c < 256 = omega (arith, cylinder) in
       let small_h : h < 256 = omega (arith, head) in
@@ -264,14 +277,18 @@ module _ (bytes : List ℕ) (rate : Rate) (name : List ℕ) (told : Option Files
       let medium : (bay_of full.state.station 0).medium ≡ Some next = ap (λ (b : Bay). b.medium) bay ∙ formats.medium in
       let bay_rate : (bay_of full.state.station 0).rate ≡ rate = ap (λ (b : Bay). b.rate) bay ∙ formats.bay_rate in
       let next_rate : next.rate ≡ rate = formats.keeps.alike.rate ∙ holds.alike.rate in
-      let writes_all = all_writes laid_tidy 0 next c h 1 sectors (replicate sectors false) full.state new.state full.files new.files three (did_all (writes_of sectors c h) full three new writes)
-          (length-replicate sectors false) (omega arith) (omega (arith, few)) there formats.keeps.alike.valid regular has_next laid fills.size calm_write medium (bay_rate ∙ sym next_rate) in
+      let writes_all = all_writes laid_tidy 0 next c h 1 sectors (replicate sectors false) full.state new.state full.files new.files three
+          (did_all (writes_of sectors c h) full three new writes)
+          (length-replicate sectors false) (omega arith) (omega (arith, few)) there formats.keeps.alike.valid regular has_next laid fills.size calm_write medium
+              (bay_rate ∙ sym next_rate) in
       let final = writes_all.final in
       let keeps = keeps_both disk next final c h formats.keeps writes_all.keeps in
       let own = λ (r : ℕ) (sector : IsSector sectors c h r).
       let it = one_copied final full.state.station.memory c h 1 sectors writes_all.copied r sector.from_first (omega (arith, sector.to_last)) in
-      let stands = record_stands ready bytes sectors c h before few refl full r fills sector.from_first sector.to_last (omega (arith, place_inside rate c h r sector, whole)) in
-      let has : HasFlatSector bytes sectors final c h r = (it.0, subst (λ (content : List ℕ). IsOnMap final (copied_entry c h r it.0 false content)) stands it.1) in
+      let stands = record_stands ready bytes sectors c h before few refl full r fills sector.from_first sector.to_last
+          (omega (arith, place_inside rate c h r sector, whole)) in
+      let has : HasFlatSector bytes sectors final c h r =
+          (it.0, subst (λ (content : List ℕ). IsOnMap final (copied_entry c h r it.0 false content)) stands it.1) in
       has in
       record {
         disk = final;
@@ -283,7 +300,8 @@ module _ (bytes : List ℕ) (rate : Rate) (name : List ℕ) (told : Option Files
         named = ap (λ (n : Two (Option (List ℕ))). in_bay n 0) (writes_all.names ∙ fills.names_stay ∙ formats.names) ∙ holds.named;
         files = writes_all.files ∙ fills.files_stay ∙ formats.files ∙ holds.files;
         sectors = λ b g r sector below. elim (cases_lt (b * 2 + g) (c * 2 + h)) [
-          | inl earlier ↦ sector_stays bytes sectors disk c h final b g r keeps (λ e f. absurd (omega (arith, earlier, e, f))) (holds.sectors b g r sector earlier)
+          | inl earlier ↦ sector_stays bytes sectors disk c h final b g r keeps (λ e f. absurd (omega (arith, earlier, e, f)))
+              (holds.sectors b g r sector earlier)
           | inr later ↦
               let same = one_track c h b g head sector.head (omega (arith, below, later)) in
               let mine = own r (record { cylinder = cylinder; head = head; from_first = sector.from_first; to_last = sector.to_last }) in
@@ -292,7 +310,8 @@ module _ (bytes : List ℕ) (rate : Rate) (name : List ℕ) (told : Option Files
       })
 
   pub track_imported : (start : Counters) (none : Unit {0})
-      → Passes status.AllOk (imports_track bytes sectors c h none) (Takes (λ none course now. IsSoFar start (c * 2 + h) now) (λ none course now. IsSoFar start (c * 2 + h + 1) now) none)
+      → Passes status.AllOk (imports_track bytes sectors c h none)
+      (Takes (λ none course now. IsSoFar start (c * 2 + h) now) (λ none course now. IsSoFar start (c * 2 + h + 1) now) none)
   unfolding imports_track
   track_imported start none rest old course new runs =
       let one = carries_passes (request.Format 0 c h) _ old course new runs in
@@ -304,9 +323,11 @@ module _ (bytes : List ℕ) (rate : Rate) (name : List ℕ) (told : Option Files
         two = three.two;
         found = three.found;
         mid = three.mid;
-        course_is = one.course_is ∙ ap (λ (l : List Taken). one.one ++ l) (two.course_is ∙ ap (λ (l : List Taken). two.one ++ l) three.course_is ∙ sym (append_assoc two.one three.one three.two))
+        course_is = one.course_is ∙ ap (λ (l : List Taken). one.one ++ l)
+            (two.course_is ∙ ap (λ (l : List Taken). two.one ++ l) three.course_is ∙ sym (append_assoc two.one three.one three.two))
             ∙ sym (append_assoc one.one (two.one ++ three.one) three.two);
         knows = λ earlier since.
-            track_done two.found old ready two.mid three.mid one.one two.one three.one one.knows (two.knows [] (none_filled ready bytes sectors c h before few refl)) three.knows start since;
+            track_done two.found old ready two.mid three.mid one.one two.one three.one one.knows
+                (two.knows [] (none_filled ready bytes sectors c h before few refl)) three.knows start since;
         left = three.left;
       }

@@ -78,7 +78,8 @@ each_takes P part a zero end sum takes found rest old course new runs =
     }
 each_takes P part a (suc n) end sum takes found rest old course new runs =
     let first = takes a (omega arith) (omega arith) found (λ now. each (a + 1) n part now rest) old course new runs in
-    let later = each_takes P part (a + 1) n end (omega arith) (λ i least below. takes i (omega arith) below) first.found rest first.mid first.two new first.left in
+    let later = each_takes P part (a + 1) n end (omega arith)
+        (λ i least below. takes i (omega arith) below) first.found rest first.mid first.two new first.left in
     record {
       one = first.one ++ later.one;
       two = later.two;
@@ -106,7 +107,8 @@ tracks_take {Found} P part takes =
     subst (λ k. Passes status.AllOk (part c h now) (Takes (P (c * 2 + h)) (P k) now)) more (takes c h small below now)) found)))
 
 -- memory that was there
-pub fed : (rest : Unit {0} → Script) (old : World) (course : List Taken) (new : World) → RunsScript (may_starve rest) old course new status.AllOk → RunsScript (rest tt) old course new status.AllOk
+pub fed : (rest : Unit {0} → Script) (old : World) (course : List Taken) (new : World) → RunsScript (may_starve rest) old course new status.AllOk
+    → RunsScript (rest tt) old course new status.AllOk
 unfolding may_starve
 fed rest old course new (inl runs) = runs
 fed rest old course new (inr none) = let same = none.2 in absurd (cc same)
@@ -117,7 +119,8 @@ fed rest old course new (inr none) = let same = none.2 in absurd (cc same)
 abbrev pub counts : World → Counters
 counts world = world.state.station.counters
 
-pub did_fell : (requests : List Request) (old new : World) (course : List Taken) → Did requests old course new → list_all keeps_drives requests ≡ true → NeverFell (counts old) (counts new)
+pub did_fell : (requests : List Request) (old new : World) (course : List Taken) → Did requests old course new → list_all keeps_drives requests ≡ true
+    → NeverFell (counts old) (counts new)
 did_fell requests old new course did keeps = never_fell old.state new.state old.files new.files requests course (did_all requests old course new did) keeps
 
 -- a request was done
@@ -133,14 +136,16 @@ one_done asked old new course did =
     let end = ends_there first.mid new.state first.files new.files first.later first.behind in
     let step = subst (λ (s : State). Step asked old.state old.files first.answer s new.files) (sym end.0)
         (subst (λ (f : Option Files). Step asked old.state old.files first.answer first.mid f) (sym end.1) first.step) in
-    record { answer = first.answer; step = step; fine = first.done; does = done_does old.state new.state old.files new.files asked first.answer step first.done }
+    record { answer = first.answer; step = step; fine = first.done; does =
+        done_does old.state new.state old.files new.files asked first.answer step first.done }
 
 -- no count fell since the start, and this holds where the drive of bay 0 had no fault since
 pub record Since (start : Counters) (P : World → Type 0) (now : World) : Type 0 where
   pub fell : NeverFell start (counts now)
   pub holds : IsFaultless 0 start (counts now) → P now
 
-pub since_on : (start : Counters) (P Q : World → Type 0) (old new : World) → Since start P old → NeverFell (counts old) (counts new) → (IsFaultless 0 (counts old) (counts new) → P old → Q new) → Since start Q new
+pub since_on : (start : Counters) (P Q : World → Type 0) (old new : World) → Since start P old → NeverFell (counts old) (counts new)
+    → (IsFaultless 0 (counts old) (counts new) → P old → Q new) → Since start Q new
 since_on start P Q old new since fell more = record {
   fell = both_fell start (counts old) (counts new) since.fell fell;
   holds = λ faultless.
@@ -167,8 +172,10 @@ pub readied : (rate : Rate) (disk : Disk) (old new : World) (course : List Taken
     → (bay_of old.state.station 0).medium ≡ Some disk → IsReadied disk old new
 readied rate disk old new course did is medium =
     let all = did_all (request.Ack 0 ∷ rate_requests rate 0) old course new did in
-    let row = ap (λ (r : Rate). request.Ack 0 ∷ rate_requests r 0) (sym is) ∙ ap (λ (l : List Request). request.Ack 0 ∷ l) (sym (append-nil (rate_requests disk.rate 0))) in
-    let ready = readies 0 disk [] old.state new.state old.files new.files course (subst (λ (l : List Request). DoesAll l old.state old.files course new.state new.files) row all) medium in
+    let row = ap (λ (r : Rate). request.Ack 0 ∷ rate_requests r 0) (sym is)
+        ∙ ap (λ (l : List Request). request.Ack 0 ∷ l) (sym (append-nil (rate_requests disk.rate 0))) in
+    let ready = readies 0 disk [] old.state new.state old.files new.files course
+        (subst (λ (l : List Request). DoesAll l old.state old.files course new.state new.files) row all) medium in
     let end = ends_there ready.mid new.state ready.files new.files ready.course ready.behind in
     record {
       medium = ap (λ (s : State). (bay_of s.station 0).medium) end.0 ∙ ready.medium;
