@@ -253,10 +253,11 @@ insert_stops from files disk old new after (stop.Absent name) image stops =
 
 -- it is put into an empty bay 0, and its shape is found
 pub opens_goes : (from : List ℕ) (files : Files) (disk : Disk) (rest : Shape → Script) (old : State) → IsImageOf (Some files) from disk
-    → is_loaded old 0 ≡ false → is_loaded old 1 ≡ false → ((new : Stage) → IsPutIn disk new → GoesWell (rest (shape_of disk)) new)
+    → IsFresh old.station → ((new : Stage) → IsPutIn disk new → GoesWell (rest (shape_of disk)) new)
     → GoesWell (opens from rest) (at old (Some files))
 unfolding opens
-opens_goes from files disk rest old image empty other behind =
+opens_goes from files disk rest old image fresh behind =
+    let empty = fresh_empty old 0 fresh in
     let free : refusal_of old (request.Insert 0 from) ≡ None = rw empty refl in
     let done : IsDone (λ new. IsPutIn disk new) (request.Insert 0 from) (at old (Some files)) = record {
       safe = record { keeps = refl; stops = λ cause new stops. insert_stops from files disk old new.state new.files cause image stops };
@@ -267,7 +268,7 @@ opens_goes from files disk rest old image empty other behind =
             ap is_refusal does.0,
             record {
               medium = ap (λ (s : StationState). (bay_of s 0).medium) becomes ∙ ap (λ (d : Disk). Some d) (one_image files from put.0 disk put.1 image);
-              empty = ap (λ (s : StationState). is_loaded (record old { station = s }) 1) becomes ∙ other;
+              empty = ap (λ (s : StationState). is_loaded (record old { station = s }) 1) becomes ∙ fresh_empty old 1 fresh;
             },
           );
     } in

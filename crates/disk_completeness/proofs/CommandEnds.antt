@@ -47,28 +47,24 @@ use Rattle.disk_completeness.proofs.Making.{IsMaking, AnyDisk, HasRecords, Makes
 
 -- ---- Format.
 
-format_goes : (rate : Rate) (name : List ℕ) (count : ℕ) (old : Stage) → 1 ≤ count → count ≤ 80 → is_loaded old.state 0 ≡ false
-    → GoesWell (format_script name count rate) old
+-- where nothing is left to go wrong, a format goes to its end, or the outside failed
+pub format_complete : (rate : Rate) (name : List ℕ) (count : ℕ) (old new : World) (ended : Status) → 1 ≤ count → count ≤ 80 → BeginsSound old
+    → Runs (RunsScript (format_script name count rate)) old new ended → EndsWellOrOutside (StoresFormatted rate name count old.files new.files) ended
 unfolding format_script formats_disk
-format_goes rate name count old least most empty =
+format_complete rate name count old new ended least most begins runs =
     let Making : Unit {0} → Stage → Type 0 = λ none stage. IsMaking 0 rate count AnyDisk stage.state.station in
-    goes_carries (λ new. IsBlank 0 rate name count old.state old.files new.state new.files) (blank_request 0 name count rate) _ old
-    (blank_done 0 rate name count old refl least most empty) (λ one is.
+    let begun = at old.state old.files in
+    completes (format_script name count rate) _ old new runs.course ended old.files refl begins
+    (goes_carries (λ new. IsBlank 0 rate name count old.state old.files new.state new.files) (blank_request 0 name count rate) _ begun
+    (blank_done 0 rate name count begun refl least most (fresh_empty old.state 0 begins.fresh)) (λ one is.
     acknowledges_goes 0 1 (blank_of count rate) refl (λ station value. refl) _ one is.medium (λ two alone.
     goes_tracks Making count 2 (formats 0) tt two (λ c h cylinder head none mid made. λ rest behind.
     goes_carries (λ new. MakesAlone 0 1 rate count (HasRecords (sectors_at rate) c h) mid new) (request.Format 0 c h) rest mid
     (format_done 0 1 rate count c h refl (λ station value. refl) cylinder head AnyDisk mid made)
     (λ new done. behind tt new (any_made 0 rate count _ new.state.station done.made)))
     (blank_made 0 rate count two.state.station is.valid alone.ready) _
-    (λ none three made. eject_goes 0 made.disk _ three refl made.medium (λ new. refl))))
-
--- where nothing is left to go wrong, a format goes to its end, or the outside failed
-pub format_complete : (rate : Rate) (name : List ℕ) (count : ℕ) (old new : World) (ended : Status) → 1 ≤ count → count ≤ 80 → BeginsSound old
-    → Runs (RunsScript (format_script name count rate)) old new ended → EndsWellOrOutside (StoresFormatted rate name count old.files new.files) ended
-format_complete rate name count old new ended least most begins runs =
-    let goes = format_goes rate name count (at old.state old.files) least most (fresh_empty old.state 0 begins.fresh) in
-    completes (format_script name count rate) _ old new runs.course ended old.files refl begins goes (runs.ties.undisturbed begins.sound) runs.does
-    (λ done faultless. format_stores rate name count old new runs.course done faultless.first)
+    (λ none three made. eject_goes 0 made.disk _ three refl made.medium (λ new. refl)))))
+    (runs.ties.undisturbed begins.sound) runs.does (λ done faultless. format_stores rate name count old new runs.course done faultless.first)
 
 -- ---- Copy.
 
@@ -127,29 +123,6 @@ module _ (source : Disk) (readable : IsReadable source) (few_cylinders : source.
       (λ r least below none mid is. write_goes marks r mid least (omega arith) is) there rest
       (λ none three is. behind tt three (record { first = is.first; second = any_made 1 source.rate source.cylinders _ three.state.station is.second }))))
 
-copy_goes : (from to : List ℕ) (files : Files) (source : Disk) (old : State) → IsReadable source → IsImageOf (Some files) from source → is_loaded old 0 ≡ false
-    → is_loaded old 1 ≡ false → GoesWell (copy_script from to) (at old (Some files))
-unfolding copy_script
-copy_goes from to files source old readable image empty other =
-    let rate = source.rate in
-    let count = source.cylinders in
-    let blank = blank_of count rate in
-    let ranges = image_ranges files from source image in
-    opens_goes from files source _ old image empty other (λ one put.
-    goes_carries (λ new. IsBlank 1 rate to count one.state one.files new.state new.files) (blank_request 1 to count rate) _ one
-    (blank_done 1 rate to count one refl ranges.2 ranges.0 put.empty) (λ two is.
-    let medium = ap (λ (s : StationState). (bay_of s 0).medium) is.becomes ∙ put.medium in
-    acknowledges_goes 0 1 source refl (λ station value. refl) _ two medium (λ three first.
-    let second = ap (λ (b : Bay). b.medium) first.same ∙ is.medium in
-    acknowledges_goes 1 0 blank refl (λ station value. refl) _ three second (λ four ready.
-    let copying : IsCopying source AnyDisk four = record {
-      first = ready_still 0 source three.state.station four.state.station ready.same first.ready;
-      second = blank_made 1 rate count four.state.station is.valid ready.ready;
-    } in
-    goes_tracks (λ none new. IsCopying source AnyDisk new) count source.heads (copies_track (sectors_at rate)) tt four
-    (λ c h cylinder head none mid there. copied_goes source readable ranges.0 ranges.1 c h (cylinder, head) mid there) copying _
-    (λ none five there. eject_goes 1 there.second.disk _ five refl there.second.medium (λ new. refl))))))
-
 length-zeroes : (count : ℕ) → length (zeroes count) ≡ count
 unfolding zeroes
 length-zeroes count = length-replicate count 0
@@ -177,10 +150,28 @@ same_sectors disk to old new course told after sure stores = record {
 pub copy_complete : (from to : List ℕ) (old new : World) (ended : Status) (files : Files) (disk : Disk) → BeginsSound old → old.files ≡ Some files
     → IsImageOf (Some files) from disk → IsReadable disk → Runs (RunsScript (copy_script from to)) old new ended
     → EndsWellOrOutside (StoresSameSectors disk to (Some files) new.files) ended
+unfolding copy_script
 copy_complete from to old new ended files disk begins told image readable runs =
-    let goes = copy_goes from to files disk old.state readable image (fresh_empty old.state 0 begins.fresh) (fresh_empty old.state 1 begins.fresh) in
-    completes (copy_script from to) _ old new runs.course ended (Some files) told begins goes (runs.ties.undisturbed begins.sound) runs.does
-    (λ done faultless.
+    let rate = disk.rate in
+    let count = disk.cylinders in
+    let blank = blank_of count rate in
+    let ranges = image_ranges files from disk image in
+    completes (copy_script from to) _ old new runs.course ended (Some files) told begins
+    (opens_goes from files disk _ old.state image begins.fresh (λ one put.
+    goes_carries (λ new. IsBlank 1 rate to count one.state one.files new.state new.files) (blank_request 1 to count rate) _ one
+    (blank_done 1 rate to count one refl ranges.2 ranges.0 put.empty) (λ two is.
+    let medium = ap (λ (s : StationState). (bay_of s 0).medium) is.becomes ∙ put.medium in
+    acknowledges_goes 0 1 disk refl (λ station value. refl) _ two medium (λ three first.
+    let second = ap (λ (b : Bay). b.medium) first.same ∙ is.medium in
+    acknowledges_goes 1 0 blank refl (λ station value. refl) _ three second (λ four ready.
+    let copying : IsCopying disk AnyDisk four = record {
+      first = ready_still 0 disk three.state.station four.state.station ready.same first.ready;
+      second = blank_made 1 rate count four.state.station is.valid ready.ready;
+    } in
+    goes_tracks (λ none new. IsCopying disk AnyDisk new) count disk.heads (copies_track (sectors_at rate)) tt four
+    (λ c h cylinder head none mid there. copied_goes disk readable ranges.0 ranges.1 c h (cylinder, head) mid there) copying _
+    (λ none five there. eject_goes 1 there.second.disk _ five refl there.second.medium (λ new. refl)))))))
+    (runs.ties.undisturbed begins.sound) runs.does (λ done faultless.
     same_sectors disk to old.state.station.counters new.state.station.counters runs.course (Some files) new.files (readable.regular, inl faultless.first)
     (copy_stores from to old new runs.course files disk done told image (fresh_memory old.state.station begins.fresh) faultless.second))
 
@@ -213,12 +204,16 @@ module _ (disk : Disk) (readable : IsReadable disk) (few_cylinders : disk.cylind
       tells_none (key_of c h r) answer _ new fine
       (behind (one_more tally (is_refusal answer)) new (record { ready = alone.ready; fine = none_more tally.refused (is_refusal answer) reading.fine fine })))
 
-verify_goes : (name : List ℕ) (files : Files) (disk : Disk) (old : State) → IsReadable disk → IsImageOf (Some files) name disk → is_loaded old 0 ≡ false
-    → is_loaded old 1 ≡ false → GoesWell (verify_script name) (at old (Some files))
+-- so does a verify of a readable disk, which finds each key
+pub verify_complete : (name : List ℕ) (old new : World) (ended : Status) (files : Files) (disk : Disk) → BeginsSound old → old.files ≡ Some files
+    → IsImageOf (Some files) name disk → IsReadable disk → Runs (RunsScript (verify_script name)) old new ended
+    → EndsWellOrOutside (TellsFailing disk [] old new status.AllOk) ended
 unfolding verify_script verifies_track
-verify_goes name files disk old readable image empty other =
+verify_complete name old new ended files disk begins told image readable runs =
     let ranges = image_ranges files name disk image in
-    opens_goes name files disk _ old image empty other (λ one put.
+    let empty = ap (λ (bays : Two Bay). (in_bay bays 0).medium) begins.fresh.bays in
+    completes (verify_script name) _ old new runs.course ended (Some files) told begins
+    (opens_goes name files disk _ old.state image begins.fresh (λ one put.
     acknowledges_goes 0 1 disk refl (λ station value. refl) _ one put.medium (λ two alone.
     goes_tracks (λ now new. IsReading disk readable ranges.0 ranges.1 now.refused new) disk.cylinders disk.heads
     (verifies_track (sectors_at disk.rate)) no_reads two (λ c h cylinder head tally mid there.
@@ -226,16 +221,7 @@ verify_goes name files disk old readable image empty other =
     (λ r least below now one is.
     verified_goes disk readable ranges.0 ranges.1 c h r now one (cylinder, head) least (omega (arith, below)) is) there)
     (record { ready = alone.ready; fine = refl }) _
-    (λ tally three there. ap whole_status there.fine)))
-
--- so does a verify of a readable disk, which finds each key
-pub verify_complete : (name : List ℕ) (old new : World) (ended : Status) (files : Files) (disk : Disk) → BeginsSound old → old.files ≡ Some files
-    → IsImageOf (Some files) name disk → IsReadable disk → Runs (RunsScript (verify_script name)) old new ended
-    → EndsWellOrOutside (TellsFailing disk [] old new status.AllOk) ended
-verify_complete name old new ended files disk begins told image readable runs =
-    let goes = verify_goes name files disk old.state readable image (fresh_empty old.state 0 begins.fresh) (fresh_empty old.state 1 begins.fresh) in
-    let empty = ap (λ (bays : Two Bay). (in_bay bays 0).medium) begins.fresh.bays in
-    completes (verify_script name) _ old new runs.course ended (Some files) told begins goes (runs.ties.undisturbed begins.sound) runs.does
-    (λ done faultless.
+    (λ tally three there. ap whole_status there.fine))))
+    (runs.ties.undisturbed begins.sound) runs.does (λ done faultless.
     verify_tells name old new runs.course status.AllOk files disk [] done tt told image empty faultless.calm (readable_unmistaken disk readable)
     (none_failing disk readable))

@@ -35,7 +35,6 @@ use Rattle.disk_completeness.proofs.Going.{Stage, at, IsDone, GoesWell, PartGoes
 use Rattle.disk_completeness.proofs.Making.{IsMaking, AnyDisk, HasRecords, MakesAlone, any_made, blank_made, made_still, format_done, write_done}
 use Rattle.raw_image.specs.Disk.{Disk, HasTrack}
 use Rattle.bay_model.specs.Counters.{Counters, IsFaultless}
-use Rattle.sector_model.specs.States.{State}
 use Rattle.scripts.specs.Parts.{may_starve}
 use Rattle.flat_commands.specs.Export.{reads_record, reads_track, export_script}
 use Rattle.disk_laws.proofs.Verified.{one_image}
@@ -207,16 +206,6 @@ module _ (disk : Disk) (is : IsWholeDisk disk) where
       (read_done disk c h r r old is.readable (omega (arith, count)) (omega (arith, heads)) track least most least (omega (arith, most, few)) ready)
       (λ answer new alone. behind (bytes ++ bytes_from new.state.station.memory (record_address r) 512) new alone.ready)
 
-export_goes : (name flat : List ℕ) (files : Files) (disk : Disk) (old : State) → IsWholeDisk disk → IsImageOf (Some files) name disk → is_loaded old 0 ≡ false
-    → is_loaded old 1 ≡ false → GoesWell (export_script name flat) (at old (Some files))
-unfolding reads_track
-export_goes name flat files disk old whole image empty other =
-    opens_goes name files disk _ old image empty other (λ one put.
-    acknowledges_goes 0 1 disk refl (λ station value. refl) _ one put.medium (λ two alone.
-    goes_tracks (IsReady disk whole) 80 2 (reads_track (sectors_at disk.rate)) [] two (λ c h cylinder head bytes mid there.
-    goes_each (IsReady disk whole) (reads_record c h) 1 (sectors_at disk.rate) bytes mid (λ r least below now three ready.
-    record_goes disk whole c h r now three cylinder head least (omega (arith, below)) ready) there) alone.ready _ (λ bytes three ready. refl)))
-
 -- the flat file of what the reads gave is that of the disk
 same_flat : (disk : Disk) (files : Files) (name flat : List ℕ) (old new : Counters) (course : List Taken) (after : Option Files) → IsWholeDisk disk
     → IsImageOf (Some files) name disk → IsFaultless 0 old new → StoresExported name flat old (Some files) course new after
@@ -234,10 +223,15 @@ same_flat disk files name flat old new course after whole image faultless stores
 pub export_complete : (name flat : List ℕ) (old new : World) (ended : Status) (files : Files) (disk : Disk) → BeginsSound old → old.files ≡ Some files
     → IsImageOf (Some files) name disk → IsWholeDisk disk → Runs (RunsScript (export_script name flat)) old new ended
     → EndsWellOrOutside (StoresFlatOf disk flat (Some files) new.files) ended
+unfolding reads_track
 export_complete name flat old new ended files disk begins told image whole runs =
-    let goes = export_goes name flat files disk old.state whole image (fresh_empty old.state 0 begins.fresh) (fresh_empty old.state 1 begins.fresh) in
-    completes (export_script name flat) _ old new runs.course ended (Some files) told begins goes (runs.ties.undisturbed begins.sound) runs.does
-    (λ done faultless.
+    completes (export_script name flat) _ old new runs.course ended (Some files) told begins
+    (opens_goes name files disk _ old.state image begins.fresh (λ one put.
+    acknowledges_goes 0 1 disk refl (λ station value. refl) _ one put.medium (λ two alone.
+    goes_tracks (IsReady disk whole) 80 2 (reads_track (sectors_at disk.rate)) [] two (λ c h cylinder head bytes mid there.
+    goes_each (IsReady disk whole) (reads_record c h) 1 (sectors_at disk.rate) bytes mid (λ r least below now three ready.
+    record_goes disk whole c h r now three cylinder head least (omega (arith, below)) ready) there) alone.ready _ (λ bytes three ready. refl))))
+    (runs.ties.undisturbed begins.sound) runs.does (λ done faultless.
     same_flat disk files name flat old.state.station.counters new.state.station.counters runs.course new.files whole image faultless.first
     (subst (λ (f : Option Files). StoresExported name flat old.state.station.counters f runs.course new.state.station.counters new.files) told
     (export_stores name flat old new runs.course done (fresh_memory old.state.station begins.fresh))))
