@@ -1,5 +1,5 @@
 -- The commands go to their end where nothing disturbs them, or the outside failed.
-use Rattle.std.proofs.Common.{◌≡◌, ◌≤◌, ℕ, List, [], length, refl, ap, ◌∙◌, subst, inl, Option, Some, arith, false, ◌-◌, Bool, get_or, true≢false}
+use Rattle.std.proofs.Common.{sym, ◌≡◌, ◌≤◌, ℕ, List, [], length, refl, ap, ◌∙◌, subst, inl, Option, Some, arith, false, ◌-◌, Bool, get_or, true≢false}
 use Rattle.std.proofs.lemmas.List.{length-replicate}
 use Rattle.flop_base.specs.Shelf.{Files}
 use Rattle.flop_base.specs.declared.answers.Rate.{Rate}
@@ -12,7 +12,7 @@ use Rattle.bay_model.specs.Counters.{Counters}
 use Rattle.bay_model.specs.Memory.{user_bytes, zeroes}
 use Rattle.sector_map.specs.Standard.{key_of}
 use Rattle.sector_model.specs.Stations.{StationState, Bay, IsFresh, bay_of}
-use Rattle.sector_model.specs.Steps.{IsImageOf, is_loaded, blank_of}
+use Rattle.sector_model.specs.Steps.{IsImageOf, blank_of}
 use Rattle.sector_model.specs.Runs.{Taken}
 use Rattle.sector_model.specs.Plays.{World, whole_status}
 use Rattle.scripts.specs.Scripts.{Script, RunsScript}
@@ -27,14 +27,14 @@ use Rattle.disk_laws.proofs.FormatRun.{format_stores}
 use Rattle.disk_laws.proofs.CopyRun.{copy_stores}
 use Rattle.disk_laws.proofs.VerifyRun.{verify_tells}
 use Rattle.disk_completeness.specs.Complete.{BeginsSound, EndsWellOrOutside, IsReadable, HaveSameSector, StoresSameSectors}
-use Rattle.disk_completeness.proofs.Readable.{key_is, readable_unmistaken, none_failing, ReadsAlone, read_done}
+use Rattle.disk_completeness.proofs.SectorRequests.{readable_unmistaken, none_failing, ReadsAlone, read_done, IsMaking, AnyDisk, HasRecords, MakesAlone, any_made, blank_made, made_still, format_done, write_done}
 use Rattle.flop_base.specs.Standard.{sectors_at}
 use Rattle.floppy_requests.specs.declared.request.Request.TheVariants as request
 use Rattle.floppy_session.specs.Blanks.{blank_request}
 use Rattle.scripts.specs.Parts.{formats}
 use Rattle.disk_laws.proofs.Prepared.{IsBlank}
-use Rattle.sector_model.specs.States.{State}
 use Rattle.scripts.specs.Records.{record_address, track_address}
+use Rattle.disk_laws.proofs.Reading.{key_is}
 use Rattle.disk_laws.proofs.Sectors.{few_sectors}
 use Rattle.disk_laws.proofs.Verified.{image_ranges}
 use Rattle.std.specs.Prelude.{◌||◌}
@@ -43,7 +43,6 @@ use Rattle.sector_model.specs.declared.reply.Reply.TheVariants as reply
 use Rattle.sector_model.specs.Texts.{is_refusal}
 use Rattle.disk_completeness.proofs.Bays.{IsReadyFor, ready_still, fresh_empty, blank_done, acknowledges_goes, eject_goes, opens_goes}
 use Rattle.disk_completeness.proofs.Going.{Stage, at, GoesWell, PartGoes, goes_asks, goes_needs, goes_carries, goes_each, goes_tracks, completes}
-use Rattle.disk_completeness.proofs.Making.{IsMaking, AnyDisk, HasRecords, MakesAlone, any_made, blank_made, made_still, format_done, write_done}
 
 -- ---- Format.
 
@@ -142,7 +141,7 @@ same_sectors disk to old new course told after sure stores = record {
       let on = given.4 in
       let found = on.content in
       let same : HaveSameSector disk stores.copied (key_of key.c key.h key.r) = (given.1, given.2, given.5 sure, (given.0, found.0, on.address, found.1, found.2)) in
-      subst (λ (k : Chrn). HaveSameSector disk stores.copied k) (key_is key standard.size) same;
+      subst (λ (k : Chrn). HaveSameSector disk stores.copied k) (sym (key_is key standard.size)) same;
   files = stores.files;
 }
 

@@ -1,6 +1,5 @@
 pub mod Bays
 pub mod CommandEnds
 pub mod Going
-pub mod Making
-pub mod Readable
 pub mod ScriptAccesses
+pub mod SectorRequests

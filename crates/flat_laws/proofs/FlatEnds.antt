@@ -32,13 +32,12 @@ use Rattle.disk_completeness.specs.Complete.{BeginsSound, EndsWellOrOutside}
 use Rattle.disk_completeness.proofs.Bays.{of_one, safe, fresh_empty, blank_done, acknowledges_goes, eject_goes, IsReadyFor, opens_goes}
 use Rattle.disk_completeness.proofs.CommandEnds.{fresh_memory}
 use Rattle.disk_completeness.proofs.Going.{Stage, at, IsDone, GoesWell, PartGoes, goes_carries, goes_each, goes_tracks, prints_outside, stop_outside, completes, goes_needs}
-use Rattle.disk_completeness.proofs.Making.{IsMaking, AnyDisk, HasRecords, MakesAlone, any_made, blank_made, made_still, format_done, write_done}
+use Rattle.disk_completeness.proofs.SectorRequests.{IsMaking, AnyDisk, HasRecords, MakesAlone, any_made, blank_made, made_still, format_done, write_done, ReadsAlone, read_done}
 use Rattle.raw_image.specs.Disk.{Disk, HasTrack}
 use Rattle.bay_model.specs.Counters.{Counters, IsFaultless}
 use Rattle.scripts.specs.Parts.{may_starve}
 use Rattle.flat_commands.specs.Export.{reads_record, reads_track, export_script}
 use Rattle.disk_laws.proofs.Verified.{one_image}
-use Rattle.disk_completeness.proofs.Readable.{ReadsAlone, read_done}
 use Rattle.flat_laws.specs.Imported.{StoresDisk, StoresImported}
 use Rattle.flat_laws.proofs.ImportRun.{import_stores}
 use Rattle.flat_laws.proofs.Taking.{some_sectors}
