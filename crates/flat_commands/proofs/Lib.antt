@@ -1,3 +1,4 @@
 mod Working
 mod Runs
 mod Turns
+mod Tracks

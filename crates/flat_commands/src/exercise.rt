@@ -49,6 +49,7 @@ fn exercise_line(alloc: Global, seed: u32, count: u16, tally: Tally) -> Result<S
 
 /// Makes a formatted disk of four cylinders and runs a workload on it, drawn from the seed. It prints how many reads and writes were
 /// done, how many were refused, and the sum of all bytes that were read. Nothing is stored.
+#[tactic(auto, using(crate::proofs::Runs::fed_first, crate::proofs::Runs::starved_first))]
 pub fn exercise_disk<S: Shelf, K: Sink, D: Station>(
     alloc: Global,
     session: &mut Session<D>,

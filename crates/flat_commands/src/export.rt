@@ -3,7 +3,7 @@ ghost use Rattle.std.specs.Prelude.{◌≡◌, ◌+◌, ◌≤◌, ◌++◌, IfO
 ghost use Rattle.bay_model.specs.Memory.{user_bytes, bytes_from};
 ghost use Rattle.floppy_session.specs.Session.{state_of, IsRunning};
 ghost use Rattle.scripts.specs.Scripts.{RunsScript};
-ghost use Rattle.scripts.specs.Parts.{each, by_track};
+ghost use Rattle.scripts.specs.Parts.{by_track};
 ghost use Rattle.scripts.specs.Leading.{RanPart, Ran, Runs, faulty_of};
 ghost use Rattle.flat_commands.specs.Import.{sectors_of};
 ghost use Rattle.flat_commands.specs.Export.{reads_record, reads_track, reads_disk, export_text, export_script, GoesOn};
@@ -35,7 +35,7 @@ fn gather<D: Station>(
 }
 
 /// Reads a record to its own place, and puts its bytes behind those of the flat file.
-#[tactic(auto, unfolding(crate::specs::Export::reads_record))]
+#[tactic(auto, using(scripts::proofs::Running::starved), unfolding(crate::specs::Export::reads_record))]
 fn read_record<S: Shelf, K: Sink, D: Station>(
     alloc: Global,
     session: &mut Session<D>,
@@ -91,28 +91,6 @@ fn read_track<S: Shelf, K: Sink, D: Station>(
     Ok(())
 }
 
-/// Reads the tracks of a cylinder.
-fn read_cylinder<S: Shelf, K: Sink, D: Station>(
-    alloc: Global,
-    session: &mut Session<D>,
-    sectors: u8,
-    c: u8,
-    flat: &mut Vec<u8>,
-    shelf: &mut S,
-    out: &mut K,
-) -> Result<(), Status>
-    requires running { IsRunning D.shown D.is_ready session.old }
-    requires most { sectors ≤ 18 }
-    ensures { RanPart (GoesOn (each 0 2 (reads_track sectors c) flat.old.items) flat.new.items) (IsRunning D.shown D.is_ready session.new)
-        (faulty_of D.shown S.told S.fault_count K.told K.fault_count session.old shelf.old out.old) result
-        (faulty_of D.shown S.told S.fault_count K.told K.fault_count session.new shelf.new out.new) }
-{
-    for h in 0..2u8 {
-        read_track(alloc, session, sectors, c, h, flat, shelf, out)?;
-    }
-    Ok(())
-}
-
 /// Reads all tracks, by cylinder, then head.
 fn read_tracks<S: Shelf, K: Sink, D: Station>(
     alloc: Global,
@@ -128,8 +106,17 @@ fn read_tracks<S: Shelf, K: Sink, D: Station>(
         (faulty_of D.shown S.told S.fault_count K.told K.fault_count session.old shelf.old out.old) result
         (faulty_of D.shown S.told S.fault_count K.told K.fault_count session.new shelf.new out.new) }
 {
-    for c in 0..CYLINDERS {
-        read_cylinder(alloc, session, sectors, c, flat, shelf, out)?;
+    for track in 0..2 * CYLINDERS {
+        read_track(
+            alloc,
+            session,
+            sectors,
+            track / 2,
+            track % 2,
+            flat,
+            shelf,
+            out,
+        )?;
     }
     Ok(())
 }
@@ -162,6 +149,7 @@ fn export_line(alloc: Global, rate: Rate) -> Result<String, AllocError>
 
 /// Stores the bytes of all records of a disk, by cylinder, then head, then record, in a flat file. It prints how many there are, or
 /// what stopped it: a record that can't be read, or one that isn't there.
+#[tactic(auto, using(crate::proofs::Runs::finished))]
 pub fn export_disk<S: Shelf, K: Sink, D: Station>(
     alloc: Global,
     session: &mut Session<D>,

@@ -3,7 +3,7 @@ ghost use Rattle.std.specs.Prelude.{◌≡◌, ◌+◌, ◌≤◌, ◌<◌, leng
 ghost use Rattle.flop_base.specs.Standard.{sectors_at};
 ghost use Rattle.flat_image.specs.Flat.{IsDensity, flat_length};
 ghost use Rattle.floppy_session.specs.Session.{IsRunning};
-ghost use Rattle.scripts.specs.Parts.{each, by_track};
+ghost use Rattle.scripts.specs.Parts.{by_track};
 ghost use Rattle.scripts.specs.Leading.{Goes, RanPart, Ran, Runs, faulty_of};
 ghost use Rattle.flat_commands.specs.Import.{fills_record, fills_track, writes_track, imports_track, imports_disk, import_text, sectors_of, Imports};
 
@@ -62,7 +62,6 @@ fn fill_track<S: Shelf, K: Sink, D: Station>(
     out: &mut K,
 ) -> Result<(), Status>
     requires running { IsRunning D.shown D.is_ready session.old }
-    requires most { sectors ≤ 18 }
     requires density { IsDensity sectors }
     requires whole { length flat.now ≡ flat_length sectors }
     requires cylinder { c < 80 }
@@ -119,7 +118,6 @@ fn import_track<S: Shelf, K: Sink, D: Station>(
     out: &mut K,
 ) -> Result<(), Status>
     requires running { IsRunning D.shown D.is_ready session.old }
-    requires most { sectors ≤ 18 }
     requires density { IsDensity sectors }
     requires whole { length flat.now ≡ flat_length sectors }
     requires cylinder { c < 80 }
@@ -134,31 +132,6 @@ fn import_track<S: Shelf, K: Sink, D: Station>(
     write_track(alloc, session, sectors, c, h, shelf, out)
 }
 
-/// Makes the tracks of a cylinder.
-fn import_cylinder<S: Shelf, K: Sink, D: Station>(
-    alloc: Global,
-    session: &mut Session<D>,
-    flat: &[u8],
-    sectors: u8,
-    c: u8,
-    shelf: &mut S,
-    out: &mut K,
-) -> Result<(), Status>
-    requires running { IsRunning D.shown D.is_ready session.old }
-    requires most { sectors ≤ 18 }
-    requires density { IsDensity sectors }
-    requires whole { length flat.now ≡ flat_length sectors }
-    requires cylinder { c < 80 }
-    ensures { RanPart (Goes (each 0 2 (imports_track flat.now sectors c) tt)) (IsRunning D.shown D.is_ready session.new)
-        (faulty_of D.shown S.told S.fault_count K.told K.fault_count session.old shelf.old out.old) result
-        (faulty_of D.shown S.told S.fault_count K.told K.fault_count session.new shelf.new out.new) }
-{
-    for h in 0..2u8 {
-        import_track(alloc, session, flat, sectors, c, h, shelf, out)?;
-    }
-    Ok(())
-}
-
 /// Makes all tracks, by cylinder, then head.
 fn import_tracks<S: Shelf, K: Sink, D: Station>(
     alloc: Global,
@@ -169,15 +142,16 @@ fn import_tracks<S: Shelf, K: Sink, D: Station>(
     out: &mut K,
 ) -> Result<(), Status>
     requires running { IsRunning D.shown D.is_ready session.old }
-    requires most { sectors ≤ 18 }
     requires density { IsDensity sectors }
     requires whole { length flat.now ≡ flat_length sectors }
     ensures { RanPart (Goes (by_track 80 2 (imports_track flat.now sectors) tt)) (IsRunning D.shown D.is_ready session.new)
         (faulty_of D.shown S.told S.fault_count K.told K.fault_count session.old shelf.old out.old) result
         (faulty_of D.shown S.told S.fault_count K.told K.fault_count session.new shelf.new out.new) }
 {
-    for c in 0..CYLINDERS {
-        import_cylinder(alloc, session, flat, sectors, c, shelf, out)?;
+    for track in 0..2 * CYLINDERS {
+        let c = track / 2;
+        let h = track % 2;
+        import_track(alloc, session, flat, sectors, c, h, shelf, out)?;
     }
     Ok(())
 }
@@ -215,6 +189,7 @@ fn import_line(alloc: Global, rate: Rate) -> Result<String, AllocError>
 
 /// Makes a disk from the bytes of a flat file, and stores it under the name. It prints how many sectors were written, or what
 /// stopped it. A flat file of 737,280 bytes makes a 720 KB disk, one of 1,474,560 bytes a 1.44 MB disk; no other is taken.
+#[tactic(auto, using(crate::proofs::Runs::imported_flat, crate::proofs::Runs::not_taken))]
 pub fn import_disk<S: Shelf, K: Sink, D: Station>(
     alloc: Global,
     session: &mut Session<D>,

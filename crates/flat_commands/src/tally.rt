@@ -1,6 +1,6 @@
 // What the requests of a workload came to.
 ghost use Rattle.std.specs.Prelude.{◌≡◌, ◌≤◌};
-ghost use Rattle.flat_commands.specs.Exercise.{no_work, one_done, one_refused, HasRoom, IsOneMore};
+ghost use Rattle.flat_commands.specs.Exercise.{one_done, one_refused, HasRoom, IsOneMore};
 
 /// How many reads and writes were done and how many refused, and the sum of all bytes that were read.
 #[derive(Clone, Copy)]
@@ -11,17 +11,6 @@ pub(crate) struct Tally {
 }
 
 impl Tally {
-    /// No request at all.
-    pub fn none() -> Tally
-        ensures { result ≡ no_work }
-    {
-        Tally {
-            done: 0,
-            refused: 0,
-            sum: 0,
-        }
-    }
-
     /// One more request, which was refused.
     pub fn and_refused(self) -> Tally
         requires { HasRoom self }

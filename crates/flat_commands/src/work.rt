@@ -5,9 +5,9 @@ ghost use Rattle.floppy_session.specs.Session.{state_of, IsRunning};
 ghost use Rattle.floppy_session.specs.Tries.{HasTries};
 ghost use Rattle.scripts.specs.Leading.{Goes, RanPart, faulty_of};
 ghost use Rattle.flat_commands.specs.Workload.{number_after};
-ghost use Rattle.flat_commands.specs.Exercise.{no_work, reads_work, write_request, writes_work, works_drawn, works_behind, works, HasRoom, IsOneMore};
+ghost use Rattle.flat_commands.specs.Exercise.{no_work, reads_work, write_request, writes_work, works_behind, works, HasRoom, IsOneMore};
 
-use crate::draws::{Draws, Work};
+use crate::draws::Draws;
 use crate::tally::Tally;
 use flop_base::{Chrn, Shelf, Sink, Status};
 use floppy_requests::Request;
@@ -119,36 +119,8 @@ fn write<S: Shelf, K: Sink, D: Station>(
     }
 }
 
-/// Runs what five draws ask for.
-#[tactic(auto, unfolding(crate::specs::Exercise::works_drawn))]
-fn run_drawn<S: Shelf, K: Sink, D: Station>(
-    alloc: Global,
-    session: &mut Session<D>,
-    work: Work,
-    tally: Tally,
-    shelf: &mut S,
-    out: &mut K,
-) -> Result<Tally, Status>
-    requires running { IsRunning D.shown D.is_ready session.old }
-    requires room { HasRoom tally }
-    ensures ran { RanPart (Goes (works_drawn work.kind work.key work.byte tally)) (IsRunning D.shown D.is_ready session.new)
-        (faulty_of D.shown S.told S.fault_count K.told K.fault_count session.old shelf.old out.old) result
-        (faulty_of D.shown S.told S.fault_count K.told K.fault_count session.new shelf.new out.new) }
-    ensures more { IfOk result (IsOneMore tally) }
-{
-    if work.kind == 0 {
-        write(
-            alloc, session, false, work.key, work.byte, tally, shelf, out,
-        )
-    } else if work.kind == 3 {
-        write(alloc, session, true, work.key, work.byte, tally, shelf, out)
-    } else {
-        read(alloc, session, work.key, tally, shelf, out)
-    }
-}
-
 /// Runs what the next five draws ask for.
-#[tactic(auto, unfolding(crate::specs::Exercise::works_behind))]
+#[tactic(auto, unfolding(crate::specs::Exercise::works_behind, crate::specs::Exercise::works_drawn))]
 fn run_next<S: Shelf, K: Sink, D: Station>(
     alloc: Global,
     session: &mut Session<D>,
@@ -166,7 +138,15 @@ fn run_next<S: Shelf, K: Sink, D: Station>(
     ensures number { draws.new.number ≡ number_after 5 draws.old.number }
 {
     let work = draws.work();
-    run_drawn(alloc, session, work, tally, shelf, out)
+    if work.kind == 0 {
+        write(
+            alloc, session, false, work.key, work.byte, tally, shelf, out,
+        )
+    } else if work.kind == 3 {
+        write(alloc, session, true, work.key, work.byte, tally, shelf, out)
+    } else {
+        read(alloc, session, work.key, tally, shelf, out)
+    }
 }
 
 /// Runs a workload: so many times what five draws ask for, the first behind the seed.
@@ -184,7 +164,11 @@ pub(crate) fn run_work<S: Shelf, K: Sink, D: Station>(
         (faulty_of D.shown S.told S.fault_count K.told K.fault_count session.new shelf.new out.new) }
 {
     let mut draws = Draws { number: seed };
-    let mut tally = Tally::none();
+    let mut tally = Tally {
+        done: 0,
+        refused: 0,
+        sum: 0,
+    };
     for _i in 0..count {
         tally = run_next(alloc, session, &mut draws, tally, shelf, out)?;
     }

@@ -1,31 +1,17 @@
 use Rattle.std.proofs.Common.{rules, ℕ, List, ◌++◌}
-use Rattle.std.proofs.lemmas.Result.{err_from_is_err_and}
 use Rattle.bay_model.specs.Memory.{bytes_from}
 use Rattle.floppy_session.specs.Session.{state_of}
 use Rattle.sector_model.specs.States.{State}
 use Rattle.scripts.specs.Scripts.{Script}
 use Rattle.scripts.specs.Parts.{may_starve}
 use Rattle.scripts.specs.Records.{record_address}
-use Rattle.scripts.proofs.Running.{fed, starved}
+use Rattle.scripts.proofs.Running.{fed}
 use Rattle.flat_commands.specs.Export.{reads_record}
 use Rattle.flat_commands.proofs.export.read_record.Goals as goal
 
 -- what follows the read
 abbrev kept : ℕ → List ℕ → (List ℕ → Script) → State → Unit {0} → Script
 kept r bytes rest after none = rest (bytes ++ bytes_from after.station.memory (record_address r) 512)
-
-pub returns-in_err-need : goal.returns-in_err-need
-unfolding reads_record
-returns-in_err-need g c = record {
-  goes =
-      let p = err_from_is_err_and c.from_residual.result c.from_residual.ensures.1 in
-      rw (p.1, p.2) (λ whole start rest leads. c.in_err-need.ensures.ran.goes whole start
-      (λ answer after. may_starve (kept c.args.r c.args.flat.now.items rest after)) (rw c.record_address-address.ensures leads));
-  running = search rules;
-  is_form = search rules;
-  shelf_faults = search rules;
-  sink_faults = search rules;
-}
 
 pub returns-in-Ok : goal.returns-in-Ok
 unfolding reads_record
@@ -35,19 +21,6 @@ returns-in-Ok g c = record {
       (fed whole start (kept c.args.r c.args.flat.now.items rest (state_of g.D.Station.shown c.need.new.session)) _
       (c.in_ok-need.ensures.ran.goes whole start (λ answer after. may_starve (kept c.args.r c.args.flat.now.items rest after))
       (rw c.record_address-address.ensures leads)));
-  running = search rules;
-  is_form = search rules;
-  shelf_faults = search rules;
-  sink_faults = search rules;
-}
-
-pub returns : goal.returns
-unfolding reads_record
-returns g c = record {
-  goes = λ whole start rest leads.
-      starved whole start (kept c.args.r c.args.flat.now.items rest (state_of g.D.Station.shown c.need.new.session)) _
-      (c.in_ok-need.ensures.ran.goes whole start (λ answer after. may_starve (kept c.args.r c.args.flat.now.items rest after))
-      (rw c.record_address-address.ensures leads));
   running = search rules;
   is_form = search rules;
   shelf_faults = search rules;

@@ -11,7 +11,7 @@ pub returns-in_err-read_record : goal.returns-in_err-read_record
 unfolding reads_track
 returns-in_err-read_record g c =
     let goes = given_behind _ c.read_record.new.flat.items _ _ _ _ c.from_residual.ensures.1
-        (turn_ends _ _ _ _ _ _ _ _ _ _ c.loop-r.invariant.turn c.in_err-read_record.ensures.goes (omega arith)) in
+    (turn_ends _ _ _ _ _ _ _ _ _ _ c.loop-r.invariant.turn c.in_err-read_record.ensures.goes (omega arith)) in
     search rules
 
 pub loop-r-preserved : goal.loop-r-preserved

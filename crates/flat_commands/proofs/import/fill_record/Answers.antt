@@ -11,7 +11,7 @@ pub returns-in_err-carry : goal.returns-in_err-carry
 unfolding fills_record fills_byte
 returns-in_err-carry g c =
     let goes = given_on _ _ _ _ _ c.from_residual.ensures.1
-        (turn_ends _ _ _ _ _ _ _ _ _ _ c.loop-i.invariant.turn c.in_err-carry.ensures.goes (omega arith)) in
+    (turn_ends _ _ _ _ _ _ _ _ _ _ c.loop-i.invariant.turn c.in_err-carry.ensures.goes (omega arith)) in
     search rules
 
 pub loop-i-preserved : goal.loop-i-preserved

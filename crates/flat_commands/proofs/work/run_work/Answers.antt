@@ -1,27 +1,18 @@
 use Rattle.std.proofs.Common.{rules, arith, sym}
-use Rattle.std.proofs.lemmas.Result.{err_from_is_err_and}
 use Rattle.scripts.proofs.Looping.{turn_begins, turn_goes, turn_ends, turns_over}
-use Rattle.flat_commands.proofs.Working.{first_number, number_more}
 use Rattle.flat_commands.specs.Exercise.{works}
+use Rattle.flat_commands.proofs.Turns.{given_on}
+use Rattle.flat_commands.proofs.Working.{first_number, number_more}
 use Rattle.flat_commands.proofs.work.run_work.Goals as goal
 
 pub loop-i-init : goal.loop-i-init
-loop-i-init g c = record {
-  turn = rw c.none-tally.ensures (turn_begins _ _ _ _ _);
-  running = search rules;
-  counted = search rules;
-  stays = search rules;
-  number = first_number c.args.seed;
-  few = rw c.none-tally.ensures (omega arith);
-  small = rw c.none-tally.ensures (omega arith);
-}
+loop-i-init g c = search (rules, turn_begins, first_number)
 
 pub returns-in_err-tally : goal.returns-in_err-tally
 unfolding works
 returns-in_err-tally g c = record {
-  goes =
-      let p = err_from_is_err_and c.from_residual.result c.from_residual.ensures.1 in
-      rw (p.1, p.2) (turn_ends _ _ _ _ _ _ _ _ _ _ c.loop-i.invariant.turn (rw (sym c.loop-i.invariant.number) c.in_err-tally.ensures.ran.goes) (omega arith));
+  goes = given_on _ _ _ _ _ c.from_residual.ensures.1
+      (turn_ends _ _ _ _ _ _ _ _ _ _ c.loop-i.invariant.turn (rw (sym c.loop-i.invariant.number) c.in_err-tally.ensures.ran.goes) (omega arith));
   running = search rules;
   is_form = search rules;
   shelf_faults = search rules;
@@ -41,16 +32,7 @@ loop-i-preserved g c = record {
 
 pub returns : goal.returns
 unfolding works
-returns g c = record {
-  goes = turns_over _ _ _ _ _ _ _ _ c.loop-i.invariant.turn (omega arith);
-  running = search rules;
-  is_form = search rules;
-  shelf_faults = search rules;
-  sink_faults = search rules;
-}
+returns g c = let goes = turns_over _ _ _ _ _ _ _ _ c.loop-i.invariant.turn (omega arith) in search rules
 
 pub run_next-requires-clause-room : goal.run_next-requires-clause-room
-run_next-requires-clause-room g c = record {
-  few = omega (arith, c.loop-i.invariant.few);
-  small = omega (arith, c.loop-i.invariant.small);
-}
+run_next-requires-clause-room g c = search rules
