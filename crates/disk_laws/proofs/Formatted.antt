@@ -58,7 +58,8 @@ formats_disk rate name cylinders old new told after course all faultless =
     let first = step_never_fell old one.mid told one.files (blank_request 0 name cylinders rate) one.answer one.step (blank_keeps 0 rate name cylinders) in
     let second = ready.first in
     let third = ready.later in
-    let laid = each_format rate tracks blank ready.mid new ready.files after ready.course ready.behind (omega arith, omega arith) ready.medium ready.rate put.valid in
+    let laid = each_format rate tracks blank ready.mid new ready.files after ready.course ready.behind
+    (omega arith, omega arith) ready.medium ready.rate put.valid in
     let disk = is_formatted rate cylinders ready.mid new ready.files after laid in
     record {
       disk = disk.0;

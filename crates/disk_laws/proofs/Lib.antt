@@ -2,12 +2,10 @@ pub mod BlankDisk
 pub mod Copied
 pub mod CopiedDisk
 pub mod CopiedTrack
-pub mod CopyOpened
 pub mod CopyRun
 pub mod FormatRun
 pub mod Formatted
 pub mod Formatting
-pub mod KeptMarks
 pub mod Looks
 pub mod Marks
 pub mod Opening

@@ -28,8 +28,8 @@ use Rattle.disk_laws.specs.Requests.{verify_opening}
 use Rattle.disk_laws.proofs.Prepared.{acks}
 use Rattle.disk_laws.proofs.PutIn.{opened_shape}
 use Rattle.disk_laws.proofs.Reading.{reaches, quiet_parts}
-use Rattle.disk_laws.proofs.Steps.{NeverFell, begins, ends_there, never_fell, step_never_fell}
-use Rattle.disk_laws.proofs.TrackParts.{did_all}
+use Rattle.disk_laws.proofs.Steps.{NeverFell, done_does, step_never_fell}
+use Rattle.disk_laws.proofs.TrackParts.{did_step}
 use Rattle.disk_laws.proofs.Verified.{one_image}
 
 -- a disk is put into an empty bay
@@ -71,25 +71,20 @@ record IsIn (disk : Disk) (old mid : World) : Type 0 where
   pub medium : (bay_of mid.state.station 0).medium ≡ Some disk
   pub fell : NeverFell old.state.station.counters mid.state.station.counters
 
-put_in : (name : List ℕ) (disk : Disk) (files : Files) (old mid : World) (course : List Taken) → old.files ≡ Some files → IsImageOf (Some files) name disk → Did (request.Insert 0 name ∷ []) old course mid → IsIn disk old mid
+put_in : (name : List ℕ) (disk : Disk) (files : Files) (old mid : World) (course : List Taken) → old.files ≡ Some files → IsImageOf (Some files) name disk
+    → Did (request.Insert 0 name ∷ []) old course mid → IsIn disk old mid
 put_in name disk files old mid course there image did =
-    let all = did_all (request.Insert 0 name ∷ []) old course mid did in
-    let one = begins old.state mid.state old.files mid.files (request.Insert 0 name) [] course all in
-    let put = one.does.2 in
+    let step = did_step (request.Insert 0 name) old course mid did in
+    let put = (done_does old.state mid.state old.files mid.files (request.Insert 0 name) step.0 step.1 step.2).2 in
     let same : put.0 ≡ disk = one_image files name put.0 disk (subst (λ (f : Option Files). IsImageOf f name put.0) there put.1) image in
-    let end = (ends_there one.mid mid.state one.files mid.files one.later one.behind).0 in
     record {
-      medium = ap (λ (s : State). (bay_of s.station 0).medium) end ∙ ap (λ (s : StationState). (bay_of s 0).medium) put.2.exchanged.becomes ∙ ap (λ (d : Disk). Some d) same;
-      fell = never_fell old.state mid.state old.files mid.files (request.Insert 0 name ∷ []) course all refl;
+      medium = ap (λ (s : StationState). (bay_of s 0).medium) put.2.exchanged.becomes ∙ ap (λ (d : Disk). Some d) same;
+      fell = step_never_fell old.state mid.state old.files mid.files (request.Insert 0 name) step.0 step.1 refl;
     }
 
-acked : (disk : Disk) (old mid : World) (course : List Taken) → Did (request.Ack 0 ∷ []) old course mid → (bay_of old.state.station 0).medium ≡ Some disk → (count : ℕ) × ((bay_of mid.state.station 0).acknowledged ≡ Some count)
-acked disk old mid course did medium =
-    let one = begins old.state mid.state old.files mid.files (request.Ack 0) [] course (did_all (request.Ack 0 ∷ []) old course mid did) in
-    let kept = (acks 0 disk old.state one.mid old.files one.files one.answer one.does one.done medium).kept in
-    (_, ap (λ (s : State). (bay_of s.station 0).acknowledged) (ends_there one.mid mid.state one.files mid.files one.later one.behind).0 ∙ kept)
-
-module _ (name : List ℕ) (disk : Disk) (files : Files) (rest : Shape → Unit {0} → Script) (old : World) (course : List Taken) (new : World) (ended : Status) (whole : IsWhole ended) (there : old.files ≡ Some files) (image : IsImageOf (Some files) name disk) (empty : (bay_of old.state.station 0).medium ≡ None) (quiet : IsUndisturbed 0 old.state.station.counters new.state.station.counters) where
+module _ (name : List ℕ) (disk : Disk) (files : Files) (rest : Shape → Unit {0} → Script) (old : World) (course : List Taken) (new : World) (ended : Status)
+    (whole : IsWhole ended) (there : old.files ≡ Some files) (image : IsImageOf (Some files) name disk) (empty : (bay_of old.state.station 0).medium ≡ None)
+    (quiet : IsUndisturbed 0 old.state.station.counters new.state.station.counters) where
   no_insert : IsRefused (request.Insert 0 name) old course new ended → ⊥
   no_insert run = not_done run.cause (insert_taken name old.state new.state old.files new.files (reply.Refused run.cause) empty run.step)
 
@@ -99,13 +94,16 @@ module _ (name : List ℕ) (disk : Disk) (files : Files) (rest : Shape → Unit 
       let calm = (quiet_parts old.state.station.counters mid.state.station.counters new.state.station.counters is.fell last quiet).1 in
       not_done run.cause (ack_taken disk mid.state new.state mid.files new.files (reply.Refused run.cause) is.medium calm last run.step)
 
-  no_rate : (mid end : World) (between left : List Taken) → IsIn disk old mid → Did (request.Ack 0 ∷ []) mid between end → IsRefused (request.SetRate 0 R250) end left new ended → ⊥
+  no_rate : (mid end : World) (between left : List Taken) → IsIn disk old mid → Did (request.Ack 0 ∷ []) mid between end
+      → IsRefused (request.SetRate 0 R250) end left new ended → ⊥
   no_rate mid end between left is did run =
-      let kept = acked disk mid end between did is.medium in
-      not_done run.cause (rate_taken kept.0 end.state new.state end.files new.files (reply.Refused run.cause) kept.1 run.step)
+      let step = did_step (request.Ack 0) mid between end did in
+      let kept = (acks 0 disk mid.state end.state mid.files end.files step.0 step.1 step.2 is.medium).kept in
+      not_done run.cause (rate_taken _ end.state new.state end.files new.files (reply.Refused run.cause) kept run.step)
 
   -- the disk is put in, and the bay made ready
-  pub opening_passed : RunsScript (opens name (λ shape. acknowledges 0 shape.rate (rest shape))) old course new ended → Passed (Does (verify_opening name disk)) (rest (shape_of disk)) old course new ended
+  pub opening_passed : RunsScript (opens name (λ shape. acknowledges 0 shape.rate (rest shape))) old course new ended
+      → Passed (Does (verify_opening name disk)) (rest (shape_of disk)) old course new ended
   unfolding acknowledges
   opening_passed runs =
       let a = opens_passed name (λ shape. acknowledges 0 shape.rate (rest shape)) old course new ended whole no_insert runs in
@@ -115,4 +113,5 @@ module _ (name : List ℕ) (disk : Disk) (files : Files) (rest : Shape → Unit 
       let b = carries_passed (request.Ack 0) (λ none. sets_rate 0 disk.rate (rest (shape_of disk))) a.mid a.two new ended whole (no_ack a.mid a.two is) left in
       let c = sets_rate_passed 0 disk.rate (rest (shape_of disk)) b.mid b.two new ended whole (no_rate a.mid b.mid b.one b.two is b.knows) b.left in
       let ready = joined_did (request.Ack 0 ∷ []) (rate_requests disk.rate 0) b c in
-      joined a ready (did_both (request.Insert 0 name ∷ []) (request.Ack 0 ∷ rate_requests disk.rate 0) old a.mid ready.mid a.one ready.one a.knows.did ready.knows)
+      joined a ready
+      (did_both (request.Insert 0 name ∷ []) (request.Ack 0 ∷ rate_requests disk.rate 0) old a.mid ready.mid a.one ready.one a.knows.did ready.knows)

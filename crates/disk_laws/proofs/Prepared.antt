@@ -230,14 +230,20 @@ pub record IsReadied (bay : ℕ) (disk : Disk) (old : State) (told : Option File
   pub later : NeverFell acked.station.counters mid.station.counters
   pub behind : DoesAll rest mid files course new after
 
-with_twice : (two : Two Bay) (bay : ℕ) (first second : Bay) → with_bay (with_bay two bay first) bay second ≡ with_bay two bay second
-with_twice two bay first second = go (bay == 0)
+-- a bay that was given twice
+abbrev put_by : Bool → Two Bay → Bay → Two Bay
+put_by first two value = if first then record two { first = value } else record two { second = value }
+
+with_twice : (two : Two Bay) (bay : ℕ) (before value : Bay) → with_bay (with_bay two bay before) bay value ≡ with_bay two bay value
+with_twice two bay before value = go (bay == 0)
   where
-    go : (b : Bool) → (if b then record (if b then record two { first = first } else record two { second = first }) { first = second } else record (if b then record two { first = first } else record two { second = first }) { second = second }) ≡ (if b then record two { first = second } else record two { second = second })
+    go : (b : Bool) → put_by b (put_by b two before) value ≡ put_by b two value
     go true = refl
     go false = refl
 
-pub readies : (bay : ℕ) (disk : Disk) (rest : List Request) (old new : State) (told after : Option Files) (course : List Taken) → DoesAll (request.Ack bay ∷ (rate_requests disk.rate bay ++ rest)) old told course new after → (bay_of old.station bay).medium ≡ Some disk → IsReadied bay disk old told rest new after
+pub readies : (bay : ℕ) (disk : Disk) (rest : List Request) (old new : State) (told after : Option Files) (course : List Taken)
+    → DoesAll (request.Ack bay ∷ (rate_requests disk.rate bay ++ rest)) old told course new after → (bay_of old.station bay).medium ≡ Some disk
+    → IsReadied bay disk old told rest new after
 readies bay disk rest old new told after course all medium =
     let one = begins old new told after (request.Ack bay) (rate_requests disk.rate bay ++ rest) course all in
     let acked = acks bay disk old one.mid told one.files one.answer one.does one.done medium in

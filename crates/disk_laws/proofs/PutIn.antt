@@ -1,5 +1,5 @@
 -- The shape of the disk that a command puts in.
-use Rattle.std.proofs.Common.{◌≡◌, ◌∙◌, List, [], ◌∷◌, ℕ, false, sym, ap, subst, Option, Some}
+use Rattle.std.proofs.Common.{◌≡◌, ◌∙◌, List, ℕ, false, ap, subst, Option, Some}
 use Rattle.std.specs.Option.{option_map}
 use Rattle.flop_base.specs.Shelf.{Files}
 use Rattle.raw_image.specs.Disk.{Disk}
@@ -14,8 +14,8 @@ use Rattle.sector_model.specs.Plays.{World}
 use Rattle.floppy_session.specs.declared.shape.Shape.{Shape}
 use Rattle.floppy_session.specs.Shapes.{shape_of, shape_in}
 use Rattle.scripts.proofs.Passed.{Opened}
-use Rattle.disk_laws.proofs.Steps.{begins, ends_there, done_does}
-use Rattle.disk_laws.proofs.TrackParts.{did_all}
+use Rattle.disk_laws.proofs.Steps.{done_does}
+use Rattle.disk_laws.proofs.TrackParts.{did_step}
 use Rattle.disk_laws.proofs.Verified.{one_image}
 
 -- a disk that was put in has the shape of its image
@@ -28,10 +28,9 @@ put_shape name disk files old new after answer shape image step done there =
     cc (told, there)
 
 -- so it has in a script that opens it
-pub opened_shape : (name : List ℕ) (disk : Disk) (files : Files) (old mid : World) (course : List Taken) (shape : Shape) → IsImageOf (Some files) name disk → old.files ≡ Some files → Opened name old course shape mid → shape ≡ shape_of disk
+pub opened_shape : (name : List ℕ) (disk : Disk) (files : Files) (old mid : World) (course : List Taken) (shape : Shape) → IsImageOf (Some files) name disk
+    → old.files ≡ Some files → Opened name old course shape mid → shape ≡ shape_of disk
 opened_shape name disk files old mid course shape image there opened =
-    let first = begins old.state mid.state old.files mid.files (request.Insert 0 name) [] course (did_all (request.Insert 0 name ∷ []) old course mid opened.did) in
-    let same = (ends_there first.mid mid.state first.files mid.files first.later first.behind).0 in
-    put_shape name disk files old.state first.mid first.files first.answer shape image
-    (subst (λ (f : Option Files). Step (request.Insert 0 name) old.state f first.answer first.mid first.files) there first.step) first.done
-    (ap (λ (s : State). shape_in (bay_of s.station 0)) (sym same) ∙ opened.there)
+    let put = did_step (request.Insert 0 name) old course mid opened.did in
+    put_shape name disk files old.state mid.state mid.files put.0 shape image
+    (subst (λ (f : Option Files). Step (request.Insert 0 name) old.state f put.0 mid.state mid.files) there put.1) put.2 opened.there

@@ -83,7 +83,8 @@ opens name disk files old new after course end image all last quiet =
     let put = one.does.2 in
     let same : put.0 ≡ disk = one_image files name put.0 disk put.1 image in
     let medium : (bay_of one.mid.station 0).medium ≡ Some disk = ap (λ (s : StationState). (bay_of s 0).medium) put.2.exchanged.becomes ∙ ap (λ (d : Disk). Some d) same in
-    let whole = subst (λ (requests : List Request). DoesAll (request.Ack 0 ∷ requests) one.mid one.files one.later new after) (sym (append-nil (rate_requests disk.rate 0))) one.behind in
+    let whole = subst (λ (requests : List Request). DoesAll (request.Ack 0 ∷ requests) one.mid one.files one.later new after)
+    (sym (append-nil (rate_requests disk.rate 0))) one.behind in
     let ready = readies 0 disk [] one.mid new one.files after one.later whole medium in
     let there = (ends_there ready.mid new ready.files after ready.course ready.behind).0 in
     let first = step_never_fell old one.mid (Some files) one.files (request.Insert 0 name) one.answer one.step refl in

@@ -1,6 +1,6 @@
 -- Parts of a script that were gone through, and what is known of each.
 use Rattle.std.proofs.Math.Path.{fun_ext}
-use Rattle.std.proofs.Common.{◌+◌, zero, suc, map, ◌≡◌, ◌∙◌, ℕ, false, Bool, true, List, [], ◌∷◌, ◌++◌, map, inl, inr, refl, sym, ap, subst, append-nil, append_assoc, Option, Some, None}
+use Rattle.std.proofs.Common.{◌+◌, zero, suc, ◌≡◌, ◌∙◌, ℕ, false, Bool, true, List, [], ◌∷◌, ◌++◌, map, inl, inr, refl, sym, ap, subst, append-nil, append_assoc, Option, Some, None}
 use Rattle.std.specs.Prelude.{◌||◌}
 use Rattle.std.specs.List.{flat_map, range_with_len}
 use Rattle.std.proofs.lemmas.List.{map-append}
@@ -31,7 +31,8 @@ abbrev pub Known : Type 0 → Type 1
 Known Found = World → List Taken → Found → World → Type 0
 
 -- a part was gone through by the first part of a course, and what follows was run
-pub record Passed {Found : Type 0} (Knows : Known Found) (rest : Found → Script) (old : World) (course : List Taken) (new : World) (ended : Status) : Type 0 where
+pub record Passed {Found : Type 0} (Knows : Known Found) (rest : Found → Script) (old : World) (course : List Taken) (new : World)
+    (ended : Status) : Type 0 where
   pub one : List Taken
   pub two : List Taken
   pub found : Found
@@ -49,7 +50,8 @@ Passes {Found = Found} ended part Knows =
 -- two parts that were gone through, one behind the other, are one
 abbrev pub joined : {First Found : Type 0} {Before : Known First} {Behind Knows : Known Found} {next : First → Script} {rest : Found → Script}
     {old : World} {course : List Taken} {new : World} {ended : Status}
-    → (a : Passed Before next old course new ended) (b : Passed Behind rest a.mid a.two new ended) → Knows old (a.one ++ b.one) b.found b.mid → Passed Knows rest old course new ended
+    → (a : Passed Before next old course new ended) (b : Passed Behind rest a.mid a.two new ended) → Knows old
+    (a.one ++ b.one) b.found b.mid → Passed Knows rest old course new ended
 joined a b knows = record {
   one = a.one ++ b.one;
   two = b.two;
@@ -96,7 +98,8 @@ same_part ended part other Knows same passes rest old course new runs =
 -- ---- Requests.
 
 -- a request was answered, what its answer tells was found, and nothing was printed
-pub record IsAsked {Found : Type 0} (asked : Request) (finds : Reply → State → Found) (old : World) (course : List Taken) (found : Found) (mid : World) : Type 0 where
+pub record IsAsked {Found : Type 0} (asked : Request) (finds : Reply → State → Found) (old : World) (course : List Taken) (found : Found)
+    (mid : World) : Type 0 where
   pub taken : Taken
   pub course_is : course ≡ taken ∷ []
   pub asked_is : taken.asked ≡ asked
@@ -106,13 +109,16 @@ pub record IsAsked {Found : Type 0} (asked : Request) (finds : Reply → State �
   pub report : mid.report ≡ old.report
 
 -- and it wasn't refused
-pub record IsTaken {Found : Type 0} (asked : Request) (finds : Reply → State → Found) (old : World) (course : List Taken) (found : Found) (mid : World) : Type 0 where
+pub record IsTaken {Found : Type 0} (asked : Request) (finds : Reply → State → Found) (old : World) (course : List Taken) (found : Found)
+    (mid : World) : Type 0 where
   pub is : IsAsked asked finds old course found mid
   pub fine : is_refusal is.taken.answer ≡ false
 
 -- the part that was
-abbrev answer_passed : {Found : Type 0} (asked : Request) (finds : Reply → State → Found) (rest : Found → Script) (old : World) (course : List Taken) (new : World) (ended : Status)
-    → (run : IsAnswered asked (λ answer after. rest (finds answer after)) old course new ended) → IsAsked asked finds old (run.taken ∷ []) (finds run.taken.answer run.taken.after) (record old { state = run.taken.after; files = run.files })
+abbrev answer_passed : {Found : Type 0} (asked : Request) (finds : Reply → State → Found) (rest : Found → Script) (old : World) (course : List Taken)
+    (new : World) (ended : Status)
+    → (run : IsAnswered asked (λ answer after. rest (finds answer after)) old course new ended) → IsAsked asked finds old (run.taken ∷ [])
+    (finds run.taken.answer run.taken.after) (record old { state = run.taken.after; files = run.files })
 answer_passed asked finds rest old course new ended run = record {
   taken = run.taken;
   course_is = refl;
@@ -124,7 +130,8 @@ answer_passed asked finds rest old course new ended run = record {
 }
 
 -- a request that the script can't go on without, where it can't have been refused
-pub needs_passed : {Found : Type 0} (asked : Request) (finds : Reply → State → Found) (rest : Found → Script) (old : World) (course : List Taken) (new : World) (ended : Status)
+pub needs_passed : {Found : Type 0} (asked : Request) (finds : Reply → State → Found) (rest : Found → Script) (old : World) (course : List Taken) (new : World)
+    (ended : Status)
     → IsWhole ended → (IsRefused asked old course new ended → ⊥)
     → RunsScript (needs asked (λ answer after. rest (finds answer after))) old course new ended → Passed (IsTaken asked finds) rest old course new ended
 needs_passed asked finds rest old course new ended whole fine runs =
@@ -176,12 +183,14 @@ pub record Did (requests : List Request) (old : World) (course : List Taken) (ne
 abbrev pub Does : {Found : Type 0} → List Request → Known Found
 Does requests old course found mid = Did requests old course mid
 
-pub taken_did : {Found : Type 0} (asked : Request) (finds : Reply → State → Found) (old : World) (course : List Taken) (found : Found) (mid : World) → IsTaken asked finds old course found mid → Did (asked ∷ []) old course mid
+pub taken_did : {Found : Type 0} (asked : Request) (finds : Reply → State → Found) (old : World) (course : List Taken) (found : Found) (mid : World)
+    → IsTaken asked finds old course found mid → Did (asked ∷ []) old course mid
 taken_did asked finds old course found mid it =
     let is = it.is in
     let fine = it.fine in
     subst (λ (c : List Taken). Did (asked ∷ []) old c mid) (sym is.course_is) (record {
-      run = (mid.files, subst (λ (q : Request). Step q old.state old.files is.taken.answer is.taken.after mid.files) (sym is.asked_is) is.step, (is.after, refl));
+      run =
+          (mid.files, subst (λ (q : Request). Step q old.state old.files is.taken.answer is.taken.after mid.files) (sym is.asked_is) is.step, (is.after, refl));
       all = ap (λ (q : Request). q ∷ []) is.asked_is;
       fine = rw fine refl;
       report = is.report;
@@ -200,7 +209,8 @@ carries_passes asked rest old course new runs =
     carries_passed asked rest old course new status.AllOk ok_is_whole (refused_is_not_ok asked old course new) runs
 
 -- two runs, one after the other
-pub run_both : (old mid new : State) (told files after : Option Files) (one two : List Taken) → Run old told one mid files → Run mid files two new after → Run old told (one ++ two) new after
+pub run_both : (old mid new : State) (told files after : Option Files) (one two : List Taken) → Run old told one mid files → Run mid files two new after
+    → Run old told (one ++ two) new after
 run_both old mid new told files after [] two run next =
     subst (λ (s : State). Run s told two new after) run.0 (subst (λ (f : Option Files). Run mid f two new after) run.1 next)
 run_both old mid new told files after (taken ∷ one) two run next =
@@ -210,14 +220,17 @@ both_fine : (one two : List Taken) → has_refusal one ≡ false → has_refusal
 both_fine [] two first second = second
 both_fine (taken ∷ one) two first second = go (is_refusal taken.answer) first (λ fine. both_fine one two fine second)
   where
-    go : (here : Bool) → (here || has_refusal one) ≡ false → (has_refusal one ≡ false → has_refusal (one ++ two) ≡ false) → (here || has_refusal (one ++ two)) ≡ false
+    go : (here : Bool) → (here || has_refusal one) ≡ false → (has_refusal one ≡ false → has_refusal (one ++ two) ≡ false)
+        → (here || has_refusal (one ++ two)) ≡ false
     go true fine next = fine
     go false fine next = next fine
 
-pub did_both : (first second : List Request) (old mid new : World) (one two : List Taken) → Did first old one mid → Did second mid two new → Did (first ++ second) old (one ++ two) new
+pub did_both : (first second : List Request) (old mid new : World) (one two : List Taken) → Did first old one mid → Did second mid two new
+    → Did (first ++ second) old (one ++ two) new
 did_both first second old mid new one two a b = record {
   run = run_both old.state mid.state new.state old.files mid.files new.files one two a.run b.run;
-  all = map-append (λ (taken : Taken). taken.asked) one two ∙ ap (λ (l : List Request). l ++ requests_of two) a.all ∙ ap (λ (l : List Request). first ++ l) b.all;
+  all = map-append (λ (taken : Taken). taken.asked) one two ∙ ap (λ (l : List Request). l ++ requests_of two) a.all
+      ∙ ap (λ (l : List Request). first ++ l) b.all;
   fine = both_fine one two a.fine b.fine;
   report = b.report ∙ a.report;
 }
@@ -228,7 +241,8 @@ did_nothing now = record { run = (refl, refl); all = refl; fine = refl; report =
 
 -- ---- One part behind the other.
 
-pub record Then {First Found : Type 0} (Before : Known First) (Behind : First → Known Found) (old : World) (course : List Taken) (found : Found) (new : World) : Type 0 where
+pub record Then {First Found : Type 0} (Before : Known First) (Behind : First → Known Found) (old : World) (course : List Taken) (found : Found)
+    (new : World) : Type 0 where
   pub one : List Taken
   pub two : List Taken
   pub first : First
@@ -249,7 +263,8 @@ both_pass ended part next Before Behind passes then rest old course new runs =
 -- two parts that asked requests
 abbrev pub joined_did : {First Found : Type 0} (first second : List Request) {next : First → Script} {rest : Found → Script}
     {old : World} {course : List Taken} {new : World} {ended : Status}
-    → (a : Passed (Does first) next old course new ended) → Passed (Does second) rest a.mid a.two new ended → Passed (Does (first ++ second)) rest old course new ended
+    → (a : Passed (Does first) next old course new ended) → Passed (Does second) rest a.mid a.two new ended
+    → Passed (Does (first ++ second)) rest old course new ended
 joined_did first second {old = old} a b = joined a b (did_both first second old a.mid b.mid a.one b.one a.knows b.knows)
 
 -- where each asks requests, both do
@@ -263,7 +278,8 @@ does_both ended part next first second passes then rest old course new runs =
 -- ---- A part for each thing of a list.
 
 -- what is known of no things, and of one more in front, is known of all
-pub through_passes : {Thing Found : Type 0} (ended : Status) (part : Thing → Found → Part Found) (One : Thing → Found → Known Found) (All : List Thing → Found → Known Found)
+pub through_passes : {Thing Found : Type 0} (ended : Status) (part : Thing → Found → Part Found) (One : Thing → Found → Known Found)
+    (All : List Thing → Found → Known Found)
     → ((found : Found) (now : World) → All [] found now [] found now)
     → ((thing : Thing) (things : List Thing) (begun found last : Found) (old mid new : World) (one two : List Taken)
     → One thing begun old one found mid → All things found mid two last new → All (thing ∷ things) begun old (one ++ two) last new)
@@ -288,7 +304,8 @@ through_does ended part requests passes things =
     (λ thing none. passes thing) things tt
 
 -- so do numbers
-pub each_passes : {Found : Type 0} (ended : Status) (start count : ℕ) (part : ℕ → Found → Part Found) (found : Found) (Knows : Known Found) → Passes ended (through part (range_with_len start count) found) Knows → Passes ended (each start count part found) Knows
+pub each_passes : {Found : Type 0} (ended : Status) (start count : ℕ) (part : ℕ → Found → Part Found) (found : Found) (Knows : Known Found)
+    → Passes ended (through part (range_with_len start count) found) Knows → Passes ended (each start count part found) Knows
 unfolding each
 each_passes ended start count part found Knows passes = passes
 
@@ -376,7 +393,8 @@ sets_rate_passes bay rate rest old course new runs =
 
 pub acknowledges_passes : (bay : ℕ) (rate : Rate) → Passes status.AllOk (acknowledges bay rate) (Does (request.Ack bay ∷ rate_requests rate bay))
 unfolding acknowledges
-acknowledges_passes bay rate = does_both status.AllOk (carries (request.Ack bay)) (sets_rate bay rate) (request.Ack bay ∷ []) (rate_requests rate bay) (carries_passes (request.Ack bay)) (sets_rate_passes bay rate)
+acknowledges_passes bay rate = does_both status.AllOk (carries (request.Ack bay)) (sets_rate bay rate) (request.Ack bay ∷ []) (rate_requests rate bay)
+    (carries_passes (request.Ack bay)) (sets_rate_passes bay rate)
 
 -- a disk was put in, and has this shape
 pub record Opened (name : List ℕ) (old : World) (course : List Taken) (shape : Shape) (mid : World) : Type 0 where
@@ -398,7 +416,8 @@ opens_passed name rest old course new ended whole fine runs = let a = needs_pass
     next : Option Shape → Script
     next found = with_shape found rest
 
-    go : (found : Option Shape) → (a : Passed (IsTaken asked finds) next old course new ended) → a.found ≡ found → Passed (Opened name) rest old course new ended
+    go : (found : Option Shape) → (a : Passed (IsTaken asked finds) next old course new ended) → a.found ≡ found
+        → Passed (Opened name) rest old course new ended
     go (Some shape) a is = record {
       one = a.one;
       two = a.two;
@@ -448,7 +467,8 @@ starve_passes ended whole rest old course new (inr none) = absurd (whole.put (su
 -- ---- The end.
 
 -- a part was gone through, and then the last line was put
-pub record Over {Found : Type 0} (Knows : Known Found) (line : Found → List ℕ) (wanted : Found → Status) (old : World) (course : List Taken) (new : World) (ended : Status) : Type 0 where
+pub record Over {Found : Type 0} (Knows : Known Found) (line : Found → List ℕ) (wanted : Found → Status) (old : World) (course : List Taken) (new : World)
+    (ended : Status) : Type 0 where
   pub found : Found
   pub mid : World
   pub knows : Knows old course found mid
@@ -456,8 +476,10 @@ pub record Over {Found : Type 0} (Knows : Known Found) (line : Found → List �
   pub files : new.files ≡ mid.files
   pub prints : Prints (line found) (wanted found) mid.report new.report ended
 
-pub over : {Found : Type 0} (ended : Status) (part : Part Found) (Knows : Known Found) (line : Found → List ℕ) (wanted : Found → Status) → Passes ended part Knows
-    → (old : World) (course : List Taken) (new : World) → RunsScript (part (λ found. Ends (line found) (wanted found))) old course new ended → Over Knows line wanted old course new ended
+pub over : {Found : Type 0} (ended : Status) (part : Part Found) (Knows : Known Found) (line : Found → List ℕ) (wanted : Found → Status)
+    → Passes ended part Knows
+    → (old : World) (course : List Taken) (new : World)
+    → RunsScript (part (λ found. Ends (line found) (wanted found))) old course new ended → Over Knows line wanted old course new ended
 over ended part Knows line wanted passes old course new runs =
     let a = passes (λ found. Ends (line found) (wanted found)) old course new runs in
     let b = last_run (line a.found) (wanted a.found) a.mid a.two new ended a.left in
@@ -471,14 +493,17 @@ over ended part Knows line wanted passes old course new runs =
     }
 
 -- a part was gone through, and then a file was stored, and the last line put
-pub record StoredOver {Found : Type 0} (Knows : Known Found) (name : List ℕ) (bytes line : Found → List ℕ) (wanted : Found → Status) (old : World) (course : List Taken) (new : World) (ended : Status) : Type 0 where
+pub record StoredOver {Found : Type 0} (Knows : Known Found) (name : List ℕ) (bytes line : Found → List ℕ) (wanted : Found → Status) (old : World)
+    (course : List Taken) (new : World) (ended : Status) : Type 0 where
   pub found : Found
   pub mid : World
   pub knows : Knows old course found mid
   pub stores : StoresLast name (bytes found) (line found) (wanted found) mid new ended
 
-pub stored_over : {Found : Type 0} (ended : Status) (part : Part Found) (Knows : Known Found) (name : List ℕ) (bytes line : Found → List ℕ) (wanted : Found → Status) → Passes ended part Knows
-    → (old : World) (course : List Taken) (new : World) → RunsScript (part (λ found. Stores name (bytes found) (line found) (wanted found))) old course new ended
+pub stored_over : {Found : Type 0} (ended : Status) (part : Part Found) (Knows : Known Found) (name : List ℕ) (bytes line : Found → List ℕ)
+    (wanted : Found → Status) → Passes ended part Knows
+    → (old : World) (course : List Taken) (new : World)
+    → RunsScript (part (λ found. Stores name (bytes found) (line found) (wanted found))) old course new ended
     → StoredOver Knows name bytes line wanted old course new ended
 stored_over ended part Knows name bytes line wanted passes old course new runs =
     let a = passes (λ found. Stores name (bytes found) (line found) (wanted found)) old course new runs in

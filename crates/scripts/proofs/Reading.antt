@@ -75,12 +75,14 @@ pub data NeedRun (asked : Request) (rest : Reply → State → Script) (old : Wo
   Halted : IsStopped asked old course new ended → NeedRun asked rest old course new ended
 
 -- a last line was put
-pub last_run : (line : List ℕ) (wanted : Status) (old : World) (course : List Taken) (new : World) (ended : Status) → RunsScript (Ends line wanted) old course new ended → (course ≡ []) × IsPrinted (λ before after. Prints line wanted before after ended) old new
+pub last_run : (line : List ℕ) (wanted : Status) (old : World) (course : List Taken) (new : World) (ended : Status)
+    → RunsScript (Ends line wanted) old course new ended → (course ≡ []) × IsPrinted (λ before after. Prints line wanted before after ended) old new
 last_run line wanted old [] new ended runs = (refl, runs)
 last_run line wanted old (taken ∷ later) new ended runs = absurd runs
 
 -- a last file was stored
-pub last_stored : (name bytes line : List ℕ) (wanted : Status) (old : World) (course : List Taken) (new : World) (ended : Status) → RunsScript (Stores name bytes line wanted) old course new ended → (course ≡ []) × StoresLast name bytes line wanted old new ended
+pub last_stored : (name bytes line : List ℕ) (wanted : Status) (old : World) (course : List Taken) (new : World) (ended : Status)
+    → RunsScript (Stores name bytes line wanted) old course new ended → (course ≡ []) × StoresLast name bytes line wanted old new ended
 last_stored name bytes line wanted old [] new ended runs = (refl, runs)
 last_stored name bytes line wanted old (taken ∷ later) new ended runs = absurd runs
 
@@ -125,7 +127,8 @@ carry_run asked rest old course new ended runs = need_run asked (λ answer after
 -- ---- Of a script that ended well.
 
 -- a line that was printed whole, with its status
-pub prints_status : (report : Option (List ℕ)) (line : List ℕ) (wanted ended : Status) (after : Option (List ℕ)) → (IsPutFault ended → ⊥) → Prints line wanted report after ended → (after ≡ grown report line) × (ended ≡ wanted)
+pub prints_status : (report : Option (List ℕ)) (line : List ℕ) (wanted ended : Status) (after : Option (List ℕ)) → (IsPutFault ended → ⊥)
+    → Prints line wanted report after ended → (after ≡ grown report line) × (ended ≡ wanted)
 prints_status report line wanted ended after sound (Whole told same) = (told, same)
 prints_status report line wanted ended after sound (Part grows fault) = absurd (sound fault)
 
@@ -150,19 +153,25 @@ pub record IsDone (asked : Request) (rest : Reply → State → Script) (old : W
   pub fine : is_refusal run.taken.answer ≡ false
 
 -- a request was answered, where a script went on to its end
-pub ask_answered : (asked : Request) (rest : Reply → State → Script) (old : World) (course : List Taken) (new : World) (ended : Status) → IsWhole ended → AskRun asked rest old course new ended → IsAnswered asked rest old course new ended
+pub ask_answered : (asked : Request) (rest : Reply → State → Script) (old : World) (course : List Taken) (new : World) (ended : Status) → IsWhole ended
+    → AskRun asked rest old course new ended → IsAnswered asked rest old course new ended
 ask_answered asked rest old course new ended whole (Answered run) = run
-ask_answered asked rest old course new ended whole (Stopped run) = absurd (whole.stop run.cause (prints_status _ _ (stop_status run.cause) ended _ whole.put run.prints).1)
+ask_answered asked rest old course new ended whole (Stopped run) = absurd
+    (whole.stop run.cause (prints_status _ _ (stop_status run.cause) ended _ whole.put run.prints).1)
 
 -- a request that it can't go on without was done, where the answer wasn't a refusal
-pub need_taken : (asked : Request) (rest : Reply → State → Script) (old : World) (course : List Taken) (new : World) (ended : Status) → IsWhole ended → (IsRefused asked old course new ended → ⊥) → NeedRun asked rest old course new ended → IsDone asked rest old course new ended
+pub need_taken : (asked : Request) (rest : Reply → State → Script) (old : World) (course : List Taken) (new : World) (ended : Status) → IsWhole ended
+    → (IsRefused asked old course new ended → ⊥) → NeedRun asked rest old course new ended → IsDone asked rest old course new ended
 need_taken asked rest old course new ended whole fine (Done run done) = record { run = run; fine = done }
 need_taken asked rest old course new ended whole fine (Refused run) = absurd (fine run)
-need_taken asked rest old course new ended whole fine (Halted run) = absurd (whole.stop run.cause (prints_status _ _ (stop_status run.cause) ended _ whole.put run.prints).1)
+need_taken asked rest old course new ended whole fine (Halted run) = absurd
+    (whole.stop run.cause (prints_status _ _ (stop_status run.cause) ended _ whole.put run.prints).1)
 
 -- so it was where the script ended well
 pub refused_is_not_ok : (asked : Request) (old : World) (course : List Taken) (new : World) → IsRefused asked old course new status.AllOk → ⊥
-refused_is_not_ok asked old course new run = let told = prints_status _ _ status.SomeRefused status.AllOk _ (λ fault. fault) run.prints in let same = told.1 in cc same
+refused_is_not_ok asked old course new run = let told = prints_status _ _ status.SomeRefused status.AllOk _
+    (λ fault. fault) run.prints in let same = told.1 in cc same
 
-pub need_done : (asked : Request) (rest : Reply → State → Script) (old : World) (course : List Taken) (new : World) → NeedRun asked rest old course new status.AllOk → IsDone asked rest old course new status.AllOk
+pub need_done : (asked : Request) (rest : Reply → State → Script) (old : World) (course : List Taken) (new : World)
+    → NeedRun asked rest old course new status.AllOk → IsDone asked rest old course new status.AllOk
 need_done asked rest old course new run = need_taken asked rest old course new status.AllOk ok_is_whole (refused_is_not_ok asked old course new) run
