@@ -1,135 +1,113 @@
--- What single requests do to a bay where nothing disturbs them.
-use Rattle.std.proofs.Common.{arith, ◌≡◌, ◌∙◌, ◌<◌, ◌≤◌, ℕ, nat_le, Bool, true, false, true≢false, refl, sym, ap, subst, inl, inr, Option, Some, None, Result, Ok, Err, IsOk, le-leb, lit≤}
-use Rattle.std.specs.Prelude.{◌&&◌, not, is_some, MatchBool, if◌then◌else◌}
-use Rattle.std.specs.Option.{option_map_or}
-use Rattle.flop_base.specs.Shelf.{Files}
-use Rattle.flop_base.specs.Standard.{words_at, gap_at, standard_fill, standard_code, sectors_at}
+-- Which requests that put media in, make bays ready and take media out are done where nothing disturbs them, and what stands behind them.
+use Rattle.std.proofs.Common.{arith, ◌≡◌, ◌∙◌, ◌<◌, ◌≤◌, ℕ, Bool, true, false, true≢false, List, length, refl, sym, ap, subst, inl, inr, Option, Some, None, Result, Ok, Err, IsOk, le-leb}
+use Rattle.std.specs.Prelude.{◌&&◌, ◌==◌, not, is_some, IsSomeAnd, MatchBool, if◌then◌else◌}
+use Rattle.std.specs.Option.{option_map}
+use Rattle.flop_base.specs.Shelf.{Files, file_at}
 use Rattle.flop_base.specs.declared.answers.Code.{Code}
-use Rattle.flop_base.specs.declared.answers.Code.TheVariants.{BadRequest, Changed, Protected}
+use Rattle.flop_base.specs.declared.answers.Code.TheVariants.{BadRequest, Changed}
 use Rattle.flop_base.specs.declared.answers.Rate.{Rate}
 use Rattle.flop_base.specs.declared.answers.Rate.TheVariants.{R500, R250}
-use Rattle.raw_image.specs.Disk.{Disk, HasTrack, track_of}
-use Rattle.bay_model.specs.Counters.{Counters, IsUndisturbed, IsFaultless}
+use Rattle.raw_image.specs.Disk.{Disk}
+use Rattle.raw_image.specs.Image.{image_of}
+use Rattle.raw_image.specs.declared.error.ImageError.{ImageError}
+use Rattle.bay_model.specs.Bays.{Two, in_bay}
+use Rattle.bay_model.specs.Counters.{IsUndisturbed}
+use Rattle.floppy_requests.specs.declared.request.Request.{Request}
 use Rattle.floppy_requests.specs.declared.request.Request.TheVariants as request
-use Rattle.sector_map.specs.Layings.{format_keys, IsFormattable, formatted}
-use Rattle.sector_map.specs.LaidDisks.{format_at}
-use Rattle.sector_map.specs.KeptDisks.{AreAlike, KeepsTracks}
-use Rattle.sector_map.proofs.KeptTracks.{alike_both}
-use Rattle.sector_map.proofs.Laid.{format_fits}
-use Rattle.track_model.specs.Layouts.{Fits, laid_words}
 use Rattle.sector_model.specs.declared.reply.Reply.{Reply}
-use Rattle.sector_model.specs.Stations.{StationState, Bay, Becomes, bay_of, set_bay}
-use Rattle.sector_model.specs.Orders.{is_bay, is_acknowledged, is_protected, is_format_request, most_format_gap, format_refusal, rate_refusal}
+use Rattle.sector_model.specs.declared.reply.Reason.TheVariants as reason
+use Rattle.sector_model.specs.declared.reply.Stop.{Stop}
+use Rattle.sector_model.specs.declared.reply.Stop.TheVariants as stop
+use Rattle.sector_model.specs.Stations.{StationState, Bay, Becomes, IsFresh, bay_of, set_bay, fresh_bay}
+use Rattle.sector_model.specs.Orders.{is_bay, is_acknowledged, rate_refusal}
 use Rattle.sector_model.specs.Calls.{AcksDrive}
-use Rattle.sector_model.specs.Formats.{FormatsDrive}
 use Rattle.sector_model.specs.States.{State}
-use Rattle.sector_model.specs.Steps.{Step, blank_of, reply_of}
+use Rattle.sector_model.specs.Steps.{Step, StopsAt, IsImageOf, refusal_of, reply_of, is_loaded, unless_bad, is_blank_request, most_image_bytes}
 use Rattle.sector_model.specs.Texts.{is_refusal}
-use Rattle.disk_laws.specs.Formatted.{standard_track}
-use Rattle.disk_laws.proofs.Formatting.{drive_formats}
-use Rattle.disk_laws.proofs.Prepared.{in_with, acks}
+use Rattle.sector_model.specs.Runs.{IsEndStop}
+use Rattle.floppy_session.specs.Blanks.{blank_request}
+use Rattle.floppy_session.specs.declared.shape.Shape.{Shape}
+use Rattle.floppy_session.specs.Shapes.{shape_of}
+use Rattle.scripts.specs.Scripts.{Script}
+use Rattle.scripts.specs.Parts.{carries, with_shape, opens, sets_rate, acknowledges}
+use Rattle.disk_laws.proofs.Prepared.{IsBlank, IsAcked, blanks, acks, in_with}
 use Rattle.disk_laws.proofs.Reading.{reaches}
-
--- ---- the order of refusals
+use Rattle.disk_laws.proofs.Steps.{keeps_drives}
+use Rattle.disk_laws.proofs.Verified.{one_image}
+use Rattle.disk_completeness.proofs.Going.{Stage, at, calm_in, IsSafe, IsDone, GoesWell, goes_needs, goes_carries}
 
 pub both_true : (a b : Bool) → a ≡ true → b ≡ true → (a && b) ≡ true
 both_true a b e f = rw (e, f) refl
 
-truly : {P : Type 0} (Q : Type 0) (good : Bool) → good ≡ true → MatchBool good P Q → P
-truly Q true is holds = holds
-truly Q false is holds = absurd (true≢false (sym is))
+-- a request that puts no file in is stopped by the outside alone
+stops_outside : (asked : Request) (old new : State) (told after : Option Files) (cause : Stop)
+    → ((bay : ℕ) (name : List ℕ) → asked ≡ request.Insert bay name → ⊥) → StopsAt asked old told cause new after → IsEndStop cause
+stops_outside asked old new told after stop.FileFault other stops = tt
+stops_outside asked old new told after stop.NoMemory other stops = tt
+stops_outside asked old new told after (stop.BadImage name error) other stops = let is = stops.cause.0 in absurd (other is.0 name is.1)
+stops_outside asked old new told after (stop.TooLong name most) other stops = let is = stops.cause.0 in absurd (other is.0 name is.1)
+stops_outside asked old new told after (stop.Absent name) other stops = let is = stops.cause.0 in absurd (other is.0 name is.1)
+
+pub safe : (asked : Request) (old : Stage) → keeps_drives asked ≡ true → ((bay : ℕ) (name : List ℕ) → asked ≡ request.Insert bay name → ⊥) → IsSafe asked old
+safe asked old keeps other = record {
+  keeps = keeps;
+  stops = λ cause new stops. stops_outside asked old.state new.state old.files new.files cause other stops;
+}
 
 -- what was answered Ok isn't refused
 pub ok_taken : (called : Result (Unit {0}) Code) (answer : Reply) → answer ≡ reply_of called → IsOk called → is_refusal answer ≡ false
 ok_taken (Ok u) answer is ok = ap is_refusal is
 ok_taken (Err code) answer is ok = absurd (true≢false (sym ok))
 
--- an undisturbed call has no fault
-pub calm_faultless : (bay : ℕ) (old new : Counters) → IsUndisturbed bay old new → old.stalls ≤ new.stalls → IsFaultless bay old new
-calm_faultless bay old new calm stalls = (omega (arith, calm.together, stalls), calm.faults)
+-- what is done with one bay leaves the other
+abbrev pub AreApart : ℕ → ℕ → Type 0
+AreApart bay other = (station : StationState) (value : Bay) → bay_of (set_bay station bay value) other ≡ bay_of station other
 
--- ---- a bay with a disk that can be formatted
+pub other_stays : (bay other : ℕ) (old new : StationState) (value : Bay) → AreApart bay other → Becomes (set_bay old bay value) new
+    → bay_of new other ≡ bay_of old other
+other_stays bay other old new value apart becomes = ap (λ (s : StationState). bay_of s other) becomes ∙ apart old value
 
--- the bay has this disk, which has the protection and the shape of a blank one; it is acknowledged, at the rate of the disk
-pub record HoldsBlank (bay : ℕ) (rate : Rate) (count : ℕ) (disk : Disk) (station : StationState) : Type 0 where
-  pub medium : (bay_of station bay).medium ≡ Some disk
-  pub alike : AreAlike (blank_of count rate) disk
-  pub bay_rate : (bay_of station bay).rate ≡ rate
-  pub kept : is_acknowledged station bay ≡ true
+-- ---- Blank media.
 
--- the sectors of a rate fit on its tracks
-standard_fits : (rate : Rate) (c h words : ℕ) → words ≡ words_at rate → Fits (format_keys (format_at c h rate (gap_at rate) standard_fill)) standard_code (gap_at rate) words
-standard_fits rate c h words same = (format_fits (format_at c h rate (gap_at rate) standard_fill) words).1 (go rate words same)
+-- a bay of a fresh station is empty
+pub fresh_empty : (state : State) (bay : ℕ) → IsFresh state.station → is_loaded state bay ≡ false
+fresh_empty state bay fresh = ap (λ (bays : Two Bay). is_some (in_bay bays bay).medium) fresh.bays ∙ both_empty (bay == 0)
   where
-    go : (r : Rate) (w : ℕ) → w ≡ words_at r → laid_words (sectors_at r) standard_code (gap_at r) ≤ w
-    go R500 w is = subst (λ (n : ℕ). laid_words 18 2 0x6C ≤ n) (sym is) (lit≤ tt)
-    go R250 w is = subst (λ (n : ℕ). laid_words 9 2 0x50 ≤ n) (sym is) (lit≤ tt)
+    both_empty : (first : Bool) → is_some (if first then fresh_bay None else fresh_bay None).medium ≡ false
+    both_empty true = refl
+    both_empty false = refl
 
-gap_asked : (rate : Rate) → (nat_le 16 (gap_at rate) ≡ true) × (nat_le (gap_at rate) (most_format_gap rate) ≡ true)
-gap_asked R500 = (refl, refl)
-gap_asked R250 = (refl, refl)
+blank_order : (good loaded : Bool) → good ≡ true → loaded ≡ false → unless_bad good (if loaded then Some reason.Busy else None) ≡ None
+blank_order good loaded e f = rw (e, f) refl
 
--- a medium that isn't protected
-pub protected_by : (medium : Option Disk) (disk : Disk) → medium ≡ Some disk → disk.protected ≡ false → option_map_or (λ (d : Disk). d.protected) medium false ≡ false
-protected_by medium disk is free = rw (is, free) refl
+-- a request for a blank medium: it is safe, and isn't refused where this order of refusals refuses none
+blank_fine : (bay : ℕ) (rate : Rate) (name : List ℕ) (count : ℕ) (old : Stage)
+    → unless_bad (is_blank_request bay count) (if is_loaded old.state bay then Some reason.Busy else None) ≡ None
+    → IsSafe (blank_request bay name count rate) old
+    × ((answer : Reply) (new : Stage) → Step (blank_request bay name count rate) old.state old.files answer new.state new.files → is_refusal answer ≡ false)
+blank_fine bay R500 name count old free = (
+  safe (request.Blank bay name count) old refl (λ at other same. cc same),
+  λ answer new step. ap is_refusal (reaches _ (refusal_of old.state (request.Blank bay name count)) free step).0,
+)
+blank_fine bay R250 name count old free = (
+  safe (request.BlankDd bay name count) old refl (λ at other same. cc same),
+  λ answer new step. ap is_refusal (reaches _ (refusal_of old.state (request.BlankDd bay name count)) free step).0,
+)
 
-format_order : (good acknowledged protected : Bool) → good ≡ true → acknowledged ≡ true → protected ≡ false → (if not good then Some BadRequest else (if not acknowledged then Some Changed else (if protected then Some Protected else None))) ≡ None
-format_order good acknowledged protected e f g = rw (e, f, g) refl
+-- a blank medium is put into an empty bay
+pub blank_done : (bay : ℕ) (rate : Rate) (name : List ℕ) (count : ℕ) (old : Stage) → is_bay bay ≡ true → 1 ≤ count → count ≤ 80
+    → is_loaded old.state bay ≡ false
+    → IsDone (λ new. IsBlank bay rate name count old.state old.files new.state new.files) (blank_request bay name count rate) old
+blank_done bay rate name count old is_one least most empty =
+    let good : is_blank_request bay count ≡ true = both_true _ _ (both_true _ _ is_one (le-leb 1 count least)) (le-leb count 80 most) in
+    let fine = blank_fine bay rate name count old (blank_order (is_blank_request bay count) (is_loaded old.state bay) good empty) in
+    record {
+      safe = fine.0;
+      answers = λ answer new step calm. let done = fine.1 answer new step in
+          (done, blanks bay rate name count old.state new.state old.files new.files answer step done);
+    }
 
-format_free : (bay c h : ℕ) (rate : Rate) (count : ℕ) (disk : Disk) (station : StationState) → is_bay bay ≡ true → c < count → h < 2 → HoldsBlank bay rate count disk station → format_refusal station bay c h (gap_at (bay_of station bay).rate) ≡ None
-format_free bay c h rate count disk station is_one cylinder head holds =
-    let gap = (bay_of station bay).rate in
-    let gaps = gap_asked gap in
-    let count_is = holds.alike.cylinders in
-    let most = holds.alike.valid.cylinders.1 in
-    let place_c : nat_le c 79 ≡ true = le-leb c 79 (omega (arith, cylinder, count_is, most)) in
-    let place_h : nat_le h 1 ≡ true = le-leb h 1 (omega (arith, head)) in
-    let good = both_true _ _ (both_true _ _ (both_true _ _ is_one (both_true _ _ place_c place_h)) gaps.0) gaps.1 in
-    let free : is_protected station bay ≡ false = protected_by (bay_of station bay).medium disk holds.medium holds.alike.protected in
-    format_order (is_format_request station bay c h (gap_at gap)) (is_acknowledged station bay) (is_protected station bay) good holds.kept free
-
--- what a format of a track does
-pub record Formats (bay : ℕ) (rate : Rate) (count c h : ℕ) (disk : Disk) (old new : StationState) : Type 0 where
-  pub next : Disk
-  pub holds : HoldsBlank bay rate count next new
-  pub keeps : KeepsTracks disk c h next
-  pub track : track_of next c h ≡ standard_track rate c h
-  pub becomes : Becomes (set_bay old bay (record (bay_of old bay) { medium = (bay_of new bay).medium })) new
-
-formats : (bay c h : ℕ) (rate : Rate) (count : ℕ) (disk : Disk) (old new : StationState) (called : Result (Unit {0}) Code) → c < count → h < 2 → HoldsBlank bay rate count disk old → IsUndisturbed bay old.counters new.counters → old.counters.stalls ≤ new.counters.stalls → FormatsDrive (format_at c h (bay_of old bay).rate (gap_at (bay_of old bay).rate) standard_fill) bay old called new → IsOk called × Formats bay rate count c h disk old new
-formats bay c h rate count disk old new called cylinder head holds calm stalls drive =
-    let format = format_at c h rate (gap_at rate) standard_fill in
-    let on = subst (λ (r : Rate). FormatsDrive (format_at c h r (gap_at r) standard_fill) bay old called new) holds.bay_rate drive in
-    let alike = holds.alike in
-    let track : HasTrack disk c h = (omega (arith, cylinder, alike.cylinders), omega (arith, head, alike.heads)) in
-    let formattable : IsFormattable format (bay_of old bay).medium = (disk, holds.medium, record { track = track; rate = alike.rate; fits = standard_fits rate c h disk.words_per_track alike.words_per_track }) in
-    let ok : IsOk called = (on.exactly calm).1 formattable in
-    let made = drive_formats bay rate c h disk old new called on ok (calm_faultless bay old.counters new.counters calm stalls) holds.medium alike.valid in
-    let at_bay = ap (λ (s : StationState). bay_of s bay) drive.becomes ∙ in_with old.bays bay (record (bay_of old bay) { medium = (bay_of new bay).medium }) in (
-      ok,
-      record {
-        next = made.0;
-        holds = record {
-          medium = made.1;
-          alike = alike_both (blank_of count rate) disk made.0 alike made.2.alike;
-          bay_rate = ap (λ (b : Bay). b.rate) at_bay ∙ holds.bay_rate;
-          kept = ap (λ (b : Bay). is_some b.acknowledged) at_bay ∙ holds.kept;
-        };
-        keeps = made.2;
-        track = made.3 ∙ ap (λ (n : ℕ). formatted format n) alike.words_per_track;
-        becomes = drive.becomes;
-      },
-    )
-
-pub format_taken : (bay c h : ℕ) (rate : Rate) (count : ℕ) (disk : Disk) (old new : State) (told after : Option Files) (answer : Reply) → is_bay bay ≡ true → c < count → h < 2 → HoldsBlank bay rate count disk old.station → IsUndisturbed bay old.station.counters new.station.counters → Step (request.Format bay c h) old told answer new after → (is_refusal answer ≡ false) × Formats bay rate count c h disk old.station new.station
-format_taken bay c h rate count disk old new told after answer is_one cylinder head holds calm step =
-    let called = step.1.0 in
-    let free = format_free bay c h rate count disk old.station is_one cylinder head holds in
-    let drive = reaches _ (format_refusal old.station bay c h (gap_at (bay_of old.station bay).rate)) free step.1.2 in
-    let made = formats bay c h rate count disk old.station new.station called cylinder head holds calm step.0.counts.stalls drive in
-    (ok_taken called answer step.1.1 made.0, made.1)
-
--- ---- an acknowledgement, and the rate behind it
+-- ---- A bay is made ready.
 
 -- the bay has this disk, and is acknowledged at the rate of the disk
 pub record IsReadyFor (bay : ℕ) (disk : Disk) (station : StationState) : Type 0 where
@@ -137,11 +115,21 @@ pub record IsReadyFor (bay : ℕ) (disk : Disk) (station : StationState) : Type 
   pub bay_rate : (bay_of station bay).rate ≡ disk.rate
   pub kept : is_acknowledged station bay ≡ true
 
--- as it is before its rate is set
-pub record IsAckedWith (bay : ℕ) (disk : Disk) (station : StationState) : Type 0 where
-  pub medium : (bay_of station bay).medium ≡ Some disk
-  pub high : disk.rate ≡ R500 → (bay_of station bay).rate ≡ R500
-  pub kept : is_acknowledged station bay ≡ true
+pub ready_still : (bay : ℕ) (disk : Disk) (old new : StationState) → bay_of new bay ≡ bay_of old bay → IsReadyFor bay disk old → IsReadyFor bay disk new
+ready_still bay disk old new same ready = record {
+  medium = ap (λ (b : Bay). b.medium) same ∙ ready.medium;
+  bay_rate = ap (λ (b : Bay). b.rate) same ∙ ready.bay_rate;
+  kept = ap (λ (b : Bay). is_some b.acknowledged) same ∙ ready.kept;
+}
+
+-- and the other bay is as it was
+pub record IsReadyAlone (bay other : ℕ) (disk : Disk) (old new : Stage) : Type 0 where
+  pub ready : IsReadyFor bay disk new.state.station
+  pub same : bay_of new.state.station other ≡ bay_of old.state.station other
+
+truly : {P : Type 0} (Q : Type 0) (good : Bool) → good ≡ true → MatchBool good P Q → P
+truly Q true is holds = holds
+truly Q false is holds = absurd (true≢false (sym is))
 
 ack_ok : (bay : ℕ) (disk : Disk) (old new : StationState) (called : Result (Unit {0}) Code) → (bay_of old bay).medium ≡ Some disk → IsUndisturbed bay old.counters new.counters → old.counters.stalls ≤ new.counters.stalls → AcksDrive bay old called new → IsOk called
 ack_ok bay disk old new (Ok u) medium calm stalls drive = refl
@@ -150,35 +138,141 @@ ack_ok bay disk old new (Err code) medium calm stalls drive = elim drive.refused
   | inr rose ↦ absurd (omega (arith, rose, calm.faults, calm.together, stalls))
 ]
 
--- the other bay, and what stands elsewhere
-pub record ChangesBay (bay : ℕ) (old new : StationState) : Type 0 where
-  pub value : Bay
-  pub becomes : Becomes (set_bay old bay value) new
-
-pub ack_taken : (bay : ℕ) (disk : Disk) (old new : State) (told after : Option Files) (answer : Reply) → is_bay bay ≡ true → (bay_of old.station bay).medium ≡ Some disk → IsUndisturbed bay old.station.counters new.station.counters → Step (request.Ack bay) old told answer new after → (is_refusal answer ≡ false) × IsAckedWith bay disk new.station × ChangesBay bay old.station new.station
-ack_taken bay disk old new told after answer is_one medium calm step =
-    let drive = truly _ (is_bay bay) is_one step.1.2 in
-    let fine = ok_taken step.1.0 answer step.1.1 (ack_ok bay disk old.station new.station step.1.0 medium calm step.0.counts.stalls drive) in
-    let acked = acks bay disk old new told after answer step fine medium in (
-      fine,
-      record { medium = acked.medium; high = acked.high; kept = ap (λ (o : Option ℕ). is_some o) acked.kept },
-      record { value = acked.value; becomes = acked.becomes },
-    )
+ack_done : (bay : ℕ) (disk : Disk) (old : Stage) → is_bay bay ≡ true → (bay_of old.state.station bay).medium ≡ Some disk
+    → IsDone (λ new. IsAcked bay disk old.state old.files new.state new.files) (request.Ack bay) old
+ack_done bay disk old is_one medium = record {
+  safe = safe (request.Ack bay) old refl (λ at name same. cc same);
+  answers = λ answer new step calm.
+      let quiet = calm_in bay (request.Ack bay) answer old.state.station.counters new.state.station.counters is_one refl calm in
+      let ok = ack_ok bay disk old.state.station new.state.station step.1.0 medium quiet step.0.counts.stalls (truly _ (is_bay bay) is_one step.1.2) in
+      let fine = ok_taken step.1.0 answer step.1.1 ok in
+      (fine, acks bay disk old.state new.state old.files new.files answer step fine medium);
+}
 
 rate_order : (one acknowledged : Bool) → one ≡ true → acknowledged ≡ true → (if not one then Some BadRequest else (if not acknowledged then Some Changed else None)) ≡ None
 rate_order one acknowledged e f = rw (e, f) refl
 
-pub rate_taken : (bay : ℕ) (disk : Disk) (old new : State) (told after : Option Files) (answer : Reply) → is_bay bay ≡ true → disk.rate ≡ R250 → IsAckedWith bay disk old.station → Step (request.SetRate bay R250) old told answer new after → (is_refusal answer ≡ false) × IsReadyFor bay disk new.station × ChangesBay bay old.station new.station
-rate_taken bay disk old new told after answer is_one low acked step =
-    let free = rate_order (is_bay bay) (is_acknowledged old.station bay) is_one acked.kept in
-    let sets = reaches _ (rate_refusal old.station bay) free step.1.2 in
-    let value : Bay = record (bay_of old.station bay) { rate = R250 } in
-    let at_bay = ap (λ (s : StationState). bay_of s bay) sets.becomes ∙ in_with old.station.bays bay value in (
-      ok_taken step.1.0 answer step.1.1 sets.done,
-      record {
-        medium = ap (λ (b : Bay). b.medium) at_bay ∙ acked.medium;
-        bay_rate = ap (λ (b : Bay). b.rate) at_bay ∙ sym low;
-        kept = ap (λ (b : Bay). is_some b.acknowledged) at_bay ∙ acked.kept;
-      },
-      record { value = value; becomes = sets.becomes },
-    )
+module _ (bay other : ℕ) (disk : Disk) (is_one : is_bay bay ≡ true) (apart : AreApart bay other) where
+  rate_done : (old : Stage) → disk.rate ≡ R250 → (bay_of old.state.station bay).medium ≡ Some disk → is_acknowledged old.state.station bay ≡ true
+      → IsDone (λ new. IsReadyAlone bay other disk old new) (request.SetRate bay R250) old
+  rate_done old low medium kept = record {
+    safe = safe (request.SetRate bay R250) old refl (λ at name same. cc same);
+    answers = λ answer new step calm.
+        let station = old.state.station in
+        let sets = reaches _ (rate_refusal station bay) (rate_order (is_bay bay) (is_acknowledged station bay) is_one kept) step.1.2 in
+        let value : Bay = record (bay_of station bay) { rate = R250 } in
+        let at_bay = ap (λ (s : StationState). bay_of s bay) sets.becomes ∙ in_with station.bays bay value in (
+          ok_taken step.1.0 answer step.1.1 sets.done,
+          record {
+            ready = record {
+              medium = ap (λ (b : Bay). b.medium) at_bay ∙ medium;
+              bay_rate = ap (λ (b : Bay). b.rate) at_bay ∙ sym low;
+              kept = ap (λ (b : Bay). is_some b.acknowledged) at_bay ∙ kept;
+            };
+            same = other_stays bay other station new.state.station value apart sets.becomes;
+          },
+        );
+  }
+
+  -- behind an acknowledgement the bay gets the rate of its disk
+  rate_goes : (rate : Rate) (rest : Unit {0} → Script) (old mid : Stage) → disk.rate ≡ rate → IsAcked bay disk old.state old.files mid.state mid.files
+      → ((new : Stage) → IsReadyAlone bay other disk old new → GoesWell (rest tt) new) → GoesWell (sets_rate bay rate rest) mid
+  unfolding sets_rate
+  rate_goes R500 rest old mid is acked behind =
+      behind mid (record {
+        ready = record { medium = acked.medium; bay_rate = acked.high is ∙ sym is; kept = ap (λ (o : Option ℕ). is_some o) acked.kept };
+        same = other_stays bay other old.state.station mid.state.station acked.value apart acked.becomes;
+      })
+  rate_goes R250 rest old mid is acked behind =
+      let same = other_stays bay other old.state.station mid.state.station acked.value apart acked.becomes in
+      goes_carries (λ new. IsReadyAlone bay other disk mid new) (request.SetRate bay R250) rest mid
+      (rate_done mid is acked.medium (ap (λ (o : Option ℕ). is_some o) acked.kept))
+      (λ new alone. behind new (record { ready = alone.ready; same = alone.same ∙ same }))
+
+  pub acknowledges_goes : (rest : Unit {0} → Script) (old : Stage) → (bay_of old.state.station bay).medium ≡ Some disk
+      → ((new : Stage) → IsReadyAlone bay other disk old new → GoesWell (rest tt) new) → GoesWell (acknowledges bay disk.rate rest) old
+  unfolding acknowledges
+  acknowledges_goes rest old medium behind =
+      goes_carries (λ new. IsAcked bay disk old.state old.files new.state new.files) (request.Ack bay) (λ none. sets_rate bay disk.rate rest) old
+      (ack_done bay disk old is_one medium)
+      (λ mid acked. rate_goes disk.rate rest old mid refl acked behind)
+
+-- ---- A disk is taken out.
+
+eject_order : (good loaded : Bool) → good ≡ true → loaded ≡ true → unless_bad good (if loaded then None else Some reason.Empty) ≡ None
+eject_order good loaded e f = rw (e, f) refl
+
+pub eject_goes : (bay : ℕ) (disk : Disk) (rest : Unit {0} → Script) (old : Stage) → is_bay bay ≡ true → (bay_of old.state.station bay).medium ≡ Some disk
+    → ((new : Stage) → GoesWell (rest tt) new) → GoesWell (carries (request.Eject bay) rest) old
+eject_goes bay disk rest old is_one medium behind =
+    let free = eject_order (is_bay bay) (is_loaded old.state bay) is_one (ap (λ (m : Option Disk). is_some m) medium) in
+    let done : IsDone (λ new. Unit {0}) (request.Eject bay) old = record {
+      safe = safe (request.Eject bay) old refl (λ at name same. cc same);
+      answers = λ answer new step calm. (ap is_refusal (reaches _ (refusal_of old.state (request.Eject bay)) free step).0, tt);
+    } in
+    goes_carries (λ new. Unit {0}) (request.Eject bay) rest old done (λ new none. behind new)
+
+-- ---- The disk of a name is put in.
+
+-- the disk is in bay 0, and bay 1 is empty
+pub record IsPutIn (disk : Disk) (stage : Stage) : Type 0 where
+  pub medium : (bay_of stage.state.station 0).medium ≡ Some disk
+  pub empty : is_loaded stage.state 1 ≡ false
+
+-- what is so of a file in two ways is so of one
+pub of_one : {P Q : List ℕ → Type 0} (o : Option (List ℕ)) → IsSomeAnd o P → IsSomeAnd o Q → (bytes : List ℕ) × (o ≡ Some bytes) × P bytes × Q bytes
+of_one None p q = absurd p
+of_one (Some bytes) p q = (bytes, refl, p, q)
+
+-- no stop but one of the outside comes, as the file is there and is the image of a disk
+insert_stops : (from : List ℕ) (files : Files) (disk : Disk) (old new : State) (after : Option Files) (cause : Stop) → IsImageOf (Some files) from disk → StopsAt (request.Insert 0 from) old (Some files) cause new after → IsEndStop cause
+insert_stops from files disk old new after stop.FileFault image stops = tt
+insert_stops from files disk old new after stop.NoMemory image stops = tt
+insert_stops from files disk old new after (stop.BadImage name error) image stops =
+    let e = stops.cause.0.1 in
+    let same : name ≡ from = cc e in
+    let both = of_one (file_at files from) image (subst
+    (λ (n : List ℕ). IsSomeAnd (file_at files n) (λ bytes. (length bytes ≤ most_image_bytes) × (image_of bytes ≡ Err error))) same stops.cause.1) in
+    absurd (clash (image_of both.0) both.2.1 both.3.1)
+  where
+    clash : (r : Result Disk ImageError) → r ≡ Ok disk → r ≡ Err error → ⊥
+    clash r e f = cc (e, f)
+insert_stops from files disk old new after (stop.TooLong name most) image stops =
+    let e = stops.cause.0.1 in
+    let same : name ≡ from = cc e in
+    let both = of_one (file_at files from) image (subst (λ (n : List ℕ). IsSomeAnd (file_at files n) (λ bytes. most < length bytes)) same stops.cause.2) in
+    absurd (omega (arith, stops.cause.1, both.2.0, both.3))
+insert_stops from files disk old new after (stop.Absent name) image stops =
+    let e = stops.cause.0.1 in
+    let same : name ≡ from = cc e in
+    let one = of_one (file_at files from) image image in
+    absurd (clash (file_at files from) (subst (λ (n : List ℕ). file_at files n ≡ None) same stops.cause.1) one.1)
+  where
+    clash : {bytes : List ℕ} (o : Option (List ℕ)) → o ≡ None → o ≡ Some bytes → ⊥
+    clash o e f = cc (e, f)
+
+-- it is put into an empty bay 0, and its shape is found
+pub opens_goes : (from : List ℕ) (files : Files) (disk : Disk) (rest : Shape → Script) (old : State) → IsImageOf (Some files) from disk
+    → IsFresh old.station → ((new : Stage) → IsPutIn disk new → GoesWell (rest (shape_of disk)) new)
+    → GoesWell (opens from rest) (at old (Some files))
+unfolding opens
+opens_goes from files disk rest old image fresh behind =
+    let empty = fresh_empty old 0 fresh in
+    let free : refusal_of old (request.Insert 0 from) ≡ None = rw empty refl in
+    let done : IsDone (λ new. IsPutIn disk new) (request.Insert 0 from) (at old (Some files)) = record {
+      safe = record { keeps = refl; stops = λ cause new stops. insert_stops from files disk old new.state new.files cause image stops };
+      answers = λ answer new step calm.
+          let does = reaches _ (refusal_of old (request.Insert 0 from)) free step in
+          let put = does.2 in
+          let becomes = put.2.exchanged.becomes in (
+            ap is_refusal does.0,
+            record {
+              medium = ap (λ (s : StationState). (bay_of s 0).medium) becomes ∙ ap (λ (d : Disk). Some d) (one_image files from put.0 disk put.1 image);
+              empty = ap (λ (s : StationState). is_loaded (record old { station = s }) 1) becomes ∙ fresh_empty old 1 fresh;
+            },
+          );
+    } in
+    goes_needs (λ new. IsPutIn disk new) (request.Insert 0 from) _ (at old (Some files)) done
+    (λ answer new put.
+    let told = ap (λ (medium : Option Disk). option_map shape_of medium) put.medium in
+    subst (λ (shape : Option Shape). GoesWell (with_shape shape rest) new) (sym told) (behind new put))

@@ -5,7 +5,9 @@ ghost use Rattle.flop_base.specs.declared.answers.Status.{Status};
 ghost use Rattle.raw_image.specs.Disk.{Disk};
 ghost use Rattle.sector_model.specs.Steps.{IsImageOf};
 ghost use Rattle.sector_model.specs.Plays.{World};
-ghost use Rattle.disk_commands.specs.Commands.{Copies, Runs};
+ghost use Rattle.scripts.specs.Scripts.{RunsScript};
+ghost use Rattle.scripts.specs.Leading.{Runs};
+ghost use Rattle.disk_commands.specs.Copy.{copy_script};
 ghost use Rattle.disk_completeness.specs.Complete.{BeginsSound, EndsWellOrOutside, IsReadable, StoresSameSectors};
 
 /// A law: where no drive of a fresh station can have a fault any more and no DMA request can wait too long, the command that
@@ -15,6 +17,6 @@ ghost use Rattle.disk_completeness.specs.Complete.{BeginsSound, EndsWellOrOutsid
 pub fn copy_ends_well(_from: &str, _to: &str)
     ensures { (old new : World) (ended : Status) (files : Files) (disk : Disk)
         → BeginsSound old → old.files ≡ Some files → IsImageOf (Some files) _from.now disk → IsReadable disk
-        → Runs (Copies _from.now _to.now) old new ended
+        → Runs (RunsScript (copy_script _from.now _to.now)) old new ended
         → EndsWellOrOutside (StoresSameSectors disk _to.now (Some files) new.files) ended }
 {}

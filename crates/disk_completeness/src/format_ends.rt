@@ -3,7 +3,9 @@ ghost use Rattle.std.specs.Prelude.{◌≤◌};
 ghost use Rattle.flop_base.specs.declared.answers.Status.{Status};
 ghost use Rattle.raw_image.specs.Disk.{Disk};
 ghost use Rattle.sector_model.specs.Plays.{World};
-ghost use Rattle.disk_commands.specs.Commands.{Formats, Runs};
+ghost use Rattle.scripts.specs.Scripts.{RunsScript};
+ghost use Rattle.scripts.specs.Leading.{Runs};
+ghost use Rattle.disk_commands.specs.Format.{format_script};
 ghost use Rattle.disk_laws.specs.Formatted.{StoresFormatted, IsFormattedDisk};
 ghost use Rattle.disk_completeness.specs.Complete.{BeginsSound, EndsWellOrOutside, IsReadable};
 
@@ -14,7 +16,7 @@ use flop_base::Rate;
 /// stored under the name then, and no other file changed.
 pub fn format_ends_well(_rate: Rate, _name: &str, _cylinders: u8)
     ensures { (old new : World) (ended : Status) → 1 ≤ _cylinders → _cylinders ≤ 80
-        → BeginsSound old → Runs (Formats _name.now _cylinders _rate) old new ended
+        → BeginsSound old → Runs (RunsScript (format_script _name.now _cylinders _rate)) old new ended
         → EndsWellOrOutside (StoresFormatted _rate _name.now _cylinders old.files new.files) ended }
 {}
 

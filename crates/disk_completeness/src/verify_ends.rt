@@ -5,8 +5,9 @@ ghost use Rattle.flop_base.specs.declared.answers.Status.{Status};
 ghost use Rattle.raw_image.specs.Disk.{Disk};
 ghost use Rattle.sector_model.specs.Steps.{IsImageOf};
 ghost use Rattle.sector_model.specs.Plays.{World};
-ghost use Rattle.disk_commands.specs.Commands.{Runs};
-ghost use Rattle.disk_commands.specs.Verifies.{Verifies};
+ghost use Rattle.scripts.specs.Scripts.{RunsScript};
+ghost use Rattle.scripts.specs.Leading.{Runs};
+ghost use Rattle.disk_commands.specs.Verify.{verify_script};
 ghost use Rattle.disk_laws.specs.VerifyRuns.{TellsFailing};
 ghost use Rattle.disk_completeness.specs.Complete.{BeginsSound, EndsWellOrOutside, IsReadable};
 
@@ -16,6 +17,6 @@ ghost use Rattle.disk_completeness.specs.Complete.{BeginsSound, EndsWellOrOutsid
 pub fn verify_ends_well(_name: &str)
     ensures { (old new : World) (ended : Status) (files : Files) (disk : Disk)
         → BeginsSound old → old.files ≡ Some files → IsImageOf (Some files) _name.now disk → IsReadable disk
-        → Runs (Verifies _name.now) old new ended
+        → Runs (RunsScript (verify_script _name.now)) old new ended
         → EndsWellOrOutside (TellsFailing disk [] old new Status.AllOk) ended }
 {}

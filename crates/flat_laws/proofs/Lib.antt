@@ -1,12 +1,4 @@
-pub mod Asks
-pub mod Each
-pub mod ExportEnds
 pub mod ExportRun
-pub mod Filled
-pub mod Given
-pub mod Halted
-pub mod ImportEnds
-pub mod ImportGoes
+pub mod FlatEnds
 pub mod ImportRun
-pub mod ImportedTrack
-pub mod Places
+pub mod Taking

@@ -6,10 +6,12 @@ ghost use Rattle.flop_base.specs.declared.answers.Status.{Status};
 ghost use Rattle.raw_image.specs.Disk.{Disk};
 ghost use Rattle.sector_model.specs.Steps.{IsImageOf};
 ghost use Rattle.sector_model.specs.Plays.{World};
-ghost use Rattle.disk_commands.specs.Commands.{Runs};
+ghost use Rattle.scripts.specs.Scripts.{RunsScript};
+ghost use Rattle.scripts.specs.Leading.{Runs};
 ghost use Rattle.disk_completeness.specs.Complete.{BeginsSound, EndsWellOrOutside};
-ghost use Rattle.flat_commands.specs.Commands.{Imports, Exports};
 ghost use Rattle.flat_commands.specs.FlatFiles.{IsFlatFile};
+ghost use Rattle.flat_commands.specs.Import.{Imports};
+ghost use Rattle.flat_commands.specs.Export.{export_script};
 ghost use Rattle.flat_laws.specs.Imported.{StoresDisk};
 ghost use Rattle.flat_laws.specs.Exported.{StoresFlatOf};
 ghost use Rattle.flat_laws.specs.Complete.{IsWholeDisk};
@@ -30,6 +32,6 @@ pub fn import_ends_well(_flat: &str, _name: &str)
 pub fn export_ends_well(_name: &str, _flat: &str)
     ensures { (old new : World) (ended : Status) (files : Files) (disk : Disk)
         → BeginsSound old → old.files ≡ Some files → IsImageOf (Some files) _name.now disk → IsWholeDisk disk
-        → Runs (Exports _name.now _flat.now) old new ended
+        → Runs (RunsScript (export_script _name.now _flat.now)) old new ended
         → EndsWellOrOutside (StoresFlatOf disk _flat.now (Some files) new.files) ended }
 {}

@@ -3,7 +3,8 @@ ghost use Rattle.std.specs.Prelude.{◌≡◌, List, length};
 ghost use Rattle.bay_model.specs.Memory.{user_bytes};
 ghost use Rattle.sector_model.specs.Runs.{Taken};
 ghost use Rattle.sector_model.specs.Plays.{World};
-ghost use Rattle.flat_commands.specs.Commands.{Exports};
+ghost use Rattle.scripts.specs.Scripts.{RunsScript};
+ghost use Rattle.flat_commands.specs.Export.{export_script};
 ghost use Rattle.flat_laws.specs.Exported.{StoresExported};
 
 use flop_base::Status;
@@ -14,7 +15,7 @@ use flop_base::Status;
 /// field of the disk has two data marks.
 pub fn export_stores_what_was_read(_name: &str, _flat: &str)
     ensures { (old new : World) (course : List Taken)
-        → Exports _name.now _flat.now old course new Status.AllOk
+        → RunsScript (export_script _name.now _flat.now) old course new Status.AllOk
         → length old.state.station.memory ≡ user_bytes
         → StoresExported _name.now _flat.now old.state.station.counters old.files course
         new.state.station.counters new.files }

@@ -4,7 +4,7 @@ ghost use Rattle.bay_model.specs.Counters.{IsFaultless};
 ghost use Rattle.bay_model.specs.Memory.{user_bytes};
 ghost use Rattle.sector_model.specs.Runs.{Taken};
 ghost use Rattle.sector_model.specs.Plays.{World};
-ghost use Rattle.flat_commands.specs.Commands.{Imports};
+ghost use Rattle.flat_commands.specs.Import.{Imports};
 ghost use Rattle.flat_laws.specs.Imported.{StoresImported};
 
 use flop_base::Status;

@@ -1,4 +1,4 @@
-use Rattle.disk_completeness.proofs.PlanAccesses.{copy_rises}
+use Rattle.disk_completeness.proofs.ScriptAccesses.{copy_rises}
 use Rattle.disk_completeness.proofs.accesses.copy_accesses.Goals as goal
 
 pub returns : goal.returns

@@ -1,4 +1,4 @@
-use Rattle.disk_completeness.proofs.PlanAccesses.{format_rises}
+use Rattle.disk_completeness.proofs.ScriptAccesses.{format_rises}
 use Rattle.disk_completeness.proofs.accesses.format_accesses.Goals as goal
 
 pub returns : goal.returns

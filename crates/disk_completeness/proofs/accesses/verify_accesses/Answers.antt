@@ -1,4 +1,4 @@
-use Rattle.disk_completeness.proofs.PlanAccesses.{verify_rises}
+use Rattle.disk_completeness.proofs.ScriptAccesses.{verify_rises}
 use Rattle.disk_completeness.proofs.accesses.verify_accesses.Goals as goal
 
 pub returns : goal.returns

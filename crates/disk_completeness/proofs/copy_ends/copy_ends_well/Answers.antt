@@ -1,4 +1,4 @@
-use Rattle.disk_completeness.proofs.CopyStored.{copy_complete}
+use Rattle.disk_completeness.proofs.CommandEnds.{copy_complete}
 use Rattle.disk_completeness.proofs.copy_ends.copy_ends_well.Goals as goal
 
 pub returns : goal.returns

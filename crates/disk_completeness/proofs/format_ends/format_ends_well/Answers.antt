@@ -1,4 +1,4 @@
-use Rattle.disk_completeness.proofs.FormatEnds.{format_complete}
+use Rattle.disk_completeness.proofs.CommandEnds.{format_complete}
 use Rattle.disk_completeness.proofs.format_ends.format_ends_well.Goals as goal
 
 pub returns : goal.returns

@@ -1,4 +1,4 @@
-use Rattle.disk_completeness.proofs.FoundAll.{formatted_readable}
+use Rattle.disk_completeness.proofs.SectorRequests.{formatted_readable}
 use Rattle.disk_completeness.proofs.format_ends.formatted_disk_is_readable.Goals as goal
 
 pub returns : goal.returns

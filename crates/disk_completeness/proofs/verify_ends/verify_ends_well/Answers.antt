@@ -1,4 +1,4 @@
-use Rattle.disk_completeness.proofs.VerifyEnds.{verify_complete}
+use Rattle.disk_completeness.proofs.CommandEnds.{verify_complete}
 use Rattle.disk_completeness.proofs.verify_ends.verify_ends_well.Goals as goal
 
 pub returns : goal.returns

@@ -1,4 +1,4 @@
-use Rattle.flat_laws.proofs.ExportEnds.{export_complete}
+use Rattle.flat_laws.proofs.FlatEnds.{export_complete}
 use Rattle.flat_laws.proofs.ends.export_ends_well.Goals as goal
 
 pub returns : goal.returns

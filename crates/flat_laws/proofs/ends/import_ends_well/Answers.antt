@@ -1,4 +1,4 @@
-use Rattle.flat_laws.proofs.ImportEnds.{import_complete}
+use Rattle.flat_laws.proofs.FlatEnds.{import_complete}
 use Rattle.flat_laws.proofs.ends.import_ends_well.Goals as goal
 
 pub returns : goal.returns
