@@ -2,18 +2,17 @@
 ghost use Rattle.std.specs.Prelude.{◌≡◌, ◌≢◌, ◌||◌, All, Err};
 ghost use Rattle.sector_model.specs.Faults.{Blames};
 ghost use Rattle.sector_model.specs.Plays.{whole_status};
-ghost use Rattle.scripts.specs.Leading.{Runs};
-ghost use Rattle.floppy_report.specs.Puts.{printed_of};
-ghost use Rattle.scripts.specs.Leading.{faulty_of, Ran, RanPart, Told};
+ghost use Rattle.scripts.specs.Leading.{faulty_of, Ran, RanPart, Runs};
 ghost use Rattle.bios_commands.specs.Courses.{ServesCalls};
-ghost use Rattle.bios_commands.specs.Lines.{LineHasTries, LinesGo, EndsAs, ServesOrStarves, Misses, Serving};
+ghost use Rattle.bios_commands.specs.Lines.{LineHasTries, LinesGo, EndsAs, ServesOrStarves, Serving};
 
 use crate::line::serve_line;
-use flop_base::{LoadError, Name, Shelf, Sink, Status};
+use flop_base::{Name, Shelf, Sink, Status};
 use floppy_jobs::{CallLine, JobError, parse_calls};
-use floppy_report::{put_last_absent, put_last_bad_line, stop_status};
+use floppy_report::{put_last_bad_line, stop_status};
 use floppy_session::Session;
 use int13::Int13;
+use scripts::tell_missing_text;
 use sector_model::Station;
 use std::alloc::Global;
 
@@ -112,19 +111,6 @@ fn serve_text<S: Shelf, K: Sink, D: Station>(
     }
 }
 
-/// Ends a run whose text wasn't loaded.
-fn not_loaded<K: Sink>(alloc: Global, name: &Name, out: &mut K, error: LoadError) -> Status
-    ensures { Told (Misses error name.now) (error ≡ LoadError.Failed)
-        (printed_of K.told K.fault_count out.old) (printed_of K.told K.fault_count out.new) result }
-{
-    match error {
-        LoadError::Absent => put_last_absent(alloc, out, name.as_str()),
-        LoadError::TooLong => put_last_bad_line(alloc, out, 0),
-        LoadError::Failed => Status::FileFault,
-        LoadError::NoMemory => Status::NoMemory,
-    }
-}
-
 /// Reads the text of this name and serves its calls (INT 13h of the PC/AT). Each line prints what came of it, and at the end the
 /// media that are left in the bays are stored.
 pub fn serve_calls<S: Shelf, K: Sink, D: Station>(
@@ -138,8 +124,9 @@ pub fn serve_calls<S: Shelf, K: Sink, D: Station>(
         (faulty_of S.told S.fault_count K.told K.fault_count session.old shelf.old out.old)
         (faulty_of S.told S.fault_count K.told K.fault_count session.new shelf.new out.new) result }
 {
-    match shelf.load(alloc, name.as_str(), MOST_CALLS_BYTES) {
+    let text_name = name.as_str();
+    match shelf.load(alloc, text_name, MOST_CALLS_BYTES) {
         Ok(text) => serve_text(alloc, session, &text, shelf, out),
-        Err(error) => not_loaded(alloc, &name, out, error),
+        Err(error) => tell_missing_text(alloc, text_name, error, out),
     }
 }

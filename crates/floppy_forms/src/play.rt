@@ -4,14 +4,14 @@ ghost use Rattle.sector_model.specs.Faults.{Blames};
 ghost use Rattle.sector_model.specs.Texts.{is_refusal};
 ghost use Rattle.sector_model.specs.Plays.{whole_status};
 ghost use Rattle.floppy_session.specs.Tries.{HasTries};
-ghost use Rattle.floppy_report.specs.Puts.{printed_of};
-ghost use Rattle.scripts.specs.Leading.{faulty_of, Ran, RanPart, Told};
-ghost use Rattle.floppy_forms.specs.Rounds.{RoundGoes, RoundsGo, HasPlayed, PlaysJob, EndsAs, PlaysOrStarves, Misses};
+ghost use Rattle.scripts.specs.Leading.{faulty_of, Ran, RanPart};
+ghost use Rattle.floppy_forms.specs.Rounds.{RoundGoes, RoundsGo, HasPlayed, PlaysJob, EndsAs, PlaysOrStarves};
 
-use flop_base::{LoadError, Shelf, Sink, Status};
+use flop_base::{Shelf, Sink, Status};
 use floppy_jobs::{JobError, Request, parse_job};
-use floppy_report::{put_last, put_last_absent, put_last_bad_line, put_reply, stop_status};
+use floppy_report::{put_last, put_last_bad_line, put_reply, stop_status};
 use floppy_session::Session;
+use scripts::tell_missing_text;
 use sector_model::{Reply, Station, Stop};
 use std::alloc::Global;
 
@@ -140,19 +140,6 @@ fn play_text<S: Shelf, K: Sink, D: Station>(
     }
 }
 
-/// Ends a run whose job wasn't loaded.
-fn not_loaded<K: Sink>(alloc: Global, job: &str, out: &mut K, error: LoadError) -> Status
-    ensures { Told (Misses error job.now) (error ≡ LoadError.Failed)
-        (printed_of K.told K.fault_count out.old) (printed_of K.told K.fault_count out.new) result }
-{
-    match error {
-        LoadError::Absent => put_last_absent(alloc, out, job),
-        LoadError::TooLong => put_last_bad_line(alloc, out, 0),
-        LoadError::Failed => Status::FileFault,
-        LoadError::NoMemory => Status::NoMemory,
-    }
-}
-
 /// Reads the job of this name and plays it.
 pub(crate) fn play<S: Shelf, K: Sink, D: Station>(
     alloc: Global,
@@ -167,6 +154,6 @@ pub(crate) fn play<S: Shelf, K: Sink, D: Station>(
 {
     match shelf.load(alloc, job, MOST_JOB_BYTES) {
         Ok(text) => play_text(alloc, session, &text, shelf, out),
-        Err(error) => not_loaded(alloc, job, out, error),
+        Err(error) => tell_missing_text(alloc, job, error, out),
     }
 }

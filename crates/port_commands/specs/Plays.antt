@@ -2,8 +2,6 @@
 use Rattle.std.specs.Prelude.{◌≡◌, ◌≢◌, ℕ, Bool, List, [], ◌∷◌, ◌++◌, Option, Result, Ok, Err}
 use Rattle.flop_base.specs.Shelf.{Files}
 use Rattle.flop_base.specs.Sink.{grown, GrowsByPart}
-use Rattle.flop_base.specs.declared.answers.LoadError.{LoadError}
-use Rattle.flop_base.specs.declared.answers.LoadError.TheVariants as load
 use Rattle.flop_base.specs.declared.answers.Status.{Status}
 use Rattle.flop_base.specs.declared.answers.Status.TheVariants as status
 use Rattle.floppy_jobs.specs.Texts.{ports_of}
@@ -177,10 +175,3 @@ pub data Plays (name : List ℕ) (old : World) (course : List Taken) (new : Worl
       → Plays name old course new ended
   Faulty : IsIdle old course new status.FileFault ended → Plays name old course new ended
   Starved : IsIdle old course new status.NoMemory ended → Plays name old course new ended
-
--- why a text wasn't had, and what was printed of it
-abbrev pub Misses : LoadError → List ℕ → Option (List ℕ) → Option (List ℕ) → Status → Type 0
-Misses load.Absent name old new ended = Prints (absent_text name) status.Absent old new ended
-Misses load.TooLong name old new ended = Prints (bad_line_text 0) status.BadJob old new ended
-Misses load.Failed name old new ended = (new ≡ old) × (ended ≡ status.FileFault)
-Misses load.NoMemory name old new ended = (new ≡ old) × (ended ≡ status.NoMemory)

@@ -8,7 +8,7 @@ ghost use Rattle.port_commands.specs.Benches.{AreNamed, IsBare, bench_of, no_nam
 ghost use Rattle.port_commands.specs.Faults.{Ran, RanPart, faulty_of};
 ghost use Rattle.port_commands.specs.Guards.{RunsBare};
 ghost use Rattle.port_commands.specs.Lines.{is_refusal};
-ghost use Rattle.port_commands.specs.Plays.{RoundGoes, RoundsGo, HasPlayed, EndsAs, PlaysGiven, Misses};
+ghost use Rattle.port_commands.specs.Plays.{RoundGoes, RoundsGo, HasPlayed, EndsAs, PlaysGiven};
 
 use crate::answer::Answer;
 use crate::doing::do_line;
@@ -16,10 +16,11 @@ use crate::media::end;
 use crate::names::Names;
 use crate::telling::put_answer;
 use drive_model::Drive;
-use flop_base::{LoadError, Shelf, Sink, Status};
+use flop_base::{Shelf, Sink, Status};
 use floppy_jobs::{JobError, PortLine, parse_ports};
-use floppy_report::{put_last, put_last_absent, put_last_bad_line, stop_status};
+use floppy_report::{put_last, put_last_bad_line, stop_status};
 use pc_bus::MachineOf;
+use scripts::tell_missing_text;
 use std::alloc::Global;
 
 /// The longest text of port accesses, in bytes.
@@ -160,22 +161,6 @@ fn play_text<S: Shelf, K: Sink, D: Drive>(
     }
 }
 
-/// Ends a run whose text wasn't loaded.
-fn not_loaded<K: Sink>(alloc: Global, text_name: &str, out: &mut K, error: LoadError) -> Status
-    ensures ends { Misses error text_name.now (K.told out.old) (K.told out.new) result }
-    ensures is_form { result ≢ Status.BadWords }
-    ensures shelf_fault { result ≡ Status.FileFault → error ≡ LoadError.Failed }
-    ensures sink_faults { BlamesAlone (result ≡ Status.SinkFault) (K.fault_count out.old)
-        (K.fault_count out.new) }
-{
-    match error {
-        LoadError::Absent => put_last_absent(alloc, out, text_name),
-        LoadError::TooLong => put_last_bad_line(alloc, out, 0),
-        LoadError::Failed => Status::FileFault,
-        LoadError::NoMemory => Status::NoMemory,
-    }
-}
-
 /// Reads the text of this name and runs its lines on the machine as it stands, with no driver. Media that are left in are stored.
 pub fn run_ports<S: Shelf, K: Sink, D: Drive>(
     alloc: Global,
@@ -192,6 +177,6 @@ pub fn run_ports<S: Shelf, K: Sink, D: Drive>(
     let mut names = Names::new();
     match shelf.load(alloc, text_name, MOST_TEXT_BYTES) {
         Ok(text) => play_text(alloc, machine, &mut names, &text, shelf, out),
-        Err(error) => not_loaded(alloc, text_name, out, error),
+        Err(error) => tell_missing_text(alloc, text_name, error, out),
     }
 }

@@ -1,4 +1,4 @@
-use Rattle.std.proofs.Common.{◌≡◌, ◌≤◌, take}
+use Rattle.std.proofs.Common.{◌≡◌, take}
 use Rattle.flop_base.specs.Sink.{grown}
 use Rattle.archive_commands.specs.Surveys.{field_lines}
 use Rattle.archive_commands.proofs.surveying.put_fields.Given as goal

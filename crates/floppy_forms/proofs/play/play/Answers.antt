@@ -13,7 +13,7 @@ returns-in-Ok g c = record {
 
 pub returns-in-Err : goal.returns-in-Err
 returns-in-Err g c = record {
-  does = missed_plays c.args.session.now (g.S.Shelf.told c.args.shelf.now) (g.S.Shelf.told c.load.new.self) (g.K.Sink.told c.args.out.now) (g.K.Sink.told c.not_loaded.new.out) c.args.job.now c.in-Err.error c.not_loaded.result c.in-Err.ensures.stays c.in-Err.ensures.gives c.not_loaded.ensures.tells;
+  does = missed_plays c.args.session.now (g.S.Shelf.told c.args.shelf.now) (g.S.Shelf.told c.load.new.self) (g.K.Sink.told c.args.out.now) (g.K.Sink.told c.tell_missing_text.new.out) c.args.job.now c.in-Err.error c.tell_missing_text.result c.in-Err.ensures.stays c.in-Err.ensures.gives c.tell_missing_text.ensures.tells;
   is_form = search rules;
   shelf_faults = search rules;
   sink_faults = search rules;

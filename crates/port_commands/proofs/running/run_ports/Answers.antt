@@ -21,8 +21,8 @@ pub returns : goal.returns
 returns g c = record {
   does = (
     c.new-names.result,
-    ran_bare (board g.D.Drive.state c.args.machine.now) c.new-names.result (g.S.Shelf.told c.args.shelf.now) (g.K.Sink.told c.args.out.now) (world_with (board g.D.Drive.state c.args.machine.now) c.new-names.result (g.S.Shelf.told c.load.new.self) (g.K.Sink.told c.not_loaded.new.out)) c.args.text_name.now c.not_loaded.result c.new-names.ensures
-        (missed_plays (board g.D.Drive.state c.args.machine.now) c.new-names.result (g.S.Shelf.told c.args.shelf.now) (g.S.Shelf.told c.load.new.self) (g.K.Sink.told c.args.out.now) (g.K.Sink.told c.not_loaded.new.out) c.args.text_name.now c.in-Err.error c.not_loaded.result c.in-Err.ensures.stays c.in-Err.ensures.gives c.not_loaded.ensures.ends),
+    ran_bare (board g.D.Drive.state c.args.machine.now) c.new-names.result (g.S.Shelf.told c.args.shelf.now) (g.K.Sink.told c.args.out.now) (world_with (board g.D.Drive.state c.args.machine.now) c.new-names.result (g.S.Shelf.told c.load.new.self) (g.K.Sink.told c.tell_missing_text.new.out)) c.args.text_name.now c.tell_missing_text.result c.new-names.ensures
+        (missed_plays (board g.D.Drive.state c.args.machine.now) c.new-names.result (g.S.Shelf.told c.args.shelf.now) (g.S.Shelf.told c.load.new.self) (g.K.Sink.told c.args.out.now) (g.K.Sink.told c.tell_missing_text.new.out) c.args.text_name.now c.in-Err.error c.tell_missing_text.result c.in-Err.ensures.stays c.in-Err.ensures.gives c.tell_missing_text.ensures.tells),
   );
   is_form = search rules;
   shelf_faults = search rules;
