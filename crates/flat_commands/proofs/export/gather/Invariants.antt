@@ -1,4 +1,3 @@
-use Rattle.floppy_session.specs.Session.{state_of}
 use Rattle.std.proofs.Common.{◌≡◌, ◌++◌}
 use Rattle.bay_model.specs.Memory.{bytes_from}
 use Rattle.flat_commands.proofs.export.gather.Given as goal

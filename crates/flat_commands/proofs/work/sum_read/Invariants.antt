@@ -1,4 +1,3 @@
-use Rattle.floppy_session.specs.Session.{state_of}
 use Rattle.std.proofs.Common.{◌≤◌, ◌≡◌, ◌*◌, sum}
 use Rattle.bay_model.specs.Memory.{bytes_from}
 use Rattle.flat_commands.proofs.work.sum_read.Given as goal
