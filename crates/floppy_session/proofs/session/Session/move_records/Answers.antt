@@ -20,7 +20,7 @@ loop-i-preserved g c = record {
       let so_far = c.loop-i.invariant.done told in
       let step = subst (λ (a : ℕ). MovesRecord (record_request c.args.kind c.args.bay (record_behind c.args.first c.loop-i.i) a) c.loop-i.self told (Ok tt) c.move_record.new.self) c.place_of_record.ensures (c.in-Ok.ensures.moves told) in (
         so_far.0 ++ (record { asked = (record_request c.args.kind c.args.bay (record_behind c.args.first c.loop-i.i) (place_of_record c.args.kind c.args.address c.loop-i.i)); answer = step.0; after = c.move_record.new.self }) ∷ [],
-        done_more (record_requests c.args.kind c.args.bay c.args.first c.args.address c.loop-i.i) (record_requests c.args.kind c.args.bay c.args.first c.args.address (c.loop-i.i + 1)) (record_request c.args.kind c.args.bay (record_behind c.args.first c.loop-i.i) (place_of_record c.args.kind c.args.address c.loop-i.i)) step.0 c.args.self.now c.loop-i.self c.move_record.new.self told so_far.0 (records_more c.args.kind c.args.bay c.args.first c.args.address c.loop-i.i) so_far.1 step.1 step.2,
+        done_more (record_requests c.args.kind c.args.bay c.args.first c.args.address c.loop-i.i) (record_requests c.args.kind c.args.bay c.args.first c.args.address (c.loop-i.i + 1)) (record_request c.args.kind c.args.bay (record_behind c.args.first c.loop-i.i) (place_of_record c.args.kind c.args.address c.loop-i.i)) step.0 _ _ _ told so_far.0 (records_more c.args.kind c.args.bay c.args.first c.args.address c.loop-i.i) so_far.1 step.1 step.2,
       );
   outside = λ verify room.
       let before = c.loop-i.invariant.outside verify room in
