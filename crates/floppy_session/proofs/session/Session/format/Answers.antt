@@ -5,7 +5,8 @@ use Rattle.floppy_session.proofs.session.Session.format.Goals as goal
 
 pub invariant_of-self : goal.invariant_of-self
 invariant_of-self g c =
-    runs_on _ _ _ (keeps_formats _ _ c.args.bay c.args.c c.args.h c.format_gap-gap3.result 246 c.format.result c.format.ensures.step) c.self.invariant c.format.ensures.ready
+    runs_on _ _ _ (keeps_formats _ _ c.args.bay c.args.c c.args.h c.format_gap-gap3.result 246 c.format.result c.format.ensures.step)
+    c.self.invariant c.format.ensures.ready
 
 pub returns-then-bay-gt1 : goal.returns-then-bay-gt1
 returns-then-bay-gt1 g c told =
