@@ -135,7 +135,8 @@ keeps_rates old new bay rate answer rates =
     (λ code refused. keeps_stays old new refused.stays)
 
 -- where each bay keeps its medium's shape, the session still runs
-pub runs_on : {Before After : Type 0} (labels : Labels) (old new : StationState) → KeepsShapes old.bays new.bays → IsRunning Before old labels → After → IsRunning After new labels
+pub runs_on : {Before After : Type 0} (labels : Labels) (old new : StationState)
+    → KeepsShapes old.bays new.bays → IsRunning Before old labels → After → IsRunning After new labels
 runs_on labels old new keeps running ready = record {
   ready = ready;
   named = named_still (state_of old labels) (state_of new labels) refl keeps running.named;

@@ -1,7 +1,7 @@
 // A session: a station, and the names under which the media in its bays are stored.
 ghost use Rattle.std.specs.Prelude.{◌≡◌, ◌≤◌, IfOk, IfErr, OnOk, IsErrOf};
 ghost use Rattle.sector_model.specs.Stations.{IsFresh, bay_of};
-ghost use Rattle.sector_model.specs.States.{start_of};
+ghost use Rattle.sector_model.specs.States.{start_of, IsNamed};
 ghost use Rattle.sector_model.specs.Steps.{Step, StopsAt};
 ghost use Rattle.sector_model.specs.Runs.{Ends, EndStopsAt, IsEndStop};
 ghost use Rattle.sector_model.specs.Faults.{Blames};
@@ -50,9 +50,10 @@ impl<D: Station> Session<D> {
         }
     }
 
-    /// The station under the session: its bays, its memory and its counts.
+    /// The station under the session: its bays, its memory and its counts. A bay has a name exactly where it has a medium.
     pub fn station(&self) -> &D
-        ensures { D.shown result.now ≡ self.now.station }
+        ensures shown { D.shown result.now ≡ self.now.station }
+        ensures named { IsNamed self.now }
     {
         &self.station
     }

@@ -5,7 +5,7 @@ use Rattle.floppy_forms.proofs.play.play.Goals as goal
 
 pub returns-in-Ok : goal.returns-in-Ok
 returns-in-Ok g c = record {
-  does = text_plays c.args.session.now (g.S.Shelf.told c.args.shelf.now) (g.S.Shelf.told c.load.new.self) (g.K.Sink.told c.args.out.now) (world c.play_text.new.session (g.S.Shelf.told c.play_text.new.shelf) (g.K.Sink.told c.play_text.new.out)) c.args.job.now c.deref.result.now c.in-Ok.text c.play_text.result c.in-Ok.ensures.stays c.deref.ensures.value c.in-Ok.ensures.gives c.play_text.ensures.does;
+  does = text_plays c.args.session.now (g.S.Shelf.told c.args.shelf.now) (g.S.Shelf.told c.load.new.self) (g.K.Sink.told c.args.out.now) _ c.args.job.now c.deref.result.now c.in-Ok.text c.play_text.result c.in-Ok.ensures.stays c.deref.ensures.value c.in-Ok.ensures.gives c.play_text.ensures.does;
   is_form = search rules;
   shelf_faults = search rules;
   sink_faults = search rules;

@@ -9,7 +9,7 @@ use Rattle.floppy_forms.proofs.play.play_text.Goals as goal
 
 pub returns-in-Ok : goal.returns-in-Ok
 returns-in-Ok g c = record {
-  does = parsed_plays (world c.args.session.now (g.S.Shelf.told c.args.shelf.now) (g.K.Sink.told c.args.out.now)) (world c.play_requests.new.session (g.S.Shelf.told c.play_requests.new.shelf) (g.K.Sink.told c.play_requests.new.out)) c.args.text.now c.deref.result.now c.in-Ok.requests.items c.play_requests.result c.in-Ok.ensures.read c.deref.ensures.value c.play_requests.ensures.does;
+  does = parsed_plays _ _ c.args.text.now c.deref.result.now c.in-Ok.requests.items c.play_requests.result c.in-Ok.ensures.read c.deref.ensures.value c.play_requests.ensures.does;
   is_form = search rules;
   shelf_faults = search rules;
   sink_faults = search rules;
@@ -17,7 +17,7 @@ returns-in-Ok g c = record {
 
 pub returns-in-Err-BadLine : goal.returns-in-Err-BadLine
 returns-in-Err-BadLine g c = record {
-  does = unparsed_tells (world c.args.session.now (g.S.Shelf.told c.args.shelf.now) (g.K.Sink.told c.args.out.now)) (world c.args.session.now (g.S.Shelf.told c.args.shelf.now) (g.K.Sink.told c.put_last_bad_line.new.out)) c.args.text.now c.in-Err-BadLine.line c.put_last_bad_line.result (read_bad (λ (requests : Vec Request Global). requests.items) c.in-Err-BadLine.field-0 (job_of c.args.text.now) c.in-Err-BadLine.line c.in-Err-BadLine.ensures.read c.in-Err-BadLine.field-0-is) (record { state = refl; files = refl; prints = c.put_last_bad_line.ensures.prints });
+  does = unparsed_tells _ _ c.args.text.now c.in-Err-BadLine.line c.put_last_bad_line.result (read_bad (λ (requests : Vec Request Global). requests.items) c.in-Err-BadLine.field-0 (job_of c.args.text.now) c.in-Err-BadLine.line c.in-Err-BadLine.ensures.read c.in-Err-BadLine.field-0-is) (record { state = refl; files = refl; prints = c.put_last_bad_line.ensures.prints });
   is_form = search rules;
   shelf_faults = search rules;
   sink_faults = search rules;

@@ -15,4 +15,4 @@ returns-clause-performed g c = record {
 
 pub returns-clause-accesses : goal.returns-clause-accesses
 returns-clause-accesses g c =
-    named_accesses (form_of (map string_bytes c.args.words.now)) (world_of g.S.Shelf.told g.K.Sink.told c.args.session.now c.args.shelf.now c.args.out.now) (world_of g.S.Shelf.told g.K.Sink.told c.run_asked.new.session c.run_asked.new.shelf c.run_asked.new.out) c.run_asked.result (c.run_asked.ensures.runs (form_of (map string_bytes c.args.words.now)) c.form_named.ensures.form)
+    named_accesses (form_of (map string_bytes c.args.words.now)) _ _ c.run_asked.result (c.run_asked.ensures.runs (form_of (map string_bytes c.args.words.now)) c.form_named.ensures.form)

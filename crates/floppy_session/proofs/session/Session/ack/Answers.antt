@@ -3,4 +3,4 @@ use Rattle.floppy_session.proofs.Serving.{replied}
 use Rattle.floppy_session.proofs.session.Session.ack.Goals as goal
 
 pub returns : goal.returns
-returns g c = λ told. replied c.args.self.now c.acknowledge.new.self told (request.Ack c.args.bay) c.reply.result _ c.reply.ensures (c.acknowledge.ensures.step told)
+returns g c = λ told. replied _ _ told (request.Ack c.args.bay) c.reply.result _ c.reply.ensures (c.acknowledge.ensures.step told)

@@ -12,6 +12,8 @@ loop-i-init g c = record {
 
 pub loop-i-preserved : goal.loop-i-preserved
 loop-i-preserved g c = record {
-  fills = fills_more c.args.self.now _ _ c.args.address c.loop-i.i c.args.byte c.loop-i.invariant.fills refl c.set_memory.ensures.step c.set_memory.ensures.counts c.set_memory.ensures.size (omega arith);
-  running = runs_on _ _ _ (keeps_same _ _ (ap (λ (s : StationState). s.bays) c.set_memory.ensures.step.becomes)) c.loop-i.invariant.running c.set_memory.ensures.ready;
+  fills = fills_more _ _ _ c.args.address c.loop-i.i c.args.byte c.loop-i.invariant.fills refl c.set_memory.ensures.step c.set_memory.ensures.counts
+      c.set_memory.ensures.size (omega arith);
+  running = runs_on _ _ _ (keeps_same _ _ (ap (λ (s : StationState). s.bays) c.set_memory.ensures.step.becomes)) c.loop-i.invariant.running
+      c.set_memory.ensures.ready;
 }

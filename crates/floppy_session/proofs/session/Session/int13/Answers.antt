@@ -10,7 +10,8 @@ returns g c = λ told.
       record {
         code = c.do_work-code.result.code;
         moved = c.do_work-code.result.moved;
-        work = subst (λ (w : Work). DoesWork w c.args.self.now told does.0 c.do_work-code.result.code c.do_work-code.result.moved c.do_work-code.new.self) c.plan.ensures.work does.1;
+        work = subst (λ (w : Work). DoesWork w c.args.self.now told does.0 c.do_work-code.result.code c.do_work-code.result.moved
+            c.do_work-code.new.self) c.plan.ensures.work does.1;
         answer = record {
           in_ah = c.finish.ensures.in_ah;
           in_al = c.finish.ensures.in_al;

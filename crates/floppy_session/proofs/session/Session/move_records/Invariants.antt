@@ -9,5 +9,6 @@ use Rattle.floppy_session.proofs.session.Session.move_records.Given as goal
 abbrev pub invariant-loop-i : goal.invariant-loop-i
 invariant-loop-i g l = record {
   done : (told : Option Files) → (course : List Taken) × AreDone (record_requests l.fn.kind l.fn.bay l.fn.first l.fn.address l.i) l.fn.self told course l.self;
-  outside : l.fn.kind ≡ Verify → l.fn.address + 512 ≤ length l.fn.self.station.memory → SameOutside l.fn.address 512 l.fn.self.station.memory l.self.station.memory;
+  outside : l.fn.kind ≡ Verify → l.fn.address + 512 ≤ length l.fn.self.station.memory → SameOutside l.fn.address 512 l.fn.self.station.memory
+      l.self.station.memory;
 }

@@ -18,15 +18,20 @@ loop-i-preserved g c = record {
   done = λ told.
       let so_far = c.loop-i.invariant.done told in (
         so_far.0 ++ (record { asked = put_request c.args.address c.args.kept.now c.loop-i.i; answer = c.fill.result; after = c.fill.new.self }) ∷ [],
-        puts_more c.args.address c.args.kept.now c.loop-i.i c.args.self.now c.loop-i.self c.fill.new.self told so_far.0 c.fill.result (omega arith) so_far.1 (c.fill.ensures told),
+        puts_more c.args.address c.args.kept.now c.loop-i.i _ _ _ told so_far.0 c.fill.result (omega arith) so_far.1 (c.fill.ensures told),
       );
-  memory = put_memory c.args.self.now.station.memory c.args.address c.args.kept.now c.loop-i.i c.loop-i.self c.fill.new.self None c.fill.result (omega arith) (omega arith) (omega (arith, c.requires.room)) c.loop-i.invariant.memory (c.fill.ensures None);
+  memory = put_memory c.args.self.now.station.memory c.args.address c.args.kept.now c.loop-i.i _ _ None c.fill.result (omega arith) (omega arith)
+      (omega (arith, c.requires.room)) c.loop-i.invariant.memory (c.fill.ensures None);
 }
 
 pub returns-clause-puts : goal.returns-clause-puts
 returns-clause-puts g c = λ told.
-    let so_far = c.loop-i.invariant.done told in
-    (so_far.0, subst (λ (r : List Request). AreDone r c.args.self.now told so_far.0 c.loop-i.self) (puts_are c.args.address c.args.kept.now c.loop-i.i (omega arith)) so_far.1)
+    let so_far = c.loop-i.invariant.done told in (
+      so_far.0,
+      subst (λ (r : List Request). AreDone r c.args.self.now told so_far.0 c.loop-i.self)
+          (puts_are c.args.address c.args.kept.now c.loop-i.i (omega arith)) so_far.1,
+    )
 
 pub returns-clause-memory : goal.returns-clause-memory
-returns-clause-memory g c = c.loop-i.invariant.memory ∙ ap (with_items c.args.self.now.station.memory c.args.address) (take_all c.loop-i.i c.args.kept.now (omega arith))
+returns-clause-memory g c =
+    c.loop-i.invariant.memory ∙ ap (with_items c.args.self.now.station.memory c.args.address) (take_all c.loop-i.i c.args.kept.now (omega arith))

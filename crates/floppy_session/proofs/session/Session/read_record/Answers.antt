@@ -3,8 +3,9 @@ use Rattle.floppy_session.proofs.Serving.{reads_outside}
 use Rattle.floppy_session.proofs.session.Session.read_record.Goals as goal
 
 pub invariant_of-self : goal.invariant_of-self
-invariant_of-self g c = runs_on _ _ _ (keeps_reads (g.D.Station.shown c.self.inside.station) (g.D.Station.shown c.read.new.self) c.args.bay c.args.key c.args.address c.read.result c.read.ensures.step) c.self.invariant c.read.ensures.ready
+invariant_of-self g c =
+    runs_on _ _ _ (keeps_reads _ _ c.args.bay c.args.key c.args.address c.read.result c.read.ensures.step) c.self.invariant c.read.ensures.ready
 
 pub returns-clause-outside : goal.returns-clause-outside
 returns-clause-outside g c =
-    rw (← c.self.view_is) (reads_outside (g.D.Station.shown c.self.inside.station) (g.D.Station.shown c.read.new.self) c.args.bay c.args.key c.args.address c.read.result c.read.ensures.step)
+    rw (← c.self.view_is) (reads_outside _ _ c.args.bay c.args.key c.args.address c.read.result c.read.ensures.step)

@@ -11,4 +11,5 @@ returns-clause-ok g c =
     let new : State = state_of (g.D.Station.shown c.eject.new.self) c.take.new.self in
     let disk : (bay_of old.station c.args.bay).medium ≡ Some c.unwrap-medium.result = sym c.eject.ensures.step.medium ∙ c.unwrap-medium.ensures in
     let changes : ChangesMedium c.args.bay None None old new = search rules in
-    rw (← c.self.view_is) (stores_out c.store_medium.result old new (g.S.Shelf.told c.args.shelf.now) (g.S.Shelf.told c.store_medium.new.shelf) c.args.bay c.unwrap-medium.result c.unwrap-name.result disk (sym c.take.ensures.name ∙ c.unwrap-name.ensures) changes c.store_medium.ensures.ok)
+    rw (← c.self.view_is) (stores_out c.store_medium.result old new (g.S.Shelf.told c.args.shelf.now) (g.S.Shelf.told c.store_medium.new.shelf)
+    c.args.bay c.unwrap-medium.result c.unwrap-name.result disk (sym c.take.ensures.name ∙ c.unwrap-name.ensures) changes c.store_medium.ensures.ok)

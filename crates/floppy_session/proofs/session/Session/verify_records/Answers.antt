@@ -17,7 +17,10 @@ returns g c = λ told.
         mid = c.move_records-outcome.new.self;
         course_is = refl;
         moves = moved.1;
-        puts_back = subst (λ (b : List ℕ). AreDone (put_requests c.args.address b) c.move_records-outcome.new.self told puts.0 c.put_back.new.self) c.bytes_at-kept.ensures.bytes puts.1;
-        memory = c.put_back.ensures.memory ∙ ap (with_items c.move_records-outcome.new.self.station.memory c.args.address) c.bytes_at-kept.ensures.bytes ∙ put_back_all memory c.move_records-outcome.new.self.station.memory c.args.address 512 c.bytes_at-kept.ensures.room outside;
+        puts_back = subst (λ (b : List ℕ). AreDone (put_requests c.args.address b) c.move_records-outcome.new.self told puts.0 c.put_back.new.self)
+            c.bytes_at-kept.ensures.bytes puts.1;
+        memory = c.put_back.ensures.memory ∙ ap (with_items c.move_records-outcome.new.self.station.memory c.args.address)
+            c.bytes_at-kept.ensures.bytes ∙ put_back_all memory c.move_records-outcome.new.self.station.memory c.args.address 512
+            c.bytes_at-kept.ensures.room outside;
       },
     )

@@ -3,4 +3,4 @@ use Rattle.floppy_session.proofs.Serving.{replied}
 use Rattle.floppy_session.proofs.session.Session.write.Goals as goal
 
 pub returns : goal.returns
-returns g c = λ told. replied c.args.self.now c.write_record.new.self told (request.Write c.args.bay c.args.key c.args.address) c.reply.result _ c.reply.ensures (c.write_record.ensures told)
+returns g c = λ told. replied _ _ told (request.Write c.args.bay c.args.key c.args.address) c.reply.result _ c.reply.ensures (c.write_record.ensures told)
