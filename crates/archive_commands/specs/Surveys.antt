@@ -35,6 +35,7 @@ abbrev pub SurveysFile : Option Files → List ℕ → Result (List SurveyLine) 
 SurveysFile told name (Ok lines) = (disk : Disk) × ReadsAs image_of told name (Ok disk) × IsSurvey disk lines
 SurveysFile told name (Err cause) = StopsAt image_of told name cause
 
+-- the same of lines that lie in memory
 abbrev pub GivesSurvey : List ℕ → Option Files → Result (Vec SurveyLine Global) Stop → Type 0
 GivesSurvey name told (Ok lines) = SurveysFile told name (Ok lines.items)
 GivesSurvey name told (Err cause) = SurveysFile told name (Err cause)
