@@ -24,9 +24,9 @@ use Rattle.sector_model.specs.Plays.{World}
 use Rattle.floppy_session.specs.Blanks.{blank_request}
 use Rattle.floppy_session.specs.declared.shape.Shape.{Shape}
 use Rattle.floppy_session.specs.Shapes.{shape_in}
-use Rattle.scripts.specs.Scripts.{Script, Ends, RunsScript, StoresLast, IsStored, NotStored}
+use Rattle.scripts.specs.Scripts.{Script, Ends, Fails, RunsScript, StoresLast, IsStored, NotStored}
 use Rattle.scripts.specs.Parts.{needs, carries, may_starve, with_shape, opens, through}
-use Rattle.scripts.proofs.Reading.{IsAnswered, AskRun, Answered, Stopped, NeedRun, Done, Refused, Halted, ask_run, need_run, carry_run, last_run, last_stored}
+use Rattle.scripts.proofs.Reading.{IsAnswered, AskRun, Answered, Stopped, NeedRun, Done, Refused, Halted, ask_run, need_run, carry_run, last_run, last_failed, last_stored}
 use Rattle.disk_laws.specs.Requests.{Track, format_each, tracks_of}
 use Rattle.disk_laws.proofs.Steps.{either, done_does}
 use Rattle.rescue.specs.Course.{read_of, write_of, outcome_status}
@@ -224,6 +224,9 @@ module _ (to log : List ℕ) where
   ends_in_order : (line : List ℕ) (wanted : Status) → InOrder Any [] (Ends line wanted)
   ends_in_order line wanted old course new ended any runs = Nothing (last_run line wanted old course new ended runs).1.files
 
+  fails_in_order : (cause : Status) → InOrder Any [] (Fails cause)
+  fails_in_order cause old course new ended any runs = Nothing (ap (λ (w : World). w.files) (last_failed cause old course new ended runs).1)
+
   found_in_order : (shape : Shape) (found : Option (List LogLine)) → InOrder Any [] (rescue_found to log shape found)
   unfolding rescue_found rescues_all may_starve
   found_in_order shape found old course new ended any (inl runs) =
@@ -247,6 +250,6 @@ stores_in_order from to log old new course ended (answers, are, runs) =
     (λ before then told after answer step fine any. tt)
     (λ answer after. shape_in_order to log rest
     (λ shape. by_rest old.files to log shape (InOrder to log Any []) (λ found there. found_in_order to log shape found)
-    (λ line. ends_in_order to log line status.BadJob) (ends_in_order to log [] status.FileFault) (ends_in_order to log [] status.NoMemory)
+    (λ line. ends_in_order to log line status.BadJob) (fails_in_order to log status.FileFault) (fails_in_order to log status.NoMemory)
     (answers shape.rate) (are shape.rate)) (shape_in (bay_of after.station 0)))
     old course new ended tt runs

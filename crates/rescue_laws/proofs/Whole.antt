@@ -30,9 +30,9 @@ use Rattle.sector_model.specs.Texts.{is_refusal}
 use Rattle.sector_model.specs.States.{State}
 use Rattle.floppy_session.specs.declared.shape.Shape.{Shape}
 use Rattle.floppy_session.specs.Shapes.{shape_of}
-use Rattle.scripts.specs.Scripts.{Script, Ends, RunsScript, StoresLast, IsStored, NotStored, IsStoreFault}
+use Rattle.scripts.specs.Scripts.{Script, Ends, Fails, RunsScript, StoresLast, IsStored, NotStored, IsStoreFault}
 use Rattle.scripts.specs.Parts.{carries, may_starve, through}
-use Rattle.scripts.proofs.Reading.{last_run, last_stored, prints_status}
+use Rattle.scripts.proofs.Reading.{last_run, last_failed, last_stored, prints_status}
 use Rattle.scripts.proofs.Passed.{Passed, Does, Opened, joined, did_both, opens_passed}
 use Rattle.disk_laws.specs.Done.{DoesAll}
 use Rattle.disk_laws.specs.VerifyRuns.{IsEndStatus}
@@ -190,11 +190,15 @@ module _ (from to log : List ℕ) (disk : Disk) (files : Files) (old : World) (c
       let there = subst (λ (f : Option Files). IsFound f log (sectors_at disk.rate) (answers disk.rate)) told (are disk.rate) in
       by_rest (Some files) to log (shape_of disk) (λ s. RunsScript s a.mid a.two new ended → RescuesDisk from to log disk files old course new ended)
       (by_found a)
-      (λ line. never a line status.BadJob (λ e. e)) (never a [] status.FileFault (λ e. e)) (never a [] status.NoMemory (λ e. e)) (answers disk.rate) there left
+      (λ line. never a line status.BadJob (λ e. e)) (fails a status.FileFault (λ e. e)) (fails a status.NoMemory (λ e. e)) (answers disk.rate) there left
     where
       never : {rest : Shape → Script} (a : Passed (Opened from) rest old course new ended) (line : List ℕ) (wanted : Status) → (IsEndStatus wanted → ⊥)
           → RunsScript (Ends line wanted) a.mid a.two new ended → RescuesDisk from to log disk files old course new ended
       never a line wanted bad runs = absurd (ends_not line wanted a.mid a.two new ended whole bad runs)
+
+      fails : {rest : Shape → Script} (a : Passed (Opened from) rest old course new ended) (cause : Status) → (IsEndStatus cause → ⊥)
+          → RunsScript (Fails cause) a.mid a.two new ended → RescuesDisk from to log disk files old course new ended
+      fails a cause bad runs = absurd (bad (subst IsEndStatus (last_failed cause a.mid a.two new ended runs).2 whole))
 
 -- ---- courses that neither read nor write
 
