@@ -1,11 +1,12 @@
 use Rattle.std.proofs.Common.{rules}
-use Rattle.floppy_forms.specs.Rounds.{world}
 use Rattle.floppy_forms.proofs.InRounds.{text_plays, missed_plays}
 use Rattle.floppy_forms.proofs.play.play.Goals as goal
 
 pub returns-in-Ok : goal.returns-in-Ok
 returns-in-Ok g c = record {
-  does = text_plays c.args.session.now (g.S.Shelf.told c.args.shelf.now) (g.S.Shelf.told c.load.new.self) (g.K.Sink.told c.args.out.now) _ c.args.job.now c.deref.result.now c.in-Ok.text c.play_text.result c.in-Ok.ensures.stays c.deref.ensures.value c.in-Ok.ensures.gives c.play_text.ensures.does;
+  does = text_plays c.args.session.now (g.S.Shelf.told c.args.shelf.now) (g.S.Shelf.told c.load.new.self) (g.K.Sink.told c.args.out.now) _
+      c.args.job.now c.deref.result.now c.in-Ok.text c.play_text.result c.in-Ok.ensures.stays c.deref.ensures.value c.in-Ok.ensures.gives
+      c.play_text.ensures.does;
   is_form = search rules;
   shelf_faults = search rules;
   sink_faults = search rules;
@@ -13,7 +14,9 @@ returns-in-Ok g c = record {
 
 pub returns-in-Err : goal.returns-in-Err
 returns-in-Err g c = record {
-  does = missed_plays c.args.session.now (g.S.Shelf.told c.args.shelf.now) (g.S.Shelf.told c.load.new.self) (g.K.Sink.told c.args.out.now) (g.K.Sink.told c.not_loaded.new.out) c.args.job.now c.in-Err.error c.not_loaded.result c.in-Err.ensures.stays c.in-Err.ensures.gives c.not_loaded.ensures.tells;
+  does = missed_plays c.args.session.now (g.S.Shelf.told c.args.shelf.now) (g.S.Shelf.told c.load.new.self) (g.K.Sink.told c.args.out.now)
+      (g.K.Sink.told c.not_loaded.new.out) c.args.job.now c.in-Err.error c.not_loaded.result c.in-Err.ensures.stays c.in-Err.ensures.gives
+      c.not_loaded.ensures.tells;
   is_form = search rules;
   shelf_faults = search rules;
   sink_faults = search rules;
