@@ -6,7 +6,9 @@ use Rattle.bios_commands.proofs.line.serve_line.Goals as goal
 
 pub returns-in-Job : goal.returns-in-Job
 returns-in-Job g c = record {
-  goes = subst (λ (l : CallLine). LineGoes c.args.front.now c.args.front.now l (world_of g.S.Shelf.told g.K.Sink.told c.args.session.now c.args.shelf.now c.args.out.now) c.ask.result (world_of g.S.Shelf.told g.K.Sink.told c.ask.new.session c.ask.new.shelf c.ask.new.out)) (sym c.in-Job.is) (c.ask.ensures.goes c.args.front.now);
+  goes = subst (λ (l : CallLine). LineGoes c.args.front.now c.args.front.now l
+      (world_of g.S.Shelf.told g.K.Sink.told c.args.session.now c.args.shelf.now c.args.out.now) c.ask.result
+      (world_of g.S.Shelf.told g.K.Sink.told c.ask.new.session c.ask.new.shelf c.ask.new.out)) (sym c.in-Job.is) (c.ask.ensures.goes c.args.front.now);
   is_form = c.ask.ensures.is_form;
   shelf_faults = c.ask.ensures.shelf_faults;
   sink_faults = c.ask.ensures.sink_faults;

@@ -1,5 +1,4 @@
 use Rattle.std.proofs.Common.{rules, refl}
-use Rattle.scripts.specs.Leading.{world_of}
 use Rattle.bios_commands.proofs.Served.{served_ends, broken_serving}
 use Rattle.bios_commands.proofs.serve.serve_all.Goals as goal
 

@@ -14,7 +14,8 @@ pub returns-in-Err : goal.returns-in-Err
 returns-in-Err g c = record {
   goes =
       let within : c.loop-line.line-index < length c.args.lines.now = omega arith in
-      broken _ _ _ c.args.lines.now c.loop-line.line-index c.line-item.result c.loop-line.refused c.loop-line.front c.in-Err.ended c.loop-line.invariant.served within c.line-item.is c.in-Err.ensures.goes;
+      broken _ _ _ c.args.lines.now c.loop-line.line-index c.line-item.result c.loop-line.refused c.loop-line.front c.in-Err.ended
+      c.loop-line.invariant.served within c.line-item.is c.in-Err.ensures.goes;
   is_form = search rules;
   shelf_faults = search rules;
   sink_faults = search rules;
@@ -24,7 +25,9 @@ pub loop-line-preserved : goal.loop-line-preserved
 loop-line-preserved g c =
     let within : c.loop-line.line-index < length c.args.lines.now = omega arith in
     record {
-      served = served_next _ _ _ c.args.lines.now c.loop-line.line-index c.line-item.result c.loop-line.refused c.in-Ok.refusal c.either-refused.result c.loop-line.front c.serve_line.new.front c.loop-line.invariant.served c.in-Ok.ensures.goes within c.line-item.is c.either-refused.ensures;
+      served = served_next _ _ _ c.args.lines.now c.loop-line.line-index c.line-item.result c.loop-line.refused c.in-Ok.refusal
+          c.either-refused.result c.loop-line.front c.serve_line.new.front c.loop-line.invariant.served c.in-Ok.ensures.goes within c.line-item.is
+          c.either-refused.ensures;
       shelf_counts = omega (arith, c.loop-line.invariant.shelf_counts, c.serve_line.ensures.shelf_faults.never_falls);
       sink_counts = search rules;
     }

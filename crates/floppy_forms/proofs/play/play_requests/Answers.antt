@@ -1,5 +1,4 @@
 use Rattle.std.proofs.Common.{rules, refl}
-use Rattle.floppy_forms.specs.Rounds.{world}
 use Rattle.floppy_forms.proofs.InRounds.{run-ends}
 use Rattle.floppy_forms.proofs.play.play_requests.Goals as goal
 

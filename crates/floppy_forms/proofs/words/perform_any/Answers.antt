@@ -1,5 +1,4 @@
 use Rattle.std.proofs.Common.{rules, refl}
-use Rattle.scripts.specs.Leading.{world_of}
 use Rattle.floppy_forms.proofs.InRounds.{runs_asked, runs_none}
 use Rattle.floppy_forms.proofs.words.perform_any.Goals as goal
 
@@ -13,7 +12,8 @@ returns-in-Some g c = record {
 
 pub returns-in-None : goal.returns-in-None
 returns-in-None g c = record {
-  runs = runs_none c.args.form _ _ c.put_last_bad_words.result c.in-None.is (record { state = refl; files = refl; prints = c.put_last_bad_words.ensures.prints });
+  runs = runs_none c.args.form _ _ c.put_last_bad_words.result c.in-None.is
+      (record { state = refl; files = refl; prints = c.put_last_bad_words.ensures.prints });
   bad_words = search rules;
   shelf_faults = search rules;
   sink_faults = search rules;

@@ -1,4 +1,3 @@
-use Rattle.scripts.specs.Leading.{world_of}
 use Rattle.floppy_forms.proofs.InRounds.{asked_runs, starved_runs, none_asked}
 use Rattle.floppy_forms.proofs.words.run_asked.Goals as goal
 

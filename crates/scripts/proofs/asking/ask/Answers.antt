@@ -12,7 +12,8 @@ returns-in-Ok-clause-ran g c = record {
 
 pub returns-in-Err-clause-ran : goal.returns-in-Err-clause-ran
 returns-in-Err-clause-ran g c = record {
-  goes = λ whole start rest leads. asked_stops whole start c.args.request.now rest c.in-Err.stop _ _ c.put_last.result c.in-Err.ensures.stop c.put_last.ensures.prints leads;
+  goes = λ whole start rest leads. asked_stops whole start c.args.request.now rest c.in-Err.stop _ _ c.put_last.result c.in-Err.ensures.stop
+      c.put_last.ensures.prints leads;
   is_form = search rules;
   shelf_faults = search rules;
   sink_faults = search rules;

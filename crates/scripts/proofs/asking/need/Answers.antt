@@ -4,7 +4,8 @@ use Rattle.scripts.proofs.asking.need.Goals as goal
 
 pub returns-in-Some-clause-ran : goal.returns-in-Some-clause-ran
 returns-in-Some-clause-ran g c = record {
-  goes = λ whole start rest leads. needed_refused whole start c.args.request.now rest c.in-Some.reason _ _ c.put_last_stopped.result (rw (sym c.in-Some.ensures) c.in-Ok.ensures.step) c.put_last_stopped.ensures.prints leads;
+  goes = λ whole start rest leads. needed_refused whole start c.args.request.now rest c.in-Some.reason _ _ c.put_last_stopped.result
+      (rw (sym c.in-Some.ensures) c.in-Ok.ensures.step) c.put_last_stopped.ensures.prints leads;
   is_form = search rules;
   shelf_faults = search rules;
   sink_faults = search rules;
@@ -20,7 +21,8 @@ returns-in-None-clause-ran g c = record {
 
 pub returns-in-Err-clause-ran : goal.returns-in-Err-clause-ran
 returns-in-Err-clause-ran g c = record {
-  goes = λ whole start rest leads. needed_stops whole start c.args.request.now rest c.in-Err.stop _ _ c.put_last.result c.in-Err.ensures.stop c.put_last.ensures.prints leads;
+  goes = λ whole start rest leads. needed_stops whole start c.args.request.now rest c.in-Err.stop _ _ c.put_last.result c.in-Err.ensures.stop
+      c.put_last.ensures.prints leads;
   is_form = search rules;
   shelf_faults = search rules;
   sink_faults = search rules;
