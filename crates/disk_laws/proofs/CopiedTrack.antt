@@ -106,7 +106,7 @@ formats_it rate source c h disk old new told after course all ready has faultles
 
 -- ---- the records
 
-track_keys_from : (sectors c h : ℕ) → track_keys sectors c h ≡ keys_from c h 1 sectors
+pub track_keys_from : (sectors c h : ℕ) → track_keys sectors c h ≡ keys_from c h 1 sectors
 unfolding track_keys
 track_keys_from sectors c h = refl
 

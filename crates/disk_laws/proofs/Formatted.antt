@@ -16,11 +16,12 @@ use Rattle.sector_model.specs.Runs.{Taken}
 use Rattle.disk_laws.specs.Done.{DoesAll}
 use Rattle.disk_laws.specs.Formatted.{IsFormattedDisk, LeavesFormatted, StoresFormatted}
 use Rattle.floppy_session.specs.Blanks.{blank_request}
-use Rattle.disk_laws.specs.Requests.{tracks_of, rate_requests, format_each, formatting, format_requests}
+use Rattle.scripts.specs.Parts.{rate_requests}
+use Rattle.disk_laws.specs.Requests.{tracks_of, format_each, formatting, format_requests}
 use Rattle.disk_laws.proofs.Tracks.{among_all}
 use Rattle.disk_laws.proofs.Steps.{begins, ends_there, splits, never_fell, step_never_fell, keeps_drives}
 use Rattle.disk_laws.proofs.Formatting.{FormatsTracks, each_format}
-use Rattle.disk_laws.proofs.Prepared.{blanks, acks, rates}
+use Rattle.disk_laws.proofs.Prepared.{blanks, readies}
 
 pub blank_keeps : (bay : ℕ) (rate : Rate) (name : List ℕ) (cylinders : ℕ) → keeps_drives (blank_request bay name cylinders rate) ≡ true
 blank_keeps bay R500 name cylinders = refl
@@ -53,22 +54,21 @@ formats_disk rate name cylinders old new told after course all faultless =
     let formats = format_each 0 tracks in
     let one = begins old new told after (blank_request 0 name cylinders rate) (request.Ack 0 ∷ (rate_requests rate 0 ++ formats)) course all in
     let put = blanks 0 rate name cylinders old one.mid told one.files one.answer one.step one.done in
-    let two = begins one.mid new one.files after (request.Ack 0) (rate_requests rate 0 ++ formats) one.later one.behind in
-    let acked = acks 0 blank one.mid two.mid one.files two.files two.answer two.does two.done put.medium in
-    let rated = rates 0 rate blank formats two.mid new two.files after two.later two.behind refl acked.medium acked.high in
+    let ready = readies 0 blank formats one.mid new one.files after one.later one.behind put.medium in
     let first = step_never_fell old one.mid told one.files (blank_request 0 name cylinders rate) one.answer one.step (blank_keeps 0 rate name cylinders) in
-    let second = step_never_fell one.mid two.mid one.files two.files (request.Ack 0) two.answer two.step refl in
-    let third = rated.fell in
-    let laid = each_format rate tracks blank rated.mid new rated.files after rated.course rated.behind (omega arith, omega arith) rated.medium rated.rate put.valid in
-    let disk = is_formatted rate cylinders rated.mid new rated.files after laid in
+    let second = ready.first in
+    let third = ready.later in
+    let laid = each_format rate tracks blank ready.mid new ready.files after ready.course ready.behind
+    (omega arith, omega arith) ready.medium ready.rate put.valid in
+    let disk = is_formatted rate cylinders ready.mid new ready.files after laid in
     record {
       disk = disk.0;
       there = record {
         medium = disk.1;
-        named = ap (λ (n : Two (Option (List ℕ))). in_bay n 0) (laid.names ∙ rated.names ∙ acked.names) ∙ ap (λ (n : Two (Option (List ℕ))). in_bay n 0) put.named;
+        named = ap (λ (n : Two (Option (List ℕ))). in_bay n 0) (laid.names ∙ ready.names) ∙ ap (λ (n : Two (Option (List ℕ))). in_bay n 0) put.named;
       };
       is = disk.2;
-      files = laid.files ∙ rated.same_files ∙ acked.files ∙ put.files;
+      files = laid.files ∙ ready.same_files ∙ put.files;
     }
 
 -- and stored

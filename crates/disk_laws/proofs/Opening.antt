@@ -1,28 +1,36 @@
 -- The opening of a verify isn't refused where bay 0 was empty and nothing disturbs its drive.
-use Rattle.std.proofs.Common.{arith, ◌≡◌, ◌∙◌, ℕ, false, true≢false, List, [], ◌∷◌, ◌++◌, refl, sym, ap, subst, Option, Some, None, Result, Ok, Err, inl, inr}
+use Rattle.std.proofs.Common.{arith, ◌≡◌, ◌∙◌, ℕ, false, true≢false, List, [], ◌∷◌, refl, ap, subst, Option, Some, None, Result, Ok, Err, inl, inr}
 use Rattle.flop_base.specs.Shelf.{Files}
 use Rattle.flop_base.specs.declared.answers.Code.{Code}
-use Rattle.flop_base.specs.declared.answers.Rate.{Rate}
-use Rattle.flop_base.specs.declared.answers.Rate.TheVariants.{R500, R250}
+use Rattle.flop_base.specs.declared.answers.Rate.TheVariants.{R250}
 use Rattle.flop_base.specs.declared.answers.Status.{Status}
 use Rattle.raw_image.specs.Disk.{Disk}
-use Rattle.bay_model.specs.Counters.{IsUndisturbed, faults_of}
-use Rattle.floppy_requests.specs.declared.request.Request.{Request}
+use Rattle.bay_model.specs.Counters.{IsUndisturbed}
 use Rattle.floppy_requests.specs.declared.request.Request.TheVariants as request
 use Rattle.sector_model.specs.declared.reply.Reply.{Reply}
 use Rattle.sector_model.specs.Stations.{StationState, bay_of}
 use Rattle.sector_model.specs.Orders.{rate_refusal}
 use Rattle.sector_model.specs.Calls.{AcksDrive, SetsRate}
+use Rattle.sector_model.specs.declared.reply.Reply.TheVariants as reply
+use Rattle.sector_model.specs.declared.reply.Reason.{Reason}
 use Rattle.sector_model.specs.States.{State}
-use Rattle.sector_model.specs.Steps.{Step, refusal_of, reply_of}
+use Rattle.sector_model.specs.Steps.{Step, IsImageOf, refusal_of, reply_of}
 use Rattle.sector_model.specs.Texts.{is_refusal}
-use Rattle.sector_model.specs.Runs.{Taken, Run, has_refusal}
+use Rattle.sector_model.specs.Runs.{Taken}
 use Rattle.sector_model.specs.Plays.{World}
-use Rattle.disk_commands.specs.Plans.{Planned, Asks, asked_after, Asked, rate_plan}
-use Rattle.disk_commands.specs.Commands.{IsRefusedAt}
+use Rattle.floppy_session.specs.declared.shape.Shape.{Shape}
+use Rattle.floppy_session.specs.Shapes.{shape_of}
+use Rattle.scripts.specs.Scripts.{Script, RunsScript}
+use Rattle.scripts.specs.Parts.{opens, sets_rate, acknowledges, rate_requests}
+use Rattle.scripts.proofs.Reading.{IsWhole, IsRefused}
+use Rattle.scripts.proofs.Passed.{Passed, Does, Did, joined, joined_did, did_both, carries_passed, sets_rate_passed, opens_passed}
+use Rattle.disk_laws.specs.Requests.{verify_opening}
 use Rattle.disk_laws.proofs.Prepared.{acks}
+use Rattle.disk_laws.proofs.PutIn.{opened_shape}
 use Rattle.disk_laws.proofs.Reading.{reaches, quiet_parts}
-use Rattle.disk_laws.proofs.Steps.{done_does, or_false, step_never_fell, NeverFell}
+use Rattle.disk_laws.proofs.Steps.{NeverFell, done_does, step_never_fell}
+use Rattle.disk_laws.proofs.TrackParts.{did_step}
+use Rattle.disk_laws.proofs.Verified.{one_image}
 
 -- a disk is put into an empty bay
 insert_taken : (name : List ℕ) (old new : State) (told after : Option Files) (answer : Reply) → (bay_of old.station 0).medium ≡ None → Step (request.Insert 0 name) old told answer new after → is_refusal answer ≡ false
@@ -53,104 +61,57 @@ rate_taken count old new told after answer acknowledged step =
     go (Ok u) drive = refl
     go (Err code) drive = absurd (cc drive.done)
 
--- a course with what is asked last, none of it but the last refused
-record IsTried (old : State) (told : Option Files) (before : List Taken) (asked : Request) (answer : Reply) (new : State) (after : Option Files) : Type 0 where
-  pub mid : State
-  pub files : Option Files
-  pub run : Run old told before mid files
-  pub fine : has_refusal before ≡ false
-  pub step : Step asked mid files answer new after
+-- ---- in a script
 
-abbrev opening_plan : List ℕ → Rate → List Planned
-opening_plan name rate = Asks (request.Insert 0 name) ∷ Asks (request.Ack 0) ∷ rate_plan 0 rate
-
--- the first request
-first_taken : (name : List ℕ) (old new : State) (told after : Option Files) (before : List Taken) (asked : Request) (answer : Reply) → (bay_of old.station 0).medium ≡ None → IsTried old told before asked answer new after → Asked [] [] before → asked ≡ request.Insert 0 name → is_refusal answer ≡ false
-first_taken name old new told after [] asked answer empty tried behind is =
-    let step = subst (λ (q : Request). Step q tried.mid tried.files answer new after) is tried.step in
-    let there : (bay_of tried.mid.station 0).medium ≡ None = ap (λ (s : State). (bay_of s.station 0).medium) tried.run.0 ∙ empty in
-    insert_taken name tried.mid new tried.files after answer there step
-first_taken name old new told after (taken ∷ later) asked answer empty tried behind is = absurd behind
+not_done : (cause : Reason) → is_refusal (reply.Refused cause) ≡ false → ⊥
+not_done cause done = absurd (true≢false done)
 
 -- the disk is in
-inserted : (name : List ℕ) (old new : State) (told after : Option Files) (taken : Taken) → Step taken.asked old told taken.answer taken.after after → is_refusal taken.answer ≡ false → taken.asked ≡ request.Insert 0 name → (disk : Disk) × ((bay_of taken.after.station 0).medium ≡ Some disk) × NeverFell old.station.counters taken.after.station.counters
-inserted name old new told after taken step done is =
-    let here = subst (λ (q : Request). Step q old told taken.answer taken.after after) is step in
-    let put = (done_does old taken.after told after (request.Insert 0 name) taken.answer here done).2 in
-    (put.0, ap (λ (s : StationState). (bay_of s 0).medium) put.2.exchanged.becomes, step_never_fell old taken.after told after (request.Insert 0 name) taken.answer here refl)
+record IsIn (disk : Disk) (old mid : World) : Type 0 where
+  pub medium : (bay_of mid.state.station 0).medium ≡ Some disk
+  pub fell : NeverFell old.state.station.counters mid.state.station.counters
 
--- the second
-second_taken : (name : List ℕ) (old new : State) (told after : Option Files) (before : List Taken) (asked : Request) (answer : Reply) → IsUndisturbed 0 old.station.counters new.station.counters → IsTried old told before asked answer new after → Asked [] (Asks (request.Insert 0 name) ∷ []) before → asked ≡ request.Ack 0 → is_refusal answer ≡ false
-second_taken name old new told after [] asked answer quiet tried behind is = absurd behind
-second_taken name old new told after (taken ∷ next ∷ later) asked answer quiet tried behind is = absurd behind.1
-second_taken name old new told after (taken ∷ []) asked answer quiet tried behind is =
-    let done = (or_false (is_refusal taken.answer) false tried.fine).0 in
-    let there = inserted name old taken.after told tried.run.0 taken tried.run.1 done behind.0 in
-    let same = tried.run.2.0 in
-    let medium = ap (λ (s : State). (bay_of s.station 0).medium) same ∙ there.1 in
-    let fell = subst (λ (s : State). NeverFell old.station.counters s.station.counters) (sym same) there.2 in
-    let step = subst (λ (q : Request). Step q tried.mid tried.files answer new after) is tried.step in
-    let last = step_never_fell tried.mid new tried.files after (request.Ack 0) answer step refl in
-    let calm = (quiet_parts old.station.counters tried.mid.station.counters new.station.counters fell last quiet).1 in
-    ack_taken there.0 tried.mid new tried.files after answer medium calm last step
+put_in : (name : List ℕ) (disk : Disk) (files : Files) (old mid : World) (course : List Taken) → old.files ≡ Some files → IsImageOf (Some files) name disk
+    → Did (request.Insert 0 name ∷ []) old course mid → IsIn disk old mid
+put_in name disk files old mid course there image did =
+    let step = did_step (request.Insert 0 name) old course mid did in
+    let put = (done_does old.state mid.state old.files mid.files (request.Insert 0 name) step.0 step.1 step.2).2 in
+    let same : put.0 ≡ disk = one_image files name put.0 disk (subst (λ (f : Option Files). IsImageOf f name put.0) there put.1) image in
+    record {
+      medium = ap (λ (s : StationState). (bay_of s 0).medium) put.2.exchanged.becomes ∙ ap (λ (d : Disk). Some d) same;
+      fell = step_never_fell old.state mid.state old.files mid.files (request.Insert 0 name) step.0 step.1 refl;
+    }
 
--- the third
-third_taken : (name : List ℕ) (old new : State) (told after : Option Files) (before : List Taken) (asked : Request) (answer : Reply) → IsTried old told before asked answer new after → Asked [] (Asks (request.Insert 0 name) ∷ Asks (request.Ack 0) ∷ []) before → asked ≡ request.SetRate 0 R250 → is_refusal answer ≡ false
-third_taken name old new told after [] asked answer tried behind is = absurd behind
-third_taken name old new told after (taken ∷ []) asked answer tried behind is = absurd behind.1
-third_taken name old new told after (taken ∷ second ∷ next ∷ later) asked answer tried behind is = absurd behind.1.1
-third_taken name old new told after (taken ∷ second ∷ []) asked answer tried behind is =
-    let parts = or_false (is_refusal taken.answer) (has_refusal (second ∷ [])) tried.fine in
-    let done = (or_false (is_refusal second.answer) false parts.1).0 in
-    let there = inserted name old taken.after told tried.run.0 taken tried.run.1 parts.0 behind.0 in
-    let run = tried.run.2 in
-    let does = subst (λ (q : Request). Step q taken.after tried.run.0 second.answer second.after run.0) behind.1.0 run.1 in
-    let acked = acks 0 there.0 taken.after second.after tried.run.0 run.0 second.answer does done there.1 in
-    let kept = ap (λ (s : State). (bay_of s.station 0).acknowledged) run.2.0 ∙ acked.kept in
-    let step = subst (λ (q : Request). Step q tried.mid tried.files answer new after) is tried.step in
-    rate_taken (faults_of second.after.station.counters 0) tried.mid new tried.files after answer kept step
+module _ (name : List ℕ) (disk : Disk) (files : Files) (rest : Shape → Unit {0} → Script) (old : World) (course : List Taken) (new : World) (ended : Status)
+    (whole : IsWhole ended) (there : old.files ≡ Some files) (image : IsImageOf (Some files) name disk) (empty : (bay_of old.state.station 0).medium ≡ None)
+    (quiet : IsUndisturbed 0 old.state.station.counters new.state.station.counters) where
+  no_insert : IsRefused (request.Insert 0 name) old course new ended → ⊥
+  no_insert run = not_done run.cause (insert_taken name old.state new.state old.files new.files (reply.Refused run.cause) empty run.step)
 
--- none of them is refused
-opening_taken : (name : List ℕ) (rate : Rate) (old new : State) (told after : Option Files) (before : List Taken) (answer : Reply) (done : List Planned) (next : Planned) (later : List Planned) → (bay_of old.station 0).medium ≡ None → IsUndisturbed 0 old.station.counters new.station.counters → IsTried old told before (asked_after before next) answer new after → Asked [] done before → opening_plan name rate ≡ done ++ next ∷ later → is_refusal answer ≡ false
-opening_taken name rate old new told after before answer [] next later empty quiet tried behind parts =
-    let is : Asks (request.Insert 0 name) ≡ next = cc parts in
-    first_taken name old new told after before _ answer empty tried behind (ap (asked_after before) (sym is))
-opening_taken name rate old new told after before answer (one ∷ []) next later empty quiet tried behind parts =
-    let was : Asks (request.Insert 0 name) ≡ one = cc parts in
-    let is : Asks (request.Ack 0) ≡ next = cc parts in
-    second_taken name old new told after before _ answer quiet tried (subst (λ (p : Planned). Asked [] (p ∷ []) before) (sym was) behind) (ap (asked_after before) (sym is))
-opening_taken name rate old new told after before answer (one ∷ two ∷ []) next later empty quiet tried behind parts =
-    let was : Asks (request.Insert 0 name) ≡ one = cc parts in
-    let then : Asks (request.Ack 0) ≡ two = cc parts in
-    let rest : rate_plan 0 rate ≡ next ∷ later = cc parts in
-    let known = subst (λ (p : Planned). Asked [] (Asks (request.Insert 0 name) ∷ p ∷ []) before) (sym then) (subst (λ (p : Planned). Asked [] (p ∷ two ∷ []) before) (sym was) behind) in
-    third_taken name old new told after before _ answer tried known (go rate rest)
-  where
-    go : (at : Rate) → rate_plan 0 at ≡ next ∷ later → asked_after before next ≡ request.SetRate 0 R250
-    go R500 same = absurd (cc same)
-    go R250 same = let is : Asks (request.SetRate 0 R250) ≡ next = cc same in ap (asked_after before) (sym is)
-opening_taken name rate old new told after before answer (one ∷ two ∷ three ∷ done) next later empty quiet tried behind parts =
-    let rest : rate_plan 0 rate ≡ three ∷ (done ++ next ∷ later) = cc parts in
-    absurd (go rate rest)
-  where
-    none : (d : List Planned) → [] ≡ d ++ next ∷ later → ⊥
-    none [] same = cc same
-    none (p ∷ d) same = cc same
+  no_ack : (mid : World) (later : List Taken) → IsIn disk old mid → IsRefused (request.Ack 0) mid later new ended → ⊥
+  no_ack mid later is run =
+      let last = step_never_fell mid.state new.state mid.files new.files (request.Ack 0) (reply.Refused run.cause) run.step refl in
+      let calm = (quiet_parts old.state.station.counters mid.state.station.counters new.state.station.counters is.fell last quiet).1 in
+      not_done run.cause (ack_taken disk mid.state new.state mid.files new.files (reply.Refused run.cause) is.medium calm last run.step)
 
-    go : (at : Rate) → rate_plan 0 at ≡ three ∷ (done ++ next ∷ later) → ⊥
-    go R500 same = cc same
-    go R250 same = let end : [] ≡ done ++ next ∷ later = cc same in none done end
+  no_rate : (mid end : World) (between left : List Taken) → IsIn disk old mid → Did (request.Ack 0 ∷ []) mid between end
+      → IsRefused (request.SetRate 0 R250) end left new ended → ⊥
+  no_rate mid end between left is did run =
+      let step = did_step (request.Ack 0) mid between end did in
+      let kept = (acks 0 disk mid.state end.state mid.files end.files step.0 step.1 step.2 is.medium).kept in
+      not_done run.cause (rate_taken _ end.state new.state end.files new.files (reply.Refused run.cause) kept run.step)
 
-pub opening_not_refused : (name : List ℕ) (rate : Rate) (old : World) (course : List Taken) (new : World) (ended : Status) → (bay_of old.state.station 0).medium ≡ None → IsUndisturbed 0 old.state.station.counters new.state.station.counters → IsRefusedAt (opening_plan name rate) old course new ended → ⊥
-opening_not_refused name rate old course new ended empty quiet p =
-    let step = subst (λ (q : Request). Step q p.mid p.files p.last.answer p.last.after new.files) p.asked p.step in
-    let tried : IsTried old.state old.files p.before (asked_after p.before p.next) p.last.answer p.last.after new.files = record {
-      mid = p.mid;
-      files = p.files;
-      run = p.begun.run;
-      fine = p.begun.fine;
-      step = step;
-    } in
-    let calm = subst (λ (s : State). IsUndisturbed 0 old.state.station.counters s.station.counters) p.after quiet in
-    let taken = opening_taken name rate old.state p.last.after old.files new.files p.before p.last.answer p.begun.done p.next p.begun.later empty calm tried p.begun.asked p.begun.parts in
-    true≢false (subst (λ (r : Reply). is_refusal r ≡ false) p.answered taken)
+  -- the disk is put in, and the bay made ready
+  pub opening_passed : RunsScript (opens name (λ shape. acknowledges 0 shape.rate (rest shape))) old course new ended
+      → Passed (Does (verify_opening name disk)) (rest (shape_of disk)) old course new ended
+  unfolding acknowledges
+  opening_passed runs =
+      let a = opens_passed name (λ shape. acknowledges 0 shape.rate (rest shape)) old course new ended whole no_insert runs in
+      let same = opened_shape name disk files old a.mid a.one a.found image there a.knows in
+      let is = put_in name disk files old a.mid a.one there image a.knows.did in
+      let left = subst (λ (s : Shape). RunsScript (acknowledges 0 s.rate (rest s)) a.mid a.two new ended) same a.left in
+      let b = carries_passed (request.Ack 0) (λ none. sets_rate 0 disk.rate (rest (shape_of disk))) a.mid a.two new ended whole (no_ack a.mid a.two is) left in
+      let c = sets_rate_passed 0 disk.rate (rest (shape_of disk)) b.mid b.two new ended whole (no_rate a.mid b.mid b.one b.two is b.knows) b.left in
+      let ready = joined_did (request.Ack 0 ∷ []) (rate_requests disk.rate 0) b c in
+      joined a ready
+      (did_both (request.Insert 0 name ∷ []) (request.Ack 0 ∷ rate_requests disk.rate 0) old a.mid ready.mid a.one ready.one a.knows.did ready.knows)

@@ -1,5 +1,5 @@
 -- A bay made ready for the requests of a whole disk: a medium is put in, acknowledged, and met at its rate.
-use Rattle.std.proofs.Common.{arith, ◌≡◌, ◌∙◌, ◌*◌, ◌<◌, ◌≤◌, ◌^◌, ℕ, Bool, true, false, true≢false, List, ◌++◌, length, get_or, replicate, refl, sym, ap, subst, inl, inr, Option, Some, Result, IsOk, lit≤}
+use Rattle.std.proofs.Common.{arith, ◌≡◌, ◌∙◌, ◌*◌, ◌<◌, ◌≤◌, ◌^◌, ℕ, Bool, true, false, true≢false, List, ◌∷◌, ◌++◌, length, get_or, replicate, refl, sym, ap, subst, inl, inr, Option, Some, Result, IsOk, lit≤}
 use Rattle.std.specs.Prelude.{MatchOption, MatchBool, ◌==◌, if◌then◌else◌}
 use Rattle.flop_base.specs.declared.answers.Code.{Code}
 use Rattle.flop_base.specs.declared.answers.Code.TheVariants.{BadRequest}
@@ -25,7 +25,7 @@ use Rattle.sector_model.specs.Texts.{is_refusal}
 use Rattle.sector_model.specs.Runs.{Taken}
 use Rattle.disk_laws.specs.Done.{DoesAll}
 use Rattle.floppy_session.specs.Blanks.{blank_request}
-use Rattle.disk_laws.specs.Requests.{rate_requests}
+use Rattle.scripts.specs.Parts.{rate_requests}
 use Rattle.disk_laws.proofs.Steps.{begins, NeverFell, step_never_fell, done_does, ok_called, reached, and_both}
 
 -- ---- blank media
@@ -208,4 +208,60 @@ rates bay R250 disk rest old new told after course all is medium high =
       same_files = does.0.files;
       fell = step_never_fell old first.mid told first.files (request.SetRate bay R250) first.answer first.step refl;
       behind = first.behind;
+    }
+
+-- ---- both
+
+-- what is left to do once a bay with a disk was acknowledged, and has the rate of the disk
+pub record IsReadied (bay : ℕ) (disk : Disk) (old : State) (told : Option Files) (rest : List Request) (new : State) (after : Option Files) : Type 0 where
+  pub mid : State
+  pub files : Option Files
+  pub course : List Taken
+  pub acked : State
+  pub medium : (bay_of mid.station bay).medium ≡ Some disk
+  pub rate : (bay_of mid.station bay).rate ≡ disk.rate
+  pub kept : (bay_of mid.station bay).acknowledged ≡ Some (faults_of acked.station.counters bay)
+  pub value : Bay
+  pub bays : mid.station.bays ≡ with_bay old.station.bays bay value
+  pub memory : mid.station.memory ≡ old.station.memory
+  pub names : mid.names ≡ old.names
+  pub same_files : files ≡ told
+  pub first : NeverFell old.station.counters acked.station.counters
+  pub later : NeverFell acked.station.counters mid.station.counters
+  pub behind : DoesAll rest mid files course new after
+
+-- a bay that was given twice
+abbrev put_by : Bool → Two Bay → Bay → Two Bay
+put_by first two value = if first then record two { first = value } else record two { second = value }
+
+with_twice : (two : Two Bay) (bay : ℕ) (before value : Bay) → with_bay (with_bay two bay before) bay value ≡ with_bay two bay value
+with_twice two bay before value = go (bay == 0)
+  where
+    go : (b : Bool) → put_by b (put_by b two before) value ≡ put_by b two value
+    go true = refl
+    go false = refl
+
+pub readies : (bay : ℕ) (disk : Disk) (rest : List Request) (old new : State) (told after : Option Files) (course : List Taken)
+    → DoesAll (request.Ack bay ∷ (rate_requests disk.rate bay ++ rest)) old told course new after → (bay_of old.station bay).medium ≡ Some disk
+    → IsReadied bay disk old told rest new after
+readies bay disk rest old new told after course all medium =
+    let one = begins old new told after (request.Ack bay) (rate_requests disk.rate bay ++ rest) course all in
+    let acked = acks bay disk old one.mid told one.files one.answer one.does one.done medium in
+    let rated = rates bay disk.rate disk rest one.mid new one.files after one.later one.behind refl acked.medium acked.high in
+    record {
+      mid = rated.mid;
+      files = rated.files;
+      course = rated.course;
+      acked = one.mid;
+      medium = rated.medium;
+      rate = rated.rate;
+      kept = rated.kept ∙ acked.kept;
+      value = rated.value;
+      bays = rated.bays ∙ ap (λ (s : StationState). with_bay s.bays bay rated.value) acked.becomes ∙ with_twice old.station.bays bay acked.value rated.value;
+      memory = rated.memory ∙ ap (λ (s : StationState). s.memory) acked.becomes;
+      names = rated.names ∙ acked.names;
+      same_files = rated.same_files ∙ acked.files;
+      first = step_never_fell old one.mid told one.files (request.Ack bay) one.answer one.step refl;
+      later = rated.fell;
+      behind = rated.behind;
     }

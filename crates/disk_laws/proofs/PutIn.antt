@@ -1,21 +1,21 @@
--- The disk that a command puts in: its shape, and its course.
-use Rattle.std.proofs.Common.{◌≡◌, ◌∙◌, List, [], ◌∷◌, ◌++◌, ℕ, false, ap, subst, Option, Some}
+-- The shape of the disk that a command puts in.
+use Rattle.std.proofs.Common.{◌≡◌, ◌∙◌, List, ℕ, false, ap, subst, Option, Some}
 use Rattle.std.specs.Option.{option_map}
 use Rattle.flop_base.specs.Shelf.{Files}
 use Rattle.raw_image.specs.Disk.{Disk}
-use Rattle.floppy_requests.specs.declared.request.Request.{Request}
 use Rattle.floppy_requests.specs.declared.request.Request.TheVariants as request
 use Rattle.sector_model.specs.declared.reply.Reply.{Reply}
 use Rattle.sector_model.specs.Stations.{StationState, bay_of}
 use Rattle.sector_model.specs.States.{State}
 use Rattle.sector_model.specs.Steps.{Step, IsImageOf}
 use Rattle.sector_model.specs.Texts.{is_refusal}
-use Rattle.sector_model.specs.Runs.{Taken, Run, has_refusal}
+use Rattle.sector_model.specs.Runs.{Taken}
+use Rattle.sector_model.specs.Plays.{World}
 use Rattle.floppy_session.specs.declared.shape.Shape.{Shape}
 use Rattle.floppy_session.specs.Shapes.{shape_of, shape_in}
-use Rattle.disk_commands.specs.Plans.{Planned, Asks, Asked}
-use Rattle.disk_commands.specs.Commands.{IsShapePutIn}
-use Rattle.disk_laws.proofs.Steps.{done_does, or_false}
+use Rattle.scripts.proofs.Passed.{Opened}
+use Rattle.disk_laws.proofs.Steps.{done_does}
+use Rattle.disk_laws.proofs.TrackParts.{did_step}
 use Rattle.disk_laws.proofs.Verified.{one_image}
 
 -- a disk that was put in has the shape of its image
@@ -27,22 +27,10 @@ put_shape name disk files old new after answer shape image step done there =
     let told : shape_in (bay_of new.station 0) ≡ Some (shape_of disk) = ap (λ (m : Option Disk). option_map shape_of m) medium in
     cc (told, there)
 
--- so it is in a course that begins with it
-pub course_shape : (name : List ℕ) (disk : Disk) (files : Files) (plan : List Planned) (old new : State) (after : Option Files) (course : List Taken) (shape : Shape) → IsImageOf (Some files) name disk → Run old (Some files) course new after → Asked [] (Asks (request.Insert 0 name) ∷ plan) course → has_refusal course ≡ false → IsShapePutIn course shape → shape ≡ shape_of disk
-course_shape name disk files plan old new after [] shape image run asked fine put = absurd asked
-course_shape name disk files plan old new after (taken ∷ later) shape image run asked fine put =
-    let done = (or_false (is_refusal taken.answer) (has_refusal later) fine).0 in
-    let step = subst (λ (q : Request). Step q old (Some files) taken.answer taken.after run.0) asked.0 run.1 in
-    put_shape name disk files old taken.after run.0 taken.answer shape image step done (put done)
-
--- and in its first part
-pub first_shape : (one two : List Taken) (shape : Shape) → IsShapePutIn (one ++ two) shape → IsShapePutIn one shape
-first_shape [] two shape put = tt
-first_shape (taken ∷ one) two shape put = put
-
--- two runs, one after the other
-pub run_both : (old mid new : State) (told files after : Option Files) (one two : List Taken) → Run old told one mid files → Run mid files two new after → Run old told (one ++ two) new after
-run_both old mid new told files after [] two run next =
-    subst (λ (s : State). Run s told two new after) run.0 (subst (λ (f : Option Files). Run mid f two new after) run.1 next)
-run_both old mid new told files after (taken ∷ one) two run next =
-    (run.0, run.1, run_both taken.after mid new run.0 files after one two run.2 next)
+-- so it has in a script that opens it
+pub opened_shape : (name : List ℕ) (disk : Disk) (files : Files) (old mid : World) (course : List Taken) (shape : Shape) → IsImageOf (Some files) name disk
+    → old.files ≡ Some files → Opened name old course shape mid → shape ≡ shape_of disk
+opened_shape name disk files old mid course shape image there opened =
+    let put = did_step (request.Insert 0 name) old course mid opened.did in
+    put_shape name disk files old.state mid.state mid.files put.0 shape image
+    (subst (λ (f : Option Files). Step (request.Insert 0 name) old.state f put.0 mid.state mid.files) there put.1) put.2 opened.there

@@ -26,7 +26,7 @@ use Rattle.sector_model.specs.Steps.{Step, Does, read_reply}
 use Rattle.sector_model.specs.Texts.{is_refusal}
 use Rattle.sector_model.specs.Runs.{Taken, requests_of, has_refusal}
 use Rattle.disk_laws.specs.Done.{DoesAll}
-use Rattle.disk_commands.specs.Plans.{record_address}
+use Rattle.scripts.specs.Records.{record_address}
 use Rattle.disk_laws.specs.Requests.{read_records, mark_of, marks_read}
 use Rattle.disk_laws.specs.Copied.{SomeStep, Gave, IsSure}
 use Rattle.disk_laws.proofs.Steps.{NeverFell, step_never_fell, never_fell, keeps_drives, reached, or_false, done_does}

@@ -116,18 +116,7 @@ pub and_both : (a b : Bool) → (a && b) ≡ true → (a ≡ true) × (b ≡ tru
 and_both true b e = (refl, e)
 and_both false b e = absurd (true≢false (sym e))
 
-pub never_fell : (old new : State) (told after : Option Files) (requests : List Request) (course : List Taken) → DoesAll requests old told course new after → list_all keeps_drives requests ≡ true → NeverFell old.station.counters new.station.counters
-never_fell old new told after [] course all keeps =
-    let same = (ends_there old new told after course all).0 in
-    subst (λ (s : State). NeverFell old.station.counters s.station.counters) (sym same) (record { first = omega arith; second = omega arith; stalls = omega arith })
-never_fell old new told after (asked ∷ rest) course all keeps =
-    let first = begins old new told after asked rest course all in
-    let both = and_both (keeps_drives asked) (list_all keeps_drives rest) keeps in
-    let here = step_never_fell old first.mid told first.files asked first.answer first.step both.0 in
-    let there = never_fell first.mid new first.files after rest first.later first.behind both.1 in
-    record { first = omega arith; second = omega arith; stalls = omega arith }
-
--- the same of a run in which some may be refused
+-- nor in a run, whatever its answers
 pub run_never_fell : (old new : State) (told after : Option Files) (course : List Taken) → Run old told course new after → list_all keeps_drives (requests_of course) ≡ true → NeverFell old.station.counters new.station.counters
 run_never_fell old new told after [] run keeps =
     subst (λ (s : State). NeverFell old.station.counters s.station.counters) (sym run.0) (record { first = omega arith; second = omega arith; stalls = omega arith })
@@ -136,6 +125,10 @@ run_never_fell old new told after (taken ∷ later) run keeps =
     let here = step_never_fell old taken.after told run.0 taken.asked taken.answer run.1 both.0 in
     let there = run_never_fell taken.after new run.0 after later run.2 both.1 in
     record { first = omega arith; second = omega arith; stalls = omega arith }
+
+pub never_fell : (old new : State) (told after : Option Files) (requests : List Request) (course : List Taken) → DoesAll requests old told course new after → list_all keeps_drives requests ≡ true → NeverFell old.station.counters new.station.counters
+never_fell old new told after requests course all keeps =
+    run_never_fell old new told after course all.run (ap (λ (l : List Request). list_all keeps_drives l) all.all ∙ keeps)
 
 -- ---- one list of requests behind another
 

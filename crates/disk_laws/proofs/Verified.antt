@@ -26,10 +26,11 @@ use Rattle.sector_model.specs.States.{State}
 use Rattle.sector_model.specs.Steps.{IsImageOf, most_image_bytes}
 use Rattle.sector_model.specs.Runs.{Taken, requests_of, has_refusal}
 use Rattle.disk_laws.specs.Done.{DoesAll}
-use Rattle.disk_laws.specs.Requests.{verify_opening, rate_requests, read_each}
+use Rattle.scripts.specs.Parts.{rate_requests}
+use Rattle.disk_laws.specs.Requests.{verify_opening, read_each}
 use Rattle.disk_laws.specs.Verified.{IsStandardKey, IsUnmistaken, all_told_of, refused_read, refused_reads, ReadsDisk}
 use Rattle.disk_laws.proofs.Steps.{begins, ends_there, splits_run, NeverFell, step_never_fell, run_never_fell, keeps_drives}
-use Rattle.disk_laws.proofs.Prepared.{acks, rates}
+use Rattle.disk_laws.proofs.Prepared.{readies}
 use Rattle.disk_laws.proofs.Ranges.{image_range}
 use Rattle.disk_laws.proofs.Reading.{Holds, reads_keep, reads_tell}
 
@@ -82,23 +83,22 @@ opens name disk files old new after course end image all last quiet =
     let put = one.does.2 in
     let same : put.0 ≡ disk = one_image files name put.0 disk put.1 image in
     let medium : (bay_of one.mid.station 0).medium ≡ Some disk = ap (λ (s : StationState). (bay_of s 0).medium) put.2.exchanged.becomes ∙ ap (λ (d : Disk). Some d) same in
-    let two = begins one.mid new one.files after (request.Ack 0) (rate_requests disk.rate 0) one.later one.behind in
-    let acked = acks 0 disk one.mid two.mid one.files two.files two.answer two.does two.done medium in
-    let whole = subst (λ (requests : List Request). DoesAll requests two.mid two.files two.later new after) (sym (append-nil (rate_requests disk.rate 0))) two.behind in
-    let rated = rates 0 disk.rate disk [] two.mid new two.files after two.later whole refl acked.medium acked.high in
-    let there = (ends_there rated.mid new rated.files after rated.course rated.behind).0 in
+    let whole = subst (λ (requests : List Request). DoesAll (request.Ack 0 ∷ requests) one.mid one.files one.later new after)
+    (sym (append-nil (rate_requests disk.rate 0))) one.behind in
+    let ready = readies 0 disk [] one.mid new one.files after one.later whole medium in
+    let there = (ends_there ready.mid new ready.files after ready.course ready.behind).0 in
     let first = step_never_fell old one.mid (Some files) one.files (request.Insert 0 name) one.answer one.step refl in
-    let second = step_never_fell one.mid two.mid one.files two.files (request.Ack 0) two.answer two.step refl in
-    let third = rated.fell in
+    let second = ready.first in
+    let third = ready.later in
     let fourth = subst (λ (s : State). NeverFell s.station.counters end) there last in
-    let count = faults_of two.mid.station.counters 0 in
-    let holds : Holds disk count rated.mid.station = record {
-      medium = rated.medium;
-      rate = rated.rate;
-      acknowledged = rated.kept ∙ acked.kept;
+    let count = faults_of ready.acked.station.counters 0 in
+    let holds : Holds disk count ready.mid.station = record {
+      medium = ready.medium;
+      rate = ready.rate;
+      acknowledged = ready.kept;
       faults = omega (arith, first.first, second.first, third.first, fourth.first, first.stalls, second.stalls, third.stalls, fourth.stalls, quiet.together);
     } in
-    let calm : IsUndisturbed 0 rated.mid.station.counters end = record {
+    let calm : IsUndisturbed 0 ready.mid.station.counters end = record {
       faults = quiet.faults;
       stalls = quiet.stalls;
       together = omega (arith, first.first, second.first, third.first, first.stalls, second.stalls, third.stalls, quiet.together);

@@ -26,7 +26,7 @@ use Rattle.sector_model.specs.Texts.{is_refusal}
 use Rattle.sector_model.specs.Writes.{WritesDrive, WritesTo, written_from}
 use Rattle.sector_model.specs.Runs.{Taken}
 use Rattle.disk_laws.specs.Done.{DoesAll}
-use Rattle.disk_commands.specs.Plans.{record_address}
+use Rattle.scripts.specs.Records.{record_address}
 use Rattle.disk_laws.specs.Requests.{write_record, write_records}
 use Rattle.disk_laws.specs.Copied.{copied_entry}
 use Rattle.disk_laws.proofs.Prepared.{in_with}

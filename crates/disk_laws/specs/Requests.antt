@@ -4,7 +4,6 @@ use Rattle.std.specs.List.{flat_map, range_with_len}
 use Rattle.flop_base.specs.Standard.{sectors_at}
 use Rattle.flop_base.specs.declared.key.Chrn.{Chrn}
 use Rattle.flop_base.specs.declared.answers.Rate.{Rate}
-use Rattle.flop_base.specs.declared.answers.Rate.TheVariants.{R500, R250}
 use Rattle.raw_image.specs.Disk.{Disk}
 use Rattle.sector_map.specs.Standard.{track_keys, standard_keys}
 use Rattle.floppy_requests.specs.declared.request.Request.{Request}
@@ -13,7 +12,8 @@ use Rattle.sector_model.specs.declared.reply.Reply.{Reply}
 use Rattle.sector_model.specs.declared.reply.Reply.TheVariants as reply
 use Rattle.sector_model.specs.Runs.{Taken}
 use Rattle.floppy_session.specs.Blanks.{blank_request}
-use Rattle.disk_commands.specs.Plans.{record_address}
+use Rattle.scripts.specs.Parts.{rate_requests}
+use Rattle.scripts.specs.Records.{record_address}
 
 -- a track: its cylinder, and its head
 abbrev pub Track : Type 0
@@ -26,11 +26,6 @@ heads_of heads c = map (λ h. (c, h)) (range_with_len 0 heads)
 -- the tracks of a disk
 unfoldable pub tracks_of : ℕ → ℕ → List Track
 tracks_of cylinders heads = flat_map (heads_of heads) (range_with_len 0 cylinders)
-
--- a bay that was acknowledged gets the rate 250 kbit/s, where that is asked for
-abbrev pub rate_requests : Rate → ℕ → List Request
-rate_requests R500 bay = []
-rate_requests R250 bay = request.SetRate bay R250 ∷ []
 
 -- a format of each track
 abbrev pub format_each : ℕ → List Track → List Request

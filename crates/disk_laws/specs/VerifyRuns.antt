@@ -10,8 +10,8 @@ use Rattle.raw_image.specs.Disk.{Disk}
 use Rattle.sector_model.specs.declared.reply.Reason.TheVariants as reason
 use Rattle.sector_model.specs.Plays.{World, whole_status}
 use Rattle.floppy_session.specs.Shapes.{shape_of}
-use Rattle.disk_commands.specs.Commands.{sectors_of}
-use Rattle.disk_commands.specs.Verifies.{failure_line, verify_text}
+use Rattle.disk_commands.specs.Disks.{sectors_of}
+use Rattle.disk_commands.specs.Verify.{failure_line, verify_text}
 
 -- the line of a key that can't be read, with its code
 abbrev pub failing_line : Chrn × Code → List ℕ

@@ -7,7 +7,8 @@ ghost use Rattle.bay_model.specs.Memory.{user_bytes};
 ghost use Rattle.sector_model.specs.Steps.{IsImageOf};
 ghost use Rattle.sector_model.specs.Runs.{Taken};
 ghost use Rattle.sector_model.specs.Plays.{World};
-ghost use Rattle.disk_commands.specs.Commands.{Copies};
+ghost use Rattle.scripts.specs.Scripts.{RunsScript};
+ghost use Rattle.disk_commands.specs.Copy.{copy_script};
 ghost use Rattle.disk_laws.specs.Copied.{StoresCopy};
 
 use flop_base::Status;
@@ -17,7 +18,7 @@ use flop_base::Status;
 /// mark and the content that the read of the key gave.
 pub fn copy_stores_a_copy(_from: &str, _to: &str)
     ensures { (old new : World) (course : List Taken) (files : Files) (disk : Disk)
-        → Copies _from.now _to.now old course new Status.AllOk
+        → RunsScript (copy_script _from.now _to.now) old course new Status.AllOk
         → old.files ≡ Some files → IsImageOf (Some files) _from.now disk
         → length old.state.station.memory ≡ user_bytes
         → IsFaultless 1 old.state.station.counters new.state.station.counters

@@ -12,7 +12,8 @@ ghost use Rattle.sector_model.specs.Stations.{bay_of};
 ghost use Rattle.sector_model.specs.Steps.{IsImageOf};
 ghost use Rattle.sector_model.specs.Runs.{Taken};
 ghost use Rattle.sector_model.specs.Plays.{World};
-ghost use Rattle.disk_commands.specs.Verifies.{Verifies};
+ghost use Rattle.scripts.specs.Scripts.{RunsScript};
+ghost use Rattle.disk_commands.specs.Verify.{verify_script};
 ghost use Rattle.disk_laws.specs.Verified.{IsUnmistaken, all_told_of};
 ghost use Rattle.disk_laws.specs.VerifyRuns.{TellsFailing, IsEndStatus};
 
@@ -23,7 +24,7 @@ ghost use Rattle.disk_laws.specs.VerifyRuns.{TellsFailing, IsEndStatus};
 pub fn verify_tells_failing_keys(_name: &str)
     ensures { (old new : World) (course : List Taken) (ended : Status) (files : Files) (disk : Disk)
         (failed : List (Chrn × Look))
-        → Verifies _name.now old course new ended → IsEndStatus ended
+        → RunsScript (verify_script _name.now) old course new ended → IsEndStatus ended
         → old.files ≡ Some files → IsImageOf (Some files) _name.now disk
         → (bay_of old.state.station 0).medium ≡ None
         → IsUndisturbed 0 old.state.station.counters new.state.station.counters

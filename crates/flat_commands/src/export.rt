@@ -24,8 +24,7 @@ fn gather<D: Station>(
     flat: &mut Vec<u8>,
 ) -> Result<(), NoMemory>
     requires { address + count ≤ user_bytes }
-    ensures { OnOk result (flat.new.items ≡ flat.old.items
-        ++ bytes_from session.now.station.memory address count) }
+    ensures { OnOk result (flat.new.items ≡ flat.old.items ++ bytes_from session.now.station.memory address count) }
 {
     for i in 0..count {
         flat.push(session.station().memory(address + i))?;

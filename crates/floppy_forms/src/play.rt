@@ -81,11 +81,9 @@ fn run_requests<S: Shelf, K: Sink, D: Station>(
 
 /// Stores what is left in the bays of a session, and gives the status of a run to the end.
 fn finish<S: Shelf, D: Station>(session: &mut Session<D>, shelf: &mut S, refused: bool) -> Status
-    ensures ends { EndsAs refused session.old (S.told shelf.old)
-        session.new (S.told shelf.new) result }
+    ensures ends { EndsAs refused session.old (S.told shelf.old) session.new (S.told shelf.new) result }
     ensures is_form { result ≢ Status.BadWords }
-    ensures shelf_faults { Blames (result ≡ Status.FileFault) (S.fault_count shelf.old)
-        (S.fault_count shelf.new) }
+    ensures shelf_faults { Blames (result ≡ Status.FileFault) (S.fault_count shelf.old) (S.fault_count shelf.new) }
     ensures no_sink_fault { result ≢ Status.SinkFault }
 {
     match session.end(shelf) {

@@ -48,12 +48,10 @@ pub fn run_words<S: Shelf, K: Sink, D: Station>(
     // before and after it.
     ensures runs { (names : Two (Option (List ℕ))) × Runs (Does (form_of (map string_bytes words.now)))
         (world (start_of (D.shown station)) (S.told shelf.old) (K.told out.old))
-        (world (record { station = D.shown result.1; names = names }) (S.told shelf.new) (K.told out.new))
-        result.0 }
+        (world (record { station = D.shown result.1; names = names }) (S.told shelf.new) (K.told out.new)) result.0 }
     ensures accesses { (job : List ℕ) (requests : List Request)
         → form_of (map string_bytes words.now) ≡ Some (form.Play job) → IsJob (S.told shelf.old) job requests
-        → (D.shown result.1).counters.direct
-        ≤ (D.shown station).counters.direct + accesses_of_job requests }
+        → (D.shown result.1).counters.direct ≤ (D.shown station).counters.direct + accesses_of_job requests }
     // 2 exactly where the words are no form, also where nothing is told.
     ensures bad_words { result.0 ≡ Status.BadWords → form_of (map string_bytes words.now) ≡ None }
     ensures ready { D.is_ready result.1 }
@@ -79,8 +77,7 @@ fn perform<S: Shelf, K: Sink, D: Station>(
         (faulty_of S.told S.fault_count K.told K.fault_count session.new shelf.new out.new) result }
     ensures accesses { (job : List ℕ) (requests : List Request)
         → form_of (map string_bytes words.now) ≡ Some (form.Play job) → IsJob (S.told shelf.old) job requests
-        → session.new.station.counters.direct
-        ≤ session.old.station.counters.direct + accesses_of_job requests }
+        → session.new.station.counters.direct ≤ session.old.station.counters.direct + accesses_of_job requests }
 {
     run_asked(alloc, session, form_named(alloc, words), shelf, out)
 }
@@ -94,8 +91,7 @@ pub fn run_asked<S: Shelf, K: Sink, D: Station>(
     out: &mut K,
 ) -> Status
     ensures runs { (spelled : Option Form) → Reads asked spelled → Runs (Does spelled)
-        (world_of S.told K.told session.old shelf.old out.old)
-        (world_of S.told K.told session.new shelf.new out.new) result }
+        (world_of S.told K.told session.old shelf.old out.old) (world_of S.told K.told session.new shelf.new out.new) result }
     ensures bad_words { result ≡ Status.BadWords → asked ≡ Ok None }
     ensures shelf_faults { Blames (result ≡ Status.FileFault) (S.fault_count shelf.old) (S.fault_count shelf.new) }
     ensures sink_faults { BlamesAlone (result ≡ Status.SinkFault) (K.fault_count out.old) (K.fault_count out.new) }

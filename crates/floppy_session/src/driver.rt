@@ -13,16 +13,14 @@ use sector_model::{Reason, Reply, Station};
 impl<D: Station> Session<D> {
     /// Acknowledges a change of the medium.
     pub(crate) fn ack(&mut self, bay: u8) -> Reply
-        ensures { (told : Option Files)
-            → Step (Request.Ack bay) self.old told result self.new told }
+        ensures { (told : Option Files) → Step (Request.Ack bay) self.old told result self.new told }
     {
         reply(self.acknowledge(bay))
     }
 
     /// Acknowledges a change of the medium.
     pub(crate) fn acknowledge(&mut self, bay: u8) -> Result<(), Code>
-        ensures step { (told : Option Files)
-            → Step (Request.Ack bay) self.old told (reply_of result) self.new told }
+        ensures step { (told : Option Files) → Step (Request.Ack bay) self.old told (reply_of result) self.new told }
         ensures answers { bay ≤ 1 → IfErr result (λ code. code ≡ Code.NotReady) }
     {
         self.station.ack(bay)
@@ -30,8 +28,7 @@ impl<D: Station> Session<D> {
 
     /// Reads the record with this key to memory.
     pub(crate) fn read(&mut self, bay: u8, key: Chrn, address: u32) -> Reply
-        ensures { (told : Option Files) → Step (Request.Read bay key address) self.old told
-            result self.new told }
+        ensures { (told : Option Files) → Step (Request.Read bay key address) self.old told result self.new told }
     {
         reply_to_read(self.read_record(bay, key, address))
     }
@@ -41,40 +38,35 @@ impl<D: Station> Session<D> {
         ensures step { (told : Option Files) → Step (Request.Read bay key address) self.old told
             (read_reply result) self.new told }
         ensures outside { key.n ≡ 2 → address + 512 ≤ length self.old.station.memory
-            → SameOutside address 512 self.old.station.memory
-            self.new.station.memory }
+            → SameOutside address 512 self.old.station.memory self.new.station.memory }
     {
         self.station.read(bay, key, address)
     }
 
     /// Writes memory to the record with this key.
     pub(crate) fn write(&mut self, bay: u8, key: Chrn, address: u32) -> Reply
-        ensures { (told : Option Files) → Step (Request.Write bay key address) self.old told
-            result self.new told }
+        ensures { (told : Option Files) → Step (Request.Write bay key address) self.old told result self.new told }
     {
         reply(self.write_record(bay, key, address))
     }
 
     /// Writes memory to the record with this key.
     pub(crate) fn write_record(&mut self, bay: u8, key: Chrn, address: u32) -> Result<(), Code>
-        ensures { (told : Option Files) → Step (Request.Write bay key address) self.old told
-            (reply_of result) self.new told }
+        ensures { (told : Option Files) → Step (Request.Write bay key address) self.old told (reply_of result) self.new told }
     {
         self.station.write(bay, key, address, false)
     }
 
     /// Writes memory to the record with this key and marks it deleted.
     pub(crate) fn write_deleted(&mut self, bay: u8, key: Chrn, address: u32) -> Reply
-        ensures { (told : Option Files) → Step (Request.WriteDeleted bay key address) self.old
-            told result self.new told }
+        ensures { (told : Option Files) → Step (Request.WriteDeleted bay key address) self.old told result self.new told }
     {
         reply(self.station.write(bay, key, address, true))
     }
 
     /// Formats the track of this cylinder and head in the standard layout of the bay's rate.
     pub(crate) fn format(&mut self, bay: u8, c: u8, h: u8) -> Reply
-        ensures { (told : Option Files) → Step (Request.Format bay c h) self.old told
-            result self.new told }
+        ensures { (told : Option Files) → Step (Request.Format bay c h) self.old told result self.new told }
     {
         if bay > 1 {
             return bad_request();
@@ -85,8 +77,7 @@ impl<D: Station> Session<D> {
 
     /// Sets the data rate of the bay.
     pub(crate) fn set_rate(&mut self, bay: u8, rate: Rate) -> Reply
-        ensures { (told : Option Files) → Step (Request.SetRate bay rate) self.old told
-            result self.new told }
+        ensures { (told : Option Files) → Step (Request.SetRate bay rate) self.old told result self.new told }
     {
         reply(self.station.set_rate(bay, rate))
     }
@@ -95,8 +86,7 @@ impl<D: Station> Session<D> {
     pub(crate) fn set_tries(&mut self, tries: u8) -> Reply
         requires least { 1 ≤ tries }
         requires most { tries ≤ 10 }
-        ensures { (told : Option Files)
-            → Step (Request.Tries tries) self.old told result self.new told }
+        ensures { (told : Option Files) → Step (Request.Tries tries) self.old told result self.new told }
     {
         self.station.set_tries(tries);
         Reply::Done

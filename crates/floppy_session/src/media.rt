@@ -29,8 +29,7 @@ impl<D: Station> Session<D> {
             (S.told shelf.old) reply self.new (S.told shelf.new)) }
         ensures stop { IfErr result (λ stop. StopsAt (Request.Insert bay name.now) self.old
             (S.told shelf.old) stop self.new (S.told shelf.new)) }
-        ensures faults { Blames (IsErrOf result Stop.FileFault) (S.fault_count shelf.old)
-            (S.fault_count shelf.new) }
+        ensures faults { Blames (IsErrOf result Stop.FileFault) (S.fault_count shelf.old) (S.fault_count shelf.new) }
     {
         if bay > 1 {
             return Ok(bad_request());
@@ -74,8 +73,7 @@ impl<D: Station> Session<D> {
     fn put_in(&mut self, bay: u8, name: Name, medium: Medium)
         requires bay { bay ≤ 1 }
         requires empty { is_loaded self.old bay ≡ false }
-        ensures { ChangesMedium bay (Some name) (Some medium) self.old
-            self.new }
+        ensures { ChangesMedium bay (Some name) (Some medium) self.old self.new }
     {
         let shape = Shape::of(&medium);
         match self.station.insert(bay, medium) {
@@ -90,8 +88,7 @@ impl<D: Station> Session<D> {
             (S.told shelf.old) reply self.new (S.told shelf.new)) }
         ensures stop { IfErr result (λ stop. StopsAt (Request.Eject bay) self.old
             (S.told shelf.old) stop self.new (S.told shelf.new)) }
-        ensures faults { Blames (IsErrOf result Stop.FileFault) (S.fault_count shelf.old)
-            (S.fault_count shelf.new) }
+        ensures faults { Blames (IsErrOf result Stop.FileFault) (S.fault_count shelf.old) (S.fault_count shelf.new) }
     {
         if bay > 1 {
             return Ok(bad_request());
@@ -107,14 +104,11 @@ impl<D: Station> Session<D> {
     fn take_out<S: Shelf>(&mut self, shelf: &mut S, bay: u8) -> Result<(), Stop>
         requires bay { bay ≤ 1 }
         requires loaded { is_loaded self.old bay ≡ true }
-        ensures ok { OnOk result (StoresMedium bay self.old (S.told shelf.old)
-            self.new (S.told shelf.new)) }
+        ensures ok { OnOk result (StoresMedium bay self.old (S.told shelf.old) self.new (S.told shelf.new)) }
         ensures cause { IfErr result IsEndStop }
-        ensures dropped { OnErr result (ChangesMedium bay None None self.old
-            self.new) }
+        ensures dropped { OnErr result (ChangesMedium bay None None self.old self.new) }
         ensures err { OnErr result (S.told shelf.new ≡ S.told shelf.old) }
-        ensures faults { Blames (IsErrOf result Stop.FileFault) (S.fault_count shelf.old)
-            (S.fault_count shelf.new) }
+        ensures faults { Blames (IsErrOf result Stop.FileFault) (S.fault_count shelf.old) (S.fault_count shelf.new) }
     {
         let name = self.labels.take(bay).unwrap();
         let medium = self.station.eject(bay).unwrap();
@@ -124,13 +118,11 @@ impl<D: Station> Session<D> {
     /// Takes the medium out of a bay, if one is in, and stores its image under its name.
     pub(crate) fn end_bay<S: Shelf>(&mut self, shelf: &mut S, bay: u8) -> Result<(), Stop>
         requires { bay ≤ 1 }
-        ensures ok { OnOk result (EndsBay bay self.old (S.told shelf.old)
-            self.new (S.told shelf.new)) }
+        ensures ok { OnOk result (EndsBay bay self.old (S.told shelf.old) self.new (S.told shelf.new)) }
         ensures cause { IfErr result IsEndStop }
         ensures dropped { OnErr result (DropsMedium bay self.old self.new) }
         ensures err { OnErr result (S.told shelf.new ≡ S.told shelf.old) }
-        ensures faults { Blames (IsErrOf result Stop.FileFault) (S.fault_count shelf.old)
-            (S.fault_count shelf.new) }
+        ensures faults { Blames (IsErrOf result Stop.FileFault) (S.fault_count shelf.old) (S.fault_count shelf.new) }
     {
         if self.station.is_loaded(bay) {
             self.take_out(shelf, bay)
@@ -141,8 +133,7 @@ impl<D: Station> Session<D> {
 
     /// Takes the next spare drive into the bay.
     pub(crate) fn take_unit(&mut self, bay: u8) -> Reply
-        ensures { (told : Option Files)
-            → Step (Request.Unit bay) self.old told result self.new told }
+        ensures { (told : Option Files) → Step (Request.Unit bay) self.old told result self.new told }
     {
         if bay > 1 {
             return bad_request();

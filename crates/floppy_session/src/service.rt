@@ -146,11 +146,9 @@ impl<D: Station> Session<D> {
 
     /// Reads a record, whatever its mark.
     fn read_any(&mut self, bay: u8, key: Chrn, address: u32) -> Result<(), Code>
-        ensures moves { (told : Option Files) → MovesRecord (Request.Read bay key address) self.old told
-            result self.new }
+        ensures moves { (told : Option Files) → MovesRecord (Request.Read bay key address) self.old told result self.new }
         ensures outside { key.n ≡ 2 → address + 512 ≤ length self.old.station.memory
-            → SameOutside address 512 self.old.station.memory
-            self.new.station.memory }
+            → SameOutside address 512 self.old.station.memory self.new.station.memory }
     {
         match self.read_record(bay, key, address) {
             Ok(_) => Ok(()),
@@ -160,12 +158,9 @@ impl<D: Station> Session<D> {
 
     /// Moves a record.
     fn move_record(&mut self, kind: Kind, bay: u8, key: Chrn, address: u32) -> Result<(), Code>
-        ensures moves { (told : Option Files) → MovesRecord (record_request kind bay key address) self.old told
-            result self.new }
-        ensures outside { kind ≡ Kind.Verify → key.n ≡ 2
-            → address + 512 ≤ length self.old.station.memory
-            → SameOutside address 512 self.old.station.memory
-            self.new.station.memory }
+        ensures moves { (told : Option Files) → MovesRecord (record_request kind bay key address) self.old told result self.new }
+        ensures outside { kind ≡ Kind.Verify → key.n ≡ 2 → address + 512 ≤ length self.old.station.memory
+            → SameOutside address 512 self.old.station.memory self.new.station.memory }
     {
         match kind {
             Kind::Read | Kind::Verify => self.read_any(bay, key, address),
@@ -181,8 +176,7 @@ impl<D: Station> Session<D> {
         ensures moves { (told : Option Files) → (course : List Taken) × MovesRecords (record_requests kind bay first address count)
             self.old told course result.code result.moved self.new }
         ensures outside { kind ≡ Kind.Verify → address + 512 ≤ length self.old.station.memory
-            → SameOutside address 512 self.old.station.memory
-            self.new.station.memory }
+            → SameOutside address 512 self.old.station.memory self.new.station.memory }
     {
         for i in 0..count {
             let key = Chrn {
@@ -239,8 +233,7 @@ impl<D: Station> Session<D> {
         requires room { address + 512 ≤ length self.old.station.memory }
         ensures puts { (told : Option Files) → (course : List Taken) × AreDone (put_requests address kept.now)
             self.old told course self.new }
-        ensures memory { self.new.station.memory
-            ≡ with_items self.old.station.memory address kept.now }
+        ensures memory { self.new.station.memory ≡ with_items self.old.station.memory address kept.now }
     {
         for i in 0..RECORD_BYTES {
             self.fill(address + i as u32, 1, kept[i]);

@@ -77,12 +77,9 @@ impl<D: Station> Session<D> {
     /// Runs one request. A refusal is a reply, and the next request may follow; an error is what stops the whole run.
     pub fn run<S: Shelf>(&mut self, shelf: &mut S, request: &Request) -> Result<Reply, Stop>
         requires { HasTries request.now }
-        ensures step { IfOk result (λ reply. Step request.now self.old (S.told shelf.old) reply
-            self.new (S.told shelf.new)) }
-        ensures stop { IfErr result (λ stop. StopsAt request.now self.old (S.told shelf.old) stop
-            self.new (S.told shelf.new)) }
-        ensures faults { Blames (IsErrOf result Stop.FileFault) (S.fault_count shelf.old)
-            (S.fault_count shelf.new) }
+        ensures step { IfOk result (λ reply. Step request.now self.old (S.told shelf.old) reply self.new (S.told shelf.new)) }
+        ensures stop { IfErr result (λ stop. StopsAt request.now self.old (S.told shelf.old) stop self.new (S.told shelf.new)) }
+        ensures faults { Blames (IsErrOf result Stop.FileFault) (S.fault_count shelf.old) (S.fault_count shelf.new) }
     {
         match request {
             Request::Insert { bay, name } => self.insert(shelf, *bay, name),
@@ -119,12 +116,10 @@ impl<D: Station> Session<D> {
     /// Ends a run: the medium of bay 0, and then that of bay 1, is taken out and stored under its name. An error drops
     /// the medium that wasn't stored; where it was bay 0's, bay 1 stays as it is.
     pub fn end<S: Shelf>(&mut self, shelf: &mut S) -> Result<(), Stop>
-        ensures ends { OnOk result (Ends self.old (S.told shelf.old) self.new
-            (S.told shelf.new)) }
+        ensures ends { OnOk result (Ends self.old (S.told shelf.old) self.new (S.told shelf.new)) }
         ensures stop { IfErr result (λ stop. IsEndStop stop × EndStopsAt self.old (S.told shelf.old)
             self.new (S.told shelf.new)) }
-        ensures faults { Blames (IsErrOf result Stop.FileFault) (S.fault_count shelf.old)
-            (S.fault_count shelf.new) }
+        ensures faults { Blames (IsErrOf result Stop.FileFault) (S.fault_count shelf.old) (S.fault_count shelf.new) }
     {
         self.end_bay(shelf, 0)?;
         self.end_bay(shelf, 1)

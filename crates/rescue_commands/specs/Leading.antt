@@ -13,7 +13,8 @@ use Rattle.floppy_session.specs.Tries.{HasTries}
 use Rattle.floppy_session.specs.declared.shape.Shape.{Shape}
 use Rattle.scripts.specs.Scripts.{Script}
 use Rattle.scripts.specs.Parts.{Part}
-use Rattle.scripts.specs.Leading.{Goes, Finishes, Printed, with_report}
+use Rattle.floppy_report.specs.Puts.{Printed}
+use Rattle.scripts.specs.Leading.{Goes, Finishes, with_report}
 use Rattle.rescue.specs.declared.line.LogLine.{LogLine}
 use Rattle.rescue.specs.declared.course.AfterRead.{AfterRead}
 use Rattle.rescue.specs.declared.course.AfterRead.TheVariants as next

@@ -1,6 +1,6 @@
 // The log's file.
 ghost use Rattle.std.specs.Prelude.{◌≡◌, IfOk, string_bytes};
-ghost use Rattle.scripts.specs.Leading.{printed_of};
+ghost use Rattle.floppy_report.specs.Puts.{printed_of};
 ghost use Rattle.rescue_commands.specs.Logs.{NotUnderstood, NotLoaded};
 ghost use Rattle.rescue_commands.specs.Rescue.{bad_log_text, tells_no_log};
 ghost use Rattle.rescue_commands.specs.Leading.{Finds, Tells, shelved_of};

@@ -1,7 +1,8 @@
 // The records that are asked for: each is read, and then written or logged.
 ghost use Rattle.std.specs.Prelude.{◌≡◌, [], ◌∷◌, ◌++◌, IfOk};
 ghost use Rattle.scripts.specs.Parts.{through};
-ghost use Rattle.scripts.specs.Leading.{RanPart, faulty_of, printed_of};
+ghost use Rattle.floppy_report.specs.Puts.{printed_of};
+ghost use Rattle.scripts.specs.Leading.{RanPart, faulty_of};
 ghost use Rattle.rescue_commands.specs.Rescue.{after_answer, gives_up, does_next, follows, rescues};
 ghost use Rattle.rescue_commands.specs.Leading.{HasNextTries, LogGoes, Tells};
 

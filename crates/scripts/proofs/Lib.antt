@@ -1,4 +1,5 @@
 pub mod Running
 pub mod Looping
 pub mod Reading
+pub mod Passed
 mod Opened

@@ -1,6 +1,7 @@
 -- What a run of a part of a script was.
 use Rattle.std.proofs.Common.{◌≡◌, ℕ, false, List, [], ◌∷◌, refl, ap, ◌∙◌, sym, subst, Option}
 use Rattle.flop_base.specs.Shelf.{Files}
+use Rattle.flop_base.specs.Sink.{grown}
 use Rattle.flop_base.specs.declared.answers.Status.{Status}
 use Rattle.flop_base.specs.declared.answers.Status.TheVariants as status
 use Rattle.floppy_requests.specs.declared.request.Request.{Request}
@@ -15,7 +16,7 @@ use Rattle.sector_model.specs.Texts.{stop_text, stop_status, is_refusal}
 use Rattle.sector_model.specs.Runs.{Taken}
 use Rattle.sector_model.specs.Plays.{World, Prints, Whole, Part, IsPutFault}
 use Rattle.floppy_report.specs.LastLines.{stopped_text}
-use Rattle.scripts.specs.Scripts.{Script, Ends, Asks, RunsScript, IsPrinted, unless_refused}
+use Rattle.scripts.specs.Scripts.{Script, Ends, Asks, Stores, RunsScript, IsPrinted, StoresLast, unless_refused}
 use Rattle.scripts.specs.Parts.{asks, needs, carries}
 use Rattle.scripts.specs.Leading.{with_report}
 
@@ -73,9 +74,17 @@ pub data NeedRun (asked : Request) (rest : Reply → State → Script) (old : Wo
   Refused : IsRefused asked old course new ended → NeedRun asked rest old course new ended
   Halted : IsStopped asked old course new ended → NeedRun asked rest old course new ended
 
-last_run : (line : List ℕ) (wanted : Status) (old : World) (course : List Taken) (new : World) (ended : Status) → RunsScript (Ends line wanted) old course new ended → (course ≡ []) × IsPrinted (λ before after. Prints line wanted before after ended) old new
+-- a last line was put
+pub last_run : (line : List ℕ) (wanted : Status) (old : World) (course : List Taken) (new : World) (ended : Status)
+    → RunsScript (Ends line wanted) old course new ended → (course ≡ []) × IsPrinted (λ before after. Prints line wanted before after ended) old new
 last_run line wanted old [] new ended runs = (refl, runs)
 last_run line wanted old (taken ∷ later) new ended runs = absurd runs
+
+-- a last file was stored
+pub last_stored : (name bytes line : List ℕ) (wanted : Status) (old : World) (course : List Taken) (new : World) (ended : Status)
+    → RunsScript (Stores name bytes line wanted) old course new ended → (course ≡ []) × StoresLast name bytes line wanted old new ended
+last_stored name bytes line wanted old [] new ended runs = (refl, runs)
+last_stored name bytes line wanted old (taken ∷ later) new ended runs = absurd runs
 
 by_answer : (asked : Request) (rest : Reply → State → Script) (old : World) (course : List Taken) (new : World) (ended : Status) (answer : Reply) (run : IsAnswered asked (λ given after. unless_refused asked given (rest given after)) old course new ended) → run.taken.answer ≡ answer → NeedRun asked rest old course new ended
 by_answer asked rest old course new ended (reply.Refused cause) run is =
@@ -117,30 +126,52 @@ carry_run asked rest old course new ended runs = need_run asked (λ answer after
 
 -- ---- Of a script that ended well.
 
-stop_is_bad : (cause : Stop) (ended : Status) → ended ≡ stop_status cause → ended ≡ status.AllOk → ⊥
-stop_is_bad (stop.BadImage name error) ended is well = absurd (cc)
-stop_is_bad (stop.TooLong name most) ended is well = absurd (cc)
-stop_is_bad (stop.Absent name) ended is well = absurd (cc)
-stop_is_bad stop.FileFault ended is well = absurd (cc)
-stop_is_bad stop.NoMemory ended is well = absurd (cc)
+-- a line that was printed whole, with its status
+pub prints_status : (report : Option (List ℕ)) (line : List ℕ) (wanted ended : Status) (after : Option (List ℕ)) → (IsPutFault ended → ⊥)
+    → Prints line wanted report after ended → (after ≡ grown report line) × (ended ≡ wanted)
+prints_status report line wanted ended after sound (Whole told same) = (told, same)
+prints_status report line wanted ended after sound (Part grows fault) = absurd (sound fault)
 
-put_is_bad : (ended : Status) → IsPutFault ended → ended ≡ status.AllOk → ⊥
-put_is_bad ended fault well = subst IsPutFault well fault
+pub no_stop_is_ok : (cause : Stop) → status.AllOk ≡ stop_status cause → ⊥
+no_stop_is_ok (stop.BadImage name error) same = cc same
+no_stop_is_ok (stop.TooLong name most) same = cc same
+no_stop_is_ok (stop.Absent name) same = cc same
+no_stop_is_ok stop.FileFault same = cc same
+no_stop_is_ok stop.NoMemory same = cc same
 
-stop_printed : (cause : Stop) (before after : Option (List ℕ)) (ended : Status) → Prints (stop_text cause) (stop_status cause) before after ended → ended ≡ status.AllOk → ⊥
-stop_printed cause before after ended (Whole report is) well = stop_is_bad cause ended is well
-stop_printed cause before after ended (Part part fault) well = put_is_bad ended fault well
+-- a script that ended so went on to an end of its own: nothing stopped it, and each line was put whole
+pub record IsWhole (ended : Status) : Type 0 where
+  pub put : IsPutFault ended → ⊥
+  pub stop : (cause : Stop) → ended ≡ stop_status cause → ⊥
 
-refusal_printed : (line : List ℕ) (before after : Option (List ℕ)) (ended : Status) → Prints line status.SomeRefused before after ended → ended ≡ status.AllOk → ⊥
-refusal_printed line before after ended (Whole report is) well = absurd (cc)
-refusal_printed line before after ended (Part part fault) well = put_is_bad ended fault well
+pub ok_is_whole : IsWhole status.AllOk
+ok_is_whole = record { put = λ fault. fault; stop = no_stop_is_ok }
 
--- a request that a script can't go on without was done, where the script ended well
+-- a request was answered and not refused
 pub record IsDone (asked : Request) (rest : Reply → State → Script) (old : World) (course : List Taken) (new : World) (ended : Status) : Type 0 where
   pub run : IsAnswered asked rest old course new ended
   pub fine : is_refusal run.taken.answer ≡ false
 
-pub need_done : (asked : Request) (rest : Reply → State → Script) (old : World) (course : List Taken) (new : World) (ended : Status) → ended ≡ status.AllOk → NeedRun asked rest old course new ended → IsDone asked rest old course new ended
-need_done asked rest old course new ended well (Done run fine) = record { run = run; fine = fine }
-need_done asked rest old course new ended well (Refused run) = absurd (refusal_printed (stopped_text asked run.cause) old.report new.report ended run.prints well)
-need_done asked rest old course new ended well (Halted run) = absurd (stop_printed run.cause old.report new.report ended run.prints well)
+-- a request was answered, where a script went on to its end
+pub ask_answered : (asked : Request) (rest : Reply → State → Script) (old : World) (course : List Taken) (new : World) (ended : Status) → IsWhole ended
+    → AskRun asked rest old course new ended → IsAnswered asked rest old course new ended
+ask_answered asked rest old course new ended whole (Answered run) = run
+ask_answered asked rest old course new ended whole (Stopped run) = absurd
+    (whole.stop run.cause (prints_status _ _ (stop_status run.cause) ended _ whole.put run.prints).1)
+
+-- a request that it can't go on without was done, where the answer wasn't a refusal
+pub need_taken : (asked : Request) (rest : Reply → State → Script) (old : World) (course : List Taken) (new : World) (ended : Status) → IsWhole ended
+    → (IsRefused asked old course new ended → ⊥) → NeedRun asked rest old course new ended → IsDone asked rest old course new ended
+need_taken asked rest old course new ended whole fine (Done run done) = record { run = run; fine = done }
+need_taken asked rest old course new ended whole fine (Refused run) = absurd (fine run)
+need_taken asked rest old course new ended whole fine (Halted run) = absurd
+    (whole.stop run.cause (prints_status _ _ (stop_status run.cause) ended _ whole.put run.prints).1)
+
+-- so it was where the script ended well
+pub refused_is_not_ok : (asked : Request) (old : World) (course : List Taken) (new : World) → IsRefused asked old course new status.AllOk → ⊥
+refused_is_not_ok asked old course new run = let told = prints_status _ _ status.SomeRefused status.AllOk _
+    (λ fault. fault) run.prints in let same = told.1 in cc same
+
+pub need_done : (asked : Request) (rest : Reply → State → Script) (old : World) (course : List Taken) (new : World)
+    → NeedRun asked rest old course new status.AllOk → IsDone asked rest old course new status.AllOk
+need_done asked rest old course new run = need_taken asked rest old course new status.AllOk ok_is_whole (refused_is_not_ok asked old course new) run

@@ -10,6 +10,7 @@ use Rattle.sector_model.specs.Runs.{Taken}
 use Rattle.sector_model.specs.Ties.{TiesCounts}
 use Rattle.sector_model.specs.Plays.{World}
 use Rattle.floppy_report.specs.Faults.{BlamesAlone}
+use Rattle.floppy_report.specs.Puts.{Printed}
 use Rattle.scripts.specs.Scripts.{Script, RunsScript}
 use Rattle.scripts.specs.Parts.{Part, each}
 
@@ -85,14 +86,6 @@ pub record Runs (Does : World → List Taken → World → Status → Type 0) (o
   pub ties : TiesCounts old.state.station.counters course new.state.station.counters
 
 -- ---- Of calls that take the sink alone through.
-
--- what is printed, with the faults that the sink counted
-pub record Printed : Type 0 where
-  pub report : Option (List ℕ)
-  pub faults : ℕ
-
-abbrev pub printed_of : {K : Type 0} → (K → Option (List ℕ)) → (K → ℕ) → K → Printed
-printed_of report sink_count out = record { report = report out; faults = sink_count out }
 
 -- a call that takes the sink alone through told how a command ended: its words were a form, a fault of a file was so before, and each
 -- fault of the sink that it tells was counted

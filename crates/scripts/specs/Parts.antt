@@ -46,6 +46,11 @@ with_shape None rest = Ends [] status.AllOk
 unfoldable pub opens : List ℕ → Part Shape
 opens name rest = needs (request.Insert 0 name) (λ answer after. with_shape (shape_in (bay_of after.station 0)) rest)
 
+-- a bay that was acknowledged gets the rate 250 kbit/s, where that is asked for
+abbrev pub rate_requests : Rate → ℕ → List Request
+rate_requests R500 bay = []
+rate_requests R250 bay = request.SetRate bay R250 ∷ []
+
 -- a bay is set to a rate; after an acknowledgement, 500 kbit/s needs no request
 unfoldable pub sets_rate : ℕ → Rate → Part (Unit {0})
 sets_rate bay R500 rest = rest tt

@@ -25,8 +25,7 @@ pub fn ask<S: Shelf, K: Sink, D: Station>(
     ensures ran { RanPart (Answers (asks request.now))
         (faulty_of S.told S.fault_count K.told K.fault_count session.old shelf.old out.old) result
         (faulty_of S.told S.fault_count K.told K.fault_count session.new shelf.new out.new) }
-    ensures step { IfOk result (λ answer. Step request.now session.old (S.told shelf.old) answer
-        session.new (S.told shelf.new)) }
+    ensures step { IfOk result (λ answer. Step request.now session.old (S.told shelf.old) answer session.new (S.told shelf.new)) }
 {
     match session.run(shelf, request) {
         Ok(reply) => Ok(reply),
@@ -66,8 +65,7 @@ pub fn need<S: Shelf, K: Sink, D: Station>(
     ensures ran { RanPart (Answers (needs request.now))
         (faulty_of S.told S.fault_count K.told K.fault_count session.old shelf.old out.old) result
         (faulty_of S.told S.fault_count K.told K.fault_count session.new shelf.new out.new) }
-    ensures step { IfOk result (λ answer. Step request.now session.old (S.told shelf.old) answer
-        session.new (S.told shelf.new)) }
+    ensures step { IfOk result (λ answer. Step request.now session.old (S.told shelf.old) answer session.new (S.told shelf.new)) }
     ensures fine { IfOk result (λ answer. is_refusal answer ≡ false) }
 {
     match session.run(shelf, request) {

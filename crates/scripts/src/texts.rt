@@ -1,6 +1,7 @@
 // A text that isn't loaded.
 ghost use Rattle.std.specs.Prelude.{◌≡◌};
-ghost use Rattle.scripts.specs.Leading.{Told, printed_of};
+ghost use Rattle.floppy_report.specs.Puts.{printed_of};
+ghost use Rattle.scripts.specs.Leading.{Told};
 ghost use Rattle.scripts.specs.Texts.{MissesText};
 
 use flop_base::{LoadError, Sink, Status};

@@ -9,3 +9,9 @@ returns-clause-accesses g c = λ job requests named is.
     let given = ap (λ (s : StationState). s.counters.direct) c.into_station.ensures.shown in
     let within = c.perform-status.ensures.accesses job requests named is in
     omega (arith, made, given, within)
+
+pub returns-clause-runs : goal.returns-clause-runs
+returns-clause-runs g c = (
+  c.perform-status.new.session.names,
+  rw (← c.new-session.ensures, c.into_station.ensures.shown) c.perform-status.ensures.performed.runs,
+)
