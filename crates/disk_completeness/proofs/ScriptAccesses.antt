@@ -28,8 +28,9 @@ use Rattle.scripts.specs.Parts.{Part, asks, says, needs, carries, with_shape, op
 use Rattle.scripts.specs.Leading.{with_report}
 use Rattle.scripts.specs.Records.{record_address}
 use Rattle.disk_commands.specs.Format.{formats_disk, format_script}
-use Rattle.disk_commands.specs.Verify.{Reads, one_more, tells_failure, verifies_record, verifies_track, verify_script}
+use Rattle.disk_commands.specs.Verify.{one_more, tells_failure, verifies_record, verifies_track, verify_script}
 use Rattle.disk_commands.specs.Copy.{write_request, reads_record, writes_record, copies_track, copy_script}
+use Rattle.disk_laws.proofs.VerifyRun.{Tally}
 use Rattle.disk_completeness.specs.Accesses.{AccessesAtMost}
 
 -- a request that stopped the run
@@ -181,7 +182,7 @@ tells_quiet key reply.Done n rest most = most tt
 tells_quiet key reply.DoneDeleted n rest most = most tt
 tells_quiet key (reply.Bytes address content) n rest most = most tt
 
-verified_quiet : (c h r : ℕ) (tally : Reads) → IsQuiet (verifies_record c h r tally)
+verified_quiet : (c h r : ℕ) (tally : Tally) → IsQuiet (verifies_record c h r tally)
 unfolding verifies_record asks
 verified_quiet c h r tally n rest most = (
   n,
