@@ -273,7 +273,8 @@ module _ (bytes : List ℕ) (rate : Rate) (name : List ℕ) (told : Option Files
       let track : HasTrack disk c h = (omega (arith, cylinder, holds.alike.cylinders), omega (arith, head, holds.alike.heads)) in
       let small_c : c < 256 = omega (arith, cylinder) in
       let small_h : h < 256 = omega (arith, head) in
-      let formats = one_format rate c h disk old.state ready.state old.files ready.files done.answer done.does done.fine calm_format holds.medium holds.bay_rate holds.alike.valid in
+      let formats = one_format rate c h disk old.state ready.state old.files ready.files done.answer done.does done.fine
+      calm_format holds.medium holds.bay_rate holds.alike.valid in
       let next = formats.next in
       let fills = filled.fills (ap length formats.memory ∙ holds.size) in
       let is : track_of next c h ≡ standard_track rate c h = formats.laid ∙ ap (λ (n : ℕ). formatted (format_at c h rate (gap_at rate) standard_fill) n) holds.alike.words_per_track in
