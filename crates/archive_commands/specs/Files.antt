@@ -1,5 +1,6 @@
 -- The files of a command: what the one that it loads holds, and why it can't be had.
-use Rattle.std.specs.Prelude.{◌≡◌, ◌≢◌, ◌≤◌, ℕ, List, length, Option, Result, Err, IfSome, IsSomeAnd}
+use Rattle.std.specs.Prelude.{◌≡◌, ◌≢◌, ◌≤◌, ℕ, List, length, Option, Some, Result, Ok, Err, Vec, IfSome, IsSomeAnd, IsErrOf}
+use Rattle.std.specs.declared.alloc.Global.{Global}
 use Rattle.flop_base.specs.Shelf.{Files, file_at}
 use Rattle.flop_base.specs.declared.answers.LoadError.{LoadError}
 use Rattle.flop_base.specs.declared.answers.LoadError.TheVariants as load
@@ -11,6 +12,7 @@ use Rattle.raw_image.specs.declared.error.ImageError.{ImageError}
 use Rattle.sector_model.specs.declared.reply.Stop.{Stop}
 use Rattle.sector_model.specs.declared.reply.Stop.TheVariants as stop
 use Rattle.sector_model.specs.Faults.{Blames}
+use Rattle.floppy_report.specs.Faults.{BlamesAlone}
 use Rattle.sector_model.specs.Steps.{most_image_bytes, IsAbsent, IsLonger}
 
 -- all that a command may change: the told files, and the told report
@@ -36,7 +38,7 @@ pub record RanOnFiles (Does : Desk → Desk → Status → Type 0) (old new : Fa
   pub does : Does old.desk new.desk ended
   pub is_form : ended ≢ status.BadWords
   pub shelf_faults : Blames (ended ≡ status.FileFault) old.shelf_faults new.shelf_faults
-  pub sink_faults : Blames (ended ≡ status.SinkFault) old.sink_faults new.sink_faults
+  pub sink_faults : BlamesAlone (ended ≡ status.SinkFault) old.sink_faults new.sink_faults
 
 -- the told file of this name isn't too long, and reading its bytes gives this
 abbrev pub ReadsAs : {T : Type 0} → (List ℕ → Result T ImageError) → Option Files → List ℕ → Result T ImageError → Type 0
@@ -55,6 +57,30 @@ IsMissed told from stop.NoMemory = Unit {0}
 abbrev pub StopsAt : {T : Type 0} → (List ℕ → Result T ImageError) → Option Files → List ℕ → Stop → Type 0
 StopsAt reading told from (stop.BadImage name error) = (name ≡ from) × ReadsAs reading told from (Err error)
 StopsAt reading told from cause = IsMissed told from cause
+
+-- what a load of the file of this name gives: its bytes, or why they aren't had
+abbrev pub GivesBytes : List ℕ → Option Files → Result (Vec ℕ Global) Stop → Type 0
+GivesBytes name told (Ok bytes) = IfSome told (λ files. (file_at files name ≡ Some bytes.items) × (length bytes.items ≤ most_image_bytes))
+GivesBytes name told (Err cause) = IsMissed told name cause
+
+-- what reading the file of this name gives: what its bytes hold, or why a command stops
+abbrev pub Reads : {T : Type 0} → (List ℕ → Result T ImageError) → List ℕ → Option Files → Result T Stop → Type 0
+Reads reading name told (Ok read) = ReadsAs reading told name (Ok read)
+Reads reading name told (Err cause) = StopsAt reading told name cause
+
+-- the told files, with the faults that their shelf counted
+pub record FaultyFiles : Type 0 where
+  pub files : Option Files
+  pub faults : ℕ
+
+abbrev pub faulty_files_of : {S : Type 0} → (S → Option Files) → (S → ℕ) → S → FaultyFiles
+faulty_files_of files shelf_count shelf = record { files = files shelf; faults = shelf_count shelf }
+
+-- a file was looked into, which gave this, and no file changed; a fault of the shelf that it tells was counted
+pub record Loaded {T : Type 0} (Gives : Option Files → Result T Stop → Type 0) (old : FaultyFiles) (result : Result T Stop) (new : FaultyFiles) : Type 0 where
+  pub gives : Gives old.files result
+  pub stays : new.files ≡ old.files
+  pub faults : Blames (IsErrOf result stop.FileFault) old.faults new.faults
 
 -- a refused load of the file of this name, and what stops the command
 abbrev pub LoadStops : LoadError → List ℕ → Stop → Type 0

@@ -1,5 +1,6 @@
 -- The survey of a disk as it is told, and what it counts.
-use Rattle.std.specs.Prelude.{◌≡◌, ℕ, Bool, true, false, List, ◌++◌, length, filter, Option, Result, Ok, Err}
+use Rattle.std.specs.Prelude.{◌≡◌, ℕ, Bool, true, false, List, ◌++◌, length, filter, Option, Result, Ok, Err, Vec}
+use Rattle.std.specs.declared.alloc.Global.{Global}
 use Rattle.std.specs.List.{flat_map}
 use Rattle.flop_base.specs.Shelf.{Files}
 use Rattle.flop_base.specs.declared.answers.Status.{Status}
@@ -33,6 +34,11 @@ survey_text lines = field_lines lines ++ end_line (length lines)
 abbrev pub SurveysFile : Option Files → List ℕ → Result (List SurveyLine) Stop → Type 0
 SurveysFile told name (Ok lines) = (disk : Disk) × ReadsAs image_of told name (Ok disk) × IsSurvey disk lines
 SurveysFile told name (Err cause) = StopsAt image_of told name cause
+
+-- the same of lines that lie in memory
+abbrev pub GivesSurvey : List ℕ → Option Files → Result (Vec SurveyLine Global) Stop → Type 0
+GivesSurvey name told (Ok lines) = SurveysFile told name (Ok lines.items)
+GivesSurvey name told (Err cause) = SurveysFile told name (Err cause)
 
 abbrev pub TellsSurvey : Result (List SurveyLine) Stop → Option (List ℕ) → Option (List ℕ) → Status → Type 0
 TellsSurvey (Ok lines) old new ended = Prints (survey_text lines) status.AllOk old new ended

@@ -1,13 +1,12 @@
 // The files that commands load and store.
-ghost use Rattle.std.specs.Prelude.{◌≡◌, ◌≤◌, Ok, Some, IfOk, IfErr, IfSome, OnOk, OnErr, IsErrOf, length};
-ghost use Rattle.flop_base.specs.Shelf.{file_at, stored};
+ghost use Rattle.std.specs.Prelude.{◌≡◌, IfOk, IfErr, OnOk, OnErr, IsErrOf};
+ghost use Rattle.flop_base.specs.Shelf.{stored};
 ghost use Rattle.raw_image.specs.Image.{image_of};
 ghost use Rattle.imagedisk.specs.Images.{IsImdImage};
 ghost use Rattle.imagedisk.specs.Reading.{image_of as imd_of};
 ghost use Rattle.sector_model.specs.Faults.{Blames};
 ghost use Rattle.sector_model.specs.Runs.{IsEndStop};
-ghost use Rattle.sector_model.specs.Steps.{most_image_bytes};
-ghost use Rattle.archive_commands.specs.Files.{ReadsAs, IsMissed, StopsAt, LoadStops, StoreStops};
+ghost use Rattle.archive_commands.specs.Files.{GivesBytes, Loaded, LoadStops, Reads, StoreStops, faulty_files_of};
 
 use flop_base::{LoadError, Name, NoMemory, Shelf, StoreError};
 use imagedisk::{ImdImage, read_imd};
@@ -37,11 +36,7 @@ fn stop_at_load(alloc: Global, name: &Name, error: LoadError) -> Result<Stop, No
 
 /// The bytes of the file of this name.
 fn load<S: Shelf>(alloc: Global, shelf: &mut S, name: &Name) -> Result<Vec<u8>, Stop>
-    ensures had { IfOk result (λ bytes. IfSome (S.told shelf.old) (λ files.
-        (file_at files name.now ≡ Some bytes.items) × (length bytes.items ≤ most_image_bytes))) }
-    ensures missed { IfErr result (λ stop. IsMissed (S.told shelf.old) name.now stop) }
-    ensures stays { S.told shelf.new ≡ S.told shelf.old }
-    ensures faults { Blames (IsErrOf result Stop.FileFault) (S.fault_count shelf.old) (S.fault_count shelf.new) }
+    ensures { Loaded (GivesBytes name.now) (faulty_files_of S.told S.fault_count shelf.old) result (faulty_files_of S.told S.fault_count shelf.new) }
 {
     match shelf.load(alloc, name.as_str(), MOST_IMAGE_BYTES) {
         Ok(bytes) => Ok(bytes),
@@ -55,10 +50,7 @@ pub(crate) fn load_medium<S: Shelf>(
     shelf: &mut S,
     name: &Name,
 ) -> Result<Medium, Stop>
-    ensures image { IfOk result (λ medium. ReadsAs image_of (S.told shelf.old) name.now (Ok medium)) }
-    ensures cause { IfErr result (λ stop. StopsAt image_of (S.told shelf.old) name.now stop) }
-    ensures stays { S.told shelf.new ≡ S.told shelf.old }
-    ensures faults { Blames (IsErrOf result Stop.FileFault) (S.fault_count shelf.old) (S.fault_count shelf.new) }
+    ensures { Loaded (Reads image_of name.now) (faulty_files_of S.told S.fault_count shelf.old) result (faulty_files_of S.told S.fault_count shelf.new) }
 {
     let bytes = load(alloc, shelf, name)?;
     match read_image(alloc, &bytes) {
@@ -77,11 +69,8 @@ pub(crate) fn load_imd<S: Shelf>(
     shelf: &mut S,
     name: &Name,
 ) -> Result<ImdImage, Stop>
-    ensures image { IfOk result (λ image. ReadsAs imd_of (S.told shelf.old) name.now (Ok image)) }
+    ensures loaded { Loaded (Reads imd_of name.now) (faulty_files_of S.told S.fault_count shelf.old) result (faulty_files_of S.told S.fault_count shelf.new) }
     ensures valid { IfOk result IsImdImage }
-    ensures cause { IfErr result (λ stop. StopsAt imd_of (S.told shelf.old) name.now stop) }
-    ensures stays { S.told shelf.new ≡ S.told shelf.old }
-    ensures faults { Blames (IsErrOf result Stop.FileFault) (S.fault_count shelf.old) (S.fault_count shelf.new) }
 {
     let bytes = load(alloc, shelf, name)?;
     match read_imd(alloc, &bytes) {

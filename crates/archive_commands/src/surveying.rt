@@ -1,10 +1,10 @@
 // The survey of a disk.
-ghost use Rattle.std.specs.Prelude.{◌≡◌, ◌≢◌, Ok, Err, IfOk, IfErr, OnOk, OnErr, IsErrOf, string_bytes};
+ghost use Rattle.std.specs.Prelude.{◌≡◌, ◌≢◌, IfOk, IfErr, OnOk, OnErr, IsErrOf, string_bytes};
 ghost use Rattle.flop_base.specs.Sink.{grown, GrowsByPart};
-ghost use Rattle.sector_model.specs.Faults.{Blames};
+ghost use Rattle.floppy_report.specs.Faults.{BlamesAlone};
 ghost use Rattle.sector_model.specs.Plays.{IsPutFault, Prints};
-ghost use Rattle.archive_commands.specs.Files.{faulty_desk_of, RanOnFiles};
-ghost use Rattle.archive_commands.specs.Surveys.{field_line, field_lines, survey_text, end_line, is_found, found_count, IsSectorCount, SurveysFile, Surveys};
+ghost use Rattle.archive_commands.specs.Files.{faulty_desk_of, faulty_files_of, Loaded, RanOnFiles};
+ghost use Rattle.archive_commands.specs.Surveys.{field_line, field_lines, survey_text, end_line, is_found, found_count, IsSectorCount, GivesSurvey, Surveys};
 
 use crate::files::load_medium;
 use flop_base::{Name, NoMemory, Shelf, Sink, Status};
@@ -42,10 +42,7 @@ pub(crate) fn sector_count(alloc: Global, medium: &Medium) -> Result<usize, NoMe
 
 /// The survey of the image file of this name.
 fn survey_file<S: Shelf>(alloc: Global, shelf: &mut S, name: &Name) -> Result<Vec<SurveyLine>, Stop>
-    ensures surveys { IfOk result (λ lines. SurveysFile (S.told shelf.old) name.now (Ok lines.items)) }
-    ensures stops { IfErr result (λ cause. SurveysFile (S.told shelf.old) name.now (Err cause)) }
-    ensures stays { S.told shelf.new ≡ S.told shelf.old }
-    ensures faults { Blames (IsErrOf result Stop.FileFault) (S.fault_count shelf.old) (S.fault_count shelf.new) }
+    ensures { Loaded (GivesSurvey name.now) (faulty_files_of S.told S.fault_count shelf.old) result (faulty_files_of S.told S.fault_count shelf.new) }
 {
     let medium = load_medium(alloc, shelf, name)?;
     Ok(survey(alloc, &medium)?)
@@ -63,7 +60,7 @@ fn put_fields<K: Sink>(alloc: Global, out: &mut K, lines: &[SurveyLine]) -> Resu
     ensures ok { OnOk result (K.told out.new ≡ grown (K.told out.old) (field_lines lines.now)) }
     ensures err { OnErr result (GrowsByPart (K.told out.old) (field_lines lines.now) (K.told out.new)) }
     ensures only { IfErr result IsPutFault }
-    ensures faults { Blames (IsErrOf result Status.SinkFault) (K.fault_count out.old) (K.fault_count out.new) }
+    ensures faults { BlamesAlone (IsErrOf result Status.SinkFault) (K.fault_count out.old) (K.fault_count out.new) }
 {
     for line in lines {
         put_line(out, field_line(alloc, *line))?;
@@ -83,7 +80,7 @@ fn end_line(alloc: Global, count: usize) -> Result<String, AllocError>
 fn put_survey<K: Sink>(alloc: Global, out: &mut K, lines: &[SurveyLine]) -> Status
     ensures prints { Prints (survey_text lines.now) Status.AllOk (K.told out.old) (K.told out.new) result }
     ensures only { result ≢ Status.AllOk → IsPutFault result }
-    ensures faults { Blames (result ≡ Status.SinkFault) (K.fault_count out.old) (K.fault_count out.new) }
+    ensures faults { BlamesAlone (result ≡ Status.SinkFault) (K.fault_count out.old) (K.fault_count out.new) }
 {
     match put_fields(alloc, out, lines) {
         Ok(()) => put_last_line(out, end_line(alloc, lines.len()), Status::AllOk),

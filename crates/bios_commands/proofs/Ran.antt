@@ -20,7 +20,7 @@ use Rattle.int13.specs.declared.work.Kind.TheVariants.{Read, Write, Verify}
 use Rattle.int13.specs.declared.work.Work.{Work}
 use Rattle.int13.specs.declared.work.Work.TheVariants.{Answer, Changed, Move}
 use Rattle.floppy_session.specs.Services.{MovesRecords, All, UpToOne, MovesIn, AcksAlone, DoesWork}
-use Rattle.disk_commands.specs.Commands.{Runs}
+use Rattle.scripts.specs.Leading.{Runs}
 use Rattle.bios_commands.specs.Rounds.{Round, DoesLine, AreRounds, course_of, Breaks, AtStop, AtPut}
 use Rattle.bios_commands.specs.Courses.{ServesLines, Through, Broken, EndStopped, ServesParsed, ServesCalls, There, Missing, TooLong, Faulty, Starved}
 

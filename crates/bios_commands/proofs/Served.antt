@@ -26,10 +26,11 @@ use Rattle.sector_model.specs.Plays.{World, Prints, Tells, IsText, IsPutFault, w
 use Rattle.floppy_report.proofs.DumpLines.{grown-twice, grown-nothing}
 use Rattle.int13.specs.declared.regs.Regs.{Regs}
 use Rattle.floppy_session.specs.Services.{Serves}
+use Rattle.scripts.specs.Texts.{MissesText}
 use Rattle.bios_commands.specs.CallTexts.{call_text}
 use Rattle.bios_commands.specs.Rounds.{Round, DoesLine, AreRounds, lines_of, course_of, rounds_text, has_refused, IsRound, Breaks, AtStop, AtPut}
 use Rattle.bios_commands.specs.Courses.{Through, Broken, EndStopped, ServesLines, ServesParsed, ServesCalls, There, Missing, TooLong, Faulty, Starved}
-use Rattle.bios_commands.specs.Lines.{IsCallOf, HasServed, HasBroken, EndsAs, InWhole, AtStore, Serving, ServesOrStarves, AsParsed, Starving, Misses}
+use Rattle.bios_commands.specs.Lines.{IsCallOf, HasServed, HasBroken, EndsAs, InWhole, AtStore, Serving, ServesOrStarves, AsParsed, Starving}
 
 -- ---- One line.
 
@@ -242,7 +243,7 @@ text_serves state told loaded report new name text bytes ended stays same loads 
     (subst (λ (read : List ℕ). ServesOrStarves read (world state loaded report) new ended) same serves))
 
 -- a text that wasn't had
-as_missed : (told : Option Files) (state : State) (report after : Option (List ℕ)) (name : List ℕ) (cause : LoadError) (ended : Status) → IfSome told (λ files. Loads files name 4194304 (Err cause)) → Misses cause name report after ended → (course : List Taken) × ServesCalls name (world state told report) course (world state told after) ended
+as_missed : (told : Option Files) (state : State) (report after : Option (List ℕ)) (name : List ℕ) (cause : LoadError) (ended : Status) → IfSome told (λ files. Loads files name 4194304 (Err cause)) → MissesText cause name report after ended → (course : List Taken) × ServesCalls name (world state told report) course (world state told after) ended
 as_missed None state report after name load.Absent ended loads missed = ([], Missing tt (record { nothing = refl; tells = record { state = refl; files = refl; prints = missed } }))
 as_missed (Some files) state report after name load.Absent ended loads missed = ([], Missing loads (record { nothing = refl; tells = record { state = refl; files = refl; prints = missed } }))
 as_missed None state report after name load.TooLong ended loads missed = ([], TooLong tt (record { nothing = refl; tells = record { state = refl; files = refl; prints = missed } }))
@@ -251,7 +252,7 @@ as_missed told state report after name load.Failed ended loads missed = ([], Fau
 as_missed told state report after name load.NoMemory ended loads missed = ([], Starved refl (record { same = ap (world state told) missed.0; status = missed.1 }))
 
 -- a file that wasn't loaded
-pub missed_serves : (state : State) (told loaded : Option Files) (report after : Option (List ℕ)) (name : List ℕ) (cause : LoadError) (ended : Status) → loaded ≡ told → IfSome told (λ files. Loads files name 4194304 (Err cause)) → Misses cause name report after ended → (course : List Taken) × ServesCalls name (world state told report) course (world state loaded after) ended
+pub missed_serves : (state : State) (told loaded : Option Files) (report after : Option (List ℕ)) (name : List ℕ) (cause : LoadError) (ended : Status) → loaded ≡ told → IfSome told (λ files. Loads files name 4194304 (Err cause)) → MissesText cause name report after ended → (course : List Taken) × ServesCalls name (world state told report) course (world state loaded after) ended
 missed_serves state told loaded report after name cause ended stays loads missed =
     subst (λ (files : Option Files). (course : List Taken) × ServesCalls name (world state told report) course (world state files after) ended) (sym stays)
     (as_missed told state report after name cause ended loads missed)

@@ -3,17 +3,15 @@ use Rattle.std.specs.Prelude.{◌≡◌, ℕ, Bool, List, Option, Result, Ok, Er
 use Rattle.flop_base.specs.Shelf.{Files}
 use Rattle.flop_base.specs.declared.answers.Status.{Status}
 use Rattle.flop_base.specs.declared.answers.Status.TheVariants as status
-use Rattle.flop_base.specs.declared.answers.LoadError.{LoadError}
-use Rattle.flop_base.specs.declared.answers.LoadError.TheVariants as load
 use Rattle.floppy_jobs.specs.Texts.{calls_of}
 use Rattle.floppy_jobs.specs.declared.calls.CallLine.{CallLine}
 use Rattle.floppy_jobs.specs.declared.calls.CallLine.TheVariants as call
 use Rattle.floppy_requests.specs.declared.request.Request.{Request}
 use Rattle.sector_model.specs.declared.reply.Stop.{Stop}
 use Rattle.sector_model.specs.States.{State}
-use Rattle.sector_model.specs.Texts.{stop_status, absent_text, bad_line_text}
+use Rattle.sector_model.specs.Texts.{stop_status}
 use Rattle.sector_model.specs.Runs.{Taken, Ends, EndStopsAt, IsEndStop}
-use Rattle.sector_model.specs.Plays.{World, Prints, IsIdle, whole_status}
+use Rattle.sector_model.specs.Plays.{World, IsIdle, whole_status}
 use Rattle.int13.specs.declared.regs.Regs.{Regs}
 use Rattle.floppy_session.specs.Tries.{HasTries}
 use Rattle.bios_commands.specs.CallTexts.{registers}
@@ -73,10 +71,3 @@ Serving lines old new ended = (course : List Taken) × ServesLines lines old cou
 pub data ServesOrStarves (text : List ℕ) (old new : World) (ended : Status) : Type 0 where
   AsParsed : (course : List Taken) → ServesParsed (calls_of text) old course new ended → ServesOrStarves text old new ended
   Starving : IsIdle old new status.NoMemory ended → ServesOrStarves text old new ended
-
--- why a text wasn't had, and what was printed of it
-abbrev pub Misses : LoadError → List ℕ → Option (List ℕ) → Option (List ℕ) → Status → Type 0
-Misses load.Absent name old new ended = Prints (absent_text name) status.Absent old new ended
-Misses load.TooLong name old new ended = Prints (bad_line_text 0) status.BadJob old new ended
-Misses load.Failed name old new ended = (new ≡ old) × (ended ≡ status.FileFault)
-Misses load.NoMemory name old new ended = (new ≡ old) × (ended ≡ status.NoMemory)

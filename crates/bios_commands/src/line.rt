@@ -4,9 +4,8 @@ ghost use Rattle.floppy_jobs.specs.declared.calls.CallLine.{CallLine};
 ghost use Rattle.floppy_jobs.specs.declared.calls.CallLine.TheVariants as calls;
 ghost use Rattle.sector_model.specs.Texts.{is_refusal};
 ghost use Rattle.sector_model.specs.Plays.{IsPutFault};
-ghost use Rattle.floppy_session.specs.Session.{IsRunning};
 ghost use Rattle.floppy_session.specs.Tries.{HasTries};
-ghost use Rattle.disk_commands.specs.Worlds.{faulty_of, RanPart};
+ghost use Rattle.scripts.specs.Leading.{faulty_of, RanPart};
 ghost use Rattle.bios_commands.specs.Lines.{LineHasTries, AskGoes, CallGoes, LineGoes};
 
 use crate::text::call_line;
@@ -35,11 +34,10 @@ fn ask<S: Shelf, K: Sink, D: Station>(
     shelf: &mut S,
     out: &mut K,
 ) -> Result<bool, Status>
-    requires running { IsRunning D.shown D.is_ready session.old }
-    requires tries { HasTries request.now }
-    ensures { RanPart (AskGoes request.now) (IsRunning D.shown D.is_ready session.new)
-        (faulty_of D.shown S.told S.fault_count K.told K.fault_count session.old shelf.old out.old) result
-        (faulty_of D.shown S.told S.fault_count K.told K.fault_count session.new shelf.new out.new) }
+    requires { HasTries request.now }
+    ensures { RanPart (AskGoes request.now)
+        (faulty_of S.told S.fault_count K.told K.fault_count session.old shelf.old out.old) result
+        (faulty_of S.told S.fault_count K.told K.fault_count session.new shelf.new out.new) }
 {
     match session.run(shelf, request) {
         Ok(reply) => match put_reply(alloc, out, request, &reply) {
@@ -59,10 +57,9 @@ fn call<S: Shelf, K: Sink, D: Station>(
     shelf: &S,
     out: &mut K,
 ) -> Result<bool, Status>
-    requires running { IsRunning D.shown D.is_ready session.old }
-    ensures ran { RanPart (CallGoes regs front.old front.new) (IsRunning D.shown D.is_ready session.new)
-        (faulty_of D.shown S.told S.fault_count K.told K.fault_count session.old shelf.now out.old) result
-        (faulty_of D.shown S.told S.fault_count K.told K.fault_count session.new shelf.now out.new) }
+    ensures ran { RanPart (CallGoes regs front.old front.new)
+        (faulty_of S.told S.fault_count K.told K.fault_count session.old shelf.now out.old) result
+        (faulty_of S.told S.fault_count K.told K.fault_count session.new shelf.now out.new) }
     ensures no_shelf_fault { IfErr result IsPutFault }
 {
     let answered = session.int13(front, regs);
@@ -81,11 +78,10 @@ pub(crate) fn serve_line<S: Shelf, K: Sink, D: Station>(
     shelf: &mut S,
     out: &mut K,
 ) -> Result<bool, Status>
-    requires running { IsRunning D.shown D.is_ready session.old }
-    requires tries { LineHasTries line.now }
-    ensures { RanPart (LineGoes front.old front.new line.now) (IsRunning D.shown D.is_ready session.new)
-        (faulty_of D.shown S.told S.fault_count K.told K.fault_count session.old shelf.old out.old) result
-        (faulty_of D.shown S.told S.fault_count K.told K.fault_count session.new shelf.new out.new) }
+    requires { LineHasTries line.now }
+    ensures { RanPart (LineGoes front.old front.new line.now)
+        (faulty_of S.told S.fault_count K.told K.fault_count session.old shelf.old out.old) result
+        (faulty_of S.told S.fault_count K.told K.fault_count session.new shelf.new out.new) }
 {
     match line {
         CallLine::Job(request) => ask(alloc, session, request, shelf, out),

@@ -2,18 +2,17 @@
 ghost use Rattle.std.specs.Prelude.{◌≡◌, ◌≢◌, ◌||◌, All, Err};
 ghost use Rattle.sector_model.specs.Faults.{Blames};
 ghost use Rattle.sector_model.specs.Plays.{whole_status};
-ghost use Rattle.floppy_session.specs.Session.{state_of, IsRunning};
-ghost use Rattle.disk_commands.specs.Commands.{Runs};
-ghost use Rattle.disk_commands.specs.Worlds.{faulty_of, Ran, RanPart, printed_of, Told};
+ghost use Rattle.scripts.specs.Leading.{faulty_of, Ran, RanPart, Runs};
 ghost use Rattle.bios_commands.specs.Courses.{ServesCalls};
-ghost use Rattle.bios_commands.specs.Lines.{LineHasTries, LinesGo, EndsAs, ServesOrStarves, Misses, Serving};
+ghost use Rattle.bios_commands.specs.Lines.{LineHasTries, LinesGo, EndsAs, ServesOrStarves, Serving};
 
 use crate::line::serve_line;
-use flop_base::{LoadError, Name, Shelf, Sink, Status};
+use flop_base::{Name, Shelf, Sink, Status};
 use floppy_jobs::{CallLine, JobError, parse_calls};
-use floppy_report::{put_last_absent, put_last_bad_line, stop_status};
+use floppy_report::{put_last_bad_line, stop_status};
 use floppy_session::Session;
 use int13::Int13;
+use scripts::tell_missing_text;
 use sector_model::Station;
 use std::alloc::Global;
 
@@ -35,11 +34,10 @@ fn serve_lines<S: Shelf, K: Sink, D: Station>(
     shelf: &mut S,
     out: &mut K,
 ) -> Result<bool, Status>
-    requires running { IsRunning D.shown D.is_ready session.old }
-    requires tries { All LineHasTries lines.now }
-    ensures { RanPart (LinesGo lines.now) (IsRunning D.shown D.is_ready session.new)
-        (faulty_of D.shown S.told S.fault_count K.told K.fault_count session.old shelf.old out.old) result
-        (faulty_of D.shown S.told S.fault_count K.told K.fault_count session.new shelf.new out.new) }
+    requires { All LineHasTries lines.now }
+    ensures { RanPart (LinesGo lines.now)
+        (faulty_of S.told S.fault_count K.told K.fault_count session.old shelf.old out.old) result
+        (faulty_of S.told S.fault_count K.told K.fault_count session.new shelf.new out.new) }
 {
     let mut front = Int13::new();
     let mut refused = false;
@@ -64,13 +62,9 @@ fn whole_status(refused: bool) -> Status
 
 /// Stores what is left in the bays of a session, and gives the status of a run to the end.
 fn finish<S: Shelf, D: Station>(session: &mut Session<D>, shelf: &mut S, refused: bool) -> Status
-    requires running { IsRunning D.shown D.is_ready session.old }
-    ensures ends { EndsAs refused (state_of D.shown session.old) (S.told shelf.old)
-        (state_of D.shown session.new) (S.told shelf.new) result }
-    ensures running { IsRunning D.shown D.is_ready session.new }
+    ensures ends { EndsAs refused session.old (S.told shelf.old) session.new (S.told shelf.new) result }
     ensures is_form { result ≢ Status.BadWords }
-    ensures shelf_faults { Blames (result ≡ Status.FileFault) (S.fault_count shelf.old)
-        (S.fault_count shelf.new) }
+    ensures shelf_faults { Blames (result ≡ Status.FileFault) (S.fault_count shelf.old) (S.fault_count shelf.new) }
     ensures no_sink_fault { result ≢ Status.SinkFault }
 {
     match session.end(shelf) {
@@ -87,11 +81,10 @@ fn serve_all<S: Shelf, K: Sink, D: Station>(
     shelf: &mut S,
     out: &mut K,
 ) -> Status
-    requires running { IsRunning D.shown D.is_ready session.old }
-    requires tries { All LineHasTries lines.now }
-    ensures { Ran (Serving lines.now) (IsRunning D.shown D.is_ready session.new)
-        (faulty_of D.shown S.told S.fault_count K.told K.fault_count session.old shelf.old out.old)
-        (faulty_of D.shown S.told S.fault_count K.told K.fault_count session.new shelf.new out.new) result }
+    requires { All LineHasTries lines.now }
+    ensures { Ran (Serving lines.now)
+        (faulty_of S.told S.fault_count K.told K.fault_count session.old shelf.old out.old)
+        (faulty_of S.told S.fault_count K.told K.fault_count session.new shelf.new out.new) result }
 {
     match serve_lines(alloc, session, lines, shelf, out) {
         Ok(refused) => finish(session, shelf, refused),
@@ -107,28 +100,14 @@ fn serve_text<S: Shelf, K: Sink, D: Station>(
     shelf: &mut S,
     out: &mut K,
 ) -> Status
-    requires running { IsRunning D.shown D.is_ready session.old }
-    ensures { Ran (ServesOrStarves text.now) (IsRunning D.shown D.is_ready session.new)
-        (faulty_of D.shown S.told S.fault_count K.told K.fault_count session.old shelf.old out.old)
-        (faulty_of D.shown S.told S.fault_count K.told K.fault_count session.new shelf.new out.new) result }
+    ensures { Ran (ServesOrStarves text.now)
+        (faulty_of S.told S.fault_count K.told K.fault_count session.old shelf.old out.old)
+        (faulty_of S.told S.fault_count K.told K.fault_count session.new shelf.new out.new) result }
 {
     match parse_calls(alloc, text) {
         Ok(lines) => serve_all(alloc, session, &lines, shelf, out),
         Err(JobError::BadLine { line }) => put_last_bad_line(alloc, out, line),
         Err(JobError::NoMemory) => Status::NoMemory,
-    }
-}
-
-/// Ends a run whose text wasn't loaded.
-fn not_loaded<K: Sink>(alloc: Global, name: &Name, out: &mut K, error: LoadError) -> Status
-    ensures { Told (Misses error name.now) (error ≡ LoadError.Failed)
-        (printed_of K.told K.fault_count out.old) (printed_of K.told K.fault_count out.new) result }
-{
-    match error {
-        LoadError::Absent => put_last_absent(alloc, out, name.as_str()),
-        LoadError::TooLong => put_last_bad_line(alloc, out, 0),
-        LoadError::Failed => Status::FileFault,
-        LoadError::NoMemory => Status::NoMemory,
     }
 }
 
@@ -141,13 +120,13 @@ pub fn serve_calls<S: Shelf, K: Sink, D: Station>(
     shelf: &mut S,
     out: &mut K,
 ) -> Status
-    requires running { IsRunning D.shown D.is_ready session.old }
-    ensures { Ran (Runs (ServesCalls name)) (IsRunning D.shown D.is_ready session.new)
-        (faulty_of D.shown S.told S.fault_count K.told K.fault_count session.old shelf.old out.old)
-        (faulty_of D.shown S.told S.fault_count K.told K.fault_count session.new shelf.new out.new) result }
+    ensures { Ran (Runs (ServesCalls name))
+        (faulty_of S.told S.fault_count K.told K.fault_count session.old shelf.old out.old)
+        (faulty_of S.told S.fault_count K.told K.fault_count session.new shelf.new out.new) result }
 {
-    match shelf.load(alloc, name.as_str(), MOST_CALLS_BYTES) {
+    let text_name = name.as_str();
+    match shelf.load(alloc, text_name, MOST_CALLS_BYTES) {
         Ok(text) => serve_text(alloc, session, &text, shelf, out),
-        Err(error) => not_loaded(alloc, &name, out, error),
+        Err(error) => tell_missing_text(alloc, text_name, error, out),
     }
 }

@@ -10,6 +10,7 @@ use Rattle.floppy_requests.specs.declared.request.Request.TheVariants as request
 use Rattle.sector_model.specs.declared.reply.Reply.{Reply}
 use Rattle.sector_model.specs.declared.reply.Reply.TheVariants as reply
 use Rattle.floppy_session.specs.Blanks.{blank_request}
+use Rattle.floppy_session.specs.declared.shape.Shape.{Shape}
 use Rattle.scripts.specs.Scripts.{Script, Ends}
 use Rattle.scripts.specs.Parts.{Part, carries, needs, opens, acknowledges, each, by_track}
 use Rattle.scripts.specs.Records.{record_address}
@@ -50,13 +51,19 @@ copies_track sectors c h none rest =
 unfoldable pub copy_text : ℕ → List ℕ
 copy_text sectors = codes "copy ok " ++ (decimal sectors ++ codes "\n")
 
--- the sectors of the disk under one name are read, and written to a new disk that is stored under another
-unfoldable pub copy_script : List ℕ → List ℕ → Script
-copy_script from to =
-    opens from (λ shape.
+-- the new disk is made and both are acknowledged, each track is copied, and the new disk is stored
+unfoldable pub copies_disk : List ℕ → Shape → Part (Unit {0})
+copies_disk to shape rest =
     carries (blank_request 1 to shape.cylinders shape.rate) (λ none.
     acknowledges 0 shape.rate (λ none.
     acknowledges 1 shape.rate (λ none.
     by_track shape.cylinders shape.heads (copies_track (sectors_at shape.rate)) tt (λ none.
-    carries (request.Eject 1) (λ none.
-    Ends (copy_text (sectors_of shape)) status.AllOk))))))
+    carries (request.Eject 1) rest))))
+
+-- the disk under one name is put in, and copied to another
+unfoldable pub makes_copy : List ℕ → List ℕ → Part Shape
+makes_copy from to rest = opens from (λ shape. copies_disk to shape (λ none. rest shape))
+
+-- so it is, and the last line tells how many sectors
+unfoldable pub copy_script : List ℕ → List ℕ → Script
+copy_script from to = makes_copy from to (λ shape. Ends (copy_text (sectors_of shape)) status.AllOk)

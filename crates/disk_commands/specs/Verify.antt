@@ -52,10 +52,14 @@ verifies_track sectors c h tally rest = each 1 sectors (verifies_record c h) tal
 unfoldable pub verify_text : ℕ → ℕ → List ℕ
 verify_text well all = codes "verify " ++ (decimal well ++ (codes " of " ++ (decimal all ++ codes "\n")))
 
--- every sector of the disk under this name is read, and the last line tells how many were read well
-unfoldable pub verify_script : List ℕ → Script
-verify_script name =
+-- the disk of a name is put in and acknowledged, and every sector is read: its shape and the tally are found
+unfoldable pub reads_disk : List ℕ → Part (Shape × Tally)
+reads_disk name rest =
     opens name (λ shape.
     acknowledges 0 shape.rate (λ none.
-    by_track shape.cylinders shape.heads (verifies_track (sectors_at shape.rate)) no_reads (λ tally.
-    Ends (verify_text tally.well (sectors_of shape)) (whole_status tally.refused))))
+    by_track shape.cylinders shape.heads (verifies_track (sectors_at shape.rate)) no_reads (λ tally. rest (shape, tally))))
+
+-- so it is, and the last line tells how many sectors were read well
+unfoldable pub verify_script : List ℕ → Script
+verify_script name =
+    reads_disk name (λ found. Ends (verify_text found.1.well (sectors_of found.0)) (whole_status found.1.refused))

@@ -1,6 +1,5 @@
 // The format of a whole disk.
 ghost use Rattle.std.specs.Prelude.{◌≡◌, ◌*◌, IfOk, string_bytes};
-ghost use Rattle.floppy_session.specs.Session.{IsRunning};
 ghost use Rattle.scripts.specs.Scripts.{RunsScript};
 ghost use Rattle.scripts.specs.Leading.{Goes, Runs, Ran, RanPart, faulty_of};
 ghost use Rattle.disk_commands.specs.Format.{format_text, formats_disk, format_script};
@@ -31,10 +30,9 @@ fn run_format<S: Shelf, K: Sink, D: Station>(
     shelf: &mut S,
     out: &mut K,
 ) -> Result<(), Status>
-    requires running { IsRunning D.shown D.is_ready session.old }
-    ensures { RanPart (Goes (formats_disk name cylinders rate)) (IsRunning D.shown D.is_ready session.new)
-        (faulty_of D.shown S.told S.fault_count K.told K.fault_count session.old shelf.old out.old) result
-        (faulty_of D.shown S.told S.fault_count K.told K.fault_count session.new shelf.new out.new) }
+    ensures { RanPart (Goes (formats_disk name cylinders rate))
+        (faulty_of S.told S.fault_count K.told K.fault_count session.old shelf.old out.old) result
+        (faulty_of S.told S.fault_count K.told K.fault_count session.new shelf.new out.new) }
 {
     carry(
         alloc,
@@ -50,6 +48,7 @@ fn run_format<S: Shelf, K: Sink, D: Station>(
 
 /// Makes a disk of so many cylinders with two heads, formats it at this rate, and stores it under the name. It prints how many tracks
 /// were formatted, or what stopped it.
+#[tactic(auto, using(scripts::proofs::Running::finished), unfolding(crate::specs::Format::format_script))]
 pub fn format_disk<S: Shelf, K: Sink, D: Station>(
     alloc: Global,
     session: &mut Session<D>,
@@ -59,10 +58,9 @@ pub fn format_disk<S: Shelf, K: Sink, D: Station>(
     shelf: &mut S,
     out: &mut K,
 ) -> Status
-    requires running { IsRunning D.shown D.is_ready session.old }
-    ensures { Ran (Runs (RunsScript (format_script name cylinders rate))) (IsRunning D.shown D.is_ready session.new)
-        (faulty_of D.shown S.told S.fault_count K.told K.fault_count session.old shelf.old out.old)
-        (faulty_of D.shown S.told S.fault_count K.told K.fault_count session.new shelf.new out.new) result }
+    ensures { Ran (Runs (RunsScript (format_script name cylinders rate)))
+        (faulty_of S.told S.fault_count K.told K.fault_count session.old shelf.old out.old)
+        (faulty_of S.told S.fault_count K.told K.fault_count session.new shelf.new out.new) result }
 {
     match run_format(alloc, session, name, cylinders, rate, shelf, out) {
         Ok(()) => finish(out, format_line(alloc, cylinders), Status::AllOk),

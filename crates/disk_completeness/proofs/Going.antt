@@ -18,7 +18,7 @@ use Rattle.sector_model.specs.Runs.{Taken, IsEndStop}
 use Rattle.sector_model.specs.Plays.{World, Prints, IsPutFault}
 use Rattle.sector_model.specs.Plays as plays
 use Rattle.sector_model.specs.Ties.{entered_by, AreUndisturbed}
-use Rattle.scripts.specs.Scripts.{Script, Ends, Says, Asks, Stores, MayStarve, RunsScript, IsStored, NotStored, StoresLast, unless_refused, IsStoreFault}
+use Rattle.scripts.specs.Scripts.{Script, Ends, Says, Asks, Stores, MayStarve, Fails, RunsScript, IsStored, NotStored, StoresLast, unless_refused, IsStoreFault}
 use Rattle.scripts.specs.Parts.{Part, asks, needs, carries, through, each, by_track}
 use Rattle.scripts.specs.Leading.{with_report}
 use Rattle.disk_laws.proofs.Steps.{keeps_drives, step_never_fell}
@@ -105,6 +105,7 @@ GoesWell (Asks asked rest) old =
     → IsCalm asked answer old.state.station.counters new.state.station.counters → GoesWell (rest answer new.state) new)
 GoesWell (Stores name bytes line wanted) old = wanted ≡ status.AllOk
 GoesWell (MayStarve rest) old = GoesWell rest old
+GoesWell (Fails cause) old = cause ≡ status.AllOk
 
 -- ---- Parts.
 
@@ -229,6 +230,9 @@ module _ (start : Counters) where
   goes_ends (Stores name bytes line wanted) old new (taken ∷ later) ended well still calm runs = absurd runs
   goes_ends (MayStarve rest) old new course ended goes still calm (inl runs) = goes_ends rest old new course ended goes still calm runs
   goes_ends (MayStarve rest) old new course ended goes still calm (inr none) = subst (λ (s : Status). EndsStill new s) (sym none.2) tt
+  goes_ends (Fails cause) old new [] ended well still calm runs =
+      subst (λ (s : Status). EndsStill new s) (sym (runs.1 ∙ well)) (subst (λ (w : World). IsStill start w.state.station.counters) (sym runs.0) still)
+  goes_ends (Fails cause) old new (taken ∷ later) ended well still calm runs = absurd runs
 
 -- the drives of both bays had no fault, and nothing disturbed that of bay 0
 pub record AreFaultless (old new : Counters) : Type 0 where

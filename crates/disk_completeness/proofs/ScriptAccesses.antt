@@ -23,7 +23,7 @@ use Rattle.sector_model.specs.Plays.{World}
 use Rattle.floppy_session.specs.Blanks.{blank_request}
 use Rattle.floppy_session.specs.declared.shape.Shape.{Shape}
 use Rattle.floppy_session.specs.Shapes.{shape_in}
-use Rattle.scripts.specs.Scripts.{Script, Ends, Says, Asks, Stores, MayStarve, RunsScript, StoresLast, IsStored, NotStored, unless_refused}
+use Rattle.scripts.specs.Scripts.{Script, Ends, Says, Asks, Stores, MayStarve, Fails, RunsScript, StoresLast, IsStored, NotStored, unless_refused}
 use Rattle.scripts.specs.Parts.{Part, asks, says, needs, carries, with_shape, opens, sets_rate, acknowledges, through, each, by_track, formats}
 use Rattle.scripts.specs.Leading.{with_report}
 use Rattle.scripts.specs.Records.{record_address}
@@ -46,6 +46,7 @@ AsksAtMost n (Asks asked rest) =
     (later : ℕ) × (accesses_of asked + later ≤ n) × ((answer : Reply) (after : State) → AsksAtMost later (rest answer after))
 AsksAtMost n (Stores name bytes line wanted) = Unit {0}
 AsksAtMost n (MayStarve rest) = AsksAtMost n rest
+AsksAtMost n (Fails cause) = Unit {0}
 
 same_rises : (n : ℕ) (old new : World) → new.state ≡ old.state → AccessesAtMost n old new
 same_rises n old new same = let is = ap (λ (s : State). s.station.counters.direct) same in omega (arith, is)
@@ -78,6 +79,8 @@ script_rises n (Stores name bytes line wanted) old new [] ended most runs = stor
 script_rises n (Stores name bytes line wanted) old new (taken ∷ later) ended most runs = absurd runs
 script_rises n (MayStarve rest) old new course ended most (inl runs) = script_rises n rest old new course ended most runs
 script_rises n (MayStarve rest) old new course ended most (inr none) = same_rises n old new (ap (λ (w : World). w.state) none.1)
+script_rises n (Fails cause) old new [] ended most runs = same_rises n old new (ap (λ (w : World). w.state) runs.0)
+script_rises n (Fails cause) old new (taken ∷ later) ended most runs = absurd runs
 
 -- ---- Parts.
 

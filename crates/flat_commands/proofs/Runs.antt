@@ -11,15 +11,11 @@ use Rattle.sector_model.specs.Plays.{World, Prints}
 use Rattle.scripts.specs.Scripts.{Script, RunsScript}
 use Rattle.scripts.specs.Parts.{may_starve}
 use Rattle.scripts.specs.Leading.{Finishes, Runs, with_report}
-use Rattle.scripts.proofs.Running.{tied_run, leads_itself, fed, starved, ends_here}
+use Rattle.scripts.proofs.Running.{finished, fed, starved, ends_here}
 use Rattle.flat_commands.specs.FlatFiles.{IsFlatFile, IsNotTaken, IsFlatFound}
 use Rattle.flat_commands.specs.Import.{import_script, Imports}
 
--- a script that was finished from its beginning on was run
-pub finished : (script : Script) (old new : World) (ended : Status) → Finishes script old new ended → Runs (RunsScript script) old new ended
-finished script old new ended goes = tied_run script old new ended (goes script old (leads_itself script old))
-
--- so was one whose first step takes memory, where that was there
+-- a script whose first step takes memory was run, where that was there
 pub fed_first : (rest : Unit {0} → Script) (old new : World) (ended : Status)
     → Finishes (rest tt) old new ended → Runs (RunsScript (may_starve rest)) old new ended
 fed_first rest old new ended goes =

@@ -1,6 +1,5 @@
 // The command that runs a generated workload.
 ghost use Rattle.std.specs.Prelude.{◌≡◌, codes, IfOk, string_bytes};
-ghost use Rattle.floppy_session.specs.Session.{IsRunning};
 ghost use Rattle.scripts.specs.Scripts.{RunsScript};
 ghost use Rattle.scripts.specs.Leading.{Goes, RanPart, Ran, Runs, faulty_of};
 ghost use Rattle.flat_commands.specs.Exercise.{exercises, exercise_text, exercise_script};
@@ -26,11 +25,10 @@ fn run_exercise<S: Shelf, K: Sink, D: Station>(
     shelf: &mut S,
     out: &mut K,
 ) -> Result<Tally, Status>
-    requires running { IsRunning D.shown D.is_ready session.old }
     requires name { name ≡ codes "exercise" }
-    ensures { RanPart (Goes (exercises seed count)) (IsRunning D.shown D.is_ready session.new)
-        (faulty_of D.shown S.told S.fault_count K.told K.fault_count session.old shelf.old out.old) result
-        (faulty_of D.shown S.told S.fault_count K.told K.fault_count session.new shelf.new out.new) }
+    ensures { RanPart (Goes (exercises seed count))
+        (faulty_of S.told S.fault_count K.told K.fault_count session.old shelf.old out.old) result
+        (faulty_of S.told S.fault_count K.told K.fault_count session.new shelf.new out.new) }
 {
     let blank = blank_request(0, name, CYLINDERS, Rate::R500);
     carry(alloc, session, &blank, shelf, out)?;
@@ -58,10 +56,9 @@ pub fn exercise_disk<S: Shelf, K: Sink, D: Station>(
     shelf: &mut S,
     out: &mut K,
 ) -> Status
-    requires running { IsRunning D.shown D.is_ready session.old }
-    ensures { Ran (Runs (RunsScript (exercise_script seed count))) (IsRunning D.shown D.is_ready session.new)
-        (faulty_of D.shown S.told S.fault_count K.told K.fault_count session.old shelf.old out.old)
-        (faulty_of D.shown S.told S.fault_count K.told K.fault_count session.new shelf.new out.new) result }
+    ensures { Ran (Runs (RunsScript (exercise_script seed count)))
+        (faulty_of S.told S.fault_count K.told K.fault_count session.old shelf.old out.old)
+        (faulty_of S.told S.fault_count K.told K.fault_count session.new shelf.new out.new) result }
 {
     let name = match Name::copy(alloc, "exercise") {
         Ok(name) => name,

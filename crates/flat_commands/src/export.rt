@@ -1,7 +1,6 @@
 // The export of a disk to a flat file.
 ghost use Rattle.std.specs.Prelude.{◌≡◌, ◌+◌, ◌≤◌, ◌++◌, IfOk, OnOk, string_bytes};
 ghost use Rattle.bay_model.specs.Memory.{user_bytes, bytes_from};
-ghost use Rattle.floppy_session.specs.Session.{state_of, IsRunning};
 ghost use Rattle.scripts.specs.Scripts.{RunsScript};
 ghost use Rattle.scripts.specs.Parts.{by_track};
 ghost use Rattle.scripts.specs.Leading.{RanPart, Ran, Runs, faulty_of};
@@ -25,8 +24,7 @@ fn gather<D: Station>(
     flat: &mut Vec<u8>,
 ) -> Result<(), NoMemory>
     requires { address + count ≤ user_bytes }
-    ensures { OnOk result (flat.new.items ≡ flat.old.items
-        ++ bytes_from (state_of D.shown session.now).station.memory address count) }
+    ensures { OnOk result (flat.new.items ≡ flat.old.items ++ bytes_from session.now.station.memory address count) }
 {
     for i in 0..count {
         flat.push(session.station().memory(address + i))?;
@@ -46,12 +44,11 @@ fn read_record<S: Shelf, K: Sink, D: Station>(
     shelf: &mut S,
     out: &mut K,
 ) -> Result<(), Status>
-    requires running { IsRunning D.shown D.is_ready session.old }
     requires least { 1 ≤ r }
     requires most { r ≤ 18 }
-    ensures { RanPart (GoesOn (reads_record c h r flat.old.items) flat.new.items) (IsRunning D.shown D.is_ready session.new)
-        (faulty_of D.shown S.told S.fault_count K.told K.fault_count session.old shelf.old out.old) result
-        (faulty_of D.shown S.told S.fault_count K.told K.fault_count session.new shelf.new out.new) }
+    ensures { RanPart (GoesOn (reads_record c h r flat.old.items) flat.new.items)
+        (faulty_of S.told S.fault_count K.told K.fault_count session.old shelf.old out.old) result
+        (faulty_of S.told S.fault_count K.told K.fault_count session.new shelf.new out.new) }
 {
     let n = SIZE_CODE;
     let key = Chrn { c, h, r, n };
@@ -79,11 +76,10 @@ fn read_track<S: Shelf, K: Sink, D: Station>(
     shelf: &mut S,
     out: &mut K,
 ) -> Result<(), Status>
-    requires running { IsRunning D.shown D.is_ready session.old }
     requires most { sectors ≤ 18 }
-    ensures { RanPart (GoesOn (reads_track sectors c h flat.old.items) flat.new.items) (IsRunning D.shown D.is_ready session.new)
-        (faulty_of D.shown S.told S.fault_count K.told K.fault_count session.old shelf.old out.old) result
-        (faulty_of D.shown S.told S.fault_count K.told K.fault_count session.new shelf.new out.new) }
+    ensures { RanPart (GoesOn (reads_track sectors c h flat.old.items) flat.new.items)
+        (faulty_of S.told S.fault_count K.told K.fault_count session.old shelf.old out.old) result
+        (faulty_of S.told S.fault_count K.told K.fault_count session.new shelf.new out.new) }
 {
     for r in 1..sectors + 1 {
         read_record(alloc, session, c, h, r, flat, shelf, out)?;
@@ -100,11 +96,10 @@ fn read_tracks<S: Shelf, K: Sink, D: Station>(
     shelf: &mut S,
     out: &mut K,
 ) -> Result<(), Status>
-    requires running { IsRunning D.shown D.is_ready session.old }
     requires most { sectors ≤ 18 }
-    ensures { RanPart (GoesOn (by_track 80 2 (reads_track sectors) flat.old.items) flat.new.items) (IsRunning D.shown D.is_ready session.new)
-        (faulty_of D.shown S.told S.fault_count K.told K.fault_count session.old shelf.old out.old) result
-        (faulty_of D.shown S.told S.fault_count K.told K.fault_count session.new shelf.new out.new) }
+    ensures { RanPart (GoesOn (by_track 80 2 (reads_track sectors) flat.old.items) flat.new.items)
+        (faulty_of S.told S.fault_count K.told K.fault_count session.old shelf.old out.old) result
+        (faulty_of S.told S.fault_count K.told K.fault_count session.new shelf.new out.new) }
 {
     for track in 0..2 * CYLINDERS {
         read_track(
@@ -130,10 +125,9 @@ fn read_disk<S: Shelf, K: Sink, D: Station>(
     shelf: &mut S,
     out: &mut K,
 ) -> Result<(), Status>
-    requires running { IsRunning D.shown D.is_ready session.old }
-    ensures { RanPart (GoesOn (reads_disk rate flat.old.items) flat.new.items) (IsRunning D.shown D.is_ready session.new)
-        (faulty_of D.shown S.told S.fault_count K.told K.fault_count session.old shelf.old out.old) result
-        (faulty_of D.shown S.told S.fault_count K.told K.fault_count session.new shelf.new out.new) }
+    ensures { RanPart (GoesOn (reads_disk rate flat.old.items) flat.new.items)
+        (faulty_of S.told S.fault_count K.told K.fault_count session.old shelf.old out.old) result
+        (faulty_of S.told S.fault_count K.told K.fault_count session.new shelf.new out.new) }
 {
     acknowledge(alloc, session, 0, rate, shelf, out)?;
     read_tracks(alloc, session, rate.sectors(), flat, shelf, out)
@@ -149,7 +143,7 @@ fn export_line(alloc: Global, rate: Rate) -> Result<String, AllocError>
 
 /// Stores the bytes of all records of a disk, by cylinder, then head, then record, in a flat file. It prints how many there are, or
 /// what stopped it: a record that can't be read, or one that isn't there.
-#[tactic(auto, using(crate::proofs::Runs::finished))]
+#[tactic(auto, using(scripts::proofs::Running::finished))]
 pub fn export_disk<S: Shelf, K: Sink, D: Station>(
     alloc: Global,
     session: &mut Session<D>,
@@ -158,10 +152,9 @@ pub fn export_disk<S: Shelf, K: Sink, D: Station>(
     shelf: &mut S,
     out: &mut K,
 ) -> Status
-    requires running { IsRunning D.shown D.is_ready session.old }
-    ensures { Ran (Runs (RunsScript (export_script name flat))) (IsRunning D.shown D.is_ready session.new)
-        (faulty_of D.shown S.told S.fault_count K.told K.fault_count session.old shelf.old out.old)
-        (faulty_of D.shown S.told S.fault_count K.told K.fault_count session.new shelf.new out.new) result }
+    ensures { Ran (Runs (RunsScript (export_script name flat)))
+        (faulty_of S.told S.fault_count K.told K.fault_count session.old shelf.old out.old)
+        (faulty_of S.told S.fault_count K.told K.fault_count session.new shelf.new out.new) result }
 {
     let shape = match open_disk(alloc, session, name, shelf, out) {
         Ok(shape) => shape,

@@ -2,7 +2,6 @@
 ghost use Rattle.std.specs.Prelude.{◌≡◌, ◌+◌, ◌≤◌, ◌<◌, length, IfOk, string_bytes};
 ghost use Rattle.flop_base.specs.Standard.{sectors_at};
 ghost use Rattle.flat_image.specs.Flat.{IsDensity, flat_length};
-ghost use Rattle.floppy_session.specs.Session.{IsRunning};
 ghost use Rattle.scripts.specs.Parts.{by_track};
 ghost use Rattle.scripts.specs.Leading.{Goes, RanPart, Ran, Runs, faulty_of};
 ghost use Rattle.flat_commands.specs.Import.{fills_record, fills_track, writes_track, imports_track, imports_disk, import_text, sectors_of, Imports};
@@ -31,12 +30,11 @@ fn fill_record<S: Shelf, K: Sink, D: Station>(
     shelf: &mut S,
     out: &mut K,
 ) -> Result<(), Status>
-    requires running { IsRunning D.shown D.is_ready session.old }
     requires inside { place + 512 ≤ length flat.now }
     requires low { address ≤ 0xF0000 }
-    ensures { RanPart (Goes (fills_record flat.now place address tt)) (IsRunning D.shown D.is_ready session.new)
-        (faulty_of D.shown S.told S.fault_count K.told K.fault_count session.old shelf.old out.old) result
-        (faulty_of D.shown S.told S.fault_count K.told K.fault_count session.new shelf.new out.new) }
+    ensures { RanPart (Goes (fills_record flat.now place address tt))
+        (faulty_of S.told S.fault_count K.told K.fault_count session.old shelf.old out.old) result
+        (faulty_of S.told S.fault_count K.told K.fault_count session.new shelf.new out.new) }
 {
     for i in 0..512u32 {
         let byte = flat[place + i as usize];
@@ -61,14 +59,13 @@ fn fill_track<S: Shelf, K: Sink, D: Station>(
     shelf: &mut S,
     out: &mut K,
 ) -> Result<(), Status>
-    requires running { IsRunning D.shown D.is_ready session.old }
     requires density { IsDensity sectors }
     requires whole { length flat.now ≡ flat_length sectors }
     requires cylinder { c < 80 }
     requires head { h < 2 }
-    ensures { RanPart (Goes (fills_track flat.now sectors c h)) (IsRunning D.shown D.is_ready session.new)
-        (faulty_of D.shown S.told S.fault_count K.told K.fault_count session.old shelf.old out.old) result
-        (faulty_of D.shown S.told S.fault_count K.told K.fault_count session.new shelf.new out.new) }
+    ensures { RanPart (Goes (fills_track flat.now sectors c h))
+        (faulty_of S.told S.fault_count K.told K.fault_count session.old shelf.old out.old) result
+        (faulty_of S.told S.fault_count K.told K.fault_count session.new shelf.new out.new) }
 {
     for r in 1..sectors + 1 {
         let from = place(sectors, c, h, r);
@@ -87,11 +84,10 @@ fn write_track<S: Shelf, K: Sink, D: Station>(
     shelf: &mut S,
     out: &mut K,
 ) -> Result<(), Status>
-    requires running { IsRunning D.shown D.is_ready session.old }
     requires most { sectors ≤ 18 }
-    ensures { RanPart (Goes (writes_track sectors c h)) (IsRunning D.shown D.is_ready session.new)
-        (faulty_of D.shown S.told S.fault_count K.told K.fault_count session.old shelf.old out.old) result
-        (faulty_of D.shown S.told S.fault_count K.told K.fault_count session.new shelf.new out.new) }
+    ensures { RanPart (Goes (writes_track sectors c h))
+        (faulty_of S.told S.fault_count K.told K.fault_count session.old shelf.old out.old) result
+        (faulty_of S.told S.fault_count K.told K.fault_count session.new shelf.new out.new) }
 {
     let n = SIZE_CODE;
     for r in 1..sectors + 1 {
@@ -117,14 +113,13 @@ fn import_track<S: Shelf, K: Sink, D: Station>(
     shelf: &mut S,
     out: &mut K,
 ) -> Result<(), Status>
-    requires running { IsRunning D.shown D.is_ready session.old }
     requires density { IsDensity sectors }
     requires whole { length flat.now ≡ flat_length sectors }
     requires cylinder { c < 80 }
     requires head { h < 2 }
-    ensures { RanPart (Goes (imports_track flat.now sectors c h tt)) (IsRunning D.shown D.is_ready session.new)
-        (faulty_of D.shown S.told S.fault_count K.told K.fault_count session.old shelf.old out.old) result
-        (faulty_of D.shown S.told S.fault_count K.told K.fault_count session.new shelf.new out.new) }
+    ensures { RanPart (Goes (imports_track flat.now sectors c h tt))
+        (faulty_of S.told S.fault_count K.told K.fault_count session.old shelf.old out.old) result
+        (faulty_of S.told S.fault_count K.told K.fault_count session.new shelf.new out.new) }
 {
     let format = Request::Format { bay: 0, c, h };
     carry(alloc, session, &format, shelf, out)?;
@@ -141,12 +136,11 @@ fn import_tracks<S: Shelf, K: Sink, D: Station>(
     shelf: &mut S,
     out: &mut K,
 ) -> Result<(), Status>
-    requires running { IsRunning D.shown D.is_ready session.old }
     requires density { IsDensity sectors }
     requires whole { length flat.now ≡ flat_length sectors }
-    ensures { RanPart (Goes (by_track 80 2 (imports_track flat.now sectors) tt)) (IsRunning D.shown D.is_ready session.new)
-        (faulty_of D.shown S.told S.fault_count K.told K.fault_count session.old shelf.old out.old) result
-        (faulty_of D.shown S.told S.fault_count K.told K.fault_count session.new shelf.new out.new) }
+    ensures { RanPart (Goes (by_track 80 2 (imports_track flat.now sectors) tt))
+        (faulty_of S.told S.fault_count K.told K.fault_count session.old shelf.old out.old) result
+        (faulty_of S.told S.fault_count K.told K.fault_count session.new shelf.new out.new) }
 {
     for track in 0..2 * CYLINDERS {
         let c = track / 2;
@@ -166,11 +160,10 @@ fn make_disk<S: Shelf, K: Sink, D: Station>(
     shelf: &mut S,
     out: &mut K,
 ) -> Result<(), Status>
-    requires running { IsRunning D.shown D.is_ready session.old }
     requires whole { length flat.now ≡ flat_length (sectors_at rate) }
-    ensures { RanPart (Goes (imports_disk flat.now name rate)) (IsRunning D.shown D.is_ready session.new)
-        (faulty_of D.shown S.told S.fault_count K.told K.fault_count session.old shelf.old out.old) result
-        (faulty_of D.shown S.told S.fault_count K.told K.fault_count session.new shelf.new out.new) }
+    ensures { RanPart (Goes (imports_disk flat.now name rate))
+        (faulty_of S.told S.fault_count K.told K.fault_count session.old shelf.old out.old) result
+        (faulty_of S.told S.fault_count K.told K.fault_count session.new shelf.new out.new) }
 {
     let blank = blank_request(0, name, CYLINDERS, rate);
     carry(alloc, session, &blank, shelf, out)?;
@@ -198,10 +191,9 @@ pub fn import_disk<S: Shelf, K: Sink, D: Station>(
     shelf: &mut S,
     out: &mut K,
 ) -> Status
-    requires running { IsRunning D.shown D.is_ready session.old }
-    ensures { Ran (Runs (Imports flat name)) (IsRunning D.shown D.is_ready session.new)
-        (faulty_of D.shown S.told S.fault_count K.told K.fault_count session.old shelf.old out.old)
-        (faulty_of D.shown S.told S.fault_count K.told K.fault_count session.new shelf.new out.new) result }
+    ensures { Ran (Runs (Imports flat name))
+        (faulty_of S.told S.fault_count K.told K.fault_count session.old shelf.old out.old)
+        (faulty_of S.told S.fault_count K.told K.fault_count session.new shelf.new out.new) result }
 {
     match load_flat(alloc, shelf, flat) {
         Ok(loaded) => match make_disk(

@@ -1,7 +1,6 @@
 // The requests of a workload, which goes on whatever is answered.
 ghost use Rattle.std.specs.Prelude.{◌≡◌, ◌+◌, ◌≤◌, IfOk, sum};
 ghost use Rattle.bay_model.specs.Memory.{user_bytes, bytes_from};
-ghost use Rattle.floppy_session.specs.Session.{state_of, IsRunning};
 ghost use Rattle.floppy_session.specs.Tries.{HasTries};
 ghost use Rattle.scripts.specs.Leading.{Goes, RanPart, faulty_of};
 ghost use Rattle.flat_commands.specs.Workload.{number_after};
@@ -25,7 +24,7 @@ const WRITE_ADDRESS: u32 = 0x20000;
 /// The sum of the bytes of a record in memory.
 fn sum_read<D: Station>(session: &Session<D>, address: u32) -> u64
     requires { address + 512 ≤ user_bytes }
-    ensures sum { result ≡ sum (bytes_from (state_of D.shown session.now).station.memory address 512) }
+    ensures sum { result ≡ sum (bytes_from session.now.station.memory address 512) }
     ensures small { result ≤ 130560 }
 {
     let mut sum = 0;
@@ -45,11 +44,10 @@ fn read<S: Shelf, K: Sink, D: Station>(
     shelf: &mut S,
     out: &mut K,
 ) -> Result<Tally, Status>
-    requires running { IsRunning D.shown D.is_ready session.old }
     requires room { HasRoom tally }
-    ensures ran { RanPart (Goes (reads_work key tally)) (IsRunning D.shown D.is_ready session.new)
-        (faulty_of D.shown S.told S.fault_count K.told K.fault_count session.old shelf.old out.old) result
-        (faulty_of D.shown S.told S.fault_count K.told K.fault_count session.new shelf.new out.new) }
+    ensures ran { RanPart (Goes (reads_work key tally))
+        (faulty_of S.told S.fault_count K.told K.fault_count session.old shelf.old out.old) result
+        (faulty_of S.told S.fault_count K.told K.fault_count session.new shelf.new out.new) }
     ensures more { IfOk result (IsOneMore tally) }
 {
     let read = Request::Read {
@@ -98,11 +96,10 @@ fn write<S: Shelf, K: Sink, D: Station>(
     shelf: &mut S,
     out: &mut K,
 ) -> Result<Tally, Status>
-    requires running { IsRunning D.shown D.is_ready session.old }
     requires room { HasRoom tally }
-    ensures ran { RanPart (Goes (writes_work deleted key byte tally)) (IsRunning D.shown D.is_ready session.new)
-        (faulty_of D.shown S.told S.fault_count K.told K.fault_count session.old shelf.old out.old) result
-        (faulty_of D.shown S.told S.fault_count K.told K.fault_count session.new shelf.new out.new) }
+    ensures ran { RanPart (Goes (writes_work deleted key byte tally))
+        (faulty_of S.told S.fault_count K.told K.fault_count session.old shelf.old out.old) result
+        (faulty_of S.told S.fault_count K.told K.fault_count session.new shelf.new out.new) }
     ensures more { IfOk result (IsOneMore tally) }
 {
     let fill = Request::Fill {
@@ -129,11 +126,10 @@ fn run_next<S: Shelf, K: Sink, D: Station>(
     shelf: &mut S,
     out: &mut K,
 ) -> Result<Tally, Status>
-    requires running { IsRunning D.shown D.is_ready session.old }
     requires room { HasRoom tally }
-    ensures ran { RanPart (Goes (works_behind draws.old.number tally)) (IsRunning D.shown D.is_ready session.new)
-        (faulty_of D.shown S.told S.fault_count K.told K.fault_count session.old shelf.old out.old) result
-        (faulty_of D.shown S.told S.fault_count K.told K.fault_count session.new shelf.new out.new) }
+    ensures ran { RanPart (Goes (works_behind draws.old.number tally))
+        (faulty_of S.told S.fault_count K.told K.fault_count session.old shelf.old out.old) result
+        (faulty_of S.told S.fault_count K.told K.fault_count session.new shelf.new out.new) }
     ensures more { IfOk result (IsOneMore tally) }
     ensures number { draws.new.number ≡ number_after 5 draws.old.number }
 {
@@ -158,10 +154,9 @@ pub(crate) fn run_work<S: Shelf, K: Sink, D: Station>(
     shelf: &mut S,
     out: &mut K,
 ) -> Result<Tally, Status>
-    requires running { IsRunning D.shown D.is_ready session.old }
-    ensures { RanPart (Goes (works seed count no_work)) (IsRunning D.shown D.is_ready session.new)
-        (faulty_of D.shown S.told S.fault_count K.told K.fault_count session.old shelf.old out.old) result
-        (faulty_of D.shown S.told S.fault_count K.told K.fault_count session.new shelf.new out.new) }
+    ensures { RanPart (Goes (works seed count no_work))
+        (faulty_of S.told S.fault_count K.told K.fault_count session.old shelf.old out.old) result
+        (faulty_of S.told S.fault_count K.told K.fault_count session.new shelf.new out.new) }
 {
     let mut draws = Draws { number: seed };
     let mut tally = Tally {

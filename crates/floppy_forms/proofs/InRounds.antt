@@ -23,7 +23,7 @@ use Rattle.sector_model.specs.States.{State}
 use Rattle.sector_model.specs.Texts.{reply_text, stop_text, stop_status, bad_line_text}
 use Rattle.sector_model.specs.Runs.{Taken, course_text, has_refusal}
 use Rattle.sector_model.specs.Plays.{World, PlaysRequests, PlaysParsed, Played, Stopped, BrokenOff, EndStopped, Prints, Tells, TellsAlone, IsText, Plays, There, Missing, TooLong, Faulty, Starved, whole_status}
-use Rattle.floppy_forms.specs.Rounds.{world, IsRound, HasRun, HasPlayed, Breaks, AtStop, AtPut, EndsAs, InWhole, AtStore, PlaysOrStarves, AsParsed, Starving, Misses}
+use Rattle.floppy_forms.specs.Rounds.{world, IsRound, HasRun, HasPlayed, Breaks, AtStop, AtPut, EndsAs, InWhole, AtStore, PlaysOrStarves, AsParsed, Starving}
 use Rattle.sector_model.specs.Ties.{IsJob, accesses_of_job}
 use Rattle.sector_model.proofs.PlayTies.{play_ties, alone_ties, play_accesses, ran_ties}
 use Rattle.sector_model.proofs.Runs.{run_more, requests_more, text_more, refusal_more}
@@ -32,7 +32,8 @@ use Rattle.flop_base.specs.declared.answers.NoMemory.{NoMemory}
 use Rattle.floppy_words.specs.Forms.{Reads}
 use Rattle.floppy_words.specs.declared.form.Form.{Form}
 use Rattle.floppy_words.specs.declared.form.Form.TheVariants as form
-use Rattle.disk_commands.specs.Commands.{Runs}
+use Rattle.scripts.specs.Leading.{Runs}
+use Rattle.scripts.specs.Texts.{MissesText}
 use Rattle.floppy_forms.specs.Programs.{DoesForm, DoesOrStarves, AsAsked, StarvesWords, Does}
 use Rattle.std.proofs.lemmas.Bool.{true≢false}
 use Rattle.floppy_report.proofs.DumpLines.{grown-twice, grown-nothing}
@@ -173,7 +174,7 @@ loaded_text None job bytes loads = tt
 loaded_text (Some files) job bytes loads = subst (λ (found : Option (List ℕ)). IsSomeAnd found (λ b. (b ≡ bytes.items) × (length b ≤ 4194304))) (sym loads.0) (refl, loads.1)
 
 -- a play whose text wasn't had
-pub as_missed : (told : Option Files) (state : State) (report after : Option (List ℕ)) (job : List ℕ) (error : LoadError) (ended : Status) → IfSome told (λ files. Loads files job 4194304 (Err error)) → Misses error job report after ended → (course : List Taken) × Plays job (world state told report) course (world state told after) ended
+pub as_missed : (told : Option Files) (state : State) (report after : Option (List ℕ)) (job : List ℕ) (error : LoadError) (ended : Status) → IfSome told (λ files. Loads files job 4194304 (Err error)) → MissesText error job report after ended → (course : List Taken) × Plays job (world state told report) course (world state told after) ended
 as_missed None state report after job load.Absent ended loads missed = ([], Missing tt (record { nothing = refl; tells = record { state = refl; files = refl; prints = missed } }))
 as_missed (Some files) state report after job load.Absent ended loads missed = ([], Missing loads (record { nothing = refl; tells = record { state = refl; files = refl; prints = missed } }))
 as_missed None state report after job load.TooLong ended loads missed = ([], TooLong tt (record { nothing = refl; tells = record { state = refl; files = refl; prints = missed } }))
@@ -189,7 +190,7 @@ text_plays state told loaded report new job text bytes ended stays same loads pl
     (subst (λ (read : List ℕ). PlaysOrStarves read (world state loaded report) new ended) same plays))
 
 -- a file that wasn't loaded
-pub missed_plays : (state : State) (told loaded : Option Files) (report after : Option (List ℕ)) (job : List ℕ) (error : LoadError) (ended : Status) → loaded ≡ told → IfSome told (λ files. Loads files job 4194304 (Err error)) → Misses error job report after ended → (course : List Taken) × Plays job (world state told report) course (world state loaded after) ended
+pub missed_plays : (state : State) (told loaded : Option Files) (report after : Option (List ℕ)) (job : List ℕ) (error : LoadError) (ended : Status) → loaded ≡ told → IfSome told (λ files. Loads files job 4194304 (Err error)) → MissesText error job report after ended → (course : List Taken) × Plays job (world state told report) course (world state loaded after) ended
 missed_plays state told loaded report after job error ended stays loads missed =
     subst (λ (files : Option Files). (course : List Taken) × Plays job (world state told report) course (world state files after) ended) (sym stays)
     (as_missed told state report after job error ended loads missed)

@@ -3,7 +3,7 @@ use Rattle.std.proofs.Common.{[], refl}
 use Rattle.flop_base.specs.declared.answers.Status.{Status}
 use Rattle.sector_model.specs.States.{State}
 use Rattle.sector_model.proofs.PlayTies.{ran_ties}
-use Rattle.disk_commands.specs.Commands.{Runs}
+use Rattle.scripts.specs.Leading.{Runs}
 use Rattle.archive_commands.specs.Files.{Desk}
 use Rattle.floppy_forms.specs.Rounds.{world}
 use Rattle.floppy_forms.specs.Programs.{OnFiles}

@@ -4,21 +4,25 @@ use Rattle.flop_base.specs.declared.answers.Rate.TheVariants.{R500, R250}
 use Rattle.flop_base.specs.declared.answers.Status.{Status}
 use Rattle.flop_base.specs.declared.answers.Status.TheVariants as status
 use Rattle.sector_model.specs.Faults.{Blames}
+use Rattle.floppy_report.specs.Faults.{BlamesAlone}
 use Rattle.sector_model.specs.Runs.{Taken}
 use Rattle.sector_model.specs.Plays.{World, Plays, TellsAlone, IsIdle}
 use Rattle.floppy_report.specs.LastLines.{bad_words_text}
 use Rattle.floppy_words.specs.declared.form.Form.{Form}
 use Rattle.floppy_words.specs.declared.form.Form.TheVariants as form
-use Rattle.disk_commands.specs.Commands.{Formats, Copies}
-use Rattle.disk_commands.specs.Worlds.{Faulty}
-use Rattle.disk_commands.specs.Verifies.{Verifies}
+use Rattle.scripts.specs.Scripts.{RunsScript}
+use Rattle.scripts.specs.Leading.{Faulty}
+use Rattle.disk_commands.specs.Format.{format_script}
+use Rattle.disk_commands.specs.Verify.{verify_script}
+use Rattle.disk_commands.specs.Copy.{copy_script}
 use Rattle.archive_commands.specs.Files.{Desk}
 use Rattle.archive_commands.specs.Making.{FromImd, ToImd, Remaster}
 use Rattle.archive_commands.specs.Surveys.{Surveys}
-use Rattle.flat_commands.specs.Commands.{Imports, Exports}
-use Rattle.flat_commands.specs.Exercises.{Exercises}
+use Rattle.flat_commands.specs.Import.{Imports}
+use Rattle.flat_commands.specs.Export.{export_script}
+use Rattle.flat_commands.specs.Exercise.{exercise_script}
 use Rattle.bios_commands.specs.Courses.{ServesCalls}
-use Rattle.rescue_commands.specs.Commands.{Rescues}
+use Rattle.rescue_commands.specs.Rescue.{Rescues}
 
 -- what a form on files alone leaves as it is: no request is asked, and the session stays as it was
 abbrev pub desk : World → Desk
@@ -32,17 +36,17 @@ pub record OnFiles (Does : Desk → Desk → Status → Type 0) (old : World) (c
 -- what a form asks for
 abbrev pub DoesForm : Form → World → List Taken → World → Status → Type 0
 DoesForm (form.Play job) old course new ended = Plays job old course new ended
-DoesForm (form.Format name cylinders) old course new ended = Formats name cylinders R500 old course new ended
-DoesForm (form.FormatDd name cylinders) old course new ended = Formats name cylinders R250 old course new ended
-DoesForm (form.Copy from to) old course new ended = Copies from to old course new ended
-DoesForm (form.Verify name) old course new ended = Verifies name old course new ended
+DoesForm (form.Format name cylinders) old course new ended = RunsScript (format_script name cylinders R500) old course new ended
+DoesForm (form.FormatDd name cylinders) old course new ended = RunsScript (format_script name cylinders R250) old course new ended
+DoesForm (form.Copy from to) old course new ended = RunsScript (copy_script from to) old course new ended
+DoesForm (form.Verify name) old course new ended = RunsScript (verify_script name) old course new ended
 DoesForm (form.FromImd imd name) old course new ended = OnFiles (FromImd imd name) old course new ended
 DoesForm (form.ToImd name imd) old course new ended = OnFiles (ToImd name imd) old course new ended
 DoesForm (form.Survey name) old course new ended = OnFiles (Surveys name) old course new ended
 DoesForm (form.Remaster from to) old course new ended = OnFiles (Remaster from to) old course new ended
 DoesForm (form.Import flat name) old course new ended = Imports flat name old course new ended
-DoesForm (form.Export name flat) old course new ended = Exports name flat old course new ended
-DoesForm (form.Exercise seed count) old course new ended = Exercises seed count old course new ended
+DoesForm (form.Export name flat) old course new ended = RunsScript (export_script name flat) old course new ended
+DoesForm (form.Exercise seed count) old course new ended = RunsScript (exercise_script seed count) old course new ended
 DoesForm (form.Int13 calls) old course new ended = ServesCalls calls old course new ended
 DoesForm (form.Rescue from to log) old course new ended = Rescues from to log old course new ended
 
@@ -56,10 +60,9 @@ abbrev pub Does : Option Form → World → List Taken → World → Status → 
 Does (Some asked) old course new ended = DoesOrStarves asked old course new ended
 Does None old course new ended = TellsAlone bad_words_text status.BadWords old course new ended
 
--- what words ask for was done, the session still runs, the words are no form where the status says so, and each fault that it tells was counted
-pub record Performed (Does : World → World → Status → Type 0) (Running NoForm : Type 0) (old new : Faulty) (ended : Status) : Type 0 where
+-- what words ask for was done, the words are no form where the status says so, and each fault that it tells was counted
+pub record Performed (Does : World → World → Status → Type 0) (NoForm : Type 0) (old new : Faulty) (ended : Status) : Type 0 where
   pub runs : Does old.world new.world ended
-  pub running : Running
   pub bad_words : ended ≡ status.BadWords → NoForm
   pub shelf_faults : Blames (ended ≡ status.FileFault) old.shelf_faults new.shelf_faults
-  pub sink_faults : Blames (ended ≡ status.SinkFault) old.sink_faults new.sink_faults
+  pub sink_faults : BlamesAlone (ended ≡ status.SinkFault) old.sink_faults new.sink_faults

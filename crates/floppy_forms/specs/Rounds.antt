@@ -4,15 +4,13 @@ use Rattle.flop_base.specs.Shelf.{Files}
 use Rattle.flop_base.specs.Sink.{grown, GrowsByPart}
 use Rattle.flop_base.specs.declared.answers.Status.{Status}
 use Rattle.flop_base.specs.declared.answers.Status.TheVariants as status
-use Rattle.flop_base.specs.declared.answers.LoadError.{LoadError}
-use Rattle.flop_base.specs.declared.answers.LoadError.TheVariants as load
 use Rattle.floppy_requests.specs.Texts.{job_of}
 use Rattle.floppy_requests.specs.declared.request.Request.{Request}
 use Rattle.sector_model.specs.declared.reply.Reply.{Reply}
 use Rattle.sector_model.specs.declared.reply.Stop.{Stop}
 use Rattle.sector_model.specs.States.{State}
 use Rattle.sector_model.specs.Steps.{Step, StopsAt}
-use Rattle.sector_model.specs.Texts.{reply_text, stop_text, stop_status, is_refusal, absent_text, bad_line_text}
+use Rattle.sector_model.specs.Texts.{reply_text, stop_text, stop_status, is_refusal}
 use Rattle.sector_model.specs.Runs.{Taken, Run, requests_of, course_text, has_refusal, Ends, EndStopsAt, IsEndStop}
 use Rattle.sector_model.specs.Plays.{World, Prints, IsPutFault, IsIdle, PlaysRequests, PlaysParsed, Plays, whole_status}
 
@@ -70,10 +68,3 @@ pub data EndsAs (refused : Bool) (old : State) (files : Option Files) (new : Sta
 pub data PlaysOrStarves (text : List ℕ) (old new : World) (ended : Status) : Type 0 where
   AsParsed : (course : List Taken) → PlaysParsed (job_of text) old course new ended → PlaysOrStarves text old new ended
   Starving : IsIdle old new status.NoMemory ended → PlaysOrStarves text old new ended
-
--- why a job's text wasn't had, and what was printed of it
-abbrev pub Misses : LoadError → List ℕ → Option (List ℕ) → Option (List ℕ) → Status → Type 0
-Misses load.Absent job old new ended = Prints (absent_text job) status.Absent old new ended
-Misses load.TooLong job old new ended = Prints (bad_line_text 0) status.BadJob old new ended
-Misses load.Failed job old new ended = (new ≡ old) × (ended ≡ status.FileFault)
-Misses load.NoMemory job old new ended = (new ≡ old) × (ended ≡ status.NoMemory)

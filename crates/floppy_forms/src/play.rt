@@ -3,15 +3,15 @@ ghost use Rattle.std.specs.Prelude.{◌≡◌, ◌≢◌, ◌||◌, All, Err};
 ghost use Rattle.sector_model.specs.Faults.{Blames};
 ghost use Rattle.sector_model.specs.Texts.{is_refusal};
 ghost use Rattle.sector_model.specs.Plays.{whole_status};
-ghost use Rattle.floppy_session.specs.Session.{state_of, IsRunning};
 ghost use Rattle.floppy_session.specs.Tries.{HasTries};
-ghost use Rattle.disk_commands.specs.Worlds.{faulty_of, Ran, RanPart, printed_of, Told};
-ghost use Rattle.floppy_forms.specs.Rounds.{RoundGoes, RoundsGo, HasPlayed, PlaysJob, EndsAs, PlaysOrStarves, Misses};
+ghost use Rattle.scripts.specs.Leading.{faulty_of, Ran, RanPart};
+ghost use Rattle.floppy_forms.specs.Rounds.{RoundGoes, RoundsGo, HasPlayed, PlaysJob, EndsAs, PlaysOrStarves};
 
-use flop_base::{LoadError, Shelf, Sink, Status};
+use flop_base::{Shelf, Sink, Status};
 use floppy_jobs::{JobError, Request, parse_job};
-use floppy_report::{put_last, put_last_absent, put_last_bad_line, put_reply, stop_status};
+use floppy_report::{put_last, put_last_bad_line, put_reply, stop_status};
 use floppy_session::Session;
+use scripts::tell_missing_text;
 use sector_model::{Reply, Station, Stop};
 use std::alloc::Global;
 
@@ -26,11 +26,10 @@ fn run_one<S: Shelf, K: Sink, D: Station>(
     shelf: &mut S,
     out: &mut K,
 ) -> Result<bool, Status>
-    requires running { IsRunning D.shown D.is_ready session.old }
-    requires tries { HasTries request.now }
-    ensures { RanPart (RoundGoes request.now) (IsRunning D.shown D.is_ready session.new)
-        (faulty_of D.shown S.told S.fault_count K.told K.fault_count session.old shelf.old out.old) result
-        (faulty_of D.shown S.told S.fault_count K.told K.fault_count session.new shelf.new out.new) }
+    requires { HasTries request.now }
+    ensures { RanPart (RoundGoes request.now)
+        (faulty_of S.told S.fault_count K.told K.fault_count session.old shelf.old out.old) result
+        (faulty_of S.told S.fault_count K.told K.fault_count session.new shelf.new out.new) }
 {
     match session.run(shelf, request) {
         Ok(reply) => match put_reply(alloc, out, request, &reply) {
@@ -65,11 +64,10 @@ fn run_requests<S: Shelf, K: Sink, D: Station>(
     shelf: &mut S,
     out: &mut K,
 ) -> Result<bool, Status>
-    requires running { IsRunning D.shown D.is_ready session.old }
-    requires tries { All HasTries requests.now }
-    ensures { RanPart (RoundsGo requests.now) (IsRunning D.shown D.is_ready session.new)
-        (faulty_of D.shown S.told S.fault_count K.told K.fault_count session.old shelf.old out.old) result
-        (faulty_of D.shown S.told S.fault_count K.told K.fault_count session.new shelf.new out.new) }
+    requires { All HasTries requests.now }
+    ensures { RanPart (RoundsGo requests.now)
+        (faulty_of S.told S.fault_count K.told K.fault_count session.old shelf.old out.old) result
+        (faulty_of S.told S.fault_count K.told K.fault_count session.new shelf.new out.new) }
 {
     let mut refused = false;
     for request in requests {
@@ -83,13 +81,9 @@ fn run_requests<S: Shelf, K: Sink, D: Station>(
 
 /// Stores what is left in the bays of a session, and gives the status of a run to the end.
 fn finish<S: Shelf, D: Station>(session: &mut Session<D>, shelf: &mut S, refused: bool) -> Status
-    requires running { IsRunning D.shown D.is_ready session.old }
-    ensures ends { EndsAs refused (state_of D.shown session.old) (S.told shelf.old)
-        (state_of D.shown session.new) (S.told shelf.new) result }
-    ensures running { IsRunning D.shown D.is_ready session.new }
+    ensures ends { EndsAs refused session.old (S.told shelf.old) session.new (S.told shelf.new) result }
     ensures is_form { result ≢ Status.BadWords }
-    ensures shelf_faults { Blames (result ≡ Status.FileFault) (S.fault_count shelf.old)
-        (S.fault_count shelf.new) }
+    ensures shelf_faults { Blames (result ≡ Status.FileFault) (S.fault_count shelf.old) (S.fault_count shelf.new) }
     ensures no_sink_fault { result ≢ Status.SinkFault }
 {
     match session.end(shelf) {
@@ -116,11 +110,10 @@ fn play_requests<S: Shelf, K: Sink, D: Station>(
     shelf: &mut S,
     out: &mut K,
 ) -> Status
-    requires running { IsRunning D.shown D.is_ready session.old }
-    requires tries { All HasTries requests.now }
-    ensures { Ran (HasPlayed requests.now) (IsRunning D.shown D.is_ready session.new)
-        (faulty_of D.shown S.told S.fault_count K.told K.fault_count session.old shelf.old out.old)
-        (faulty_of D.shown S.told S.fault_count K.told K.fault_count session.new shelf.new out.new) result }
+    requires { All HasTries requests.now }
+    ensures { Ran (HasPlayed requests.now)
+        (faulty_of S.told S.fault_count K.told K.fault_count session.old shelf.old out.old)
+        (faulty_of S.told S.fault_count K.told K.fault_count session.new shelf.new out.new) result }
 {
     match run_requests(alloc, session, requests, shelf, out) {
         Ok(refused) => finish(session, shelf, refused),
@@ -136,28 +129,14 @@ fn play_text<S: Shelf, K: Sink, D: Station>(
     shelf: &mut S,
     out: &mut K,
 ) -> Status
-    requires running { IsRunning D.shown D.is_ready session.old }
-    ensures { Ran (PlaysOrStarves text.now) (IsRunning D.shown D.is_ready session.new)
-        (faulty_of D.shown S.told S.fault_count K.told K.fault_count session.old shelf.old out.old)
-        (faulty_of D.shown S.told S.fault_count K.told K.fault_count session.new shelf.new out.new) result }
+    ensures { Ran (PlaysOrStarves text.now)
+        (faulty_of S.told S.fault_count K.told K.fault_count session.old shelf.old out.old)
+        (faulty_of S.told S.fault_count K.told K.fault_count session.new shelf.new out.new) result }
 {
     match parse_job(alloc, text) {
         Ok(requests) => play_requests(alloc, session, &requests, shelf, out),
         Err(JobError::BadLine { line }) => put_last_bad_line(alloc, out, line),
         Err(JobError::NoMemory) => Status::NoMemory,
-    }
-}
-
-/// Ends a run whose job wasn't loaded.
-fn not_loaded<K: Sink>(alloc: Global, job: &str, out: &mut K, error: LoadError) -> Status
-    ensures { Told (Misses error job.now) (error ≡ LoadError.Failed)
-        (printed_of K.told K.fault_count out.old) (printed_of K.told K.fault_count out.new) result }
-{
-    match error {
-        LoadError::Absent => put_last_absent(alloc, out, job),
-        LoadError::TooLong => put_last_bad_line(alloc, out, 0),
-        LoadError::Failed => Status::FileFault,
-        LoadError::NoMemory => Status::NoMemory,
     }
 }
 
@@ -169,13 +148,12 @@ pub(crate) fn play<S: Shelf, K: Sink, D: Station>(
     shelf: &mut S,
     out: &mut K,
 ) -> Status
-    requires running { IsRunning D.shown D.is_ready session.old }
-    ensures { Ran (PlaysJob job.now) (IsRunning D.shown D.is_ready session.new)
-        (faulty_of D.shown S.told S.fault_count K.told K.fault_count session.old shelf.old out.old)
-        (faulty_of D.shown S.told S.fault_count K.told K.fault_count session.new shelf.new out.new) result }
+    ensures { Ran (PlaysJob job.now)
+        (faulty_of S.told S.fault_count K.told K.fault_count session.old shelf.old out.old)
+        (faulty_of S.told S.fault_count K.told K.fault_count session.new shelf.new out.new) result }
 {
     match shelf.load(alloc, job, MOST_JOB_BYTES) {
         Ok(text) => play_text(alloc, session, &text, shelf, out),
-        Err(error) => not_loaded(alloc, job, out, error),
+        Err(error) => tell_missing_text(alloc, job, error, out),
     }
 }

@@ -3,15 +3,15 @@ ghost use Rattle.std.specs.Prelude.{◌≡◌, ◌≤◌, ◌+◌, ℕ, List, Op
 ghost use Rattle.floppy_requests.specs.declared.request.Request.{Request};
 ghost use Rattle.bay_model.specs.Bays.{Two};
 ghost use Rattle.sector_model.specs.Faults.{Blames};
+ghost use Rattle.floppy_report.specs.Faults.{BlamesAlone};
 ghost use Rattle.sector_model.specs.Ties.{IsJob, accesses_of_job};
 ghost use Rattle.sector_model.specs.Stations.{IsFresh};
 ghost use Rattle.sector_model.specs.States.{start_of};
-ghost use Rattle.floppy_session.specs.Session.{state_of, IsRunning};
 ghost use Rattle.floppy_words.specs.declared.form.Form.TheVariants as form;
 ghost use Rattle.floppy_words.specs.declared.form.Form.{Form};
 ghost use Rattle.floppy_words.specs.Forms.{form_of, Reads};
-ghost use Rattle.disk_commands.specs.Commands.{Runs};
-ghost use Rattle.disk_commands.specs.Worlds.{world_of, faulty_of, Ran};
+ghost use Rattle.scripts.specs.Leading.{Runs};
+ghost use Rattle.scripts.specs.Leading.{world_of, faulty_of, Ran};
 ghost use Rattle.floppy_forms.specs.Rounds.{world};
 ghost use Rattle.floppy_forms.specs.Programs.{Does, DoesForm, Performed};
 
@@ -48,17 +48,15 @@ pub fn run_words<S: Shelf, K: Sink, D: Station>(
     // before and after it.
     ensures runs { (names : Two (Option (List ℕ))) × Runs (Does (form_of (map string_bytes words.now)))
         (world (start_of (D.shown station)) (S.told shelf.old) (K.told out.old))
-        (world (record { station = D.shown result.1; names = names }) (S.told shelf.new) (K.told out.new))
-        result.0 }
+        (world (record { station = D.shown result.1; names = names }) (S.told shelf.new) (K.told out.new)) result.0 }
     ensures accesses { (job : List ℕ) (requests : List Request)
         → form_of (map string_bytes words.now) ≡ Some (form.Play job) → IsJob (S.told shelf.old) job requests
-        → (D.shown result.1).counters.direct
-        ≤ (D.shown station).counters.direct + accesses_of_job requests }
+        → (D.shown result.1).counters.direct ≤ (D.shown station).counters.direct + accesses_of_job requests }
     // 2 exactly where the words are no form, also where nothing is told.
     ensures bad_words { result.0 ≡ Status.BadWords → form_of (map string_bytes words.now) ≡ None }
     ensures ready { D.is_ready result.1 }
     ensures shelf_faults { Blames (result.0 ≡ Status.FileFault) (S.fault_count shelf.old) (S.fault_count shelf.new) }
-    ensures sink_faults { Blames (result.0 ≡ Status.SinkFault) (K.fault_count out.old) (K.fault_count out.new) }
+    ensures sink_faults { BlamesAlone (result.0 ≡ Status.SinkFault) (K.fault_count out.old) (K.fault_count out.new) }
 {
     let mut session = Session::new(alloc, station);
     let status = perform(alloc, &mut session, words, shelf, out);
@@ -73,15 +71,13 @@ fn perform<S: Shelf, K: Sink, D: Station>(
     shelf: &mut S,
     out: &mut K,
 ) -> Status
-    requires running { IsRunning D.shown D.is_ready session.old }
-    ensures performed { Performed (Runs (Does (form_of (map string_bytes words.now)))) (IsRunning D.shown D.is_ready session.new)
+    ensures performed { Performed (Runs (Does (form_of (map string_bytes words.now))))
         (form_of (map string_bytes words.now) ≡ None)
-        (faulty_of D.shown S.told S.fault_count K.told K.fault_count session.old shelf.old out.old)
-        (faulty_of D.shown S.told S.fault_count K.told K.fault_count session.new shelf.new out.new) result }
+        (faulty_of S.told S.fault_count K.told K.fault_count session.old shelf.old out.old)
+        (faulty_of S.told S.fault_count K.told K.fault_count session.new shelf.new out.new) result }
     ensures accesses { (job : List ℕ) (requests : List Request)
         → form_of (map string_bytes words.now) ≡ Some (form.Play job) → IsJob (S.told shelf.old) job requests
-        → (state_of D.shown session.new).station.counters.direct
-        ≤ (state_of D.shown session.old).station.counters.direct + accesses_of_job requests }
+        → session.new.station.counters.direct ≤ session.old.station.counters.direct + accesses_of_job requests }
 {
     run_asked(alloc, session, form_named(alloc, words), shelf, out)
 }
@@ -94,14 +90,11 @@ pub fn run_asked<S: Shelf, K: Sink, D: Station>(
     shelf: &mut S,
     out: &mut K,
 ) -> Status
-    requires running { IsRunning D.shown D.is_ready session.old }
     ensures runs { (spelled : Option Form) → Reads asked spelled → Runs (Does spelled)
-        (world_of D.shown S.told K.told session.old shelf.old out.old)
-        (world_of D.shown S.told K.told session.new shelf.new out.new) result }
+        (world_of S.told K.told session.old shelf.old out.old) (world_of S.told K.told session.new shelf.new out.new) result }
     ensures bad_words { result ≡ Status.BadWords → asked ≡ Ok None }
-    ensures running { IsRunning D.shown D.is_ready session.new }
     ensures shelf_faults { Blames (result ≡ Status.FileFault) (S.fault_count shelf.old) (S.fault_count shelf.new) }
-    ensures sink_faults { Blames (result ≡ Status.SinkFault) (K.fault_count out.old) (K.fault_count out.new) }
+    ensures sink_faults { BlamesAlone (result ≡ Status.SinkFault) (K.fault_count out.old) (K.fault_count out.new) }
 {
     match asked {
         Ok(form) => perform_any(alloc, session, form, shelf, out),
@@ -117,10 +110,9 @@ fn perform_any<S: Shelf, K: Sink, D: Station>(
     shelf: &mut S,
     out: &mut K,
 ) -> Status
-    requires running { IsRunning D.shown D.is_ready session.old }
-    ensures { Performed (Runs (Does form)) (IsRunning D.shown D.is_ready session.new) (form ≡ None)
-        (faulty_of D.shown S.told S.fault_count K.told K.fault_count session.old shelf.old out.old)
-        (faulty_of D.shown S.told S.fault_count K.told K.fault_count session.new shelf.new out.new) result }
+    ensures { Performed (Runs (Does form)) (form ≡ None)
+        (faulty_of S.told S.fault_count K.told K.fault_count session.old shelf.old out.old)
+        (faulty_of S.told S.fault_count K.told K.fault_count session.new shelf.new out.new) result }
 {
     match form {
         Some(form) => perform_form(alloc, session, form, shelf, out),
@@ -136,10 +128,9 @@ fn perform_form<S: Shelf, K: Sink, D: Station>(
     shelf: &mut S,
     out: &mut K,
 ) -> Status
-    requires running { IsRunning D.shown D.is_ready session.old }
-    ensures { Ran (Runs (DoesForm form)) (IsRunning D.shown D.is_ready session.new)
-        (faulty_of D.shown S.told S.fault_count K.told K.fault_count session.old shelf.old out.old)
-        (faulty_of D.shown S.told S.fault_count K.told K.fault_count session.new shelf.new out.new) result }
+    ensures { Ran (Runs (DoesForm form))
+        (faulty_of S.told S.fault_count K.told K.fault_count session.old shelf.old out.old)
+        (faulty_of S.told S.fault_count K.told K.fault_count session.new shelf.new out.new) result }
 {
     match form {
         Form::Play { job } => play(alloc, session, job.as_str(), shelf, out),

@@ -5,6 +5,7 @@ ghost use Rattle.flop_base.specs.Sink.{grown, GrowsByPart};
 ghost use Rattle.sector_model.specs.Texts.{reply_text, stop_text, stop_status, bad_line_text, absent_text, image_text, image_error_text, reason_text, dump_text, dump_line, dump_byte, line_end};
 ghost use Rattle.sector_model.specs.Plays.{IsPutFault, Prints};
 ghost use Rattle.floppy_report.specs.Faults.{BlamesAlone};
+ghost use Rattle.floppy_report.specs.Puts.{printed_of, Puts, PutsLast};
 ghost use Rattle.floppy_report.specs.LastLines.{bad_words_text, stopped_text, unfit_text};
 
 use flop_base::{PutError, Sink, Status};
@@ -18,10 +19,7 @@ const DUMP_LINE: usize = 16;
 
 /// Puts a line.
 fn put<K: Sink>(out: &mut K, line: &str) -> Result<(), Status>
-    ensures ok { OnOk result (K.told out.new ≡ grown (K.told out.old) line.now) }
-    ensures err { OnErr result (GrowsByPart (K.told out.old) line.now (K.told out.new)) }
-    ensures only { IfErr result IsPutFault }
-    ensures faults { BlamesAlone (IsErrOf result Status.SinkFault) (K.fault_count out.old) (K.fault_count out.new) }
+    ensures { Puts line.now (printed_of K.told K.fault_count out.old) result (printed_of K.told K.fault_count out.new) }
 {
     match out.put(line.as_bytes()) {
         Ok(()) => Ok(()),
@@ -118,20 +116,14 @@ fn dump_line(alloc: Global, address: u32, row: &[u8]) -> Result<String, AllocErr
 
 /// Puts a line of a dump.
 fn put_row<K: Sink>(alloc: Global, out: &mut K, address: u32, row: &[u8]) -> Result<(), Status>
-    ensures ok { OnOk result (K.told out.new ≡ grown (K.told out.old) (dump_line address row.now)) }
-    ensures err { OnErr result (GrowsByPart (K.told out.old) (dump_line address row.now) (K.told out.new)) }
-    ensures only { IfErr result IsPutFault }
-    ensures faults { BlamesAlone (IsErrOf result Status.SinkFault) (K.fault_count out.old) (K.fault_count out.new) }
+    ensures { Puts (dump_line address row.now) (printed_of K.told K.fault_count out.old) result (printed_of K.told K.fault_count out.new) }
 {
     put_line(out, dump_line(alloc, address, row))
 }
 
 /// Puts the lines of a dump: per 16 bytes the address of the first, then each byte.
 fn put_dump<K: Sink>(alloc: Global, out: &mut K, address: u32, content: &[u8]) -> Result<(), Status>
-    ensures ok { OnOk result (K.told out.new ≡ grown (K.told out.old) (dump_text address content.now)) }
-    ensures err { OnErr result (GrowsByPart (K.told out.old) (dump_text address content.now) (K.told out.new)) }
-    ensures only { IfErr result IsPutFault }
-    ensures faults { BlamesAlone (IsErrOf result Status.SinkFault) (K.fault_count out.old) (K.fault_count out.new) }
+    ensures { Puts (dump_text address content.now) (printed_of K.told K.fault_count out.old) result (printed_of K.told K.fault_count out.new) }
 {
     let mut place = address;
     for i in 0..content.len().div_ceil(DUMP_LINE) {
@@ -151,10 +143,7 @@ pub fn put_reply<K: Sink>(
     request: &Request,
     reply: &Reply,
 ) -> Result<(), Status>
-    ensures ok { OnOk result (K.told out.new ≡ grown (K.told out.old) (reply_text request.now reply.now)) }
-    ensures err { OnErr result (GrowsByPart (K.told out.old) (reply_text request.now reply.now) (K.told out.new)) }
-    ensures only { IfErr result IsPutFault }
-    ensures faults { BlamesAlone (IsErrOf result Status.SinkFault) (K.fault_count out.old) (K.fault_count out.new) }
+    ensures { Puts (reply_text request.now reply.now) (printed_of K.told K.fault_count out.old) result (printed_of K.told K.fault_count out.new) }
 {
     let verb = request.verb();
     match reply {
@@ -168,10 +157,7 @@ pub fn put_reply<K: Sink>(
 /// Puts the last line of a run that stopped.
 #[tactic(auto, unfolding(sector_model::specs::Texts::stop_text))]
 fn put_stop<K: Sink>(alloc: Global, out: &mut K, stop: &Stop) -> Result<(), Status>
-    ensures ok { OnOk result (K.told out.new ≡ grown (K.told out.old) (stop_text stop.now)) }
-    ensures err { OnErr result (GrowsByPart (K.told out.old) (stop_text stop.now) (K.told out.new)) }
-    ensures only { IfErr result IsPutFault }
-    ensures faults { BlamesAlone (IsErrOf result Status.SinkFault) (K.fault_count out.old) (K.fault_count out.new) }
+    ensures { Puts (stop_text stop.now) (printed_of K.told K.fault_count out.old) result (printed_of K.told K.fault_count out.new) }
 {
     match stop {
         Stop::BadImage { name, error } => put_line(out, image_line(alloc, name.as_str(), *error)),
@@ -191,20 +177,14 @@ fn longer_line(alloc: Global, name: &str, most: usize) -> Result<String, AllocEr
 
 /// Puts the last line where a file isn't there.
 fn put_absent<K: Sink>(alloc: Global, out: &mut K, name: &str) -> Result<(), Status>
-    ensures ok { OnOk result (K.told out.new ≡ grown (K.told out.old) (absent_text name.now)) }
-    ensures err { OnErr result (GrowsByPart (K.told out.old) (absent_text name.now) (K.told out.new)) }
-    ensures only { IfErr result IsPutFault }
-    ensures faults { BlamesAlone (IsErrOf result Status.SinkFault) (K.fault_count out.old) (K.fault_count out.new) }
+    ensures { Puts (absent_text name.now) (printed_of K.told K.fault_count out.old) result (printed_of K.told K.fault_count out.new) }
 {
     put_line(out, format!(in alloc; "{name} absent\n"))
 }
 
 /// Puts the last line where a job's line isn't understood.
 fn put_bad_line<K: Sink>(alloc: Global, out: &mut K, line: usize) -> Result<(), Status>
-    ensures ok { OnOk result (K.told out.new ≡ grown (K.told out.old) (bad_line_text line)) }
-    ensures err { OnErr result (GrowsByPart (K.told out.old) (bad_line_text line) (K.told out.new)) }
-    ensures only { IfErr result IsPutFault }
-    ensures faults { BlamesAlone (IsErrOf result Status.SinkFault) (K.fault_count out.old) (K.fault_count out.new) }
+    ensures { Puts (bad_line_text line) (printed_of K.told K.fault_count out.old) result (printed_of K.told K.fault_count out.new) }
 {
     put_line(out, bad_line(alloc, line))
 }
@@ -252,18 +232,14 @@ pub fn put_last<K: Sink>(alloc: Global, out: &mut K, stop: &Stop) -> Status
 
 /// Puts the last line where a file isn't there, and gives the status.
 pub fn put_last_absent<K: Sink>(alloc: Global, out: &mut K, name: &str) -> Status
-    ensures prints { Prints (absent_text name.now) Status.Absent (K.told out.old) (K.told out.new) result }
-    ensures only { result ≢ Status.Absent → IsPutFault result }
-    ensures faults { BlamesAlone (result ≡ Status.SinkFault) (K.fault_count out.old) (K.fault_count out.new) }
+    ensures { PutsLast (absent_text name.now) Status.Absent (printed_of K.told K.fault_count out.old) (printed_of K.told K.fault_count out.new) result }
 {
     after(put_absent(alloc, out, name), Status::Absent)
 }
 
 /// Puts the last line where a job's line isn't understood, and gives the status.
 pub fn put_last_bad_line<K: Sink>(alloc: Global, out: &mut K, line: usize) -> Status
-    ensures prints { Prints (bad_line_text line) Status.BadJob (K.told out.old) (K.told out.new) result }
-    ensures only { result ≢ Status.BadJob → IsPutFault result }
-    ensures faults { BlamesAlone (result ≡ Status.SinkFault) (K.fault_count out.old) (K.fault_count out.new) }
+    ensures { PutsLast (bad_line_text line) Status.BadJob (printed_of K.told K.fault_count out.old) (printed_of K.told K.fault_count out.new) result }
 {
     after(put_bad_line(alloc, out, line), Status::BadJob)
 }
@@ -285,9 +261,7 @@ pub fn put_last_stopped<K: Sink>(
     request: &Request,
     reason: Reason,
 ) -> Status
-    ensures prints { Prints (stopped_text request.now reason) Status.SomeRefused (K.told out.old) (K.told out.new) result }
-    ensures only { result ≢ Status.SomeRefused → IsPutFault result }
-    ensures faults { BlamesAlone (result ≡ Status.SinkFault) (K.fault_count out.old) (K.fault_count out.new) }
+    ensures { PutsLast (stopped_text request.now reason) Status.SomeRefused (printed_of K.told K.fault_count out.old) (printed_of K.told K.fault_count out.new) result }
 {
     put_last_line(
         out,
@@ -305,9 +279,7 @@ fn unfit_line(alloc: Global, c: u8, h: u8) -> Result<String, AllocError>
 
 /// Puts the last line where the track of a cylinder and a head can't be had in another form, and gives the status.
 pub fn put_last_unfit<K: Sink>(alloc: Global, out: &mut K, c: u8, h: u8) -> Status
-    ensures prints { Prints (unfit_text c h) Status.SomeRefused (K.told out.old) (K.told out.new) result }
-    ensures only { result ≢ Status.SomeRefused → IsPutFault result }
-    ensures faults { BlamesAlone (result ≡ Status.SinkFault) (K.fault_count out.old) (K.fault_count out.new) }
+    ensures { PutsLast (unfit_text c h) Status.SomeRefused (printed_of K.told K.fault_count out.old) (printed_of K.told K.fault_count out.new) result }
 {
     put_last_line(out, unfit_line(alloc, c, h), Status::SomeRefused)
 }
@@ -329,9 +301,7 @@ pub fn put_last_line<K: Sink>(
 
 /// Puts the last line where the words are no form of the program, and gives the status.
 pub fn put_last_bad_words<K: Sink>(out: &mut K) -> Status
-    ensures prints { Prints bad_words_text Status.BadWords (K.told out.old) (K.told out.new) result }
-    ensures only { result ≢ Status.BadWords → IsPutFault result }
-    ensures faults { BlamesAlone (result ≡ Status.SinkFault) (K.fault_count out.old) (K.fault_count out.new) }
+    ensures { PutsLast bad_words_text Status.BadWords (printed_of K.told K.fault_count out.old) (printed_of K.told K.fault_count out.new) result }
 {
     after(put(out, "words not understood\n"), Status::BadWords)
 }

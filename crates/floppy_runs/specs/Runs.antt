@@ -1,5 +1,5 @@
 -- Runs of the top call on a machine that was made for them.
-use Rattle.std.specs.Prelude.{◌≡◌, ◌≢◌, ℕ, List, [], ◌∷◌, Option, None, Some, Ok, IfSome, IsSomeAnd}
+use Rattle.std.specs.Prelude.{◌≡◌, ◌⊎◌, ℕ, List, [], ◌∷◌, Option, None, Some, Ok, IfSome, IsSomeAnd}
 use Rattle.flop_base.specs.Shelf.{file_at}
 use Rattle.flop_base.specs.declared.answers.Status.{Status}
 use Rattle.flop_base.specs.declared.answers.Status.TheVariants as status
@@ -14,17 +14,11 @@ use Rattle.irq_events.specs.declared.pace.Pace.{Pace}
 use Rattle.pc_bus.specs.Boards.{Board, board, IsNew}
 use Rattle.pc_bus.specs.declared.machine.MachineOf.{MachineOf}
 use Rattle.machine_station.specs.Shown.{all_counts}
-use Rattle.floppy_words.specs.Forms.{form_of, ports_file_of}
-use Rattle.archive_commands.specs.Files.{Desk}
-use Rattle.port_commands.specs.Benches.{Names, no_names}
-use Rattle.port_commands.specs.Guards.{RunsPorts}
-use Rattle.port_commands.specs.Plays.{World}
-use Rattle.floppy_tools.specs.Machines.{RunsOver}
-
--- port accesses run on a board, over the files and the report of a desk
-abbrev pub ports_world : Board → Names → Desk → World
-ports_world board names desk =
-    record { bench = record { board = board; names = names; files = desk.files }; report = desk.report }
+use Rattle.sector_model.specs.Faults.{Blames}
+use Rattle.floppy_report.specs.Faults.{BlamesAlone}
+use Rattle.archive_commands.specs.Files.{Desk, FaultyDesk}
+use Rattle.floppy_tools.specs.Performed.{DoesWords}
+use Rattle.floppy_runs.specs.Plans.{EndsWithoutPlan, Silent}
 
 -- what a machine is made of: the drives of its bays, the spare ones and its pace
 pub record Parts : Type 0 where
@@ -74,14 +68,28 @@ pub record IsMadeOf (parts : Parts) (new : Board) : Type 0 where
 pub record RunsNew {D : Type 0} (state : D → DriveState) (parts : Parts) (words : List (List ℕ)) (before : Desk) (left : MachineOf D) (after : Desk) (ended : Status) : Type 0 where
   pub new : Board
   pub made : IsMadeOf parts new
-  pub runs : ports_file_of words ≡ None
-      → RunsOver (form_of words) new (all_counts (λ drive. drive) parts.spares) before (board state left) after ended
-  pub ports : (file : List ℕ) → ports_file_of words ≡ Some file → (names : Names)
-      × RunsPorts file (ports_world new no_names before) (ports_world (board state left) names after) ended
-  pub bad_words : ended ≡ status.BadWords → (form_of words ≡ None) × (ports_file_of words ≡ None)
+  pub does : DoesWords words new (all_counts (λ drive. drive) parts.spares) before (board state left) after ended
 
 -- the same on what the plan of this name asks for
 pub record RunsPlanned (name : List ℕ) (words : List (List ℕ)) (before : Desk) (left : MachineOf ScriptDrive) (after : Desk) (ended : Status) : Type 0 where
   pub plan : Plan
   pub spelled : IfSome before.files (λ files. IsSomeAnd (file_at files name) (λ text. plan_spelled text ≡ Ok plan))
   pub runs : RunsNew script_state (parts_of plan) words before left after ended
+
+-- how a run ended that needs a machine: what it did where one was made, how it ended without one, which changed no file; and each fault
+-- that the status tells was counted
+pub record EndsRun {Machine : Type 0} (Does : Desk → Machine → Desk → Status → Type 0) (Without : Desk → Option (List ℕ) → Status → Type 0) (old new : FaultyDesk) (machine : Option Machine) (ended : Status) : Type 0 where
+  pub runs : IfSome machine (λ left. Does old.desk left new.desk ended)
+  pub no_machine : machine ≡ None → Without old.desk new.desk.report ended
+  pub untouched : machine ≡ None → new.desk.files ≡ old.desk.files
+  pub shelf_faults : Blames (ended ≡ status.FileFault) old.shelf_faults new.shelf_faults
+  pub sink_faults : BlamesAlone (ended ≡ status.SinkFault) old.sink_faults new.sink_faults
+
+-- memory for a machine couldn't be had
+abbrev pub Starves : Desk → Option (List ℕ) → Status → Type 0
+Starves before report ended = Silent status.NoMemory before.report report ended
+
+-- or for the one that a plan asks for, or the plan of this name couldn't be
+abbrev pub LacksPlan : List ℕ → Desk → Option (List ℕ) → Status → Type 0
+LacksPlan plan before report ended =
+    EndsWithoutPlan before.files plan before.report report ended ⊎ Silent status.NoMemory before.report report ended

@@ -1,13 +1,11 @@
 // The machine of the program, and what it does with the words.
-ghost use Rattle.std.specs.Prelude.{◌≡◌, ◌⊎◌, [], IfSome, None, map, string_bytes};
+ghost use Rattle.std.specs.Prelude.{◌≡◌, [], map, string_bytes};
 ghost use Rattle.drive_model.specs.PlainDrive.{plain_state};
 ghost use Rattle.drive_model.specs.ScriptDrive.{script_state};
-ghost use Rattle.sector_model.specs.Faults.{Blames};
 ghost use Rattle.fault_plan.specs.Plan.{lists_of};
-ghost use Rattle.archive_commands.specs.Files.{desk_of};
+ghost use Rattle.archive_commands.specs.Files.{faulty_desk_of};
 ghost use Rattle.floppy_runs.specs.Drives.{AreEmpty, parts_with};
-ghost use Rattle.floppy_runs.specs.Plans.{EndsWithoutPlan, Silent};
-ghost use Rattle.floppy_runs.specs.Runs.{parts_of, plain_parts, RunsNew, RunsPlanned};
+ghost use Rattle.floppy_runs.specs.Runs.{parts_of, plain_parts, RunsNew, RunsPlanned, EndsRun, Starves, LacksPlan};
 
 use crate::drives::Drives;
 use crate::plan::read_plan;
@@ -34,12 +32,9 @@ pub fn run_plain<S: Shelf, K: Sink>(
     out: &mut K,
 ) -> Ended<PlainDrive>
     // The headline: what is printed and stored is what the top call does on a new machine, which comes back.
-    ensures runs { IfSome result.machine (λ machine. RunsNew plain_state plain_parts (map string_bytes words.now)
-        (desk_of S.told K.told shelf.old out.old) machine (desk_of S.told K.told shelf.new out.new) result.status) }
-    ensures no_machine { result.machine ≡ None → Silent Status.NoMemory (K.told out.old) (K.told out.new) result.status }
-    ensures untouched { result.machine ≡ None → S.told shelf.new ≡ S.told shelf.old }
-    ensures shelf_faults { Blames (result.status ≡ Status.FileFault) (S.fault_count shelf.old) (S.fault_count shelf.new) }
-    ensures sink_faults { Blames (result.status ≡ Status.SinkFault) (K.fault_count out.old) (K.fault_count out.new) }
+    ensures { EndsRun (RunsNew plain_state plain_parts (map string_bytes words.now)) Starves
+        (faulty_desk_of S.told S.fault_count K.told K.fault_count shelf.old out.old) (faulty_desk_of S.told S.fault_count K.told K.fault_count shelf.new out.new)
+        result.machine result.status }
 {
     run_on(
         alloc,
@@ -62,14 +57,9 @@ pub fn run_planned<S: Shelf, K: Sink>(
     out: &mut K,
 ) -> Ended<ScriptDrive>
     // The new machine has the faults and the pace of the plan that the file spells.
-    ensures runs { IfSome result.machine (λ machine. RunsPlanned plan.now (map string_bytes words.now)
-        (desk_of S.told K.told shelf.old out.old) machine (desk_of S.told K.told shelf.new out.new) result.status) }
-    ensures no_machine { result.machine ≡ None
-        → EndsWithoutPlan (S.told shelf.old) plan.now (K.told out.old) (K.told out.new) result.status
-        ⊎ Silent Status.NoMemory (K.told out.old) (K.told out.new) result.status }
-    ensures untouched { result.machine ≡ None → S.told shelf.new ≡ S.told shelf.old }
-    ensures shelf_faults { Blames (result.status ≡ Status.FileFault) (S.fault_count shelf.old) (S.fault_count shelf.new) }
-    ensures sink_faults { Blames (result.status ≡ Status.SinkFault) (K.fault_count out.old) (K.fault_count out.new) }
+    ensures { EndsRun (RunsPlanned plan.now (map string_bytes words.now)) (LacksPlan plan.now)
+        (faulty_desk_of S.told S.fault_count K.told K.fault_count shelf.old out.old) (faulty_desk_of S.told S.fault_count K.told K.fault_count shelf.new out.new)
+        result.machine result.status }
 {
     match read_plan(alloc, plan, shelf, out) {
         Ok(plan) => run_faulty(alloc, plan, words, shelf, out),
@@ -88,12 +78,9 @@ fn run_faulty<S: Shelf, K: Sink>(
     shelf: &mut S,
     out: &mut K,
 ) -> Ended<ScriptDrive>
-    ensures runs { IfSome result.machine (λ machine. RunsNew script_state (parts_of (lists_of plan)) (map string_bytes words.now)
-        (desk_of S.told K.told shelf.old out.old) machine (desk_of S.told K.told shelf.new out.new) result.status) }
-    ensures no_machine { result.machine ≡ None → Silent Status.NoMemory (K.told out.old) (K.told out.new) result.status }
-    ensures untouched { result.machine ≡ None → S.told shelf.new ≡ S.told shelf.old }
-    ensures shelf_faults { Blames (result.status ≡ Status.FileFault) (S.fault_count shelf.old) (S.fault_count shelf.new) }
-    ensures sink_faults { Blames (result.status ≡ Status.SinkFault) (K.fault_count out.old) (K.fault_count out.new) }
+    ensures { EndsRun (RunsNew script_state (parts_of (lists_of plan)) (map string_bytes words.now)) Starves
+        (faulty_desk_of S.told S.fault_count K.told K.fault_count shelf.old out.old) (faulty_desk_of S.told S.fault_count K.told K.fault_count shelf.new out.new)
+        result.machine result.status }
 {
     let FaultPlan {
         bay0,
@@ -131,13 +118,9 @@ fn run_on<S: Shelf, K: Sink, D: Drive>(
 ) -> Ended<D>
     requires bays { AreEmpty D.state bays }
     requires spare { AreEmpty D.state spare }
-    ensures runs { IfSome result.machine (λ machine. RunsNew D.state (parts_with D.state bays spare pace)
-        (map string_bytes words.now) (desk_of S.told K.told shelf.old out.old) machine
-        (desk_of S.told K.told shelf.new out.new) result.status) }
-    ensures no_machine { result.machine ≡ None → Silent Status.NoMemory (K.told out.old) (K.told out.new) result.status }
-    ensures untouched { result.machine ≡ None → S.told shelf.new ≡ S.told shelf.old }
-    ensures shelf_faults { Blames (result.status ≡ Status.FileFault) (S.fault_count shelf.old) (S.fault_count shelf.new) }
-    ensures sink_faults { Blames (result.status ≡ Status.SinkFault) (K.fault_count out.old) (K.fault_count out.new) }
+    ensures { EndsRun (RunsNew D.state (parts_with D.state bays spare pace) (map string_bytes words.now)) Starves
+        (faulty_desk_of S.told S.fault_count K.told K.fault_count shelf.old out.old) (faulty_desk_of S.told S.fault_count K.told K.fault_count shelf.new out.new)
+        result.machine result.status }
 {
     let Ok(machine) = bays.machine(alloc, pace) else {
         return Ended {

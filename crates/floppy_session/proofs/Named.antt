@@ -17,6 +17,8 @@ use Rattle.sector_model.specs.Calls.{RatesTo}
 use Rattle.sector_model.specs.States.{State, IsNamed}
 use Rattle.floppy_session.specs.declared.shape.Shape.{Shape}
 use Rattle.floppy_session.specs.Shapes.{shape_of, shape_in, AreShapes}
+use Rattle.floppy_session.specs.declared.labels.Labels.{Labels}
+use Rattle.floppy_session.specs.Session.{IsRunning, shapes_of, state_of}
 
 -- a bay has a medium of some shape exactly where it had one
 pub record KeepsShapes (old new : Two Bay) : Type 0 where
@@ -131,3 +133,12 @@ keeps_rates old new bay rate answer rates =
     by_refusal (rate_refusal old bay) _ _ rates
     (λ set. keeps_set old new bay _ (ap (λ (s : StationState). s.bays) set.becomes) refl)
     (λ code refused. keeps_stays old new refused.stays)
+
+-- where each bay keeps its medium's shape, the session still runs
+pub runs_on : {Before After : Type 0} (labels : Labels) (old new : StationState)
+    → KeepsShapes old.bays new.bays → IsRunning Before old labels → After → IsRunning After new labels
+runs_on labels old new keeps running ready = record {
+  ready = ready;
+  named = named_still (state_of old labels) (state_of new labels) refl keeps running.named;
+  shaped = shaped_still (shapes_of labels) old.bays new.bays keeps running.shaped;
+}

@@ -11,88 +11,62 @@ use floppy_requests::Request;
 use sector_model::{Reason, Reply, Station};
 
 impl<D: Station> Session<D> {
-    ghost use Rattle.floppy_session.specs.Session.{state_of, IsRunning};
-
     /// Acknowledges a change of the medium.
     pub(crate) fn ack(&mut self, bay: u8) -> Reply
-        requires { IsRunning D.shown D.is_ready self.old }
-        ensures step { (told : Option Files)
-            → Step (Request.Ack bay) (state_of D.shown self.old) told result (state_of D.shown self.new) told }
-        ensures running { IsRunning D.shown D.is_ready self.new }
+        ensures { (told : Option Files) → Step (Request.Ack bay) self.old told result self.new told }
     {
         reply(self.acknowledge(bay))
     }
 
     /// Acknowledges a change of the medium.
     pub(crate) fn acknowledge(&mut self, bay: u8) -> Result<(), Code>
-        requires { IsRunning D.shown D.is_ready self.old }
-        ensures step { (told : Option Files)
-            → Step (Request.Ack bay) (state_of D.shown self.old) told (reply_of result) (state_of D.shown self.new) told }
+        ensures step { (told : Option Files) → Step (Request.Ack bay) self.old told (reply_of result) self.new told }
         ensures answers { bay ≤ 1 → IfErr result (λ code. code ≡ Code.NotReady) }
-        ensures running { IsRunning D.shown D.is_ready self.new }
     {
         self.station.ack(bay)
     }
 
     /// Reads the record with this key to memory.
     pub(crate) fn read(&mut self, bay: u8, key: Chrn, address: u32) -> Reply
-        requires { IsRunning D.shown D.is_ready self.old }
-        ensures step { (told : Option Files) → Step (Request.Read bay key address) (state_of D.shown self.old) told
-            result (state_of D.shown self.new) told }
-        ensures running { IsRunning D.shown D.is_ready self.new }
+        ensures { (told : Option Files) → Step (Request.Read bay key address) self.old told result self.new told }
     {
         reply_to_read(self.read_record(bay, key, address))
     }
 
     /// Reads the record with this key to memory.
     pub(crate) fn read_record(&mut self, bay: u8, key: Chrn, address: u32) -> Result<bool, Code>
-        requires { IsRunning D.shown D.is_ready self.old }
-        ensures step { (told : Option Files) → Step (Request.Read bay key address) (state_of D.shown self.old) told
-            (read_reply result) (state_of D.shown self.new) told }
-        ensures outside { key.n ≡ 2 → address + 512 ≤ length (state_of D.shown self.old).station.memory
-            → SameOutside address 512 (state_of D.shown self.old).station.memory
-            (state_of D.shown self.new).station.memory }
-        ensures running { IsRunning D.shown D.is_ready self.new }
+        ensures step { (told : Option Files) → Step (Request.Read bay key address) self.old told
+            (read_reply result) self.new told }
+        ensures outside { key.n ≡ 2 → address + 512 ≤ length self.old.station.memory
+            → SameOutside address 512 self.old.station.memory self.new.station.memory }
     {
         self.station.read(bay, key, address)
     }
 
     /// Writes memory to the record with this key.
     pub(crate) fn write(&mut self, bay: u8, key: Chrn, address: u32) -> Reply
-        requires { IsRunning D.shown D.is_ready self.old }
-        ensures step { (told : Option Files) → Step (Request.Write bay key address) (state_of D.shown self.old) told
-            result (state_of D.shown self.new) told }
-        ensures running { IsRunning D.shown D.is_ready self.new }
+        ensures { (told : Option Files) → Step (Request.Write bay key address) self.old told result self.new told }
     {
         reply(self.write_record(bay, key, address))
     }
 
     /// Writes memory to the record with this key.
     pub(crate) fn write_record(&mut self, bay: u8, key: Chrn, address: u32) -> Result<(), Code>
-        requires { IsRunning D.shown D.is_ready self.old }
-        ensures step { (told : Option Files) → Step (Request.Write bay key address) (state_of D.shown self.old) told
-            (reply_of result) (state_of D.shown self.new) told }
-        ensures running { IsRunning D.shown D.is_ready self.new }
+        ensures { (told : Option Files) → Step (Request.Write bay key address) self.old told (reply_of result) self.new told }
     {
         self.station.write(bay, key, address, false)
     }
 
     /// Writes memory to the record with this key and marks it deleted.
     pub(crate) fn write_deleted(&mut self, bay: u8, key: Chrn, address: u32) -> Reply
-        requires { IsRunning D.shown D.is_ready self.old }
-        ensures step { (told : Option Files) → Step (Request.WriteDeleted bay key address) (state_of D.shown self.old)
-            told result (state_of D.shown self.new) told }
-        ensures running { IsRunning D.shown D.is_ready self.new }
+        ensures { (told : Option Files) → Step (Request.WriteDeleted bay key address) self.old told result self.new told }
     {
         reply(self.station.write(bay, key, address, true))
     }
 
     /// Formats the track of this cylinder and head in the standard layout of the bay's rate.
     pub(crate) fn format(&mut self, bay: u8, c: u8, h: u8) -> Reply
-        requires { IsRunning D.shown D.is_ready self.old }
-        ensures step { (told : Option Files) → Step (Request.Format bay c h) (state_of D.shown self.old) told
-            result (state_of D.shown self.new) told }
-        ensures running { IsRunning D.shown D.is_ready self.new }
+        ensures { (told : Option Files) → Step (Request.Format bay c h) self.old told result self.new told }
     {
         if bay > 1 {
             return bad_request();
@@ -103,22 +77,16 @@ impl<D: Station> Session<D> {
 
     /// Sets the data rate of the bay.
     pub(crate) fn set_rate(&mut self, bay: u8, rate: Rate) -> Reply
-        requires { IsRunning D.shown D.is_ready self.old }
-        ensures step { (told : Option Files) → Step (Request.SetRate bay rate) (state_of D.shown self.old) told
-            result (state_of D.shown self.new) told }
-        ensures running { IsRunning D.shown D.is_ready self.new }
+        ensures { (told : Option Files) → Step (Request.SetRate bay rate) self.old told result self.new told }
     {
         reply(self.station.set_rate(bay, rate))
     }
 
     /// Sets the number of attempts of the requests after it.
     pub(crate) fn set_tries(&mut self, tries: u8) -> Reply
-        requires running { IsRunning D.shown D.is_ready self.old }
         requires least { 1 ≤ tries }
         requires most { tries ≤ 10 }
-        ensures step { (told : Option Files)
-            → Step (Request.Tries tries) (state_of D.shown self.old) told result (state_of D.shown self.new) told }
-        ensures running { IsRunning D.shown D.is_ready self.new }
+        ensures { (told : Option Files) → Step (Request.Tries tries) self.old told result self.new told }
     {
         self.station.set_tries(tries);
         Reply::Done

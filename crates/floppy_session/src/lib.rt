@@ -2,6 +2,7 @@
 #![tactic(auto)]
 
 mod driver;
+mod labels;
 mod loading;
 mod media;
 mod memory;

@@ -22,8 +22,7 @@ pub fn load_medium<S: Shelf>(alloc: Global, shelf: &mut S, name: &Name) -> Resul
     ensures image { IfOk result (λ medium. IsImageOf (S.told shelf.old) name.now medium) }
     ensures cause { IfErr result (λ stop. (bay : ℕ) → StopCause (S.told shelf.old) (Request.Insert bay name.now) stop) }
     ensures stays { S.told shelf.new ≡ S.told shelf.old }
-    ensures faults { Blames (IsErrOf result Stop.FileFault) (S.fault_count shelf.old)
-        (S.fault_count shelf.new) }
+    ensures faults { Blames (IsErrOf result Stop.FileFault) (S.fault_count shelf.old) (S.fault_count shelf.new) }
 {
     let bytes = match shelf.load(alloc, name.as_str(), MOST_IMAGE_BYTES) {
         Ok(bytes) => bytes,
@@ -66,8 +65,7 @@ pub fn store_medium<S: Shelf>(
     ensures ok { OnOk result (S.told shelf.new ≡ stored (S.told shelf.old) name.now (file_of medium.now)) }
     ensures cause { IfErr result IsEndStop }
     ensures err { OnErr result (S.told shelf.new ≡ S.told shelf.old) }
-    ensures faults { Blames (IsErrOf result Stop.FileFault) (S.fault_count shelf.old)
-        (S.fault_count shelf.new) }
+    ensures faults { Blames (IsErrOf result Stop.FileFault) (S.fault_count shelf.old) (S.fault_count shelf.new) }
 {
     let bytes = write_image(alloc, medium)?;
     match shelf.store(name.as_str(), &bytes) {

@@ -11,14 +11,9 @@ use floppy_requests::Request;
 use sector_model::{Reply, Station, Stop};
 
 impl<D: Station> Session<D> {
-    ghost use Rattle.floppy_session.specs.Session.{state_of, shapes_of, IsRunning};
-
     /// Sets bytes of memory.
     pub(crate) fn fill(&mut self, address: u32, length: u32, byte: u8) -> Reply
-        requires { IsRunning D.shown D.is_ready self.old }
-        ensures step { (told : Option Files) → Step (Request.Fill address length byte) (state_of D.shown self.old)
-            told result (state_of D.shown self.new) told }
-        ensures running { IsRunning D.shown D.is_ready self.new }
+        ensures { (told : Option Files) → Step (Request.Fill address length byte) self.old told result self.new told }
     {
         if !is_range(address, length) {
             return bad_request();
@@ -29,11 +24,8 @@ impl<D: Station> Session<D> {
 
     /// Sets the bytes of a range of user memory.
     fn fill_range(&mut self, address: u32, length: u32, byte: u8)
-        requires ready { D.is_ready self.old.station }
-        requires range { address + length ≤ user_bytes }
-        ensures fills { Fills address length byte (state_of D.shown self.old) (state_of D.shown self.new) }
-        ensures shapes { shapes_of self.new ≡ shapes_of self.old }
-        ensures ready { D.is_ready self.new.station }
+        requires { address + length ≤ user_bytes }
+        ensures { Fills address length byte self.old self.new }
     {
         for i in 0..length {
             self.station.set_memory(address + i, byte);
@@ -42,10 +34,10 @@ impl<D: Station> Session<D> {
 
     /// The bytes of memory from the address on.
     pub(crate) fn dump(&self, address: u32, length: u32) -> Result<Reply, Stop>
-        ensures step { IfOk result (λ reply. (told : Option Files) → Step (Request.Dump address length) (state_of D.shown self.now)
-            told reply (state_of D.shown self.now) told) }
-        ensures stop { IfErr result (λ stop. (told : Option Files) → StopsAt (Request.Dump address length) (state_of D.shown self.now)
-            told stop (state_of D.shown self.now) told) }
+        ensures step { IfOk result (λ reply. (told : Option Files) → Step (Request.Dump address length) self.now
+            told reply self.now told) }
+        ensures stop { IfErr result (λ stop. (told : Option Files) → StopsAt (Request.Dump address length) self.now
+            told stop self.now told) }
         ensures memory { IsOkUnless result Stop.NoMemory }
     {
         if !is_range(address, length) {
@@ -58,7 +50,7 @@ impl<D: Station> Session<D> {
     /// The bytes of a range of user memory.
     fn bytes_from(&self, address: u32, length: u32) -> Result<Bytes, NoMemory>
         requires { address + length ≤ user_bytes }
-        ensures { IfOk result (λ content. content ≡ bytes_from (state_of D.shown self.now).station.memory address length) }
+        ensures { IfOk result (λ content. content ≡ bytes_from self.now.station.memory address length) }
     {
         let mut content = Vec::with_capacity(self.alloc, length as usize)?;
         for i in 0..length {

@@ -50,16 +50,12 @@ fn ack_code(called: Result<(), Code>) -> u8
 }
 
 impl<D: Station> Session<D> {
-    ghost use Rattle.floppy_session.specs.Session.{state_of, IsRunning};
-
     /// Serves a call of INT 13h (PC/AT), with the service that keeps the status. Records go one after the other by reads and
     /// writes, up to the first that is refused. A bay that isn't acknowledged is acknowledged first, and the call then moves no
     /// record. A verify leaves memory as it was. It takes no memory.
     pub fn int13(&mut self, front: &mut Int13, regs: Regs) -> Regs
-        requires { IsRunning D.shown D.is_ready self.old }
-        ensures serves { (told : Option Files) → (course : List Taken) × Serves front.old regs (state_of D.shown self.old) told
-            result front.new course (state_of D.shown self.new) }
-        ensures running { IsRunning D.shown D.is_ready self.new }
+        ensures { (told : Option Files) → (course : List Taken) × Serves front.old regs self.old told
+            result front.new course self.new }
     {
         let Outcome { code, moved } = self.do_work(front.plan(regs));
         front.finish(regs, code, moved)
@@ -67,12 +63,10 @@ impl<D: Station> Session<D> {
 
     /// Does the work of a call.
     fn do_work(&mut self, work: Work) -> Outcome
-        requires running { IsRunning D.shown D.is_ready self.old }
-        requires doable { IsDoable work }
-        ensures does { (told : Option Files) → (course : List Taken) × DoesWork work (state_of D.shown self.old) told course
-            result.code result.moved (state_of D.shown self.new) }
+        requires { IsDoable work }
+        ensures does { (told : Option Files) → (course : List Taken) × DoesWork work self.old told course
+            result.code result.moved self.new }
         ensures answer { IsAnswerTo work result.code result.moved }
-        ensures running { IsRunning D.shown D.is_ready self.new }
     {
         match work {
             Work::Answer { code } => Outcome { code, moved: 0 },
@@ -102,22 +96,18 @@ impl<D: Station> Session<D> {
 
     /// Whether the bay isn't acknowledged.
     fn is_changed(&mut self, bay: u8) -> bool
-        requires running { IsRunning D.shown D.is_ready self.old }
-        requires bay { bay ≤ 1 }
-        ensures value { result ≡ not (is_acknowledged (state_of D.shown self.old).station bay) }
-        ensures same { IsSame (state_of D.shown self.old) (state_of D.shown self.new) }
-        ensures running { IsRunning D.shown D.is_ready self.new }
+        requires { bay ≤ 1 }
+        ensures value { result ≡ not (is_acknowledged self.old.station bay) }
+        ensures same { IsSame self.old self.new }
     {
         self.station.changed(bay)
     }
 
     /// The code that tells whether the bay isn't acknowledged.
     fn change_code(&mut self, bay: u8) -> u8
-        requires running { IsRunning D.shown D.is_ready self.old }
-        requires bay { bay ≤ 1 }
-        ensures value { result ≡ (if is_acknowledged (state_of D.shown self.old).station bay then 0x00 else 0x06) }
-        ensures same { IsSame (state_of D.shown self.old) (state_of D.shown self.new) }
-        ensures running { IsRunning D.shown D.is_ready self.new }
+        requires { bay ≤ 1 }
+        ensures value { result ≡ (if is_acknowledged self.old.station bay then 0x00 else 0x06) }
+        ensures same { IsSame self.old self.new }
     {
         if self.is_changed(bay) {
             Code::Changed.number()
@@ -128,12 +118,10 @@ impl<D: Station> Session<D> {
 
     /// Moves the records of a transfer, or acknowledges the bay where that has to come first.
     fn transfer(&mut self, kind: Kind, bay: u8, first: Chrn, count: u8, address: u32) -> Outcome
-        requires running { IsRunning D.shown D.is_ready self.old }
         requires transfer { IsTransfer kind bay first.c first.h first.r count address }
         requires size { first.n ≡ 2 }
-        ensures transfers { (told : Option Files) → (course : List Taken) × Transfers kind bay first count address
-            (state_of D.shown self.old) told course result.code result.moved (state_of D.shown self.new) }
-        ensures running { IsRunning D.shown D.is_ready self.new }
+        ensures { (told : Option Files) → (course : List Taken) × Transfers kind bay first count address
+            self.old told course result.code result.moved self.new }
     {
         if self.is_changed(bay) {
             return self.acknowledge_alone(bay);
@@ -146,11 +134,9 @@ impl<D: Station> Session<D> {
 
     /// Acknowledges a bay, for a call that moves no record.
     fn acknowledge_alone(&mut self, bay: u8) -> Outcome
-        requires running { IsRunning D.shown D.is_ready self.old }
-        requires bay { bay ≤ 1 }
-        ensures acks { (told : Option Files) → (course : List Taken) × AcksAlone bay (state_of D.shown self.old) told course
-            result.code result.moved (state_of D.shown self.new) }
-        ensures running { IsRunning D.shown D.is_ready self.new }
+        requires { bay ≤ 1 }
+        ensures { (told : Option Files) → (course : List Taken) × AcksAlone bay self.old told course
+            result.code result.moved self.new }
     {
         Outcome {
             code: ack_code(self.acknowledge(bay)),
@@ -160,13 +146,9 @@ impl<D: Station> Session<D> {
 
     /// Reads a record, whatever its mark.
     fn read_any(&mut self, bay: u8, key: Chrn, address: u32) -> Result<(), Code>
-        requires { IsRunning D.shown D.is_ready self.old }
-        ensures moves { (told : Option Files) → MovesRecord (Request.Read bay key address) (state_of D.shown self.old) told
-            result (state_of D.shown self.new) }
-        ensures outside { key.n ≡ 2 → address + 512 ≤ length (state_of D.shown self.old).station.memory
-            → SameOutside address 512 (state_of D.shown self.old).station.memory
-            (state_of D.shown self.new).station.memory }
-        ensures running { IsRunning D.shown D.is_ready self.new }
+        ensures moves { (told : Option Files) → MovesRecord (Request.Read bay key address) self.old told result self.new }
+        ensures outside { key.n ≡ 2 → address + 512 ≤ length self.old.station.memory
+            → SameOutside address 512 self.old.station.memory self.new.station.memory }
     {
         match self.read_record(bay, key, address) {
             Ok(_) => Ok(()),
@@ -176,14 +158,9 @@ impl<D: Station> Session<D> {
 
     /// Moves a record.
     fn move_record(&mut self, kind: Kind, bay: u8, key: Chrn, address: u32) -> Result<(), Code>
-        requires { IsRunning D.shown D.is_ready self.old }
-        ensures moves { (told : Option Files) → MovesRecord (record_request kind bay key address) (state_of D.shown self.old) told
-            result (state_of D.shown self.new) }
-        ensures outside { kind ≡ Kind.Verify → key.n ≡ 2
-            → address + 512 ≤ length (state_of D.shown self.old).station.memory
-            → SameOutside address 512 (state_of D.shown self.old).station.memory
-            (state_of D.shown self.new).station.memory }
-        ensures running { IsRunning D.shown D.is_ready self.new }
+        ensures moves { (told : Option Files) → MovesRecord (record_request kind bay key address) self.old told result self.new }
+        ensures outside { kind ≡ Kind.Verify → key.n ≡ 2 → address + 512 ≤ length self.old.station.memory
+            → SameOutside address 512 self.old.station.memory self.new.station.memory }
     {
         match kind {
             Kind::Read | Kind::Verify => self.read_any(bay, key, address),
@@ -193,16 +170,13 @@ impl<D: Station> Session<D> {
 
     /// Moves records one after the other, up to the first that is refused.
     fn move_records(&mut self, kind: Kind, bay: u8, first: Chrn, count: u8, address: u32) -> Outcome
-        requires running { IsRunning D.shown D.is_ready self.old }
         requires size { first.n ≡ 2 }
         requires last { first.r + count ≤ 256 }
         requires within { address ≤ user_bytes }
         ensures moves { (told : Option Files) → (course : List Taken) × MovesRecords (record_requests kind bay first address count)
-            (state_of D.shown self.old) told course result.code result.moved (state_of D.shown self.new) }
-        ensures outside { kind ≡ Kind.Verify → address + 512 ≤ length (state_of D.shown self.old).station.memory
-            → SameOutside address 512 (state_of D.shown self.old).station.memory
-            (state_of D.shown self.new).station.memory }
-        ensures running { IsRunning D.shown D.is_ready self.new }
+            self.old told course result.code result.moved self.new }
+        ensures outside { kind ≡ Kind.Verify → address + 512 ≤ length self.old.station.memory
+            → SameOutside address 512 self.old.station.memory self.new.station.memory }
     {
         for i in 0..count {
             let key = Chrn {
@@ -227,14 +201,12 @@ impl<D: Station> Session<D> {
 
     /// Reads records to an address one after the other, up to the first that is refused, and puts the bytes there back.
     fn verify_records(&mut self, bay: u8, first: Chrn, count: u8, address: u32) -> Outcome
-        requires running { IsRunning D.shown D.is_ready self.old }
         requires size { first.n ≡ 2 }
         requires last { first.r + count ≤ 256 }
         requires within { address + 512 ≤ user_bytes }
-        ensures verifies { (told : Option Files) → (course : List Taken)
-            × VerifiesRecords address (record_requests Kind.Verify bay first address count) (state_of D.shown self.old) told course
-            result.code result.moved (state_of D.shown self.new) }
-        ensures running { IsRunning D.shown D.is_ready self.new }
+        ensures { (told : Option Files) → (course : List Taken)
+            × VerifiesRecords address (record_requests Kind.Verify bay first address count) self.old told course
+            result.code result.moved self.new }
     {
         let kept = self.bytes_at(address);
         let outcome = self.move_records(Kind::Verify, bay, first, count, address);
@@ -245,8 +217,8 @@ impl<D: Station> Session<D> {
     /// The bytes of memory that a record takes from an address on.
     fn bytes_at(&self, address: u32) -> [u8; RECORD_BYTES]
         requires { address + 512 ≤ user_bytes }
-        ensures bytes { result ≡ bytes_from (state_of D.shown self.now).station.memory address 512 }
-        ensures room { address + 512 ≤ length (state_of D.shown self.now).station.memory }
+        ensures bytes { result ≡ bytes_from self.now.station.memory address 512 }
+        ensures room { address + 512 ≤ length self.now.station.memory }
     {
         let mut kept = [self.station.memory(address); RECORD_BYTES];
         for i in 1..RECORD_BYTES {
@@ -257,14 +229,11 @@ impl<D: Station> Session<D> {
 
     /// Puts bytes to memory from an address on.
     fn put_back(&mut self, address: u32, kept: &[u8; RECORD_BYTES])
-        requires running { IsRunning D.shown D.is_ready self.old }
         requires within { address + 512 ≤ user_bytes }
-        requires room { address + 512 ≤ length (state_of D.shown self.old).station.memory }
+        requires room { address + 512 ≤ length self.old.station.memory }
         ensures puts { (told : Option Files) → (course : List Taken) × AreDone (put_requests address kept.now)
-            (state_of D.shown self.old) told course (state_of D.shown self.new) }
-        ensures memory { (state_of D.shown self.new).station.memory
-            ≡ with_items (state_of D.shown self.old).station.memory address kept.now }
-        ensures running { IsRunning D.shown D.is_ready self.new }
+            self.old told course self.new }
+        ensures memory { self.new.station.memory ≡ with_items self.old.station.memory address kept.now }
     {
         for i in 0..RECORD_BYTES {
             self.fill(address + i as u32, 1, kept[i]);

@@ -1,74 +1,75 @@
 // A session: a station, and the names under which the media in its bays are stored.
 ghost use Rattle.std.specs.Prelude.{◌≡◌, ◌≤◌, IfOk, IfErr, OnOk, IsErrOf};
 ghost use Rattle.sector_model.specs.Stations.{IsFresh, bay_of};
-ghost use Rattle.sector_model.specs.States.{start_of};
+ghost use Rattle.sector_model.specs.States.{start_of, IsNamed};
 ghost use Rattle.sector_model.specs.Steps.{Step, StopsAt};
 ghost use Rattle.sector_model.specs.Runs.{Ends, EndStopsAt, IsEndStop};
 ghost use Rattle.sector_model.specs.Faults.{Blames};
 ghost use Rattle.floppy_session.specs.Tries.{HasTries};
 ghost use Rattle.floppy_session.specs.Shapes.{shape_in};
 
+use crate::labels::Labels;
 use crate::shape::Shape;
 use flop_base::{Code, Name, Rate, Shelf};
 use floppy_requests::Request;
 use sector_model::{Reason, Reply, Station, Stop};
 use std::alloc::Global;
+use std::marker::Model;
 
-/// A session over a station, which runs requests one after the other.
+/// A session over a station, which runs requests one after the other. To a contract it is its state.
 #[derive(Drop)]
-pub struct Session<D> {
+pub struct Session<D: Station> {
     pub(crate) alloc: Global,
     pub(crate) station: D,
-    /// The name of the medium in bay 0.
-    pub(crate) name0: Option<Name>,
-    /// The name of the medium in bay 1.
-    pub(crate) name1: Option<Name>,
-    /// The shape of the medium in bay 0.
-    pub(crate) shape0: Option<Shape>,
-    /// The shape of the medium in bay 1.
-    pub(crate) shape1: Option<Shape>,
+    pub(crate) labels: Labels,
+}
+
+impl<D: Station> Model for Session<D> {
+    ghost use Rattle.sector_model.specs.States.{State};
+
+    ghost Value = { State };
+
+    ghost use Rattle.floppy_session.specs.Session.{state_of, IsRunning};
+
+    ghost view = { λ s. state_of (D.shown s.station) s.labels };
+
+    ghost invariant = { λ s. IsRunning (D.is_ready s.station) (D.shown s.station) s.labels };
 }
 
 impl<D: Station> Session<D> {
-    ghost use Rattle.floppy_session.specs.Session.{state_of, IsRunning};
-
     /// A session over a station that is as it comes.
     pub fn new(alloc: Global, station: D) -> Session<D>
         requires fresh { IsFresh (D.shown station) }
         requires ready { D.is_ready station }
-        ensures start { state_of D.shown result ≡ start_of (D.shown station) }
-        ensures running { IsRunning D.shown D.is_ready result }
+        ensures { result ≡ start_of (D.shown station) }
     {
         Session {
             alloc,
             station,
-            name0: None,
-            name1: None,
-            shape0: None,
-            shape1: None,
+            labels: Labels::none(),
         }
     }
 
-    /// The station under the session: its bays, its memory and its counts.
+    /// The station under the session: its bays, its memory and its counts. A bay has a name exactly where it has a medium.
     pub fn station(&self) -> &D
-        ensures { D.shown result.now ≡ (state_of D.shown self.now).station }
+        ensures shown { D.shown result.now ≡ self.now.station }
+        ensures named { IsNamed self.now }
     {
         &self.station
     }
 
     /// The shape of the medium in a bay; nothing where none is in.
     pub fn shape(&self, bay: u8) -> Option<Shape>
-        requires running { IsRunning D.shown D.is_ready self.now }
-        requires bay { bay ≤ 1 }
-        ensures { result ≡ shape_in (bay_of (state_of D.shown self.now).station bay) }
+        requires { bay ≤ 1 }
+        ensures { result ≡ shape_in (bay_of self.now.station bay) }
     {
-        if bay == 0 { self.shape0 } else { self.shape1 }
+        self.labels.shape(bay)
     }
 
     /// The station alone. The names are dropped.
     pub fn into_station(self) -> D
-        ensures shown { D.shown result ≡ (state_of D.shown self).station }
-        ensures ready { IsRunning D.shown D.is_ready self → D.is_ready result }
+        ensures shown { D.shown result ≡ self.station }
+        ensures ready { D.is_ready result }
     {
         let Session { station, .. } = self;
         station
@@ -76,15 +77,10 @@ impl<D: Station> Session<D> {
 
     /// Runs one request. A refusal is a reply, and the next request may follow; an error is what stops the whole run.
     pub fn run<S: Shelf>(&mut self, shelf: &mut S, request: &Request) -> Result<Reply, Stop>
-        requires running { IsRunning D.shown D.is_ready self.old }
-        requires tries { HasTries request.now }
-        ensures step { IfOk result (λ reply. Step request.now (state_of D.shown self.old) (S.told shelf.old) reply
-            (state_of D.shown self.new) (S.told shelf.new)) }
-        ensures stop { IfErr result (λ stop. StopsAt request.now (state_of D.shown self.old) (S.told shelf.old) stop
-            (state_of D.shown self.new) (S.told shelf.new)) }
-        ensures running { IsRunning D.shown D.is_ready self.new }
-        ensures faults { Blames (IsErrOf result Stop.FileFault) (S.fault_count shelf.old)
-            (S.fault_count shelf.new) }
+        requires { HasTries request.now }
+        ensures step { IfOk result (λ reply. Step request.now self.old (S.told shelf.old) reply self.new (S.told shelf.new)) }
+        ensures stop { IfErr result (λ stop. StopsAt request.now self.old (S.told shelf.old) stop self.new (S.told shelf.new)) }
+        ensures faults { Blames (IsErrOf result Stop.FileFault) (S.fault_count shelf.old) (S.fault_count shelf.new) }
     {
         match request {
             Request::Insert { bay, name } => self.insert(shelf, *bay, name),
@@ -121,14 +117,10 @@ impl<D: Station> Session<D> {
     /// Ends a run: the medium of bay 0, and then that of bay 1, is taken out and stored under its name. An error drops
     /// the medium that wasn't stored; where it was bay 0's, bay 1 stays as it is.
     pub fn end<S: Shelf>(&mut self, shelf: &mut S) -> Result<(), Stop>
-        requires { IsRunning D.shown D.is_ready self.old }
-        ensures ends { OnOk result (Ends (state_of D.shown self.old) (S.told shelf.old) (state_of D.shown self.new)
-            (S.told shelf.new)) }
-        ensures stop { IfErr result (λ stop. IsEndStop stop × EndStopsAt (state_of D.shown self.old) (S.told shelf.old)
-            (state_of D.shown self.new) (S.told shelf.new)) }
-        ensures running { IsRunning D.shown D.is_ready self.new }
-        ensures faults { Blames (IsErrOf result Stop.FileFault) (S.fault_count shelf.old)
-            (S.fault_count shelf.new) }
+        ensures ends { OnOk result (Ends self.old (S.told shelf.old) self.new (S.told shelf.new)) }
+        ensures stop { IfErr result (λ stop. IsEndStop stop × EndStopsAt self.old (S.told shelf.old)
+            self.new (S.told shelf.new)) }
+        ensures faults { Blames (IsErrOf result Stop.FileFault) (S.fault_count shelf.old) (S.fault_count shelf.new) }
     {
         self.end_bay(shelf, 0)?;
         self.end_bay(shelf, 1)

@@ -9,7 +9,7 @@ use Rattle.sector_model.specs.States.{State}
 use Rattle.machine_station.specs.Shown.{ShowsStation}
 use Rattle.machine_station.specs.Started.{Starts}
 use Rattle.floppy_words.specs.declared.form.Form.{Form}
-use Rattle.disk_commands.specs.Commands.{Runs}
+use Rattle.scripts.specs.Leading.{Runs}
 use Rattle.archive_commands.specs.Files.{Desk}
 use Rattle.floppy_forms.specs.Rounds.{world}
 use Rattle.floppy_forms.specs.Programs.{Does}

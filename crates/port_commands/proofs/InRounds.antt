@@ -18,10 +18,11 @@ use Rattle.floppy_report.proofs.DumpLines.{grown-twice, grown-nothing}
 use Rattle.sector_model.specs.Texts.{stop_text, stop_status, bad_line_text}
 use Rattle.sector_model.specs.Plays.{Prints, IsText, whole_status}
 use Rattle.pc_bus.specs.Boards.{Board}
+use Rattle.scripts.specs.Texts.{MissesText}
 use Rattle.port_commands.specs.Benches.{Bench, Names}
 use Rattle.port_commands.specs.Courses.{Taken, PortRun, lines_of, course_text, has_refusal}
 use Rattle.port_commands.specs.Lines.{DoesLine, is_refusal}
-use Rattle.port_commands.specs.Plays.{World, IsRound, Breaks, AtStop, AtPut, HasRun, HasPlayed, PlaysLines, Played, Stopped, BrokenOff, EndStopped, EndsAs, InWhole, AtStore, Tells, PlaysParsed, PlaysOrStarves, AsParsed, Starving, Plays, There, Missing, TooLong, Faulty, Starved, Misses}
+use Rattle.port_commands.specs.Plays.{World, IsRound, Breaks, AtStop, AtPut, HasRun, HasPlayed, PlaysLines, Played, Stopped, BrokenOff, EndStopped, EndsAs, InWhole, AtStore, Tells, PlaysParsed, PlaysOrStarves, AsParsed, Starving, Plays, There, Missing, TooLong, Faulty, Starved}
 use Rattle.port_commands.specs.Texts.{answer_text}
 
 -- ---- one line more at the end of a course
@@ -181,7 +182,7 @@ abbrev pub world_with : Board → Names → Option Files → Option (List ℕ) �
 world_with board names files report = record { bench = record { board = board; names = names; files = files }; report = report }
 
 -- a run whose text wasn't had
-as_missed : (board : Board) (names : Names) (told : Option Files) (report after : Option (List ℕ)) (name : List ℕ) (error : LoadError) (ended : Status) → IfSome told (λ files. Loads files name 4194304 (Err error)) → Misses error name report after ended → (course : List Taken) × Plays name (world_with board names told report) course (world_with board names told after) ended
+as_missed : (board : Board) (names : Names) (told : Option Files) (report after : Option (List ℕ)) (name : List ℕ) (error : LoadError) (ended : Status) → IfSome told (λ files. Loads files name 4194304 (Err error)) → MissesText error name report after ended → (course : List Taken) × Plays name (world_with board names told report) course (world_with board names told after) ended
 as_missed board names None report after name load.Absent ended loads missed = ([], Missing tt (record { nothing = refl; tells = record { bench = refl; prints = missed } }))
 as_missed board names (Some files) report after name load.Absent ended loads missed = ([], Missing loads (record { nothing = refl; tells = record { bench = refl; prints = missed } }))
 as_missed board names None report after name load.TooLong ended loads missed = ([], TooLong tt (record { nothing = refl; tells = record { bench = refl; prints = missed } }))
@@ -199,7 +200,7 @@ text_plays board names told loaded report new name text bytes ended stays same l
 )
 
 -- a file that wasn't loaded
-pub missed_plays : (board : Board) (names : Names) (told loaded : Option Files) (report after : Option (List ℕ)) (name : List ℕ) (error : LoadError) (ended : Status) → loaded ≡ told → IfSome told (λ files. Loads files name 4194304 (Err error)) → Misses error name report after ended → (course : List Taken) × Plays name (world_with board names told report) course (world_with board names loaded after) ended
+pub missed_plays : (board : Board) (names : Names) (told loaded : Option Files) (report after : Option (List ℕ)) (name : List ℕ) (error : LoadError) (ended : Status) → loaded ≡ told → IfSome told (λ files. Loads files name 4194304 (Err error)) → MissesText error name report after ended → (course : List Taken) × Plays name (world_with board names told report) course (world_with board names loaded after) ended
 missed_plays board names told loaded report after name error ended stays loads missed =
     subst (λ (files : Option Files). (course : List Taken) × Plays name (world_with board names told report) course (world_with board names files after) ended) (sym stays)
     (as_missed board names told report after name error ended loads missed)

@@ -1,6 +1,8 @@
 -- Lines done one after the other, with the text that tells their answers; and the end, which stores what is left in.
-use Rattle.std.specs.Prelude.{◌≡◌, ℕ, ◌+◌, Bool, true, false, ◌||◌, List, [], ◌∷◌, ◌++◌, map}
+use Rattle.std.specs.Prelude.{◌≡◌, ℕ, ◌+◌, Bool, true, false, ◌||◌, List, [], ◌∷◌, ◌++◌, map, Result, Ok, Err}
 use Rattle.floppy_jobs.specs.declared.ports.PortLine.{PortLine}
+use Rattle.sector_model.specs.declared.reply.Stop.{Stop}
+use Rattle.sector_model.specs.Runs.{IsEndStop}
 use Rattle.port_commands.specs.declared.answer.Answer.{Answer}
 use Rattle.port_commands.specs.Benches.{Bench, is_loaded}
 use Rattle.port_commands.specs.Lines.{DoesLine, StoresMedium, DropsMedium, is_refusal, waits_in}
@@ -56,3 +58,13 @@ pub record Ends (old new : Bench) : Type 0 where
 pub data EndStopsAt (old new : Bench) : Type 0 where
   AtFirst : DropsMedium 0 old new → EndStopsAt old new
   AtSecond : (mid : Bench) → EndsBay 0 old mid → DropsMedium 1 mid new → EndStopsAt old new
+
+-- a bay came to its end, or its medium was dropped
+abbrev pub BayGoes : ℕ → Bench → Result (Unit {0}) Stop → Bench → Type 0
+BayGoes bay old (Ok done) new = EndsBay bay old new
+BayGoes bay old (Err cause) new = IsEndStop cause × DropsMedium bay old new
+
+-- so did a run
+abbrev pub EndGoes : Bench → Result (Unit {0}) Stop → Bench → Type 0
+EndGoes old (Ok done) new = Ends old new
+EndGoes old (Err cause) new = IsEndStop cause × EndStopsAt old new

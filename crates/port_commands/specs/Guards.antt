@@ -5,7 +5,7 @@ use Rattle.flop_base.specs.declared.answers.Status.{Status}
 use Rattle.drive_model.specs.Drive.{is_protected}
 use Rattle.pc_bus.specs.Boards.{Board, drive_in}
 use Rattle.machine_laws.specs.OnWrites.Guards.{GuardsMedia}
-use Rattle.port_commands.specs.Benches.{Bench}
+use Rattle.port_commands.specs.Benches.{Bench, Names}
 use Rattle.port_commands.specs.Courses.{Taken, waits_of}
 use Rattle.port_commands.specs.Lines.{leaves_bay}
 use Rattle.port_commands.specs.Plays.{World, Plays}
@@ -41,3 +41,11 @@ pub record RunsPorts (name : List ℕ) (old new : World) (ended : Status) : Type
   pub plays : Plays name old course new ended
   pub steps : RoseBy (waits_of course) old.bench.board.bus.steps new.bench.board.bus.steps
   pub media : GuardsCourse old.bench course
+
+-- a world whose media are in under these names
+abbrev pub with_names : Names → World → World
+with_names names world = record world { bench = record world.bench { names = names } }
+
+-- a file of port accesses is run on a machine whose media are in under no names, and those that are then in have some
+abbrev pub RunsBare : List ℕ → World → World → Status → Type 0
+RunsBare name old new ended = (names : Names) × RunsPorts name old (with_names names new) ended

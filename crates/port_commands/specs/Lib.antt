@@ -2,5 +2,6 @@ pub mod Benches
 pub mod Lines
 pub mod Courses
 pub mod Plays
+pub mod Faults
 pub mod Guards
 pub mod Texts

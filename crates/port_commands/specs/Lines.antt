@@ -1,5 +1,5 @@
 -- What each line does, by its call of the machine.
-use Rattle.std.specs.Prelude.{◌≡◌, ℕ, Bool, true, false, not, ◌==◌, List, Option, Some, None, if◌then◌else◌}
+use Rattle.std.specs.Prelude.{◌≡◌, ℕ, Bool, true, false, not, ◌==◌, List, Option, Some, None, Result, Ok, Err, if◌then◌else◌}
 use Rattle.std.specs.Option.{MatchOption}
 use Rattle.bay_model.specs.Bays.{in_bay, with_bay}
 use Rattle.flop_base.specs.Shelf.{stored}
@@ -104,6 +104,16 @@ StopsAt (line.Insert bay name) old cause new =
 StopsAt (line.Eject bay) old cause new =
     (eject_refusal old.names bay ≡ None) × IsEndStop cause × DropsMedium bay old new
 StopsAt _ old cause new = ⊥
+
+-- a line is done, or stops the run
+abbrev pub LineGoes : PortLine → Bench → Result Answer Stop → Bench → Type 0
+LineGoes asked old (Ok said) new = DoesLine asked old said new
+LineGoes asked old (Err cause) new = StopsAt asked old cause new
+
+-- a loaded bay's medium was taken out and stored, or dropped
+abbrev pub StoresOrDrops : ℕ → Bench → Result (Unit {0}) Stop → Bench → Type 0
+StoresOrDrops bay old (Ok done) new = StoresMedium bay old new
+StoresOrDrops bay old (Err cause) new = IsEndStop cause × DropsMedium bay old new
 
 -- the answer is a refusal
 abbrev pub is_refusal : Answer → Bool

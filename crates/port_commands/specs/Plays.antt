@@ -2,8 +2,6 @@
 use Rattle.std.specs.Prelude.{◌≡◌, ◌≢◌, ℕ, Bool, List, [], ◌∷◌, ◌++◌, Option, Result, Ok, Err}
 use Rattle.flop_base.specs.Shelf.{Files}
 use Rattle.flop_base.specs.Sink.{grown, GrowsByPart}
-use Rattle.flop_base.specs.declared.answers.LoadError.{LoadError}
-use Rattle.flop_base.specs.declared.answers.LoadError.TheVariants as load
 use Rattle.flop_base.specs.declared.answers.Status.{Status}
 use Rattle.flop_base.specs.declared.answers.Status.TheVariants as status
 use Rattle.floppy_jobs.specs.Texts.{ports_of}
@@ -46,6 +44,11 @@ pub data Breaks (asked : PortLine) (old new : World) (ended : Status) : Type 0 w
       → Prints (stop_text cause) (stop_status cause) old.report new.report ended → Breaks asked old new ended
   AtPut : (said : Answer) → said ≢ answer.Nothing → DoesLine asked old.bench said new.bench
       → GrowsByPart old.report (answer_text asked said) new.report → IsPutFault ended → Breaks asked old new ended
+
+-- a line was done and told whole, or broke off
+abbrev pub RoundGoes : PortLine → World → Result Bool Status → World → Type 0
+RoundGoes asked old (Ok refused) new = IsRound asked old refused new
+RoundGoes asked old (Err ended) new = Breaks asked old new ended
 
 -- ---- all lines
 
@@ -114,6 +117,11 @@ pub data PlaysLines (lines : List PortLine) (old : World) (course : List Taken) 
 abbrev pub HasPlayed : List PortLine → World → World → Status → Type 0
 HasPlayed lines old new ended = (course : List Taken) × PlaysLines lines old course new ended
 
+-- lines were done and told whole, or played up to what stopped them
+abbrev pub RoundsGo : List PortLine → World → Result Bool Status → World → Type 0
+RoundsGo lines old (Ok refused) new = HasRun lines old refused new
+RoundsGo lines old (Err ended) new = HasPlayed lines old new ended
+
 -- the end of a run: what was left in was stored, or a stop came at a store
 pub data EndsAs (refused : Bool) (old new : Bench) (ended : Status) : Type 0 where
   InWhole : Ends old new → ended ≡ whole_status refused → EndsAs refused old new ended
@@ -147,6 +155,10 @@ pub data PlaysOrStarves (text : List ℕ) (old : World) (course : List Taken) (n
   AsParsed : PlaysParsed (ports_of text) old course new ended → PlaysOrStarves text old course new ended
   Starving : IsIdle old course new status.NoMemory ended → PlaysOrStarves text old course new ended
 
+-- a text is played so, by some course
+abbrev pub PlaysGiven : List ℕ → World → World → Status → Type 0
+PlaysGiven text old new ended = (course : List Taken) × PlaysOrStarves text old course new ended
+
 -- the text is there, and is played as it is parsed
 pub record PlaysText (name : List ℕ) (old : World) (course : List Taken) (new : World) (ended : Status) : Type 0 where
   pub text : List ℕ
@@ -163,10 +175,3 @@ pub data Plays (name : List ℕ) (old : World) (course : List Taken) (new : Worl
       → Plays name old course new ended
   Faulty : IsIdle old course new status.FileFault ended → Plays name old course new ended
   Starved : IsIdle old course new status.NoMemory ended → Plays name old course new ended
-
--- why a text wasn't had, and what was printed of it
-abbrev pub Misses : LoadError → List ℕ → Option (List ℕ) → Option (List ℕ) → Status → Type 0
-Misses load.Absent name old new ended = Prints (absent_text name) status.Absent old new ended
-Misses load.TooLong name old new ended = Prints (bad_line_text 0) status.BadJob old new ended
-Misses load.Failed name old new ended = (new ≡ old) × (ended ≡ status.FileFault)
-Misses load.NoMemory name old new ended = (new ≡ old) × (ended ≡ status.NoMemory)

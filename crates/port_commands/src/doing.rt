@@ -1,9 +1,8 @@
 // Each line by its call of the machine.
-ghost use Rattle.std.specs.Prelude.{IfOk, IfErr, IsErrOf};
-ghost use Rattle.sector_model.specs.Faults.{Blames};
 ghost use Rattle.pc_bus.specs.Boards.{board};
-ghost use Rattle.port_commands.specs.Benches.{AreNamed, bench_of};
-ghost use Rattle.port_commands.specs.Lines.{DoesLine, ReadsPort, StopsAt};
+ghost use Rattle.port_commands.specs.Benches.{AreNamed};
+ghost use Rattle.port_commands.specs.Faults.{Handled, faulty_bench_of};
+ghost use Rattle.port_commands.specs.Lines.{LineGoes, ReadsPort};
 
 use crate::answer::Answer;
 use crate::media::{eject, insert};
@@ -24,13 +23,9 @@ pub(crate) fn do_line<S: Shelf, D: Drive>(
     shelf: &mut S,
 ) -> Result<Answer, Stop>
     requires { AreNamed names.old (board D.state machine.old) }
-    ensures does { IfOk result (λ said. DoesLine line.now
-        (bench_of D.state S.told machine.old names.old shelf.old) said (bench_of D.state S.told machine.new names.new shelf.new)) }
-    ensures stops { IfErr result (λ cause. StopsAt line.now
-        (bench_of D.state S.told machine.old names.old shelf.old) cause (bench_of D.state S.told machine.new names.new shelf.new)) }
-    ensures named { AreNamed names.new (board D.state machine.new) }
-    ensures faults { Blames (IsErrOf result Stop.FileFault) (S.fault_count shelf.old)
-        (S.fault_count shelf.new) }
+    ensures { Handled (LineGoes line.now)
+        (faulty_bench_of D.state S.told S.fault_count machine.old names.old shelf.old) result
+        (faulty_bench_of D.state S.told S.fault_count machine.new names.new shelf.new) }
 {
     match line {
         PortLine::In { port } => Ok(read(machine, *port)),

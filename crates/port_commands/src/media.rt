@@ -1,15 +1,14 @@
 // The lines that exchange media, and the end of a run.
-ghost use Rattle.std.specs.Prelude.{◌≡◌, ◌≤◌, false, true, IfOk, IfErr, OnOk, OnErr, IsErrOf};
-ghost use Rattle.sector_model.specs.Faults.{Blames};
-ghost use Rattle.sector_model.specs.Runs.{IsEndStop};
+ghost use Rattle.std.specs.Prelude.{◌≡◌, ◌≤◌, false, true};
 ghost use Rattle.floppy_jobs.specs.declared.ports.PortLine.TheVariants as line;
 ghost use Rattle.drive_model.specs.Drive.{Becomes, loaded};
 ghost use Rattle.bay_model.specs.Bays.{with_bay};
 ghost use Rattle.pc_bus.specs.Boards.{board, drive_in};
 ghost use Rattle.pc_bus.specs.Handling.{Touches};
-ghost use Rattle.port_commands.specs.Benches.{AreNamed, bench_of, is_loaded as is_loaded_in};
-ghost use Rattle.port_commands.specs.Lines.{DoesLine, StopsAt, StoresMedium, DropsMedium};
-ghost use Rattle.port_commands.specs.Courses.{Ends, EndsBay, EndStopsAt};
+ghost use Rattle.port_commands.specs.Benches.{AreNamed, is_loaded as is_loaded_in};
+ghost use Rattle.port_commands.specs.Faults.{Handled, faulty_bench_of};
+ghost use Rattle.port_commands.specs.Lines.{LineGoes, StoresOrDrops};
+ghost use Rattle.port_commands.specs.Courses.{BayGoes, EndGoes};
 
 use crate::answer::Answer;
 use crate::names::Names;
@@ -31,13 +30,9 @@ pub(crate) fn insert<S: Shelf, D: Drive>(
     shelf: &mut S,
 ) -> Result<Answer, Stop>
     requires { AreNamed names.old (board D.state machine.old) }
-    ensures does { IfOk result (λ said. DoesLine (line.Insert bay name.now)
-        (bench_of D.state S.told machine.old names.old shelf.old) said (bench_of D.state S.told machine.new names.new shelf.new)) }
-    ensures stops { IfErr result (λ cause. StopsAt (line.Insert bay name.now)
-        (bench_of D.state S.told machine.old names.old shelf.old) cause (bench_of D.state S.told machine.new names.new shelf.new)) }
-    ensures named { AreNamed names.new (board D.state machine.new) }
-    ensures faults { Blames (IsErrOf result Stop.FileFault) (S.fault_count shelf.old)
-        (S.fault_count shelf.new) }
+    ensures { Handled (LineGoes (line.Insert bay name.now))
+        (faulty_bench_of D.state S.told S.fault_count machine.old names.old shelf.old) result
+        (faulty_bench_of D.state S.told S.fault_count machine.new names.new shelf.new) }
 {
     if bay > 1 {
         return Ok(Answer::Refused(Reason::Driver(Code::BadRequest)));
@@ -83,13 +78,9 @@ pub(crate) fn eject<S: Shelf, D: Drive>(
     shelf: &mut S,
 ) -> Result<Answer, Stop>
     requires { AreNamed names.old (board D.state machine.old) }
-    ensures does { IfOk result (λ said. DoesLine (line.Eject bay)
-        (bench_of D.state S.told machine.old names.old shelf.old) said (bench_of D.state S.told machine.new names.new shelf.new)) }
-    ensures stops { IfErr result (λ cause. StopsAt (line.Eject bay)
-        (bench_of D.state S.told machine.old names.old shelf.old) cause (bench_of D.state S.told machine.new names.new shelf.new)) }
-    ensures named { AreNamed names.new (board D.state machine.new) }
-    ensures faults { Blames (IsErrOf result Stop.FileFault) (S.fault_count shelf.old)
-        (S.fault_count shelf.new) }
+    ensures { Handled (LineGoes (line.Eject bay))
+        (faulty_bench_of D.state S.told S.fault_count machine.old names.old shelf.old) result
+        (faulty_bench_of D.state S.told S.fault_count machine.new names.new shelf.new) }
 {
     if bay > 1 {
         return Ok(Answer::Refused(Reason::Driver(Code::BadRequest)));
@@ -112,18 +103,14 @@ fn take_out<S: Shelf, D: Drive>(
     requires named { AreNamed names.old (board D.state machine.old) }
     requires bay { bay ≤ 1 }
     requires loaded { is_loaded_in names.old bay ≡ true }
-    ensures ok { OnOk result (StoresMedium bay (bench_of D.state S.told machine.old names.old shelf.old)
-        (bench_of D.state S.told machine.new names.new shelf.new)) }
-    ensures err { OnErr result (DropsMedium bay (bench_of D.state S.told machine.old names.old shelf.old)
-        (bench_of D.state S.told machine.new names.new shelf.new)) }
-    ensures cause { IfErr result IsEndStop }
-    ensures named { AreNamed names.new (board D.state machine.new) }
-    ensures faults { Blames (IsErrOf result Stop.FileFault) (S.fault_count shelf.old)
-        (S.fault_count shelf.new) }
+    ensures { Handled (StoresOrDrops bay)
+        (faulty_bench_of D.state S.told S.fault_count machine.old names.old shelf.old) result
+        (faulty_bench_of D.state S.told S.fault_count machine.new names.new shelf.new) }
 {
     let name = names.take(bay).unwrap();
     let medium = machine.eject(bay).unwrap();
-    store_medium(alloc, shelf, &name, &medium)
+    store_medium(alloc, shelf, &name, &medium)?;
+    Ok(())
 }
 
 /// Takes the medium out of a bay, if one is in, and stores its image under its name.
@@ -136,14 +123,9 @@ fn end_bay<S: Shelf, D: Drive>(
 ) -> Result<(), Stop>
     requires named { AreNamed names.old (board D.state machine.old) }
     requires bay { bay ≤ 1 }
-    ensures ok { OnOk result (EndsBay bay (bench_of D.state S.told machine.old names.old shelf.old)
-        (bench_of D.state S.told machine.new names.new shelf.new)) }
-    ensures err { OnErr result (DropsMedium bay (bench_of D.state S.told machine.old names.old shelf.old)
-        (bench_of D.state S.told machine.new names.new shelf.new)) }
-    ensures cause { IfErr result IsEndStop }
-    ensures named { AreNamed names.new (board D.state machine.new) }
-    ensures faults { Blames (IsErrOf result Stop.FileFault) (S.fault_count shelf.old)
-        (S.fault_count shelf.new) }
+    ensures { Handled (BayGoes bay)
+        (faulty_bench_of D.state S.told S.fault_count machine.old names.old shelf.old) result
+        (faulty_bench_of D.state S.told S.fault_count machine.new names.new shelf.new) }
 {
     if names.is_loaded(bay) {
         take_out(alloc, machine, names, bay, shelf)
@@ -160,14 +142,9 @@ pub(crate) fn end<S: Shelf, D: Drive>(
     shelf: &mut S,
 ) -> Result<(), Stop>
     requires { AreNamed names.old (board D.state machine.old) }
-    ensures ok { OnOk result (Ends (bench_of D.state S.told machine.old names.old shelf.old)
-        (bench_of D.state S.told machine.new names.new shelf.new)) }
-    ensures err { OnErr result (EndStopsAt (bench_of D.state S.told machine.old names.old shelf.old)
-        (bench_of D.state S.told machine.new names.new shelf.new)) }
-    ensures cause { IfErr result IsEndStop }
-    ensures named { AreNamed names.new (board D.state machine.new) }
-    ensures faults { Blames (IsErrOf result Stop.FileFault) (S.fault_count shelf.old)
-        (S.fault_count shelf.new) }
+    ensures { Handled EndGoes
+        (faulty_bench_of D.state S.told S.fault_count machine.old names.old shelf.old) result
+        (faulty_bench_of D.state S.told S.fault_count machine.new names.new shelf.new) }
 {
     end_bay(alloc, machine, names, 0, shelf)?;
     end_bay(alloc, machine, names, 1, shelf)

@@ -1,13 +1,14 @@
 // A text of port accesses is read and run to its end, or up to what stops it.
-ghost use Rattle.std.specs.Prelude.{◌≡◌, ◌≢◌, ◌||◌, List, IfOk, IfErr, IsErrOf, Err};
+ghost use Rattle.std.specs.Prelude.{◌≡◌, ◌≢◌, ◌||◌};
 ghost use Rattle.sector_model.specs.Faults.{Blames};
+ghost use Rattle.floppy_report.specs.Faults.{BlamesAlone};
 ghost use Rattle.sector_model.specs.Plays.{whole_status};
 ghost use Rattle.pc_bus.specs.Boards.{board};
-ghost use Rattle.port_commands.specs.Benches.{AreNamed, IsBare, Names as NamesOfMedia, bench_of, no_names};
-ghost use Rattle.port_commands.specs.Courses.{Taken};
-ghost use Rattle.port_commands.specs.Guards.{RunsPorts};
+ghost use Rattle.port_commands.specs.Benches.{AreNamed, IsBare, bench_of, no_names};
+ghost use Rattle.port_commands.specs.Faults.{Ran, RanPart, faulty_of};
+ghost use Rattle.port_commands.specs.Guards.{RunsBare};
 ghost use Rattle.port_commands.specs.Lines.{is_refusal};
-ghost use Rattle.port_commands.specs.Plays.{world_of, IsRound, Breaks, HasRun, HasPlayed, EndsAs, PlaysOrStarves, Misses};
+ghost use Rattle.port_commands.specs.Plays.{RoundGoes, RoundsGo, HasPlayed, EndsAs, PlaysGiven};
 
 use crate::answer::Answer;
 use crate::doing::do_line;
@@ -15,10 +16,11 @@ use crate::media::end;
 use crate::names::Names;
 use crate::telling::put_answer;
 use drive_model::Drive;
-use flop_base::{LoadError, Shelf, Sink, Status};
+use flop_base::{Shelf, Sink, Status};
 use floppy_jobs::{JobError, PortLine, parse_ports};
-use floppy_report::{put_last, put_last_absent, put_last_bad_line, stop_status};
+use floppy_report::{put_last, put_last_bad_line, stop_status};
 use pc_bus::MachineOf;
+use scripts::tell_missing_text;
 use std::alloc::Global;
 
 /// The longest text of port accesses, in bytes.
@@ -34,18 +36,9 @@ fn run_one<S: Shelf, K: Sink, D: Drive>(
     out: &mut K,
 ) -> Result<bool, Status>
     requires { AreNamed names.old (board D.state machine.old) }
-    ensures round { IfOk result (λ refused. IsRound
-        line.now (world_of D.state S.told K.told machine.old names.old shelf.old out.old) refused
-        (world_of D.state S.told K.told machine.new names.new shelf.new out.new)) }
-    ensures breaks { IfErr result (λ ended. Breaks
-        line.now (world_of D.state S.told K.told machine.old names.old shelf.old out.old)
-        (world_of D.state S.told K.told machine.new names.new shelf.new out.new) ended) }
-    ensures named { AreNamed names.new (board D.state machine.new) }
-    ensures is_form { result ≢ Err Status.BadWords }
-    ensures shelf_faults { Blames (IsErrOf result Status.FileFault) (S.fault_count shelf.old)
-        (S.fault_count shelf.new) }
-    ensures sink_faults { Blames (IsErrOf result Status.SinkFault) (K.fault_count out.old)
-        (K.fault_count out.new) }
+    ensures { RanPart (RoundGoes line.now)
+        (faulty_of D.state S.told S.fault_count K.told K.fault_count machine.old names.old shelf.old out.old) result
+        (faulty_of D.state S.told S.fault_count K.told K.fault_count machine.new names.new shelf.new out.new) }
 {
     match do_line(alloc, machine, names, line, shelf) {
         Ok(answer) => match put_answer(alloc, out, line, &answer) {
@@ -81,18 +74,9 @@ fn run_lines<S: Shelf, K: Sink, D: Drive>(
     out: &mut K,
 ) -> Result<bool, Status>
     requires { AreNamed names.old (board D.state machine.old) }
-    ensures run { IfOk result (λ refused. HasRun
-        lines.now (world_of D.state S.told K.told machine.old names.old shelf.old out.old) refused
-        (world_of D.state S.told K.told machine.new names.new shelf.new out.new)) }
-    ensures plays { IfErr result (λ ended. HasPlayed
-        lines.now (world_of D.state S.told K.told machine.old names.old shelf.old out.old)
-        (world_of D.state S.told K.told machine.new names.new shelf.new out.new) ended) }
-    ensures named { AreNamed names.new (board D.state machine.new) }
-    ensures is_form { result ≢ Err Status.BadWords }
-    ensures shelf_faults { Blames (IsErrOf result Status.FileFault) (S.fault_count shelf.old)
-        (S.fault_count shelf.new) }
-    ensures sink_faults { Blames (IsErrOf result Status.SinkFault) (K.fault_count out.old)
-        (K.fault_count out.new) }
+    ensures { RanPart (RoundsGo lines.now)
+        (faulty_of D.state S.told S.fault_count K.told K.fault_count machine.old names.old shelf.old out.old) result
+        (faulty_of D.state S.told S.fault_count K.told K.fault_count machine.new names.new shelf.new out.new) }
 {
     let mut refused = false;
     for line in lines {
@@ -146,14 +130,9 @@ fn play_lines<S: Shelf, K: Sink, D: Drive>(
     out: &mut K,
 ) -> Status
     requires { AreNamed names.old (board D.state machine.old) }
-    ensures plays { HasPlayed
-        lines.now (world_of D.state S.told K.told machine.old names.old shelf.old out.old)
-        (world_of D.state S.told K.told machine.new names.new shelf.new out.new) result }
-    ensures is_form { result ≢ Status.BadWords }
-    ensures shelf_faults { Blames (result ≡ Status.FileFault) (S.fault_count shelf.old)
-        (S.fault_count shelf.new) }
-    ensures sink_faults { Blames (result ≡ Status.SinkFault) (K.fault_count out.old)
-        (K.fault_count out.new) }
+    ensures { Ran (HasPlayed lines.now)
+        (faulty_of D.state S.told S.fault_count K.told K.fault_count machine.old names.old shelf.old out.old)
+        (faulty_of D.state S.told S.fault_count K.told K.fault_count machine.new names.new shelf.new out.new) result }
 {
     match run_lines(alloc, machine, names, lines, shelf, out) {
         Ok(refused) => finish(alloc, machine, names, shelf, refused),
@@ -171,35 +150,14 @@ fn play_text<S: Shelf, K: Sink, D: Drive>(
     out: &mut K,
 ) -> Status
     requires { AreNamed names.old (board D.state machine.old) }
-    ensures plays { (course : List Taken) × PlaysOrStarves
-        text.now (world_of D.state S.told K.told machine.old names.old shelf.old out.old) course
-        (world_of D.state S.told K.told machine.new names.new shelf.new out.new) result }
-    ensures is_form { result ≢ Status.BadWords }
-    ensures shelf_faults { Blames (result ≡ Status.FileFault) (S.fault_count shelf.old)
-        (S.fault_count shelf.new) }
-    ensures sink_faults { Blames (result ≡ Status.SinkFault) (K.fault_count out.old)
-        (K.fault_count out.new) }
+    ensures { Ran (PlaysGiven text.now)
+        (faulty_of D.state S.told S.fault_count K.told K.fault_count machine.old names.old shelf.old out.old)
+        (faulty_of D.state S.told S.fault_count K.told K.fault_count machine.new names.new shelf.new out.new) result }
 {
     match parse_ports(alloc, text) {
         Ok(lines) => play_lines(alloc, machine, names, &lines, shelf, out),
         Err(JobError::BadLine { line }) => put_last_bad_line(alloc, out, line),
         Err(JobError::NoMemory) => Status::NoMemory,
-    }
-}
-
-/// Ends a run whose text wasn't loaded.
-fn not_loaded<K: Sink>(alloc: Global, text_name: &str, out: &mut K, error: LoadError) -> Status
-    ensures ends { Misses error text_name.now (K.told out.old) (K.told out.new) result }
-    ensures is_form { result ≢ Status.BadWords }
-    ensures shelf_fault { result ≡ Status.FileFault → error ≡ LoadError.Failed }
-    ensures sink_faults { Blames (result ≡ Status.SinkFault) (K.fault_count out.old)
-        (K.fault_count out.new) }
-{
-    match error {
-        LoadError::Absent => put_last_absent(alloc, out, text_name),
-        LoadError::TooLong => put_last_bad_line(alloc, out, 0),
-        LoadError::Failed => Status::FileFault,
-        LoadError::NoMemory => Status::NoMemory,
     }
 }
 
@@ -212,18 +170,13 @@ pub fn run_ports<S: Shelf, K: Sink, D: Drive>(
     out: &mut K,
 ) -> Status
     requires { IsBare (board D.state machine.old) }
-    ensures runs { (names : NamesOfMedia) × RunsPorts
-        text_name.now (world_of D.state S.told K.told machine.old no_names shelf.old out.old)
-        (world_of D.state S.told K.told machine.new names shelf.new out.new) result }
-    ensures is_form { result ≢ Status.BadWords }
-    ensures shelf_faults { Blames (result ≡ Status.FileFault) (S.fault_count shelf.old)
-        (S.fault_count shelf.new) }
-    ensures sink_faults { Blames (result ≡ Status.SinkFault) (K.fault_count out.old)
-        (K.fault_count out.new) }
+    ensures { Ran (RunsBare text_name.now)
+        (faulty_of D.state S.told S.fault_count K.told K.fault_count machine.old no_names shelf.old out.old)
+        (faulty_of D.state S.told S.fault_count K.told K.fault_count machine.new no_names shelf.new out.new) result }
 {
     let mut names = Names::new();
     match shelf.load(alloc, text_name, MOST_TEXT_BYTES) {
         Ok(text) => play_text(alloc, machine, &mut names, &text, shelf, out),
-        Err(error) => not_loaded(alloc, text_name, out, error),
+        Err(error) => tell_missing_text(alloc, text_name, error, out),
     }
 }

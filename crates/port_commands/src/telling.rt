@@ -2,7 +2,7 @@
 ghost use Rattle.std.specs.Prelude.{◌≡◌, ◌≢◌, ◌++◌, codes, Some, IfOk, IfErr, OnOk, OnErr, IsErrOf, string_bytes};
 ghost use Rattle.flop_base.specs.Sink.{grown, GrowsByPart};
 ghost use Rattle.floppy_requests.specs.Spelling.{hex2};
-ghost use Rattle.sector_model.specs.Faults.{Blames};
+ghost use Rattle.floppy_report.specs.Faults.{BlamesAlone};
 ghost use Rattle.sector_model.specs.Plays.{IsPutFault};
 ghost use Rattle.sector_model.specs.Texts.{reason_text, line_end};
 ghost use Rattle.port_commands.specs.Texts.{answer_text, latch_text, port_text, verb_text};
@@ -93,7 +93,7 @@ pub(crate) fn put_answer<K: Sink>(
     ensures err { OnErr result (GrowsByPart (K.told out.old) (answer_text line.now answer.now) (K.told out.new)) }
     ensures tells { OnErr result (answer.now ≢ Answer.Nothing) }
     ensures only { IfErr result IsPutFault }
-    ensures faults { Blames (IsErrOf result Status.SinkFault) (K.fault_count out.old)
+    ensures faults { BlamesAlone (IsErrOf result Status.SinkFault) (K.fault_count out.old)
         (K.fault_count out.new) }
 {
     let verb = verb_word(line);

@@ -1,8 +1,5 @@
 // A session over a machine by itself: requests one by one, and calls of INT 13h.
-ghost use Rattle.std.specs.Prelude.{IfOk};
-ghost use Rattle.drive_model.specs.PlainDrive.{plain_state};
 ghost use Rattle.floppy_session.specs.Tries.{HasTries};
-ghost use Rattle.floppy_tools.specs.Sessions.{is_running};
 
 use crate::machines::{machine, spare};
 use crate::stations::shelf_with_disk;
@@ -26,9 +23,7 @@ fn answer(reply: Result<Reply, Stop>) -> Option<Result<(), Code>> {
 }
 
 /// A session with two empty bays.
-fn new_session(alloc: Global) -> Result<Session<PlainDrive>, Fail>
-    ensures { IfOk result (λ session. is_running plain_state session) }
-{
+fn new_session(alloc: Global) -> Result<Session<PlainDrive>, Fail> {
     let machine = machine(alloc)?;
     let spare = spare(alloc)?;
     Ok(Session::new(alloc, machine, spare))
@@ -40,26 +35,18 @@ fn ask(
     shelf: &mut MemShelf,
     request: &Request,
 ) -> Option<Result<(), Code>>
-    requires running { is_running plain_state session.old }
-    requires tries { HasTries request.now }
-    ensures { is_running plain_state session.new }
+    requires { HasTries request.now }
 {
     answer(session.run(shelf, request))
 }
 
 /// Serves a call of INT 13h.
-fn serve(session: &mut Session<PlainDrive>, front: &mut Int13, regs: Regs) -> Regs
-    requires { is_running plain_state session.old }
-    ensures { is_running plain_state session.new }
-{
+fn serve(session: &mut Session<PlainDrive>, front: &mut Int13, regs: Regs) -> Regs {
     session.int13(front, regs)
 }
 
 /// Ends a session.
-fn end(session: &mut Session<PlainDrive>, shelf: &mut MemShelf) -> bool
-    requires { is_running plain_state session.old }
-    ensures { is_running plain_state session.new }
-{
+fn end(session: &mut Session<PlainDrive>, shelf: &mut MemShelf) -> bool {
     session.end(shelf).is_ok()
 }
 
@@ -68,10 +55,7 @@ fn insert(
     alloc: Global,
     session: &mut Session<PlainDrive>,
     shelf: &mut MemShelf,
-) -> Result<(), Fail>
-    requires { is_running plain_state session.old }
-    ensures { is_running plain_state session.new }
-{
+) -> Result<(), Fail> {
     let name = Name::copy(alloc, "a.rt")?;
     let inserted = ask(session, shelf, &Request::Insert { bay: 0, name });
     inserted.ok_or("a.rt is an image")??;
@@ -79,18 +63,12 @@ fn insert(
 }
 
 /// Acknowledges the medium in bay 0.
-fn acknowledge(session: &mut Session<PlainDrive>, shelf: &mut MemShelf) -> bool
-    requires { is_running plain_state session.old }
-    ensures { is_running plain_state session.new }
-{
+fn acknowledge(session: &mut Session<PlainDrive>, shelf: &mut MemShelf) -> bool {
     ask(session, shelf, &Request::Ack { bay: 0 }) == Some(Ok(()))
 }
 
 /// Reads the first sector.
-fn read(session: &mut Session<PlainDrive>, shelf: &mut MemShelf) -> Option<Result<(), Code>>
-    requires { is_running plain_state session.old }
-    ensures { is_running plain_state session.new }
-{
+fn read(session: &mut Session<PlainDrive>, shelf: &mut MemShelf) -> Option<Result<(), Code>> {
     let key = Chrn {
         c: 0,
         h: 0,

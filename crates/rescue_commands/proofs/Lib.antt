@@ -1,5 +1,4 @@
-pub mod Carrying
-pub mod Reading
-pub mod Numbered
-pub mod Ending
-pub mod Missing
+mod Turns
+mod Endings
+mod Opening
+pub mod Rests

@@ -1,5 +1,3 @@
-pub mod Tasks
 pub mod Logs
-pub mod Carried
-pub mod Commands
-pub mod Found
+pub mod Rescue
+pub mod Leading

@@ -3,8 +3,8 @@ use Rattle.std.specs.Prelude.{◌≡◌, ℕ, ◌≤◌, ◌⊎◌, List, length
 use Rattle.std.specs.Option.{option_map}
 use Rattle.std.specs.declared.alloc.Global.{Global}
 use Rattle.flop_base.specs.Shelf.{Files, file_at}
-use Rattle.flop_base.specs.declared.answers.Status.{Status}
-use Rattle.flop_base.specs.declared.answers.Status.TheVariants as status
+use Rattle.flop_base.specs.Standard.{sectors_at}
+use Rattle.flop_base.specs.declared.answers.Rate.{Rate}
 use Rattle.flop_base.specs.declared.answers.LoadError.{LoadError}
 use Rattle.flop_base.specs.declared.answers.LoadError.TheVariants as load
 use Rattle.sector_model.specs.Steps.{IsAbsent, IsLonger}
@@ -13,7 +13,7 @@ use Rattle.rescue.specs.declared.line.LogLine.{LogLine}
 use Rattle.rescue.specs.declared.read.LogError.{LogError}
 use Rattle.rescue.specs.declared.read.LogError.TheVariants as bad
 use Rattle.rescue_commands.specs.declared.logs.NoLog.{NoLog}
-use Rattle.rescue_commands.specs.declared.logs.NoLog.TheVariants as none
+use Rattle.rescue_commands.specs.declared.logs.NoLog.TheVariants as missing
 
 -- the most bytes of a log's text
 abbrev pub most_log_bytes : ℕ
@@ -33,6 +33,11 @@ IsLogFound told name sectors (Some lines) = HasText told name (λ text. IsLog se
 abbrev pub lines_found : Option (Vec LogLine Global) → Option (List LogLine)
 lines_found found = option_map (λ lines. lines.items) found
 
+-- so it is with what is answered of a log
+abbrev pub answer_found : Result (Option (Vec LogLine Global)) NoLog → Result (Option (List LogLine)) NoLog
+answer_found (Ok found) = Ok (lines_found found)
+answer_found (Err cause) = Err cause
+
 -- the first line of a log that isn't understood: 0 where the text is too long
 abbrev pub IsBadLog : Option Files → List ℕ → ℕ → ℕ → Type 0
 IsBadLog told name sectors n =
@@ -40,24 +45,27 @@ IsBadLog told name sectors n =
 
 -- why there is no log to go by
 abbrev pub IsNoLog : Option Files → List ℕ → ℕ → NoLog → Type 0
-IsNoLog told name sectors (none.BadLine n) = IsBadLog told name sectors n
-IsNoLog told name sectors none.FileFault = Unit {0}
-IsNoLog told name sectors none.NoMemory = Unit {0}
+IsNoLog told name sectors (missing.BadLine n) = IsBadLog told name sectors n
+IsNoLog told name sectors missing.FileFault = Unit {0}
+IsNoLog told name sectors missing.NoMemory = Unit {0}
+
+-- what is found under the name of a log: a log or nothing, or why there is none to go by
+abbrev pub IsFound : Option Files → List ℕ → ℕ → Result (Option (List LogLine)) NoLog → Type 0
+IsFound told name sectors (Ok found) = IsLogFound told name sectors found
+IsFound told name sectors (Err cause) = IsNoLog told name sectors cause
+
+-- so it is found as the log of a disk of each rate
+abbrev pub AreFound : Option Files → List ℕ → (Rate → Result (Option (List LogLine)) NoLog) → Type 0
+AreFound told name found = (rate : Rate) → IsFound told name (sectors_at rate) (found rate)
 
 -- a text that isn't a log
 abbrev pub NotUnderstood : LogError → NoLog → Type 0
-NotUnderstood (bad.BadLine n) cause = cause ≡ none.BadLine n
-NotUnderstood bad.NoMemory cause = cause ≡ none.NoMemory
+NotUnderstood (bad.BadLine n) cause = cause ≡ missing.BadLine n
+NotUnderstood bad.NoMemory cause = cause ≡ missing.NoMemory
 
 -- a file that wasn't loaded
 abbrev pub NotLoaded : LoadError → Result (Option (Vec LogLine Global)) NoLog → Type 0
 NotLoaded load.Absent answer = answer ≡ Ok None
-NotLoaded load.TooLong answer = answer ≡ Err (none.BadLine 0)
-NotLoaded load.Failed answer = answer ≡ Err none.FileFault
-NotLoaded load.NoMemory answer = answer ≡ Err none.NoMemory
-
--- what ends a rescue at the store of its log: a fault of the shelf, or want of memory
-abbrev pub IsStoreFault : Status → Type 0
-IsStoreFault status.FileFault = Unit {0}
-IsStoreFault status.NoMemory = Unit {0}
-IsStoreFault _ = ⊥
+NotLoaded load.TooLong answer = answer ≡ Err (missing.BadLine 0)
+NotLoaded load.Failed answer = answer ≡ Err missing.FileFault
+NotLoaded load.NoMemory answer = answer ≡ Err missing.NoMemory

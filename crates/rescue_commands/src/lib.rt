@@ -2,7 +2,6 @@
 //! wasn't read, so that a later run asks only for that.
 #![tactic(auto)]
 
-mod ask;
 mod logs;
 mod prepare;
 mod records;

@@ -1,13 +1,14 @@
 // The log's file.
-ghost use Rattle.std.specs.Prelude.{◌≡◌, IfOk, IfErr, OnOk, OnErr, IsErrOf};
-ghost use Rattle.flop_base.specs.Shelf.{stored};
-ghost use Rattle.sector_model.specs.Faults.{Blames};
-ghost use Rattle.rescue.specs.Log.{log_text};
-ghost use Rattle.rescue_commands.specs.Logs.{IsLogFound, lines_found, IsNoLog, IsStoreFault, NotUnderstood, NotLoaded};
+ghost use Rattle.std.specs.Prelude.{◌≡◌, IfOk, string_bytes};
+ghost use Rattle.floppy_report.specs.Puts.{printed_of};
+ghost use Rattle.rescue_commands.specs.Logs.{NotUnderstood, NotLoaded};
+ghost use Rattle.rescue_commands.specs.Rescue.{bad_log_text, tells_no_log};
+ghost use Rattle.rescue_commands.specs.Leading.{Finds, Tells, shelved_of};
 
-use flop_base::{LoadError, NoMemory, Shelf, Status, StoreError};
-use rescue::{LogError, LogLine, read_log, write_log};
-use std::alloc::Global;
+use flop_base::{LoadError, Name, Shelf, Sink, Status};
+use rescue::{LogError, LogLine, read_log};
+use scripts::finish;
+use std::alloc::{AllocError, Global};
 
 /// The longest text of a log, in bytes.
 const MOST_LOG_BYTES: usize = 65_536;
@@ -26,16 +27,13 @@ pub(crate) enum NoLog {
 /// The lines of the log under this name, of a diskette with so many sectors on a track; nothing where there is no log.
 pub(crate) fn find_log<S: Shelf>(
     alloc: Global,
-    shelf: &mut S,
-    name: &str,
+    name: &Name,
     sectors: u8,
+    shelf: &mut S,
 ) -> Result<Option<Vec<LogLine>>, NoLog>
-    ensures found { IfOk result (λ found. IsLogFound (S.told shelf.old) name.now sectors (lines_found found)) }
-    ensures cause { IfErr result (λ cause. IsNoLog (S.told shelf.old) name.now sectors cause) }
-    ensures stays { S.told shelf.new ≡ S.told shelf.old }
-    ensures faults { Blames (IsErrOf result NoLog.FileFault) (S.fault_count shelf.old) (S.fault_count shelf.new) }
+    ensures { Finds name.now sectors (shelved_of S.told S.fault_count shelf.old) (shelved_of S.told S.fault_count shelf.new) result }
 {
-    match shelf.load(alloc, name, MOST_LOG_BYTES) {
+    match shelf.load(alloc, name.as_str(), MOST_LOG_BYTES) {
         Ok(bytes) => match read_log(alloc, &bytes, sectors) {
             Ok(lines) => Ok(Some(lines)),
             Err(error) => Err(not_understood(error)),
@@ -66,24 +64,22 @@ fn not_loaded(error: LoadError) -> Result<Option<Vec<LogLine>>, NoLog>
     }
 }
 
-/// Stores the new log, also where it is empty.
-pub(crate) fn store_log<S: Shelf>(
-    alloc: Global,
-    shelf: &mut S,
-    name: &str,
-    lines: &[LogLine],
-) -> Result<(), Status>
-    ensures ok { OnOk result (S.told shelf.new ≡ stored (S.told shelf.old) name.now (log_text lines.now)) }
-    ensures err { OnErr result (S.told shelf.new ≡ S.told shelf.old) }
-    ensures cause { IfErr result IsStoreFault }
-    ensures faults { Blames (IsErrOf result Status.FileFault) (S.fault_count shelf.old) (S.fault_count shelf.new) }
+#[tactic(auto, unfolding(crate::specs::Rescue::bad_log_text))]
+fn bad_log_line(alloc: Global, line: usize) -> Result<String, AllocError>
+    ensures { IfOk result (λ made. string_bytes made ≡ bad_log_text line) }
 {
-    let Ok(bytes) = write_log(alloc, lines) else {
-        return Err(Status::NoMemory);
-    };
-    match shelf.store(name, &bytes) {
-        Ok(()) => Ok(()),
-        Err(StoreError::Failed) => Err(Status::FileFault),
-        Err(StoreError::NoMemory) => Err(Status::NoMemory),
+    format!(in alloc; "log line {line} not understood\n")
+}
+
+/// Tells why a log wasn't had.
+#[tactic(auto, using(scripts::proofs::Running::fails_here), unfolding(crate::specs::Rescue::tells_no_log))]
+pub(crate) fn tell_no_log<K: Sink>(alloc: Global, cause: NoLog, out: &mut K) -> Status
+    ensures { Tells (tells_no_log cause) (cause ≡ NoLog.FileFault)
+        (printed_of K.told K.fault_count out.old) (printed_of K.told K.fault_count out.new) result }
+{
+    match cause {
+        NoLog::BadLine { line } => finish(out, bad_log_line(alloc, line), Status::BadJob),
+        NoLog::FileFault => Status::FileFault,
+        NoLog::NoMemory => Status::NoMemory,
     }
 }

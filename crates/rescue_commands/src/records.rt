@@ -1,22 +1,23 @@
 // The records that are asked for: each is read, and then written or logged.
-ghost use Rattle.std.specs.Prelude.{[], ◌∷◌, map, IsErrOf};
-ghost use Rattle.sector_model.specs.Steps.{Step};
-ghost use Rattle.sector_model.specs.Plays.{World};
-ghost use Rattle.floppy_session.specs.Session.{state_of, IsRunning};
-ghost use Rattle.disk_commands.specs.Carried.{Went, counted_of};
-ghost use Rattle.rescue_commands.specs.Tasks.{Rescue};
-ghost use Rattle.rescue_commands.specs.Carried.{Goes, GoesAfter, line_of, lines_in, IsNextOf, PushesLine};
+ghost use Rattle.std.specs.Prelude.{◌≡◌, [], ◌∷◌, ◌++◌, IfOk};
+ghost use Rattle.scripts.specs.Parts.{through};
+ghost use Rattle.floppy_report.specs.Puts.{printed_of};
+ghost use Rattle.scripts.specs.Leading.{RanPart, faulty_of};
+ghost use Rattle.rescue_commands.specs.Rescue.{after_answer, gives_up, does_next, follows, rescues};
+ghost use Rattle.rescue_commands.specs.Leading.{HasNextTries, LogGoes, Tells};
 
-use crate::ask::{Halt, ask};
-use flop_base::{Chrn, Shelf};
+use flop_base::{Chrn, NoMemory, Shelf, Sink, Status};
+use floppy_report::put_last_stopped;
 use floppy_session::Session;
 use rescue::{AfterRead, LogLine, after_read, read_request};
-use sector_model::{Reason, Reply, Station, Stop};
+use scripts::{ask, carry};
+use sector_model::{Reason, Reply, Station};
 use std::alloc::Global;
 
-/// What follows the answer to the read of a record; an error where that is no answer to a read.
+/// What the answer to the read of a record says is next; an error where no drive gives it.
 fn next_of(key: Chrn, reply: &Reply) -> Result<AfterRead, Reason>
-    ensures { IsNextOf key reply.now result }
+    ensures value { result ≡ after_answer key reply.now }
+    ensures tries { IfOk result HasNextTries }
 {
     match reply {
         Reply::Refused(Reason::Driver(code)) => Ok(after_read(key, Err(*code))),
@@ -26,80 +27,106 @@ fn next_of(key: Chrn, reply: &Reply) -> Result<AfterRead, Reason>
     }
 }
 
-/// Does what follows the answer to the read of a record. It gives the line of one that stays unread.
-fn follow<S: Shelf, D: Station>(
-    session: &mut Session<D>,
-    shelf: &mut S,
-    key: Chrn,
-    reply: &Reply,
-) -> Result<Option<LogLine>, Halt>
-    requires running { IsRunning D.shown D.is_ready session.old }
-    ensures { Went (GoesAfter key reply.now) (IsRunning D.shown D.is_ready session.new) (IsErrOf result (Halt.Stopped Stop.FileFault))
-        (counted_of D.shown S.told S.fault_count session.old shelf.old) result
-        (counted_of D.shown S.told S.fault_count session.new shelf.new) }
+/// Tells that the read of a record was refused so that the rescue ends there.
+fn give_up<K: Sink>(alloc: Global, key: Chrn, reason: Reason, out: &mut K) -> Status
+    ensures { Tells (gives_up key reason) ⊥ (printed_of K.told K.fault_count out.old) (printed_of K.told K.fault_count out.new) result }
 {
-    let request = read_request(key);
-    match next_of(key, reply) {
-        Ok(AfterRead::Write(request)) => match ask(session, shelf, request) {
-            Ok(()) => Ok(None),
-            Err(halt) => Err(halt),
-        },
-        Ok(AfterRead::Log(line)) => Ok(Some(line)),
-        Ok(AfterRead::Stop(code)) => Err(Halt::Refused {
-            request,
-            reason: Reason::Driver(code),
-        }),
-        Err(reason) => Err(Halt::Refused { request, reason }),
+    put_last_stopped(alloc, out, &read_request(key), reason)
+}
+
+/// Puts a line behind a log.
+fn push_line(mut log: Vec<LogLine>, line: LogLine) -> Result<Vec<LogLine>, NoMemory>
+    ensures { IfOk result (λ made. made.items ≡ log.items ++ line ∷ []) }
+{
+    match log.push(line) {
+        Ok(()) => Ok(log),
+        Err(_) => Err(NoMemory),
     }
 }
 
-/// Reads a record and writes it to the other diskette. It gives the line of one that stays unread.
-fn rescue_record<S: Shelf, D: Station>(
-    session: &mut Session<D>,
-    shelf: &mut S,
-    key: &Chrn,
-) -> Result<Option<LogLine>, Halt>
-    requires running { IsRunning D.shown D.is_ready session.old }
-    ensures { Went (Goes line_of (Rescue key.now ∷ [])) (IsRunning D.shown D.is_ready session.new) (IsErrOf result (Halt.Stopped Stop.FileFault))
-        (counted_of D.shown S.told S.fault_count session.old shelf.old) result
-        (counted_of D.shown S.told S.fault_count session.new shelf.new) }
-{
-    let key = *key;
-    let request = read_request(key);
-    match session.run(shelf, &request) {
-        Ok(reply) => follow(session, shelf, key, &reply),
-        Err(stop) => Err(Halt::Stopped(stop)),
-    }
-}
-
-/// Puts a line behind those of the log, if there is one.
-fn push_line(log: &mut Vec<LogLine>, line: Option<LogLine>) -> Result<(), Halt>
-    ensures { PushesLine line log.old.items result log.new.items }
-{
-    if let Some(line) = line {
-        if log.push(line).is_err() {
-            return Err(Halt::Starved);
-        }
-    }
-    Ok(())
-}
-
-/// Rescues records, one after the other. It gives the new log.
-pub(crate) fn rescue_records<S: Shelf, D: Station>(
+/// Writes a record, or puts its line behind the log, or ends the rescue.
+#[tactic(auto, using(scripts::proofs::Running::fed, scripts::proofs::Running::starved), unfolding(crate::specs::Rescue::does_next))]
+fn do_next<S: Shelf, K: Sink, D: Station>(
     alloc: Global,
     session: &mut Session<D>,
+    key: Chrn,
+    next: AfterRead,
+    log: Vec<LogLine>,
     shelf: &mut S,
+    out: &mut K,
+) -> Result<Vec<LogLine>, Status>
+    requires tries { HasNextTries next }
+    ensures { RanPart (LogGoes (does_next key (Ok next) log.items))
+        (faulty_of S.told S.fault_count K.told K.fault_count session.old shelf.old out.old) result
+        (faulty_of S.told S.fault_count K.told K.fault_count session.new shelf.new out.new) }
+{
+    match next {
+        AfterRead::Write(request) => {
+            carry(alloc, session, &request, shelf, out)?;
+            Ok(log)
+        }
+        AfterRead::Log(line) => match push_line(log, line) {
+            Ok(log) => Ok(log),
+            Err(_) => Err(Status::NoMemory),
+        },
+        AfterRead::Stop(code) => Err(give_up(alloc, key, Reason::Driver(code), out)),
+    }
+}
+
+/// Does what follows the answer to the read of a record, and gives the log.
+#[tactic(auto, unfolding(crate::specs::Rescue::follows, crate::specs::Rescue::does_next))]
+fn follow<S: Shelf, K: Sink, D: Station>(
+    alloc: Global,
+    session: &mut Session<D>,
+    key: Chrn,
+    reply: &Reply,
+    log: Vec<LogLine>,
+    shelf: &mut S,
+    out: &mut K,
+) -> Result<Vec<LogLine>, Status>
+    ensures { RanPart (LogGoes (follows key reply.now log.items))
+        (faulty_of S.told S.fault_count K.told K.fault_count session.old shelf.old out.old) result
+        (faulty_of S.told S.fault_count K.told K.fault_count session.new shelf.new out.new) }
+{
+    match next_of(key, reply) {
+        Ok(next) => do_next(alloc, session, key, next, log, shelf, out),
+        Err(reason) => Err(give_up(alloc, key, reason, out)),
+    }
+}
+
+/// Reads a record and writes it to the other diskette, or puts its line behind the log.
+#[tactic(auto, unfolding(crate::specs::Rescue::rescues))]
+fn rescue_record<S: Shelf, K: Sink, D: Station>(
+    alloc: Global,
+    session: &mut Session<D>,
+    key: Chrn,
+    log: Vec<LogLine>,
+    shelf: &mut S,
+    out: &mut K,
+) -> Result<Vec<LogLine>, Status>
+    ensures { RanPart (LogGoes (rescues key log.items))
+        (faulty_of S.told S.fault_count K.told K.fault_count session.old shelf.old out.old) result
+        (faulty_of S.told S.fault_count K.told K.fault_count session.new shelf.new out.new) }
+{
+    let reply = ask(alloc, session, &read_request(key), shelf, out)?;
+    follow(alloc, session, key, &reply, log, shelf, out)
+}
+
+/// Rescues records, one after the other, and gives the new log.
+pub(crate) fn rescue_records<S: Shelf, K: Sink, D: Station>(
+    alloc: Global,
+    session: &mut Session<D>,
     keys: &[Chrn],
-) -> Result<Vec<LogLine>, Halt>
-    requires running { IsRunning D.shown D.is_ready session.old }
-    ensures { Went (Goes lines_in (map Rescue keys.now)) (IsRunning D.shown D.is_ready session.new) (IsErrOf result (Halt.Stopped Stop.FileFault))
-        (counted_of D.shown S.told S.fault_count session.old shelf.old) result
-        (counted_of D.shown S.told S.fault_count session.new shelf.new) }
+    shelf: &mut S,
+    out: &mut K,
+) -> Result<Vec<LogLine>, Status>
+    ensures { RanPart (LogGoes (through rescues keys.now []))
+        (faulty_of S.told S.fault_count K.told K.fault_count session.old shelf.old out.old) result
+        (faulty_of S.told S.fault_count K.told K.fault_count session.new shelf.new out.new) }
 {
     let mut log = Vec::new(alloc);
     for key in keys {
-        let line = rescue_record(session, shelf, key)?;
-        push_line(&mut log, line)?;
+        log = rescue_record(alloc, session, *key, log, shelf, out)?;
     }
     Ok(log)
 }

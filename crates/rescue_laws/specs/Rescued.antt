@@ -6,13 +6,17 @@ use Rattle.flop_base.specs.Standard.{sectors_at}
 use Rattle.flop_base.specs.declared.key.Chrn.{Chrn}
 use Rattle.flop_base.specs.declared.answers.Code.{Code}
 use Rattle.flop_base.specs.declared.answers.Status.{Status}
-use Rattle.raw_image.specs.Disk.{Disk}
+use Rattle.raw_image.specs.Disk.{Disk, HasTrack, track_of}
 use Rattle.raw_image.specs.Image.{file_of}
+use Rattle.bay_model.specs.Memory.{bytes_from}
 use Rattle.track_model.specs.declared.Look.{Look}
+use Rattle.track_model.specs.Fields.{IsAddressAt, content_size}
+use Rattle.track_model.specs.Windows.{IsTidy}
 use Rattle.floppy_requests.specs.declared.request.Request.{Request}
 use Rattle.floppy_requests.specs.declared.request.Request.TheVariants as request
 use Rattle.sector_map.specs.Failing.{AreFailing}
 use Rattle.sector_map.specs.Disks.{Entry, IsOnMap, IsRegularDisk}
+use Rattle.sector_model.specs.declared.reply.Reply.{Reply}
 use Rattle.sector_model.specs.declared.reply.Reply.TheVariants as reply
 use Rattle.sector_model.specs.declared.reply.Reason.TheVariants as reason
 use Rattle.sector_model.specs.States.{State}
@@ -20,6 +24,7 @@ use Rattle.sector_model.specs.Steps.{IsImageOf}
 use Rattle.sector_model.specs.Texts.{is_refusal}
 use Rattle.sector_model.specs.Runs.{Taken}
 use Rattle.sector_model.specs.Plays.{World}
+use Rattle.sector_model.specs.Stations.{StationState, bay_of}
 use Rattle.floppy_session.specs.Shapes.{shape_of}
 use Rattle.disk_laws.specs.Copied.{SomeStep, Gave}
 use Rattle.disk_laws.specs.Verified.{all_told_of}
@@ -28,9 +33,44 @@ use Rattle.rescue.specs.Log.{log_text}
 use Rattle.rescue.specs.declared.line.LogLine.{LogLine}
 use Rattle.rescue.specs.declared.outcome.Outcome.{Outcome}
 use Rattle.rescue_commands.specs.Logs.{IsLogFound}
-use Rattle.rescue_commands.specs.Tasks.{asked_keys, log_of}
-use Rattle.rescue_commands.specs.Commands.{last_text}
-use Rattle.rescue_laws.specs.Tidy.{AreTidy}
+use Rattle.rescue_commands.specs.Rescue.{asked_keys, last_text}
+
+-- ---- The lines of a new log, by the course of a rescue.
+
+-- the line of a refused read
+abbrev pub line_for : Request → Code → List LogLine
+line_for (request.Read bay key address) code = (record { key = key; code = code }) ∷ []
+line_for _ code = []
+
+-- the line of a request, if its answer is a drive's refusal
+abbrev pub line_at : Request → Reply → List LogLine
+line_at asked (reply.Refused (reason.Driver code)) = line_for asked code
+line_at asked other = []
+
+-- those of a course: the reads that were refused
+abbrev pub log_of : List Taken → List LogLine
+log_of [] = []
+log_of (taken ∷ later) = line_at taken.asked taken.answer ++ log_of later
+
+-- ---- Runs whose writes can't bring up an address mark, however short they stop.
+
+-- each address field of the key on the disk in the bay is Tidy for what is written from memory
+abbrev pub IsTidyWrite : StationState → ℕ → Chrn → ℕ → Bool → Type 0
+IsTidyWrite station bay key address deleted =
+    (disk : Disk) (c p : ℕ) → (bay_of station bay).medium ≡ Some disk → HasTrack disk c key.h
+    → IsAddressAt (track_of disk c key.h) p key
+    → IsTidy (track_of disk c key.h) p deleted (bytes_from station.memory address (content_size key.n))
+
+-- so it is where the request is a write
+abbrev pub IsTidyFor : State → Request → Type 0
+IsTidyFor state (request.Write bay key address) = IsTidyWrite state.station bay key address false
+IsTidyFor state (request.WriteDeleted bay key address) = IsTidyWrite state.station bay key address true
+IsTidyFor state _ = Unit {0}
+
+-- at the beginning of each write of a course
+abbrev pub AreTidy : State → List Taken → Type 0
+AreTidy state [] = Unit {0}
+AreTidy state (taken ∷ later) = IsTidyFor state taken.asked × AreTidy taken.after later
 
 -- no refusal stopped the run: its last answer is none
 abbrev pub IsNotStopped : List Taken → Type 0

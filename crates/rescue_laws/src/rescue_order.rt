@@ -3,9 +3,8 @@ ghost use Rattle.std.specs.Prelude.{List};
 ghost use Rattle.flop_base.specs.declared.answers.Status.{Status};
 ghost use Rattle.sector_model.specs.Runs.{Taken};
 ghost use Rattle.sector_model.specs.Plays.{World};
-ghost use Rattle.rescue_commands.specs.Tasks.{log_of};
-ghost use Rattle.rescue_commands.specs.Commands.{Rescues};
-ghost use Rattle.rescue_laws.specs.Rescued.{StoresInOrder};
+ghost use Rattle.rescue_commands.specs.Rescue.{Rescues};
+ghost use Rattle.rescue_laws.specs.Rescued.{log_of, StoresInOrder};
 
 /// A law: however a rescue ends, it has stored nothing, or the other diskette alone, or that and then the new log. So where the
 /// log couldn't be stored, the diskette is the new one, and the log is as it was, so that the next run asks for the same records.

@@ -11,7 +11,7 @@ ghost use Rattle.sector_model.specs.Runs.{Taken};
 ghost use Rattle.sector_model.specs.Plays.{World};
 ghost use Rattle.disk_laws.specs.VerifyRuns.{IsEndStatus};
 ghost use Rattle.rescue.specs.declared.line.LogLine.{LogLine};
-ghost use Rattle.rescue_commands.specs.Commands.{Rescues};
+ghost use Rattle.rescue_commands.specs.Rescue.{Rescues};
 ghost use Rattle.rescue_commands.specs.Logs.{IsLogFound};
 ghost use Rattle.rescue_laws.specs.Rescued.{IsNotStopped, HasTarget, IsRescue};
 

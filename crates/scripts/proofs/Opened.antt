@@ -33,3 +33,11 @@ there_is name answer old new told after fine step none =
     let disk = put_in name answer old new told after fine step in
     let some : shape_in (bay_of new.station 0) ≡ Some (shape_of disk.0) = ap (λ (medium : Option Disk). option_map shape_of medium) disk.1 in
     absurd (cc)
+
+-- and the files stay
+pub files_stay : (name : List ℕ) (answer : Reply) (old new : State) (told after : Option Files) → is_refusal answer ≡ false
+    → Step (request.Insert 0 name) old told answer new after → after ≡ told
+files_stay name answer old new told after fine step =
+    by_refusal (refusal_of old (request.Insert 0 name)) step
+    (λ does. does.1)
+    (λ cause refused. absurd (not_refused answer cause fine refused.answered))

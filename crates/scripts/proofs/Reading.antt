@@ -16,7 +16,7 @@ use Rattle.sector_model.specs.Texts.{stop_text, stop_status, is_refusal}
 use Rattle.sector_model.specs.Runs.{Taken}
 use Rattle.sector_model.specs.Plays.{World, Prints, Whole, Part, IsPutFault}
 use Rattle.floppy_report.specs.LastLines.{stopped_text}
-use Rattle.scripts.specs.Scripts.{Script, Ends, Asks, Stores, RunsScript, IsPrinted, StoresLast, unless_refused}
+use Rattle.scripts.specs.Scripts.{Script, Ends, Fails, Asks, Stores, RunsScript, IsPrinted, StoresLast, unless_refused}
 use Rattle.scripts.specs.Parts.{asks, needs, carries}
 use Rattle.scripts.specs.Leading.{with_report}
 
@@ -79,6 +79,12 @@ pub last_run : (line : List ℕ) (wanted : Status) (old : World) (course : List 
     → RunsScript (Ends line wanted) old course new ended → (course ≡ []) × IsPrinted (λ before after. Prints line wanted before after ended) old new
 last_run line wanted old [] new ended runs = (refl, runs)
 last_run line wanted old (taken ∷ later) new ended runs = absurd runs
+
+-- nothing was done, and the status is this
+pub last_failed : (cause : Status) (old : World) (course : List Taken) (new : World) (ended : Status)
+    → RunsScript (Fails cause) old course new ended → (course ≡ []) × (new ≡ old) × (ended ≡ cause)
+last_failed cause old [] new ended runs = (refl, runs.0, runs.1)
+last_failed cause old (taken ∷ later) new ended runs = absurd runs
 
 -- a last file was stored
 pub last_stored : (name bytes line : List ℕ) (wanted : Status) (old : World) (course : List Taken) (new : World) (ended : Status)

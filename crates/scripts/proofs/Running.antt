@@ -19,7 +19,7 @@ use Rattle.sector_model.specs.Ties.{TiesCounts}
 use Rattle.sector_model.specs.Plays.{World, Prints, IsPutFault}
 use Rattle.sector_model.proofs.PlayTies.{ran_ties, stopped_ties}
 use Rattle.floppy_report.specs.LastLines.{stopped_text}
-use Rattle.scripts.specs.Scripts.{Script, Ends, Says, Asks, Stores, MayStarve, RunsScript, unless_refused, StoresLast, IsStored, NotStored}
+use Rattle.scripts.specs.Scripts.{Script, Ends, Says, Asks, Stores, MayStarve, Fails, RunsScript, unless_refused, StoresLast, IsStored, NotStored}
 use Rattle.scripts.specs.Parts.{asks, needs, says, may_starve}
 use Rattle.scripts.specs.Leading.{IsRunOf, Leads, Goes, Finishes, Runs, with_report}
 
@@ -139,6 +139,15 @@ pub stores_here : (whole : Script) (start : World) (name bytes line : List ℕ) 
 unfolding Leads
 stores_here whole start name bytes line wanted old new ended stores leads = leads new ended (stored_run name bytes line wanted old new ended stores)
 
+failed_run : (cause : Status) (now : World) → IsRunOf (Fails cause) now now cause
+unfolding IsRunOf
+failed_run cause now = ([], (refl, refl))
+
+-- a status, with no last line
+pub fails_here : (whole : Script) (start : World) (cause : Status) (now : World) → Leads whole start (Fails cause) now → IsRunOf whole start now cause
+unfolding Leads
+fails_here whole start cause now leads = leads now cause (failed_run cause now)
+
 -- ---- What a run of a script leaves.
 
 -- the requests of a run, and the one that stopped it, if any
@@ -176,6 +185,8 @@ script_ran (Stores name bytes line wanted) old (taken ∷ later) new ended runs 
 script_ran (MayStarve rest) old course new ended (inl runs) = script_ran rest old course new ended runs
 script_ran (MayStarve rest) old course new ended (inr none) =
     subst (λ (steps : List Taken). HasRun old steps new) (sym none.0) (Through old.files (ap (λ (w : World). w.state) none.1, refl))
+script_ran (Fails cause) old [] new ended runs = Through old.files (ap (λ (w : World). w.state) runs.0, refl)
+script_ran (Fails cause) old (taken ∷ later) new ended runs = absurd runs
 
 ran_tied : (old : World) (course : List Taken) (new : World) → HasRun old course new → TiesCounts old.state.station.counters course new.state.station.counters
 ran_tied old course new (Through files run) = ran_ties old.state new.state old.files files course run

@@ -4,15 +4,13 @@ use Rattle.flop_base.specs.Shelf.{Files}
 use Rattle.flop_base.specs.declared.answers.Status.{Status}
 use Rattle.flop_base.specs.declared.answers.Status.TheVariants as status
 use Rattle.sector_model.specs.declared.reply.Reply.{Reply}
-use Rattle.sector_model.specs.Stations.{StationState}
 use Rattle.sector_model.specs.Faults.{Blames}
 use Rattle.sector_model.specs.States.{State}
 use Rattle.sector_model.specs.Runs.{Taken}
 use Rattle.sector_model.specs.Ties.{TiesCounts}
 use Rattle.sector_model.specs.Plays.{World}
 use Rattle.floppy_report.specs.Faults.{BlamesAlone}
-use Rattle.floppy_session.specs.declared.session.Session.{Session}
-use Rattle.floppy_session.specs.Session.{state_of}
+use Rattle.floppy_report.specs.Puts.{Printed}
 use Rattle.scripts.specs.Scripts.{Script, RunsScript}
 use Rattle.scripts.specs.Parts.{Part, each}
 
@@ -57,28 +55,26 @@ pub record Faulty : Type 0 where
   pub shelf_faults : ℕ
   pub sink_faults : ℕ
 
-abbrev pub world_of : {D S K : Type 0} → (D → StationState) → (S → Option Files) → (K → Option (List ℕ)) → Session D → S → K → World
-world_of shown files report session shelf out =
-    record { state = state_of shown session; files = files shelf; report = report out }
+-- a session, a shelf and a sink, by what they show
+abbrev pub world_of : {S K : Type 0} → (S → Option Files) → (K → Option (List ℕ)) → State → S → K → World
+world_of files report session shelf out = record { state = session; files = files shelf; report = report out }
 
--- that of a session, a shelf and a sink, by what they show
-abbrev pub faulty_of : {D S K : Type 0} → (D → StationState) → (S → Option Files) → (S → ℕ) → (K → Option (List ℕ)) → (K → ℕ) → Session D → S → K → Faulty
-faulty_of shown files shelf_count report sink_count session shelf out =
-    record { world = world_of shown files report session shelf out; shelf_faults = shelf_count shelf; sink_faults = sink_count out }
+-- with the faults that they counted
+abbrev pub faulty_of : {S K : Type 0} → (S → Option Files) → (S → ℕ) → (K → Option (List ℕ)) → (K → ℕ) → State → S → K → Faulty
+faulty_of files shelf_count report sink_count session shelf out =
+    record { world = world_of files report session shelf out; shelf_faults = shelf_count shelf; sink_faults = sink_count out }
 
--- a command that takes session, shelf and sink through did this, the session still runs, its words were a form, and each fault that its
--- status tells was counted
-pub record Ran (Does : World → World → Status → Type 0) (Running : Type 0) (old new : Faulty) (ended : Status) : Type 0 where
+-- a command that takes session, shelf and sink through did this, its words were a form, and each fault that its status tells was
+-- counted
+pub record Ran (Does : World → World → Status → Type 0) (old new : Faulty) (ended : Status) : Type 0 where
   pub does : Does old.world new.world ended
-  pub running : Running
   pub is_form : ended ≢ status.BadWords
   pub shelf_faults : Blames (ended ≡ status.FileFault) old.shelf_faults new.shelf_faults
   pub sink_faults : BlamesAlone (ended ≡ status.SinkFault) old.sink_faults new.sink_faults
 
 -- the same of a part of a command, whose error is the status
-pub record RanPart {T : Type 0} (Does : World → Result T Status → World → Type 0) (Running : Type 0) (old : Faulty) (result : Result T Status) (new : Faulty) : Type 0 where
+pub record RanPart {T : Type 0} (Does : World → Result T Status → World → Type 0) (old : Faulty) (result : Result T Status) (new : Faulty) : Type 0 where
   pub goes : Does old.world result new.world
-  pub running : Running
   pub is_form : result ≢ Err status.BadWords
   pub shelf_faults : Blames (IsErrOf result status.FileFault) old.shelf_faults new.shelf_faults
   pub sink_faults : BlamesAlone (IsErrOf result status.SinkFault) old.sink_faults new.sink_faults
@@ -91,13 +87,13 @@ pub record Runs (Does : World → List Taken → World → Status → Type 0) (o
 
 -- ---- Of calls that take the sink alone through.
 
--- what is printed, with the faults that the sink counted
-pub record Printed : Type 0 where
-  pub report : Option (List ℕ)
-  pub faults : ℕ
-
-abbrev pub printed_of : {K : Type 0} → (K → Option (List ℕ)) → (K → ℕ) → K → Printed
-printed_of report sink_count out = record { report = report out; faults = sink_count out }
+-- a call that takes the sink alone through told how a command ended: its words were a form, a fault of a file was so before, and each
+-- fault of the sink that it tells was counted
+pub record Told (Tells : Option (List ℕ) → Option (List ℕ) → Status → Type 0) (FileFault : Type 0) (old new : Printed) (ended : Status) : Type 0 where
+  pub tells : Tells old.report new.report ended
+  pub is_form : ended ≢ status.BadWords
+  pub shelf_fault : ended ≡ status.FileFault → FileFault
+  pub sink_faults : BlamesAlone (ended ≡ status.SinkFault) old.faults new.faults
 
 -- a world with another report
 abbrev pub with_report : State → Option Files → Option (List ℕ) → World

@@ -2,3 +2,4 @@ pub mod Scripts
 pub mod Parts
 pub mod Leading
 pub mod Records
+pub mod Texts

@@ -16,13 +16,14 @@ use Rattle.sector_model.specs.Plays.{World, Prints, IsPutFault}
 use Rattle.floppy_report.specs.LastLines.{stopped_text}
 
 -- a last line, with the status; a line, and what follows; a request, and what follows its answer and the state behind it;
--- a file that is stored, and then the last line; and where memory may run out, what follows if it doesn't
+-- a file that is stored, and then the last line; where memory may run out, what follows if it doesn't; or a status, with no last line
 pub data Script : Type 0 where
   Ends : List ℕ → Status → Script
   Says : List ℕ → Script → Script
   Asks : Request → (Reply → State → Script) → Script
   Stores : List ℕ → List ℕ → List ℕ → Status → Script
   MayStarve : Script → Script
+  Fails : Status → Script
 
 -- nothing but the report changed
 pub record IsPrinted (Printed : Option (List ℕ) → Option (List ℕ) → Type 0) (old new : World) : Type 0 where
@@ -64,6 +65,8 @@ RunsScript (Stores name bytes line wanted) old [] new ended = StoresLast name by
 RunsScript (Stores name bytes line wanted) old (taken ∷ later) new ended = ⊥
 RunsScript (MayStarve rest) old course new ended =
     RunsScript rest old course new ended ⊎ ((course ≡ []) × (new ≡ old) × (ended ≡ status.NoMemory))
+RunsScript (Fails cause) old [] new ended = (new ≡ old) × (ended ≡ cause)
+RunsScript (Fails cause) old (taken ∷ later) new ended = ⊥
 
 -- a refusal ends a script, and any other answer goes on
 abbrev pub unless_refused : Request → Reply → Script → Script

@@ -2,7 +2,6 @@
 ghost use Rattle.std.specs.Prelude.{◌≡◌, false, IfOk, MatchOption};
 ghost use Rattle.sector_model.specs.Steps.{Step};
 ghost use Rattle.sector_model.specs.Texts.{is_refusal};
-ghost use Rattle.floppy_session.specs.Session.{state_of, IsRunning};
 ghost use Rattle.floppy_session.specs.Tries.{HasTries};
 ghost use Rattle.scripts.specs.Parts.{asks, needs, carries};
 ghost use Rattle.scripts.specs.Leading.{Answers, Goes, RanPart, faulty_of};
@@ -22,13 +21,11 @@ pub fn ask<S: Shelf, K: Sink, D: Station>(
     shelf: &mut S,
     out: &mut K,
 ) -> Result<Reply, Status>
-    requires running { IsRunning D.shown D.is_ready session.old }
-    requires tries { HasTries request.now }
-    ensures ran { RanPart (Answers (asks request.now)) (IsRunning D.shown D.is_ready session.new)
-        (faulty_of D.shown S.told S.fault_count K.told K.fault_count session.old shelf.old out.old) result
-        (faulty_of D.shown S.told S.fault_count K.told K.fault_count session.new shelf.new out.new) }
-    ensures step { IfOk result (λ answer. Step request.now (state_of D.shown session.old) (S.told shelf.old) answer
-        (state_of D.shown session.new) (S.told shelf.new)) }
+    requires { HasTries request.now }
+    ensures ran { RanPart (Answers (asks request.now))
+        (faulty_of S.told S.fault_count K.told K.fault_count session.old shelf.old out.old) result
+        (faulty_of S.told S.fault_count K.told K.fault_count session.new shelf.new out.new) }
+    ensures step { IfOk result (λ answer. Step request.now session.old (S.told shelf.old) answer session.new (S.told shelf.new)) }
 {
     match session.run(shelf, request) {
         Ok(reply) => Ok(reply),
@@ -64,13 +61,11 @@ pub fn need<S: Shelf, K: Sink, D: Station>(
     shelf: &mut S,
     out: &mut K,
 ) -> Result<Reply, Status>
-    requires running { IsRunning D.shown D.is_ready session.old }
-    requires tries { HasTries request.now }
-    ensures ran { RanPart (Answers (needs request.now)) (IsRunning D.shown D.is_ready session.new)
-        (faulty_of D.shown S.told S.fault_count K.told K.fault_count session.old shelf.old out.old) result
-        (faulty_of D.shown S.told S.fault_count K.told K.fault_count session.new shelf.new out.new) }
-    ensures step { IfOk result (λ answer. Step request.now (state_of D.shown session.old) (S.told shelf.old) answer
-        (state_of D.shown session.new) (S.told shelf.new)) }
+    requires { HasTries request.now }
+    ensures ran { RanPart (Answers (needs request.now))
+        (faulty_of S.told S.fault_count K.told K.fault_count session.old shelf.old out.old) result
+        (faulty_of S.told S.fault_count K.told K.fault_count session.new shelf.new out.new) }
+    ensures step { IfOk result (λ answer. Step request.now session.old (S.told shelf.old) answer session.new (S.told shelf.new)) }
     ensures fine { IfOk result (λ answer. is_refusal answer ≡ false) }
 {
     match session.run(shelf, request) {
@@ -91,11 +86,10 @@ pub fn carry<S: Shelf, K: Sink, D: Station>(
     shelf: &mut S,
     out: &mut K,
 ) -> Result<(), Status>
-    requires running { IsRunning D.shown D.is_ready session.old }
-    requires tries { HasTries request.now }
-    ensures { RanPart (Goes (carries request.now)) (IsRunning D.shown D.is_ready session.new)
-        (faulty_of D.shown S.told S.fault_count K.told K.fault_count session.old shelf.old out.old) result
-        (faulty_of D.shown S.told S.fault_count K.told K.fault_count session.new shelf.new out.new) }
+    requires { HasTries request.now }
+    ensures { RanPart (Goes (carries request.now))
+        (faulty_of S.told S.fault_count K.told K.fault_count session.old shelf.old out.old) result
+        (faulty_of S.told S.fault_count K.told K.fault_count session.new shelf.new out.new) }
 {
     match need(alloc, session, request, shelf, out) {
         Ok(_) => Ok(()),

@@ -1,7 +1,6 @@
 // Parts that many scripts have: a disk is put in, a bay is made ready, and tracks are formatted.
-ghost use Rattle.std.specs.Prelude.{◌≡◌, Some};
+ghost use Rattle.std.specs.Prelude.{◌≡◌, Some, OnOk};
 ghost use Rattle.flop_base.specs.declared.answers.Rate.{Rate};
-ghost use Rattle.floppy_session.specs.Session.{IsRunning};
 ghost use Rattle.floppy_session.specs.Tries.{HasTries};
 ghost use Rattle.floppy_session.specs.Blanks.{blank_request};
 ghost use Rattle.scripts.specs.Parts.{opens, sets_rate, acknowledges, each, by_track, formats};
@@ -23,10 +22,10 @@ pub fn open_disk<S: Shelf, K: Sink, D: Station>(
     shelf: &mut S,
     out: &mut K,
 ) -> Result<Shape, Status>
-    requires running { IsRunning D.shown D.is_ready session.old }
-    ensures { RanPart (Goes (opens name)) (IsRunning D.shown D.is_ready session.new)
-        (faulty_of D.shown S.told S.fault_count K.told K.fault_count session.old shelf.old out.old) result
-        (faulty_of D.shown S.told S.fault_count K.told K.fault_count session.new shelf.new out.new) }
+    ensures ran { RanPart (Goes (opens name))
+        (faulty_of S.told S.fault_count K.told K.fault_count session.old shelf.old out.old) result
+        (faulty_of S.told S.fault_count K.told K.fault_count session.new shelf.new out.new) }
+    ensures files { OnOk result (S.told shelf.new ≡ S.told shelf.old) }
 {
     need(
         alloc,
@@ -51,10 +50,9 @@ fn set_rate<S: Shelf, K: Sink, D: Station>(
     shelf: &mut S,
     out: &mut K,
 ) -> Result<(), Status>
-    requires running { IsRunning D.shown D.is_ready session.old }
-    ensures { RanPart (Goes (sets_rate bay rate)) (IsRunning D.shown D.is_ready session.new)
-        (faulty_of D.shown S.told S.fault_count K.told K.fault_count session.old shelf.old out.old) result
-        (faulty_of D.shown S.told S.fault_count K.told K.fault_count session.new shelf.new out.new) }
+    ensures { RanPart (Goes (sets_rate bay rate))
+        (faulty_of S.told S.fault_count K.told K.fault_count session.old shelf.old out.old) result
+        (faulty_of S.told S.fault_count K.told K.fault_count session.new shelf.new out.new) }
 {
     match rate {
         Rate::R500 => Ok(()),
@@ -72,10 +70,9 @@ pub fn acknowledge<S: Shelf, K: Sink, D: Station>(
     shelf: &mut S,
     out: &mut K,
 ) -> Result<(), Status>
-    requires running { IsRunning D.shown D.is_ready session.old }
-    ensures { RanPart (Goes (acknowledges bay rate)) (IsRunning D.shown D.is_ready session.new)
-        (faulty_of D.shown S.told S.fault_count K.told K.fault_count session.old shelf.old out.old) result
-        (faulty_of D.shown S.told S.fault_count K.told K.fault_count session.new shelf.new out.new) }
+    ensures { RanPart (Goes (acknowledges bay rate))
+        (faulty_of S.told S.fault_count K.told K.fault_count session.old shelf.old out.old) result
+        (faulty_of S.told S.fault_count K.told K.fault_count session.new shelf.new out.new) }
 {
     carry(alloc, session, &Request::Ack { bay }, shelf, out)?;
     set_rate(alloc, session, bay, rate, shelf, out)
@@ -110,10 +107,9 @@ fn format_cylinder<S: Shelf, K: Sink, D: Station>(
     shelf: &mut S,
     out: &mut K,
 ) -> Result<(), Status>
-    requires running { IsRunning D.shown D.is_ready session.old }
-    ensures { RanPart (Goes (each 0 heads (formats bay c) tt)) (IsRunning D.shown D.is_ready session.new)
-        (faulty_of D.shown S.told S.fault_count K.told K.fault_count session.old shelf.old out.old) result
-        (faulty_of D.shown S.told S.fault_count K.told K.fault_count session.new shelf.new out.new) }
+    ensures { RanPart (Goes (each 0 heads (formats bay c) tt))
+        (faulty_of S.told S.fault_count K.told K.fault_count session.old shelf.old out.old) result
+        (faulty_of S.told S.fault_count K.told K.fault_count session.new shelf.new out.new) }
 {
     for h in 0..heads {
         carry(alloc, session, &Request::Format { bay, c, h }, shelf, out)?;
@@ -131,10 +127,9 @@ pub fn format_tracks<S: Shelf, K: Sink, D: Station>(
     shelf: &mut S,
     out: &mut K,
 ) -> Result<(), Status>
-    requires running { IsRunning D.shown D.is_ready session.old }
-    ensures { RanPart (Goes (by_track cylinders heads (formats bay) tt)) (IsRunning D.shown D.is_ready session.new)
-        (faulty_of D.shown S.told S.fault_count K.told K.fault_count session.old shelf.old out.old) result
-        (faulty_of D.shown S.told S.fault_count K.told K.fault_count session.new shelf.new out.new) }
+    ensures { RanPart (Goes (by_track cylinders heads (formats bay) tt))
+        (faulty_of S.told S.fault_count K.told K.fault_count session.old shelf.old out.old) result
+        (faulty_of S.told S.fault_count K.told K.fault_count session.new shelf.new out.new) }
 {
     for c in 0..cylinders {
         format_cylinder(alloc, session, bay, c, heads, shelf, out)?;

@@ -1,4 +1,4 @@
-use Rattle.std.proofs.Common.{arith}
+use Rattle.std.proofs.Common.{rules}
 use Rattle.floppy_report.proofs.DumpLines.{on_err}
 use Rattle.archive_commands.proofs.FieldLines.{line_put, line_cut}
 use Rattle.archive_commands.proofs.surveying.put_fields.Goals as goal
@@ -11,5 +11,5 @@ returns-in_err-put_line-clause-err g c =
 pub loop-line-preserved : goal.loop-line-preserved
 loop-line-preserved g c = record {
   told = line_put (g.K.Sink.told c.args.out.now) (g.K.Sink.told c.loop-line.out) (g.K.Sink.told c.put_line.new.out) c.args.lines.now c.loop-line.line-index _ c.loop-line.invariant.told c.loop-line-test.true (c.in_ok-put_line.ensures.ok _ c.field_line.ensures);
-  counts = omega (arith, c.loop-line.invariant.counts, c.put_line.ensures.faults.never_falls);
+  counts = search rules;
 }

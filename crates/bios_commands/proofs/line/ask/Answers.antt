@@ -1,12 +1,11 @@
 use Rattle.std.proofs.Common.{rules}
-use Rattle.disk_commands.specs.Worlds.{world_of}
+use Rattle.scripts.specs.Leading.{world_of}
 use Rattle.bios_commands.proofs.Served.{asked_round, asked_cut, asked_stop}
 use Rattle.bios_commands.proofs.line.ask.Goals as goal
 
 pub returns-in-Ok-put_reply : goal.returns-in-Ok-put_reply
 returns-in-Ok-put_reply g c = record {
-  goes = λ kept. asked_round kept c.args.request.now c.in-Ok.reply c.is_refusal.result (world_of g.D.Station.shown g.S.Shelf.told g.K.Sink.told c.args.session.now c.args.shelf.now c.args.out.now) (world_of g.D.Station.shown g.S.Shelf.told g.K.Sink.told c.run.new.self c.run.new.shelf c.put_reply.new.out) c.in-Ok.ensures.step c.in-Ok-put_reply.ensures.ok c.is_refusal.ensures;
-  running = search rules;
+  goes = λ kept. asked_round kept c.args.request.now c.in-Ok.reply c.is_refusal.result _ _ c.in-Ok.ensures.step c.in-Ok-put_reply.ensures.ok c.is_refusal.ensures;
   is_form = search rules;
   shelf_faults = search rules;
   sink_faults = search rules;
@@ -14,8 +13,7 @@ returns-in-Ok-put_reply g c = record {
 
 pub returns-in-Ok : goal.returns-in-Ok
 returns-in-Ok g c = record {
-  goes = λ kept. asked_cut kept c.args.request.now c.in-Ok.reply (world_of g.D.Station.shown g.S.Shelf.told g.K.Sink.told c.args.session.now c.args.shelf.now c.args.out.now) (world_of g.D.Station.shown g.S.Shelf.told g.K.Sink.told c.run.new.self c.run.new.shelf c.put_reply.new.out) c.in-Err-put_reply.ended c.in-Ok.ensures.step c.in-Err-put_reply.ensures.err c.in-Err-put_reply.ensures.only;
-  running = search rules;
+  goes = λ kept. asked_cut kept c.args.request.now c.in-Ok.reply _ _ c.in-Err-put_reply.ended c.in-Ok.ensures.step c.in-Err-put_reply.ensures.err c.in-Err-put_reply.ensures.only;
   is_form = search rules;
   shelf_faults = search rules;
   sink_faults = search rules;
@@ -23,8 +21,7 @@ returns-in-Ok g c = record {
 
 pub returns : goal.returns
 returns g c = record {
-  goes = λ kept. asked_stop kept c.args.request.now c.in-Err.stop (world_of g.D.Station.shown g.S.Shelf.told g.K.Sink.told c.args.session.now c.args.shelf.now c.args.out.now) (world_of g.D.Station.shown g.S.Shelf.told g.K.Sink.told c.run.new.self c.run.new.shelf c.put_last.new.out) c.put_last.result c.in-Err.ensures.stop c.put_last.ensures.prints;
-  running = search rules;
+  goes = λ kept. asked_stop kept c.args.request.now c.in-Err.stop _ _ c.put_last.result c.in-Err.ensures.stop c.put_last.ensures.prints;
   is_form = search rules;
   shelf_faults = search rules;
   sink_faults = search rules;

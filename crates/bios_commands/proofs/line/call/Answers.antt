@@ -1,13 +1,12 @@
 use Rattle.std.proofs.Common.{rules, refl}
-use Rattle.disk_commands.specs.Worlds.{world_of}
+use Rattle.scripts.specs.Leading.{world_of}
 use Rattle.bios_commands.specs.CallTexts.{call_text}
 use Rattle.bios_commands.proofs.Served.{served_round, served_cut}
 use Rattle.bios_commands.proofs.line.call.Goals as goal
 
 pub returns-in-Ok-clause-ran : goal.returns-in-Ok-clause-ran
 returns-in-Ok-clause-ran g c = record {
-  goes = λ line is. served_round line c.args.regs c.args.front.now c.int13-answered.new.front (world_of g.D.Station.shown g.S.Shelf.told g.K.Sink.told c.args.session.now c.args.shelf.now c.args.out.now) (world_of g.D.Station.shown g.S.Shelf.told g.K.Sink.told c.int13-answered.new.self c.args.shelf.now c.put_line.new.out) c.int13-answered.result is (c.int13-answered.ensures.serves (g.S.Shelf.told c.args.shelf.now)) refl (c.in-Ok.ensures.ok (call_text c.int13-answered.result) c.call_line.ensures);
-  running = search rules;
+  goes = λ line is. served_round line c.args.regs c.args.front.now c.int13-answered.new.front _ _ c.int13-answered.result is (c.int13-answered.ensures (g.S.Shelf.told c.args.shelf.now)) refl (c.in-Ok.ensures.ok (call_text c.int13-answered.result) c.call_line.ensures);
   is_form = search rules;
   shelf_faults = search rules;
   sink_faults = search rules;
@@ -15,8 +14,7 @@ returns-in-Ok-clause-ran g c = record {
 
 pub returns-in-Err-clause-ran : goal.returns-in-Err-clause-ran
 returns-in-Err-clause-ran g c = record {
-  goes = λ line is. served_cut line c.args.regs c.args.front.now c.int13-answered.new.front (world_of g.D.Station.shown g.S.Shelf.told g.K.Sink.told c.args.session.now c.args.shelf.now c.args.out.now) (world_of g.D.Station.shown g.S.Shelf.told g.K.Sink.told c.int13-answered.new.self c.args.shelf.now c.put_line.new.out) c.int13-answered.result c.in-Err.ended is (c.int13-answered.ensures.serves (g.S.Shelf.told c.args.shelf.now)) refl (c.in-Err.ensures.err (call_text c.int13-answered.result) c.call_line.ensures) c.in-Err.ensures.only;
-  running = search rules;
+  goes = λ line is. served_cut line c.args.regs c.args.front.now c.int13-answered.new.front _ _ c.int13-answered.result c.in-Err.ended is (c.int13-answered.ensures (g.S.Shelf.told c.args.shelf.now)) refl (c.in-Err.ensures.err (call_text c.int13-answered.result) c.call_line.ensures) c.in-Err.ensures.only;
   is_form = search rules;
   shelf_faults = search rules;
   sink_faults = search rules;

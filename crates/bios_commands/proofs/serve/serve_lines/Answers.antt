@@ -1,22 +1,20 @@
 use Rattle.std.proofs.Common.{rules, arith, ◌<◌, length}
-use Rattle.disk_commands.specs.Worlds.{world_of}
+use Rattle.scripts.specs.Leading.{world_of}
 use Rattle.bios_commands.proofs.Served.{served_none, served_next, broken}
 use Rattle.bios_commands.proofs.serve.serve_lines.Goals as goal
 
 pub loop-line-init : goal.loop-line-init
 loop-line-init g c = record {
-  served = served_none (world_of g.D.Station.shown g.S.Shelf.told g.K.Sink.told c.args.session.now c.args.shelf.now c.args.out.now) c.new-front.result c.new-front.ensures;
-  running = c.requires.running;
+  served = served_none (world_of g.S.Shelf.told g.K.Sink.told c.args.session.now c.args.shelf.now c.args.out.now) c.new-front.result c.new-front.ensures;
   shelf_counts = omega arith;
-  sink_counts = omega arith;
+  sink_counts = search rules;
 }
 
 pub returns-in-Err : goal.returns-in-Err
 returns-in-Err g c = record {
   goes =
       let within : c.loop-line.line-index < length c.args.lines.now = omega arith in
-      broken (world_of g.D.Station.shown g.S.Shelf.told g.K.Sink.told c.args.session.now c.args.shelf.now c.args.out.now) (world_of g.D.Station.shown g.S.Shelf.told g.K.Sink.told c.loop-line.session c.loop-line.shelf c.loop-line.out) (world_of g.D.Station.shown g.S.Shelf.told g.K.Sink.told c.serve_line.new.session c.serve_line.new.shelf c.serve_line.new.out) c.args.lines.now c.loop-line.line-index c.line-item.result c.loop-line.refused c.loop-line.front c.in-Err.ended c.loop-line.invariant.served within c.line-item.is c.in-Err.ensures.goes;
-  running = search rules;
+      broken _ _ _ c.args.lines.now c.loop-line.line-index c.line-item.result c.loop-line.refused c.loop-line.front c.in-Err.ended c.loop-line.invariant.served within c.line-item.is c.in-Err.ensures.goes;
   is_form = search rules;
   shelf_faults = search rules;
   sink_faults = search rules;
@@ -26,8 +24,7 @@ pub loop-line-preserved : goal.loop-line-preserved
 loop-line-preserved g c =
     let within : c.loop-line.line-index < length c.args.lines.now = omega arith in
     record {
-      served = served_next (world_of g.D.Station.shown g.S.Shelf.told g.K.Sink.told c.args.session.now c.args.shelf.now c.args.out.now) (world_of g.D.Station.shown g.S.Shelf.told g.K.Sink.told c.loop-line.session c.loop-line.shelf c.loop-line.out) (world_of g.D.Station.shown g.S.Shelf.told g.K.Sink.told c.serve_line.new.session c.serve_line.new.shelf c.serve_line.new.out) c.args.lines.now c.loop-line.line-index c.line-item.result c.loop-line.refused c.in-Ok.refusal c.either-refused.result c.loop-line.front c.serve_line.new.front c.loop-line.invariant.served c.in-Ok.ensures.goes within c.line-item.is c.either-refused.ensures;
-      running = c.serve_line.ensures.running;
+      served = served_next _ _ _ c.args.lines.now c.loop-line.line-index c.line-item.result c.loop-line.refused c.in-Ok.refusal c.either-refused.result c.loop-line.front c.serve_line.new.front c.loop-line.invariant.served c.in-Ok.ensures.goes within c.line-item.is c.either-refused.ensures;
       shelf_counts = omega (arith, c.loop-line.invariant.shelf_counts, c.serve_line.ensures.shelf_faults.never_falls);
-      sink_counts = omega (arith, c.loop-line.invariant.sink_counts, c.serve_line.ensures.sink_faults.never_falls);
+      sink_counts = search rules;
     }

@@ -1,13 +1,11 @@
-use Rattle.std.proofs.Common.{◌≤◌, take}
-use Rattle.floppy_session.specs.Session.{IsRunning}
-use Rattle.disk_commands.specs.Worlds.{world_of}
+use Rattle.std.proofs.Common.{◌≡◌, ◌≤◌, take}
+use Rattle.scripts.specs.Leading.{world_of}
 use Rattle.bios_commands.specs.Lines.{HasServed}
 use Rattle.bios_commands.proofs.serve.serve_lines.Given as goal
 
 abbrev pub invariant-loop-line : goal.invariant-loop-line
 invariant-loop-line g l = record {
-  served : HasServed (take l.line-index l.lines) (world_of g.D.Station.shown g.S.Shelf.told g.K.Sink.told l.fn.session l.fn.shelf l.fn.out) l.refused l.front (world_of g.D.Station.shown g.S.Shelf.told g.K.Sink.told l.session l.shelf l.out);
-  running : IsRunning g.D.Station.shown g.D.Station.is_ready l.session;
+  served : HasServed (take l.line-index l.lines) (world_of g.S.Shelf.told g.K.Sink.told l.fn.session l.fn.shelf l.fn.out) l.refused l.front (world_of g.S.Shelf.told g.K.Sink.told l.session l.shelf l.out);
   shelf_counts : g.S.Shelf.fault_count l.fn.shelf ≤ g.S.Shelf.fault_count l.shelf;
-  sink_counts : g.K.Sink.fault_count l.fn.out ≤ g.K.Sink.fault_count l.out;
+  sink_counts : g.K.Sink.fault_count l.out ≡ g.K.Sink.fault_count l.fn.out;
 }

@@ -3,19 +3,18 @@ use Rattle.std.specs.Prelude.{Vec, All}
 use Rattle.std.specs.declared.alloc.Global.{Global}
 use Rattle.floppy_jobs.specs.Texts.{calls_of}
 use Rattle.floppy_jobs.specs.declared.calls.CallLine.{CallLine}
-use Rattle.disk_commands.specs.Worlds.{world_of}
+use Rattle.scripts.specs.Leading.{world_of}
 use Rattle.bios_commands.specs.Lines.{LineHasTries}
 use Rattle.bios_commands.proofs.Parsed.{all_tries}
 use Rattle.bios_commands.proofs.Served.{parsed_serves, read_bad, unparsed_tells}
 use Rattle.bios_commands.proofs.serve.serve_text.Goals as goal
 
-pub serve_all-requires-clause-tries : goal.serve_all-requires-clause-tries
-serve_all-requires-clause-tries g c = subst (λ (l : List CallLine). All LineHasTries l) (sym c.deref.ensures.value) (all_tries c.args.text.now c.in-Ok.lines.items c.in-Ok.ensures)
+pub serve_all-requires : goal.serve_all-requires
+serve_all-requires g c = subst (λ (l : List CallLine). All LineHasTries l) (sym c.deref.ensures.value) (all_tries c.args.text.now c.in-Ok.lines.items c.in-Ok.ensures)
 
 pub returns-in-Ok : goal.returns-in-Ok
 returns-in-Ok g c = record {
-  does = parsed_serves (world_of g.D.Station.shown g.S.Shelf.told g.K.Sink.told c.args.session.now c.args.shelf.now c.args.out.now) (world_of g.D.Station.shown g.S.Shelf.told g.K.Sink.told c.serve_all.new.session c.serve_all.new.shelf c.serve_all.new.out) c.args.text.now c.deref.result.now c.in-Ok.lines.items c.serve_all.result c.in-Ok.ensures c.deref.ensures.value c.serve_all.ensures.does;
-  running = search rules;
+  does = parsed_serves _ _ c.args.text.now c.deref.result.now c.in-Ok.lines.items c.serve_all.result c.in-Ok.ensures c.deref.ensures.value c.serve_all.ensures.does;
   is_form = search rules;
   shelf_faults = search rules;
   sink_faults = search rules;
@@ -23,8 +22,7 @@ returns-in-Ok g c = record {
 
 pub returns-in-Err-BadLine : goal.returns-in-Err-BadLine
 returns-in-Err-BadLine g c = record {
-  does = unparsed_tells (world_of g.D.Station.shown g.S.Shelf.told g.K.Sink.told c.args.session.now c.args.shelf.now c.args.out.now) (world_of g.D.Station.shown g.S.Shelf.told g.K.Sink.told c.args.session.now c.args.shelf.now c.put_last_bad_line.new.out) c.args.text.now c.in-Err-BadLine.line c.put_last_bad_line.result (read_bad (λ (lines : Vec CallLine Global). lines.items) c.in-Err-BadLine.field-0 (calls_of c.args.text.now) c.in-Err-BadLine.line c.in-Err-BadLine.ensures c.in-Err-BadLine.field-0-is) (record { state = refl; files = refl; prints = c.put_last_bad_line.ensures.prints });
-  running = search rules;
+  does = unparsed_tells _ _ c.args.text.now c.in-Err-BadLine.line c.put_last_bad_line.result (read_bad (λ (lines : Vec CallLine Global). lines.items) c.in-Err-BadLine.field-0 (calls_of c.args.text.now) c.in-Err-BadLine.line c.in-Err-BadLine.ensures c.in-Err-BadLine.field-0-is) (record { state = refl; files = refl; prints = c.put_last_bad_line.ensures.prints });
   is_form = search rules;
   shelf_faults = search rules;
   sink_faults = search rules;

@@ -1,7 +1,6 @@
-use Rattle.floppy_session.specs.Session.{state_of}
 use Rattle.std.proofs.Common.{◌≡◌, ◌++◌}
 use Rattle.bay_model.specs.Memory.{bytes_from}
 use Rattle.flat_commands.proofs.export.gather.Given as goal
 
 abbrev pub invariant-loop-i : goal.invariant-loop-i
-invariant-loop-i g l = l.flat.items ≡ l.fn.flat.items ++ bytes_from (state_of g.D.Station.shown l.fn.session).station.memory l.fn.address l.i
+invariant-loop-i g l = l.flat.items ≡ l.fn.flat.items ++ bytes_from l.fn.session.station.memory l.fn.address l.i

@@ -1,6 +1,5 @@
 use Rattle.std.proofs.Common.{rules, ℕ, List, ◌++◌}
 use Rattle.bay_model.specs.Memory.{bytes_from}
-use Rattle.floppy_session.specs.Session.{state_of}
 use Rattle.sector_model.specs.States.{State}
 use Rattle.scripts.specs.Scripts.{Script}
 use Rattle.scripts.specs.Parts.{may_starve}
@@ -18,10 +17,9 @@ unfolding reads_record
 returns-in-Ok g c = record {
   goes = λ whole start rest leads.
       rw (c.in-Ok.ensures, c.record_address-address.ensures)
-      (fed whole start (kept c.args.r c.args.flat.now.items rest (state_of g.D.Station.shown c.need.new.session)) _
+      (fed whole start (kept c.args.r c.args.flat.now.items rest c.need.new.session) _
       (c.in_ok-need.ensures.ran.goes whole start (λ answer after. may_starve (kept c.args.r c.args.flat.now.items rest after))
       (rw c.record_address-address.ensures leads)));
-  running = search rules;
   is_form = search rules;
   shelf_faults = search rules;
   sink_faults = search rules;

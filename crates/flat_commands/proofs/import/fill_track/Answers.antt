@@ -13,7 +13,6 @@ returns-in_err-fill_record g c = record {
   goes = given_on _ _ _ _ _ c.from_residual.ensures.1
       (turn_ends _ _ _ _ _ _ _ _ _ _ c.loop-r.invariant.turn
       (rw (sym c.place-from.ensures.place, sym c.record_address.ensures) c.in_err-fill_record.ensures.goes) (omega arith));
-  running = search rules;
   is_form = search rules;
   shelf_faults = search rules;
   sink_faults = search rules;
@@ -23,7 +22,6 @@ pub loop-r-preserved : goal.loop-r-preserved
 loop-r-preserved g c = record {
   turn = turn_goes _ _ _ _ _ _ _ _ _ _ c.loop-r.invariant.turn
       (rw (sym c.place-from.ensures.place, sym c.record_address.ensures) c.in_ok-fill_record.ensures.goes) (omega arith);
-  running = search rules;
   counted = search rules;
   stays = search rules;
 }

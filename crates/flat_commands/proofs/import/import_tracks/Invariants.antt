@@ -1,5 +1,4 @@
 use Rattle.std.proofs.Common.{◌≡◌, ◌≤◌}
-use Rattle.floppy_session.specs.Session.{IsRunning}
 use Rattle.scripts.specs.Leading.{world_of, IsAtTurn}
 use Rattle.flat_commands.specs.Import.{imports_track}
 use Rattle.flat_commands.proofs.Tracks.{of_track}
@@ -8,9 +7,8 @@ use Rattle.flat_commands.proofs.import.import_tracks.Given as goal
 abbrev pub invariant-loop-track : goal.invariant-loop-track
 invariant-loop-track g l = record {
   turn : IsAtTurn 0 160 (of_track (imports_track l.fn.flat l.fn.sectors)) tt
-      (world_of g.D.Station.shown g.S.Shelf.told g.K.Sink.told l.fn.session l.fn.shelf l.fn.out)
-      l.track tt (world_of g.D.Station.shown g.S.Shelf.told g.K.Sink.told l.session l.shelf l.out);
-  running : IsRunning g.D.Station.shown g.D.Station.is_ready l.session;
+      (world_of g.S.Shelf.told g.K.Sink.told l.fn.session l.fn.shelf l.fn.out)
+      l.track tt (world_of g.S.Shelf.told g.K.Sink.told l.session l.shelf l.out);
   counted : g.S.Shelf.fault_count l.fn.shelf ≤ g.S.Shelf.fault_count l.shelf;
   stays : g.K.Sink.fault_count l.out ≡ g.K.Sink.fault_count l.fn.out;
 }

@@ -12,7 +12,6 @@ unfolding writes_track writes_record
 returns-in_err-carry g c = record {
   goes = given_on _ _ _ _ _ c.from_residual.ensures.1
       (turn_ends _ _ _ _ _ _ _ _ _ _ c.loop-r.invariant.turn (rw (sym c.record_address.ensures) c.in_err-carry.ensures.goes) (omega arith));
-  running = search rules;
   is_form = search rules;
   shelf_faults = search rules;
   sink_faults = search rules;
@@ -22,7 +21,6 @@ pub loop-r-preserved : goal.loop-r-preserved
 unfolding writes_record
 loop-r-preserved g c = record {
   turn = turn_goes _ _ _ _ _ _ _ _ _ _ c.loop-r.invariant.turn (rw (sym c.record_address.ensures) c.in_ok-carry.ensures.goes) (omega arith);
-  running = search rules;
   counted = search rules;
   stays = search rules;
 }

@@ -13,7 +13,6 @@ unfolding works
 returns-in_err-tally g c = record {
   goes = given_on _ _ _ _ _ c.from_residual.ensures.1
       (turn_ends _ _ _ _ _ _ _ _ _ _ c.loop-i.invariant.turn (rw (sym c.loop-i.invariant.number) c.in_err-tally.ensures.ran.goes) (omega arith));
-  running = search rules;
   is_form = search rules;
   shelf_faults = search rules;
   sink_faults = search rules;
@@ -22,7 +21,6 @@ returns-in_err-tally g c = record {
 pub loop-i-preserved : goal.loop-i-preserved
 loop-i-preserved g c = record {
   turn = turn_goes _ _ _ _ _ _ _ _ _ _ c.loop-i.invariant.turn (rw (sym c.loop-i.invariant.number) c.in_ok-tally.ensures.ran.goes) (omega arith);
-  running = search rules;
   counted = search rules;
   stays = search rules;
   number = number_more c.args.seed c.loop-i._i _ _ c.loop-i.invariant.number c.in_ok-tally.ensures.number;
@@ -34,5 +32,5 @@ pub returns : goal.returns
 unfolding works
 returns g c = let goes = turns_over _ _ _ _ _ _ _ _ c.loop-i.invariant.turn (omega arith) in search rules
 
-pub run_next-requires-clause-room : goal.run_next-requires-clause-room
-run_next-requires-clause-room g c = search rules
+pub run_next-requires : goal.run_next-requires
+run_next-requires g c = record { room = search rules }

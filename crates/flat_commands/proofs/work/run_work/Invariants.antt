@@ -1,5 +1,4 @@
 use Rattle.std.proofs.Common.{◌≡◌, ◌≤◌, ◌+◌, ◌*◌}
-use Rattle.floppy_session.specs.Session.{IsRunning}
 use Rattle.scripts.specs.Leading.{world_of, IsAtTurn}
 use Rattle.flat_commands.specs.Workload.{number_after}
 use Rattle.flat_commands.specs.Exercise.{no_work, works_behind}
@@ -8,9 +7,8 @@ use Rattle.flat_commands.proofs.work.run_work.Given as goal
 abbrev pub invariant-loop-i : goal.invariant-loop-i
 invariant-loop-i g l = record {
   turn : IsAtTurn 0 l.fn.count (λ i. works_behind (number_after (5 * i) l.fn.seed)) no_work
-      (world_of g.D.Station.shown g.S.Shelf.told g.K.Sink.told l.fn.session l.fn.shelf l.fn.out)
-      l._i l.tally (world_of g.D.Station.shown g.S.Shelf.told g.K.Sink.told l.session l.shelf l.out);
-  running : IsRunning g.D.Station.shown g.D.Station.is_ready l.session;
+      (world_of g.S.Shelf.told g.K.Sink.told l.fn.session l.fn.shelf l.fn.out)
+      l._i l.tally (world_of g.S.Shelf.told g.K.Sink.told l.session l.shelf l.out);
   counted : g.S.Shelf.fault_count l.fn.shelf ≤ g.S.Shelf.fault_count l.shelf;
   stays : g.K.Sink.fault_count l.out ≡ g.K.Sink.fault_count l.fn.out;
   number : l.draws.number ≡ number_after (5 * l._i) l.fn.seed;

@@ -1,10 +1,9 @@
-use Rattle.floppy_session.specs.Session.{state_of}
 use Rattle.std.proofs.Common.{◌≤◌, ◌≡◌, ◌*◌, sum}
 use Rattle.bay_model.specs.Memory.{bytes_from}
 use Rattle.flat_commands.proofs.work.sum_read.Given as goal
 
 abbrev pub invariant-loop-i : goal.invariant-loop-i
 invariant-loop-i g l = record {
-  total : l.sum ≡ sum (bytes_from (state_of g.D.Station.shown l.fn.session).station.memory l.fn.address l.i);
+  total : l.sum ≡ sum (bytes_from l.fn.session.station.memory l.fn.address l.i);
   small : l.sum ≤ 255 * l.i;
 }

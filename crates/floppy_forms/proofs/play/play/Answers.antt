@@ -1,13 +1,11 @@
 use Rattle.std.proofs.Common.{rules}
-use Rattle.floppy_session.specs.Session.{state_of}
 use Rattle.floppy_forms.specs.Rounds.{world}
 use Rattle.floppy_forms.proofs.InRounds.{text_plays, missed_plays}
 use Rattle.floppy_forms.proofs.play.play.Goals as goal
 
 pub returns-in-Ok : goal.returns-in-Ok
 returns-in-Ok g c = record {
-  does = text_plays (state_of g.D.Station.shown c.args.session.now) (g.S.Shelf.told c.args.shelf.now) (g.S.Shelf.told c.load.new.self) (g.K.Sink.told c.args.out.now) (world (state_of g.D.Station.shown c.play_text.new.session) (g.S.Shelf.told c.play_text.new.shelf) (g.K.Sink.told c.play_text.new.out)) c.args.job.now c.deref.result.now c.in-Ok.text c.play_text.result c.in-Ok.ensures.stays c.deref.ensures.value c.in-Ok.ensures.gives c.play_text.ensures.does;
-  running = search rules;
+  does = text_plays c.args.session.now (g.S.Shelf.told c.args.shelf.now) (g.S.Shelf.told c.load.new.self) (g.K.Sink.told c.args.out.now) _ c.args.job.now c.deref.result.now c.in-Ok.text c.play_text.result c.in-Ok.ensures.stays c.deref.ensures.value c.in-Ok.ensures.gives c.play_text.ensures.does;
   is_form = search rules;
   shelf_faults = search rules;
   sink_faults = search rules;
@@ -15,8 +13,7 @@ returns-in-Ok g c = record {
 
 pub returns-in-Err : goal.returns-in-Err
 returns-in-Err g c = record {
-  does = missed_plays (state_of g.D.Station.shown c.args.session.now) (g.S.Shelf.told c.args.shelf.now) (g.S.Shelf.told c.load.new.self) (g.K.Sink.told c.args.out.now) (g.K.Sink.told c.not_loaded.new.out) c.args.job.now c.in-Err.error c.not_loaded.result c.in-Err.ensures.stays c.in-Err.ensures.gives c.not_loaded.ensures.tells;
-  running = search rules;
+  does = missed_plays c.args.session.now (g.S.Shelf.told c.args.shelf.now) (g.S.Shelf.told c.load.new.self) (g.K.Sink.told c.args.out.now) (g.K.Sink.told c.tell_missing_text.new.out) c.args.job.now c.in-Err.error c.tell_missing_text.result c.in-Err.ensures.stays c.in-Err.ensures.gives c.tell_missing_text.ensures.tells;
   is_form = search rules;
   shelf_faults = search rules;
   sink_faults = search rules;

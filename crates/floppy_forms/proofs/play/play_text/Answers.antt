@@ -3,15 +3,13 @@ use Rattle.std.specs.Prelude.{Vec}
 use Rattle.std.specs.declared.alloc.Global.{Global}
 use Rattle.floppy_requests.specs.declared.request.Request.{Request}
 use Rattle.floppy_requests.specs.Texts.{job_of}
-use Rattle.floppy_session.specs.Session.{state_of}
 use Rattle.floppy_forms.specs.Rounds.{world}
 use Rattle.floppy_forms.proofs.InRounds.{parsed_plays, read_bad, unparsed_tells}
 use Rattle.floppy_forms.proofs.play.play_text.Goals as goal
 
 pub returns-in-Ok : goal.returns-in-Ok
 returns-in-Ok g c = record {
-  does = parsed_plays (world (state_of g.D.Station.shown c.args.session.now) (g.S.Shelf.told c.args.shelf.now) (g.K.Sink.told c.args.out.now)) (world (state_of g.D.Station.shown c.play_requests.new.session) (g.S.Shelf.told c.play_requests.new.shelf) (g.K.Sink.told c.play_requests.new.out)) c.args.text.now c.deref.result.now c.in-Ok.requests.items c.play_requests.result c.in-Ok.ensures.read c.deref.ensures.value c.play_requests.ensures.does;
-  running = search rules;
+  does = parsed_plays _ _ c.args.text.now c.deref.result.now c.in-Ok.requests.items c.play_requests.result c.in-Ok.ensures.read c.deref.ensures.value c.play_requests.ensures.does;
   is_form = search rules;
   shelf_faults = search rules;
   sink_faults = search rules;
@@ -19,8 +17,7 @@ returns-in-Ok g c = record {
 
 pub returns-in-Err-BadLine : goal.returns-in-Err-BadLine
 returns-in-Err-BadLine g c = record {
-  does = unparsed_tells (world (state_of g.D.Station.shown c.args.session.now) (g.S.Shelf.told c.args.shelf.now) (g.K.Sink.told c.args.out.now)) (world (state_of g.D.Station.shown c.args.session.now) (g.S.Shelf.told c.args.shelf.now) (g.K.Sink.told c.put_last_bad_line.new.out)) c.args.text.now c.in-Err-BadLine.line c.put_last_bad_line.result (read_bad (λ (requests : Vec Request Global). requests.items) c.in-Err-BadLine.field-0 (job_of c.args.text.now) c.in-Err-BadLine.line c.in-Err-BadLine.ensures.read c.in-Err-BadLine.field-0-is) (record { state = refl; files = refl; prints = c.put_last_bad_line.ensures.prints });
-  running = search rules;
+  does = unparsed_tells _ _ c.args.text.now c.in-Err-BadLine.line c.put_last_bad_line.result (read_bad (λ (requests : Vec Request Global). requests.items) c.in-Err-BadLine.field-0 (job_of c.args.text.now) c.in-Err-BadLine.line c.in-Err-BadLine.ensures.read c.in-Err-BadLine.field-0-is) (record { state = refl; files = refl; prints = c.put_last_bad_line.ensures.prints });
   is_form = search rules;
   shelf_faults = search rules;
   sink_faults = search rules;

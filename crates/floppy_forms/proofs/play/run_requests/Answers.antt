@@ -1,5 +1,4 @@
 use Rattle.std.proofs.Common.{rules, arith, ◌<◌, length}
-use Rattle.floppy_session.specs.Session.{state_of}
 use Rattle.floppy_forms.specs.Rounds.{world}
 use Rattle.floppy_forms.proofs.InRounds.{has-run-next, broken}
 use Rattle.floppy_forms.proofs.play.run_requests.Goals as goal
@@ -8,8 +7,7 @@ pub returns-in-Err : goal.returns-in-Err
 returns-in-Err g c = record {
   goes =
       let within : c.loop-request.request-index < length c.args.requests.now = omega arith in
-      broken (world (state_of g.D.Station.shown c.args.session.now) (g.S.Shelf.told c.args.shelf.now) (g.K.Sink.told c.args.out.now)) (world (state_of g.D.Station.shown c.loop-request.session) (g.S.Shelf.told c.loop-request.shelf) (g.K.Sink.told c.loop-request.out)) (world (state_of g.D.Station.shown c.run_one.new.session) (g.S.Shelf.told c.run_one.new.shelf) (g.K.Sink.told c.run_one.new.out)) c.args.requests.now c.loop-request.request-index c.request-item.result c.loop-request.refused c.in-Err.ended c.loop-request.invariant.run within c.request-item.is c.in-Err.ensures.goes;
-  running = search rules;
+      broken _ _ _ c.args.requests.now c.loop-request.request-index c.request-item.result c.loop-request.refused c.in-Err.ended c.loop-request.invariant.run within c.request-item.is c.in-Err.ensures.goes;
   is_form = search rules;
   shelf_faults = search rules;
   sink_faults = search rules;
@@ -19,8 +17,7 @@ pub loop-request-preserved : goal.loop-request-preserved
 loop-request-preserved g c =
     let within : c.loop-request.request-index < length c.args.requests.now = omega arith in
     record {
-      run = has-run-next (world (state_of g.D.Station.shown c.args.session.now) (g.S.Shelf.told c.args.shelf.now) (g.K.Sink.told c.args.out.now)) (world (state_of g.D.Station.shown c.loop-request.session) (g.S.Shelf.told c.loop-request.shelf) (g.K.Sink.told c.loop-request.out)) (world (state_of g.D.Station.shown c.run_one.new.session) (g.S.Shelf.told c.run_one.new.shelf) (g.K.Sink.told c.run_one.new.out)) c.args.requests.now c.loop-request.request-index c.request-item.result c.loop-request.refused c.in-Ok.refusal c.either-refused.result c.loop-request.invariant.run c.in-Ok.ensures.goes within c.request-item.is c.either-refused.ensures;
-      running = c.run_one.ensures.running;
+      run = has-run-next _ _ _ c.args.requests.now c.loop-request.request-index c.request-item.result c.loop-request.refused c.in-Ok.refusal c.either-refused.result c.loop-request.invariant.run c.in-Ok.ensures.goes within c.request-item.is c.either-refused.ensures;
       shelf_counts = omega (arith, c.loop-request.invariant.shelf_counts, c.run_one.ensures.shelf_faults.never_falls);
-      sink_counts = omega (arith, c.loop-request.invariant.sink_counts, c.run_one.ensures.sink_faults.never_falls);
+      sink_counts = search rules;
     }

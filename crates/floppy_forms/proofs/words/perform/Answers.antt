@@ -1,14 +1,13 @@
 use Rattle.std.proofs.Common.{rules}
 use Rattle.std.specs.Prelude.{map, string_bytes}
 use Rattle.floppy_words.specs.Forms.{form_of}
-use Rattle.disk_commands.specs.Worlds.{world_of}
+use Rattle.scripts.specs.Leading.{world_of}
 use Rattle.floppy_forms.proofs.InRounds.{named_accesses, read_none}
 use Rattle.floppy_forms.proofs.words.perform.Goals as goal
 
 pub returns-clause-performed : goal.returns-clause-performed
 returns-clause-performed g c = record {
   runs = c.run_asked.ensures.runs (form_of (map string_bytes c.args.words.now)) c.form_named.ensures.form;
-  running = search rules;
   bad_words = λ ended. read_none c.form_named.result (form_of (map string_bytes c.args.words.now)) (c.run_asked.ensures.bad_words ended) c.form_named.ensures.form;
   shelf_faults = search rules;
   sink_faults = search rules;
@@ -16,4 +15,4 @@ returns-clause-performed g c = record {
 
 pub returns-clause-accesses : goal.returns-clause-accesses
 returns-clause-accesses g c =
-    named_accesses (form_of (map string_bytes c.args.words.now)) (world_of g.D.Station.shown g.S.Shelf.told g.K.Sink.told c.args.session.now c.args.shelf.now c.args.out.now) (world_of g.D.Station.shown g.S.Shelf.told g.K.Sink.told c.run_asked.new.session c.run_asked.new.shelf c.run_asked.new.out) c.run_asked.result (c.run_asked.ensures.runs (form_of (map string_bytes c.args.words.now)) c.form_named.ensures.form)
+    named_accesses (form_of (map string_bytes c.args.words.now)) _ _ c.run_asked.result (c.run_asked.ensures.runs (form_of (map string_bytes c.args.words.now)) c.form_named.ensures.form)

@@ -1,12 +1,11 @@
 use Rattle.std.proofs.Common.{rules, refl}
-use Rattle.disk_commands.specs.Worlds.{world_of}
+use Rattle.scripts.specs.Leading.{world_of}
 use Rattle.floppy_forms.proofs.InRounds.{runs_asked, runs_none}
 use Rattle.floppy_forms.proofs.words.perform_any.Goals as goal
 
 pub returns-in-Some : goal.returns-in-Some
 returns-in-Some g c = record {
-  runs = runs_asked c.args.form c.in-Some.form (world_of g.D.Station.shown g.S.Shelf.told g.K.Sink.told c.args.session.now c.args.shelf.now c.args.out.now) (world_of g.D.Station.shown g.S.Shelf.told g.K.Sink.told c.perform_form.new.session c.perform_form.new.shelf c.perform_form.new.out) c.perform_form.result c.in-Some.is c.perform_form.ensures.does;
-  running = search rules;
+  runs = runs_asked c.args.form c.in-Some.form _ _ c.perform_form.result c.in-Some.is c.perform_form.ensures.does;
   bad_words = search rules;
   shelf_faults = search rules;
   sink_faults = search rules;
@@ -14,8 +13,7 @@ returns-in-Some g c = record {
 
 pub returns-in-None : goal.returns-in-None
 returns-in-None g c = record {
-  runs = runs_none c.args.form (world_of g.D.Station.shown g.S.Shelf.told g.K.Sink.told c.args.session.now c.args.shelf.now c.args.out.now) (world_of g.D.Station.shown g.S.Shelf.told g.K.Sink.told c.args.session.now c.args.shelf.now c.put_last_bad_words.new.out) c.put_last_bad_words.result c.in-None.is (record { state = refl; files = refl; prints = c.put_last_bad_words.ensures.prints });
-  running = search rules;
+  runs = runs_none c.args.form _ _ c.put_last_bad_words.result c.in-None.is (record { state = refl; files = refl; prints = c.put_last_bad_words.ensures.prints });
   bad_words = search rules;
   shelf_faults = search rules;
   sink_faults = search rules;

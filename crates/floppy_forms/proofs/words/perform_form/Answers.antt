@@ -1,13 +1,13 @@
 use Rattle.std.proofs.Common.{rules, subst, List, ℕ}
 use Rattle.flop_base.specs.declared.answers.Rate.TheVariants.{R500, R250}
 use Rattle.floppy_words.specs.declared.form.Form.TheVariants as form
-use Rattle.disk_commands.specs.Commands.{Runs, Formats}
-use Rattle.disk_commands.specs.Worlds.{world_of}
+use Rattle.scripts.specs.Scripts.{RunsScript}
+use Rattle.scripts.specs.Leading.{Runs, world_of}
+use Rattle.disk_commands.specs.Format.{format_script}
 use Rattle.floppy_forms.specs.Programs.{DoesForm}
 use Rattle.archive_commands.specs.Files.{desk_of}
 use Rattle.archive_commands.specs.Making.{FromImd, ToImd, Remaster}
 use Rattle.archive_commands.specs.Surveys.{Surveys}
-use Rattle.floppy_session.specs.Session.{state_of}
 use Rattle.floppy_forms.proofs.OnFiles.{on_files}
 use Rattle.floppy_forms.proofs.InRounds.{form_runs, play_runs}
 use Rattle.floppy_forms.proofs.words.perform_form.Goals as goal
@@ -15,9 +15,8 @@ use Rattle.floppy_forms.proofs.words.perform_form.Goals as goal
 pub returns-in-Play : goal.returns-in-Play
 returns-in-Play g c = record {
   does =
-      form_runs c.args.form (form.Play c.in-Play.job) (world_of g.D.Station.shown g.S.Shelf.told g.K.Sink.told c.args.session.now c.args.shelf.now c.args.out.now) (world_of g.D.Station.shown g.S.Shelf.told g.K.Sink.told c.play.new.session c.play.new.shelf c.play.new.out) c.play.result c.in-Play.is
-      (subst (λ (j : List ℕ). Runs (DoesForm (form.Play j)) (world_of g.D.Station.shown g.S.Shelf.told g.K.Sink.told c.args.session.now c.args.shelf.now c.args.out.now) (world_of g.D.Station.shown g.S.Shelf.told g.K.Sink.told c.play.new.session c.play.new.shelf c.play.new.out) c.play.result) c.as_str.ensures (play_runs c.as_str.result.now (world_of g.D.Station.shown g.S.Shelf.told g.K.Sink.told c.args.session.now c.args.shelf.now c.args.out.now) (world_of g.D.Station.shown g.S.Shelf.told g.K.Sink.told c.play.new.session c.play.new.shelf c.play.new.out) c.play.result c.play.ensures.does));
-  running = search rules;
+      form_runs c.args.form (form.Play c.in-Play.job) _ _ c.play.result c.in-Play.is
+      (subst (λ (j : List ℕ). Runs (DoesForm (form.Play j)) (world_of g.S.Shelf.told g.K.Sink.told c.args.session.now c.args.shelf.now c.args.out.now) (world_of g.S.Shelf.told g.K.Sink.told c.play.new.session c.play.new.shelf c.play.new.out) c.play.result) c.as_str.ensures (play_runs c.as_str.result.now (world_of g.S.Shelf.told g.K.Sink.told c.args.session.now c.args.shelf.now c.args.out.now) (world_of g.S.Shelf.told g.K.Sink.told c.play.new.session c.play.new.shelf c.play.new.out) c.play.result c.play.ensures.does));
   is_form = search rules;
   shelf_faults = search rules;
   sink_faults = search rules;
@@ -26,9 +25,8 @@ returns-in-Play g c = record {
 pub returns-in-Format : goal.returns-in-Format
 returns-in-Format g c = record {
   does =
-      form_runs c.args.form (form.Format c.in-Format.name c.in-Format.cylinders) (world_of g.D.Station.shown g.S.Shelf.told g.K.Sink.told c.args.session.now c.args.shelf.now c.args.out.now) (world_of g.D.Station.shown g.S.Shelf.told g.K.Sink.told c.format_disk.new.session c.format_disk.new.shelf c.format_disk.new.out) c.format_disk.result c.in-Format.is
-      (subst (λ (n : ℕ). Runs (Formats c.in-Format.name n R500) (world_of g.D.Station.shown g.S.Shelf.told g.K.Sink.told c.args.session.now c.args.shelf.now c.args.out.now) (world_of g.D.Station.shown g.S.Shelf.told g.K.Sink.told c.format_disk.new.session c.format_disk.new.shelf c.format_disk.new.out) c.format_disk.result) c.count.ensures.value c.format_disk.ensures.does);
-  running = search rules;
+      form_runs c.args.form (form.Format c.in-Format.name c.in-Format.cylinders) _ _ c.format_disk.result c.in-Format.is
+      (subst (λ (n : ℕ). Runs (RunsScript (format_script c.in-Format.name n R500)) (world_of g.S.Shelf.told g.K.Sink.told c.args.session.now c.args.shelf.now c.args.out.now) (world_of g.S.Shelf.told g.K.Sink.told c.format_disk.new.session c.format_disk.new.shelf c.format_disk.new.out) c.format_disk.result) c.count.ensures.value c.format_disk.ensures.does);
   is_form = search rules;
   shelf_faults = search rules;
   sink_faults = search rules;
@@ -37,9 +35,8 @@ returns-in-Format g c = record {
 pub returns-in-FormatDd : goal.returns-in-FormatDd
 returns-in-FormatDd g c = record {
   does =
-      form_runs c.args.form (form.FormatDd c.in-FormatDd.name c.in-FormatDd.cylinders) (world_of g.D.Station.shown g.S.Shelf.told g.K.Sink.told c.args.session.now c.args.shelf.now c.args.out.now) (world_of g.D.Station.shown g.S.Shelf.told g.K.Sink.told c.format_disk-in-FormatDd.new.session c.format_disk-in-FormatDd.new.shelf c.format_disk-in-FormatDd.new.out) c.format_disk-in-FormatDd.result c.in-FormatDd.is
-      (subst (λ (n : ℕ). Runs (Formats c.in-FormatDd.name n R250) (world_of g.D.Station.shown g.S.Shelf.told g.K.Sink.told c.args.session.now c.args.shelf.now c.args.out.now) (world_of g.D.Station.shown g.S.Shelf.told g.K.Sink.told c.format_disk-in-FormatDd.new.session c.format_disk-in-FormatDd.new.shelf c.format_disk-in-FormatDd.new.out) c.format_disk-in-FormatDd.result) c.count-in-FormatDd.ensures.value c.format_disk-in-FormatDd.ensures.does);
-  running = search rules;
+      form_runs c.args.form (form.FormatDd c.in-FormatDd.name c.in-FormatDd.cylinders) _ _ c.format_disk-in-FormatDd.result c.in-FormatDd.is
+      (subst (λ (n : ℕ). Runs (RunsScript (format_script c.in-FormatDd.name n R250)) (world_of g.S.Shelf.told g.K.Sink.told c.args.session.now c.args.shelf.now c.args.out.now) (world_of g.S.Shelf.told g.K.Sink.told c.format_disk-in-FormatDd.new.session c.format_disk-in-FormatDd.new.shelf c.format_disk-in-FormatDd.new.out) c.format_disk-in-FormatDd.result) c.count-in-FormatDd.ensures.value c.format_disk-in-FormatDd.ensures.does);
   is_form = search rules;
   shelf_faults = search rules;
   sink_faults = search rules;
@@ -48,9 +45,8 @@ returns-in-FormatDd g c = record {
 pub returns-in-FromImd : goal.returns-in-FromImd
 returns-in-FromImd g c = record {
   does =
-      form_runs c.args.form (form.FromImd c.in-FromImd.imd c.in-FromImd.name) (world_of g.D.Station.shown g.S.Shelf.told g.K.Sink.told c.args.session.now c.args.shelf.now c.args.out.now) (world_of g.D.Station.shown g.S.Shelf.told g.K.Sink.told c.args.session.now c.from_imd.new.shelf c.from_imd.new.out) c.from_imd.result c.in-FromImd.is
-      (on_files (FromImd c.in-FromImd.imd c.in-FromImd.name) (state_of g.D.Station.shown c.args.session.now) (desk_of g.S.Shelf.told g.K.Sink.told c.args.shelf.now c.args.out.now) (desk_of g.S.Shelf.told g.K.Sink.told c.from_imd.new.shelf c.from_imd.new.out) c.from_imd.result c.from_imd.ensures.does);
-  running = search rules;
+      form_runs c.args.form (form.FromImd c.in-FromImd.imd c.in-FromImd.name) _ _ c.from_imd.result c.in-FromImd.is
+      (on_files (FromImd c.in-FromImd.imd c.in-FromImd.name) c.args.session.now (desk_of g.S.Shelf.told g.K.Sink.told c.args.shelf.now c.args.out.now) (desk_of g.S.Shelf.told g.K.Sink.told c.from_imd.new.shelf c.from_imd.new.out) c.from_imd.result c.from_imd.ensures.does);
   is_form = search rules;
   shelf_faults = search rules;
   sink_faults = search rules;
@@ -59,9 +55,8 @@ returns-in-FromImd g c = record {
 pub returns-in-ToImd : goal.returns-in-ToImd
 returns-in-ToImd g c = record {
   does =
-      form_runs c.args.form (form.ToImd c.in-ToImd.name c.in-ToImd.imd) (world_of g.D.Station.shown g.S.Shelf.told g.K.Sink.told c.args.session.now c.args.shelf.now c.args.out.now) (world_of g.D.Station.shown g.S.Shelf.told g.K.Sink.told c.args.session.now c.to_imd.new.shelf c.to_imd.new.out) c.to_imd.result c.in-ToImd.is
-      (on_files (ToImd c.in-ToImd.name c.in-ToImd.imd) (state_of g.D.Station.shown c.args.session.now) (desk_of g.S.Shelf.told g.K.Sink.told c.args.shelf.now c.args.out.now) (desk_of g.S.Shelf.told g.K.Sink.told c.to_imd.new.shelf c.to_imd.new.out) c.to_imd.result c.to_imd.ensures.does);
-  running = search rules;
+      form_runs c.args.form (form.ToImd c.in-ToImd.name c.in-ToImd.imd) _ _ c.to_imd.result c.in-ToImd.is
+      (on_files (ToImd c.in-ToImd.name c.in-ToImd.imd) c.args.session.now (desk_of g.S.Shelf.told g.K.Sink.told c.args.shelf.now c.args.out.now) (desk_of g.S.Shelf.told g.K.Sink.told c.to_imd.new.shelf c.to_imd.new.out) c.to_imd.result c.to_imd.ensures.does);
   is_form = search rules;
   shelf_faults = search rules;
   sink_faults = search rules;
@@ -70,9 +65,8 @@ returns-in-ToImd g c = record {
 pub returns-in-Survey : goal.returns-in-Survey
 returns-in-Survey g c = record {
   does =
-      form_runs c.args.form (form.Survey c.in-Survey.name) (world_of g.D.Station.shown g.S.Shelf.told g.K.Sink.told c.args.session.now c.args.shelf.now c.args.out.now) (world_of g.D.Station.shown g.S.Shelf.told g.K.Sink.told c.args.session.now c.survey_disk.new.shelf c.survey_disk.new.out) c.survey_disk.result c.in-Survey.is
-      (on_files (Surveys c.in-Survey.name) (state_of g.D.Station.shown c.args.session.now) (desk_of g.S.Shelf.told g.K.Sink.told c.args.shelf.now c.args.out.now) (desk_of g.S.Shelf.told g.K.Sink.told c.survey_disk.new.shelf c.survey_disk.new.out) c.survey_disk.result c.survey_disk.ensures.does);
-  running = search rules;
+      form_runs c.args.form (form.Survey c.in-Survey.name) _ _ c.survey_disk.result c.in-Survey.is
+      (on_files (Surveys c.in-Survey.name) c.args.session.now (desk_of g.S.Shelf.told g.K.Sink.told c.args.shelf.now c.args.out.now) (desk_of g.S.Shelf.told g.K.Sink.told c.survey_disk.new.shelf c.survey_disk.new.out) c.survey_disk.result c.survey_disk.ensures.does);
   is_form = search rules;
   shelf_faults = search rules;
   sink_faults = search rules;
@@ -81,9 +75,8 @@ returns-in-Survey g c = record {
 pub returns-in-Remaster : goal.returns-in-Remaster
 returns-in-Remaster g c = record {
   does =
-      form_runs c.args.form (form.Remaster c.in-Remaster.from c.in-Remaster.to) (world_of g.D.Station.shown g.S.Shelf.told g.K.Sink.told c.args.session.now c.args.shelf.now c.args.out.now) (world_of g.D.Station.shown g.S.Shelf.told g.K.Sink.told c.args.session.now c.remaster_disk.new.shelf c.remaster_disk.new.out) c.remaster_disk.result c.in-Remaster.is
-      (on_files (Remaster c.in-Remaster.from c.in-Remaster.to) (state_of g.D.Station.shown c.args.session.now) (desk_of g.S.Shelf.told g.K.Sink.told c.args.shelf.now c.args.out.now) (desk_of g.S.Shelf.told g.K.Sink.told c.remaster_disk.new.shelf c.remaster_disk.new.out) c.remaster_disk.result c.remaster_disk.ensures.does);
-  running = search rules;
+      form_runs c.args.form (form.Remaster c.in-Remaster.from c.in-Remaster.to) _ _ c.remaster_disk.result c.in-Remaster.is
+      (on_files (Remaster c.in-Remaster.from c.in-Remaster.to) c.args.session.now (desk_of g.S.Shelf.told g.K.Sink.told c.args.shelf.now c.args.out.now) (desk_of g.S.Shelf.told g.K.Sink.told c.remaster_disk.new.shelf c.remaster_disk.new.out) c.remaster_disk.result c.remaster_disk.ensures.does);
   is_form = search rules;
   shelf_faults = search rules;
   sink_faults = search rules;
@@ -91,8 +84,7 @@ returns-in-Remaster g c = record {
 
 pub returns-in-Copy : goal.returns-in-Copy
 returns-in-Copy g c = record {
-  does = form_runs c.args.form (form.Copy c.in-Copy.from c.in-Copy.to) (world_of g.D.Station.shown g.S.Shelf.told g.K.Sink.told c.args.session.now c.args.shelf.now c.args.out.now) (world_of g.D.Station.shown g.S.Shelf.told g.K.Sink.told c.copy_disk.new.session c.copy_disk.new.shelf c.copy_disk.new.out) c.copy_disk.result c.in-Copy.is c.copy_disk.ensures.does;
-  running = search rules;
+  does = form_runs c.args.form (form.Copy c.in-Copy.from c.in-Copy.to) _ _ c.copy_disk.result c.in-Copy.is c.copy_disk.ensures.does;
   is_form = search rules;
   shelf_faults = search rules;
   sink_faults = search rules;
@@ -100,8 +92,7 @@ returns-in-Copy g c = record {
 
 pub returns-in-Verify : goal.returns-in-Verify
 returns-in-Verify g c = record {
-  does = form_runs c.args.form (form.Verify c.in-Verify.name) (world_of g.D.Station.shown g.S.Shelf.told g.K.Sink.told c.args.session.now c.args.shelf.now c.args.out.now) (world_of g.D.Station.shown g.S.Shelf.told g.K.Sink.told c.verify_disk.new.session c.verify_disk.new.shelf c.verify_disk.new.out) c.verify_disk.result c.in-Verify.is c.verify_disk.ensures.does;
-  running = search rules;
+  does = form_runs c.args.form (form.Verify c.in-Verify.name) _ _ c.verify_disk.result c.in-Verify.is c.verify_disk.ensures.does;
   is_form = search rules;
   shelf_faults = search rules;
   sink_faults = search rules;
@@ -109,8 +100,7 @@ returns-in-Verify g c = record {
 
 pub returns-in-Export : goal.returns-in-Export
 returns-in-Export g c = record {
-  does = form_runs c.args.form (form.Export c.in-Export.name c.in-Export.flat) (world_of g.D.Station.shown g.S.Shelf.told g.K.Sink.told c.args.session.now c.args.shelf.now c.args.out.now) (world_of g.D.Station.shown g.S.Shelf.told g.K.Sink.told c.export_disk.new.session c.export_disk.new.shelf c.export_disk.new.out) c.export_disk.result c.in-Export.is c.export_disk.ensures.does;
-  running = search rules;
+  does = form_runs c.args.form (form.Export c.in-Export.name c.in-Export.flat) _ _ c.export_disk.result c.in-Export.is c.export_disk.ensures.does;
   is_form = search rules;
   shelf_faults = search rules;
   sink_faults = search rules;
@@ -118,8 +108,7 @@ returns-in-Export g c = record {
 
 pub returns-in-Import : goal.returns-in-Import
 returns-in-Import g c = record {
-  does = form_runs c.args.form (form.Import c.in-Import.flat c.in-Import.name) (world_of g.D.Station.shown g.S.Shelf.told g.K.Sink.told c.args.session.now c.args.shelf.now c.args.out.now) (world_of g.D.Station.shown g.S.Shelf.told g.K.Sink.told c.import_disk.new.session c.import_disk.new.shelf c.import_disk.new.out) c.import_disk.result c.in-Import.is c.import_disk.ensures.does;
-  running = search rules;
+  does = form_runs c.args.form (form.Import c.in-Import.flat c.in-Import.name) _ _ c.import_disk.result c.in-Import.is c.import_disk.ensures.does;
   is_form = search rules;
   shelf_faults = search rules;
   sink_faults = search rules;
@@ -127,8 +116,7 @@ returns-in-Import g c = record {
 
 pub returns-in-Int13 : goal.returns-in-Int13
 returns-in-Int13 g c = record {
-  does = form_runs c.args.form (form.Int13 c.in-Int13.calls) (world_of g.D.Station.shown g.S.Shelf.told g.K.Sink.told c.args.session.now c.args.shelf.now c.args.out.now) (world_of g.D.Station.shown g.S.Shelf.told g.K.Sink.told c.serve_calls.new.session c.serve_calls.new.shelf c.serve_calls.new.out) c.serve_calls.result c.in-Int13.is c.serve_calls.ensures.does;
-  running = search rules;
+  does = form_runs c.args.form (form.Int13 c.in-Int13.calls) _ _ c.serve_calls.result c.in-Int13.is c.serve_calls.ensures.does;
   is_form = search rules;
   shelf_faults = search rules;
   sink_faults = search rules;
@@ -136,8 +124,7 @@ returns-in-Int13 g c = record {
 
 pub returns-in-Rescue : goal.returns-in-Rescue
 returns-in-Rescue g c = record {
-  does = form_runs c.args.form (form.Rescue c.in-Rescue.from c.in-Rescue.to c.in-Rescue.log) (world_of g.D.Station.shown g.S.Shelf.told g.K.Sink.told c.args.session.now c.args.shelf.now c.args.out.now) (world_of g.D.Station.shown g.S.Shelf.told g.K.Sink.told c.rescue_disk.new.session c.rescue_disk.new.shelf c.rescue_disk.new.out) c.rescue_disk.result c.in-Rescue.is c.rescue_disk.ensures.does;
-  running = search rules;
+  does = form_runs c.args.form (form.Rescue c.in-Rescue.from c.in-Rescue.to c.in-Rescue.log) _ _ c.rescue_disk.result c.in-Rescue.is c.rescue_disk.ensures.does;
   is_form = search rules;
   shelf_faults = search rules;
   sink_faults = search rules;

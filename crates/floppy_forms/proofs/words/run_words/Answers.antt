@@ -5,7 +5,13 @@ use Rattle.floppy_forms.proofs.words.run_words.Goals as goal
 
 pub returns-clause-accesses : goal.returns-clause-accesses
 returns-clause-accesses g c = λ job requests named is.
-    let made = ap (λ (s : State). s.station.counters.direct) c.new-session.ensures.start in
+    let made = ap (λ (s : State). s.station.counters.direct) c.new-session.ensures in
     let given = ap (λ (s : StationState). s.counters.direct) c.into_station.ensures.shown in
     let within = c.perform-status.ensures.accesses job requests named is in
     omega (arith, made, given, within)
+
+pub returns-clause-runs : goal.returns-clause-runs
+returns-clause-runs g c = (
+  c.perform-status.new.session.names,
+  rw (← c.new-session.ensures, c.into_station.ensures.shown) c.perform-status.ensures.performed.runs,
+)

@@ -1,5 +1,10 @@
+use Rattle.std.proofs.Common.{rules}
 use Rattle.floppy_report.specs.LastLines.{stopped_text}
 use Rattle.floppy_report.proofs.lines.put_last_stopped.Goals as goal
 
-pub returns-clause-prints : goal.returns-clause-prints
-returns-clause-prints g c = c.put_last_line.ensures.prints (stopped_text c.args.request.now c.args.reason) c.stopped_line.ensures
+pub returns : goal.returns
+returns g c = record {
+  prints = c.put_last_line.ensures.prints (stopped_text c.args.request.now c.args.reason) c.stopped_line.ensures;
+  only = search rules;
+  faults = search rules;
+}

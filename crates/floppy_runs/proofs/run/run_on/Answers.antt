@@ -1,21 +1,24 @@
-use Rattle.std.proofs.Common.{refl, subst}
+use Rattle.std.proofs.Common.{rules, refl, subst}
 use Rattle.std.specs.Prelude.{map, string_bytes}
 use Rattle.pc_bus.specs.Boards.{board}
-use Rattle.floppy_words.specs.Forms.{form_of}
 use Rattle.archive_commands.specs.Files.{desk_of}
-use Rattle.floppy_tools.specs.Machines.{RunsOver}
+use Rattle.floppy_tools.specs.Performed.{DoesWords}
 use Rattle.floppy_runs.proofs.New.{counts_of_spares}
 use Rattle.floppy_runs.proofs.run.run_on.Goals as goal
 
-pub returns-clause-runs : goal.returns-clause-runs
-returns-clause-runs g c = record {
-  new = board g.D.Drive.state c.in-Ok.machine;
-  made = record { pace = c.args.pace; gaps = refl; holds = refl; strays = refl; made = c.in-Ok.ensures };
-  runs = λ none. subst (λ counts. RunsOver (form_of (map string_bytes c.args.words.now)) (board g.D.Drive.state c.in-Ok.machine) counts
-      (desk_of g.S.Shelf.told g.K.Sink.told c.args.shelf.now c.args.out.now) (board g.D.Drive.state c.floppy-status.result.1)
-      (desk_of g.S.Shelf.told g.K.Sink.told c.floppy-status.new.shelf c.floppy-status.new.out) c.floppy-status.result.0)
-      (counts_of_spares g.D.Drive.state c.in-Ok-spare.spare.items c.args.spare.first c.args.spare.second c.in-Ok-spare.ensures)
-      (c.floppy-status.ensures.runs none);
-  ports = c.floppy-status.ensures.ports;
-  bad_words = λ is. (c.floppy-status.ensures.bad_words is, c.floppy-status.ensures.no_ports is);
+pub returns : goal.returns
+returns g c = record {
+  runs = record {
+    new = board g.D.Drive.state c.in-Ok.machine;
+    made = record { pace = c.args.pace; gaps = refl; holds = refl; strays = refl; made = c.in-Ok.ensures };
+    does = subst (λ counts. DoesWords (map string_bytes c.args.words.now) (board g.D.Drive.state c.in-Ok.machine) counts
+        (desk_of g.S.Shelf.told g.K.Sink.told c.args.shelf.now c.args.out.now) (board g.D.Drive.state c.floppy-status.result.1)
+        (desk_of g.S.Shelf.told g.K.Sink.told c.floppy-status.new.shelf c.floppy-status.new.out) c.floppy-status.result.0)
+        (counts_of_spares g.D.Drive.state c.in-Ok-spare.spare.items c.args.spare.first c.args.spare.second c.in-Ok-spare.ensures)
+        c.floppy-status.ensures.does;
+  };
+  no_machine = search rules;
+  untouched = search rules;
+  shelf_faults = search rules;
+  sink_faults = search rules;
 }

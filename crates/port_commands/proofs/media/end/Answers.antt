@@ -1,7 +1,11 @@
+use Rattle.std.proofs.Common.{rules}
 use Rattle.port_commands.specs.Benches.{bench_of}
-use Rattle.port_commands.proofs.Exchanged.{second_stops}
+use Rattle.port_commands.proofs.Exchanged.{second_ends}
 use Rattle.port_commands.proofs.media.end.Goals as goal
 
-pub returns-clause-err : goal.returns-clause-err
-returns-clause-err g c =
-    second_stops c.end_bay-2.result (bench_of g.D.Drive.state g.S.Shelf.told c.args.machine.now c.args.names.now c.args.shelf.now) (bench_of g.D.Drive.state g.S.Shelf.told c.end_bay.new.machine c.end_bay.new.names c.end_bay.new.shelf) (bench_of g.D.Drive.state g.S.Shelf.told c.end_bay-2.new.machine c.end_bay-2.new.names c.end_bay-2.new.shelf) c.in_ok-end_bay.ensures.ok c.end_bay-2.ensures.err
+pub returns : goal.returns
+returns g c = record {
+  does = second_ends c.end_bay-2.result (bench_of g.D.Drive.state g.S.Shelf.told c.args.machine.now c.args.names.now c.args.shelf.now) (bench_of g.D.Drive.state g.S.Shelf.told c.end_bay.new.machine c.end_bay.new.names c.end_bay.new.shelf) (bench_of g.D.Drive.state g.S.Shelf.told c.end_bay-2.new.machine c.end_bay-2.new.names c.end_bay-2.new.shelf) c.in_ok-end_bay.ensures.does c.end_bay-2.ensures.does;
+  named = search rules;
+  shelf_faults = search rules;
+}

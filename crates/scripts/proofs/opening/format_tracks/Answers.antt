@@ -6,7 +6,6 @@ use Rattle.scripts.proofs.opening.format_tracks.Goals as goal
 pub loop-c-init : goal.loop-c-init
 loop-c-init g c = record {
   turn = turn_begins _ _ _ _ _;
-  running = search rules;
   counted = search rules;
   stays = search rules;
 }
@@ -16,7 +15,6 @@ returns-in_err-format_cylinder g c = record {
   goes =
       let p = err_from_is_err_and c.from_residual.result c.from_residual.ensures.1 in
       rw (p.1, p.2) (turn_ends _ _ _ _ _ _ _ _ _ _ c.loop-c.invariant.turn c.in_err-format_cylinder.ensures.goes (omega arith));
-  running = search rules;
   is_form = search rules;
   shelf_faults = search rules;
   sink_faults = search rules;
@@ -25,7 +23,6 @@ returns-in_err-format_cylinder g c = record {
 pub loop-c-preserved : goal.loop-c-preserved
 loop-c-preserved g c = record {
   turn = turn_goes _ _ _ _ _ _ _ _ _ _ c.loop-c.invariant.turn c.in_ok-format_cylinder.ensures.goes (omega arith);
-  running = search rules;
   counted = search rules;
   stays = search rules;
 }
@@ -33,7 +30,6 @@ loop-c-preserved g c = record {
 pub returns : goal.returns
 returns g c = record {
   goes = turns_over _ _ _ _ _ _ _ _ c.loop-c.invariant.turn (omega arith);
-  running = search rules;
   is_form = search rules;
   shelf_faults = search rules;
   sink_faults = search rules;

@@ -1,13 +1,11 @@
 use Rattle.std.proofs.Common.{◌≡◌, ◌≤◌}
-use Rattle.floppy_session.specs.Session.{IsRunning}
 use Rattle.scripts.specs.Parts.{each, formats}
 use Rattle.scripts.specs.Leading.{world_of, IsAtTurn}
 use Rattle.scripts.proofs.opening.format_tracks.Given as goal
 
 abbrev pub invariant-loop-c : goal.invariant-loop-c
 invariant-loop-c g l = record {
-  turn : IsAtTurn 0 l.fn.cylinders (λ c1. each 0 l.fn.heads (formats l.fn.bay c1)) tt (world_of g.D.Station.shown g.S.Shelf.told g.K.Sink.told l.fn.session l.fn.shelf l.fn.out) l.c tt (world_of g.D.Station.shown g.S.Shelf.told g.K.Sink.told l.session l.shelf l.out);
-  running : IsRunning g.D.Station.shown g.D.Station.is_ready l.session;
+  turn : IsAtTurn 0 l.fn.cylinders (λ c1. each 0 l.fn.heads (formats l.fn.bay c1)) tt (world_of g.S.Shelf.told g.K.Sink.told l.fn.session l.fn.shelf l.fn.out) l.c tt (world_of g.S.Shelf.told g.K.Sink.told l.session l.shelf l.out);
   counted : g.S.Shelf.fault_count l.fn.shelf ≤ g.S.Shelf.fault_count l.shelf;
   stays : g.K.Sink.fault_count l.out ≡ g.K.Sink.fault_count l.fn.out;
 }

@@ -1,7 +1,9 @@
 use Rattle.std.proofs.Common.{sym, ◌∙◌}
-use Rattle.floppy_session.specs.Session.{state_of}
-use Rattle.scripts.proofs.Opened.{there_is}
+use Rattle.scripts.proofs.Opened.{there_is, files_stay}
 use Rattle.scripts.proofs.opening.open_disk.Goals as goal
 
 pub unreachable-requires : goal.unreachable-requires
-unreachable-requires g c = there_is c.args.name c.in_ok-need.field-0 _ (state_of g.D.Station.shown c.need.new.session) _ _ c.in_ok-need.ensures.fine c.in_ok-need.ensures.step (sym c.shape.ensures ∙ c.in-None.is)
+unreachable-requires g c = there_is c.args.name c.in_ok-need.field-0 _ c.need.new.session _ _ c.in_ok-need.ensures.fine c.in_ok-need.ensures.step (sym c.shape.ensures ∙ c.in-None.is)
+
+pub returns-clause-files : goal.returns-clause-files
+returns-clause-files g c = files_stay c.args.name c.in_ok-need.field-0 _ c.need.new.session _ _ c.in_ok-need.ensures.fine c.in_ok-need.ensures.step

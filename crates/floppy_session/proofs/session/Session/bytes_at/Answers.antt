@@ -5,10 +5,11 @@ use Rattle.floppy_session.proofs.session.Session.bytes_at.Goals as goal
 
 pub loop-i-preserved : goal.loop-i-preserved
 loop-i-preserved g c =
-    let memory : List ℕ = (g.D.Station.shown c.args.self.now.station).memory in
+    let memory : List ℕ = c.args.self.now.station.memory in
     let behind : List ℕ = drop c.args.address memory in
     let inside : c.loop-i.i < length behind = omega (arith, length-drop c.args.address memory, c.loop-i.invariant.room) in
-    let byte : get_or behind c.loop-i.i 0 ≡ c.memory.result = get_or-drop c.args.address memory c.loop-i.i 0 ∙ sym c.memory.ensures.byte in
+    let byte : get_or behind c.loop-i.i 0 ≡ c.memory.result = get_or-drop c.args.address memory c.loop-i.i 0 ∙ rw (← c.self.view_is)
+    (sym c.memory.ensures.byte) in
     record {
       kept = take-set_at c.loop-i.kept c.loop-i.i (c.loop-i.i + 1) c.memory.result refl (omega (arith, c.loop-i.invariant.long))
           ∙ ap (λ (r : List ℕ). r ++ c.memory.result ∷ []) c.loop-i.invariant.kept
@@ -21,4 +22,5 @@ loop-i-preserved g c =
 pub returns-clause-bytes : goal.returns-clause-bytes
 returns-clause-bytes g c =
     let end : c.loop-i.i ≡ 512 = omega arith in
-    sym (take_all c.loop-i.i c.loop-i.kept (omega (arith, c.loop-i.invariant.long))) ∙ c.loop-i.invariant.kept ∙ ap (λ (n : ℕ). take n (drop c.args.address (g.D.Station.shown c.args.self.now.station).memory)) end
+    sym (take_all c.loop-i.i c.loop-i.kept (omega (arith, c.loop-i.invariant.long))) ∙ c.loop-i.invariant.kept ∙ ap
+    (λ (n : ℕ). take n (drop c.args.address c.args.self.now.station.memory)) end

@@ -1,16 +1,13 @@
-use Rattle.std.proofs.Common.{refl, arith}
-use Rattle.floppy_session.specs.Session.{state_of, shapes_of}
+use Rattle.std.proofs.Common.{arith}
 use Rattle.floppy_session.proofs.Endings.{format_refused}
-use Rattle.floppy_session.proofs.Named.{named_still, shaped_still, keeps_formats}
+use Rattle.floppy_session.proofs.Named.{runs_on, keeps_formats}
 use Rattle.floppy_session.proofs.session.Session.format.Goals as goal
 
-pub returns-clause-running : goal.returns-clause-running
-returns-clause-running g c = record {
-  ready = c.format.ensures.ready;
-  named = named_still (state_of g.D.Station.shown c.args.self.now) _ refl (keeps_formats (g.D.Station.shown c.args.self.now.station) (g.D.Station.shown c.format.new.self) c.args.bay c.args.c c.args.h c.format_gap-gap3.result 246 c.format.result c.format.ensures.step) c.requires.named;
-  shaped = shaped_still (shapes_of c.args.self.now) _ _ (keeps_formats (g.D.Station.shown c.args.self.now.station) (g.D.Station.shown c.format.new.self) c.args.bay c.args.c c.args.h c.format_gap-gap3.result 246 c.format.result c.format.ensures.step) c.requires.shaped;
-}
+pub invariant_of-self : goal.invariant_of-self
+invariant_of-self g c =
+    runs_on _ _ _ (keeps_formats _ _ c.args.bay c.args.c c.args.h c.format_gap-gap3.result 246 c.format.result c.format.ensures.step)
+    c.self.invariant c.format.ensures.ready
 
-pub returns-then-bay-gt1-clause-step : goal.returns-then-bay-gt1-clause-step
-returns-then-bay-gt1-clause-step g c told =
-    rw c.bad_request.ensures (format_refused (state_of g.D.Station.shown c.args.self.now) told c.args.bay c.args.c c.args.h (omega arith))
+pub returns-then-bay-gt1 : goal.returns-then-bay-gt1
+returns-then-bay-gt1 g c told =
+    rw c.bad_request.ensures (format_refused c.args.self.now told c.args.bay c.args.c c.args.h (omega arith))

@@ -1,17 +1,17 @@
 use Rattle.std.proofs.Common.{subst}
 use Rattle.int13.specs.declared.work.Work.{Work}
 use Rattle.floppy_session.specs.Services.{DoesWork}
-use Rattle.floppy_session.specs.Session.{state_of}
 use Rattle.floppy_session.proofs.session.Session.int13.Goals as goal
 
-pub returns-clause-serves : goal.returns-clause-serves
-returns-clause-serves g c = λ told.
+pub returns : goal.returns
+returns g c = λ told.
     let does = c.do_work-code.ensures.does told in (
       does.0,
       record {
         code = c.do_work-code.result.code;
         moved = c.do_work-code.result.moved;
-        work = subst (λ (w : Work). DoesWork w (state_of g.D.Station.shown c.args.self.now) told does.0 c.do_work-code.result.code c.do_work-code.result.moved (state_of g.D.Station.shown c.do_work-code.new.self)) c.plan.ensures.work does.1;
+        work = subst (λ (w : Work). DoesWork w c.args.self.now told does.0 c.do_work-code.result.code c.do_work-code.result.moved
+            c.do_work-code.new.self) c.plan.ensures.work does.1;
         answer = record {
           in_ah = c.finish.ensures.in_ah;
           in_al = c.finish.ensures.in_al;

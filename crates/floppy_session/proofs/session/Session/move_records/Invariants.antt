@@ -4,12 +4,11 @@ use Rattle.bay_model.specs.Memory.{SameOutside}
 use Rattle.sector_model.specs.Runs.{Taken}
 use Rattle.int13.specs.declared.work.Kind.TheVariants.{Verify}
 use Rattle.floppy_session.specs.Services.{AreDone, record_requests}
-use Rattle.floppy_session.specs.Session.{state_of, IsRunning}
 use Rattle.floppy_session.proofs.session.Session.move_records.Given as goal
 
 abbrev pub invariant-loop-i : goal.invariant-loop-i
 invariant-loop-i g l = record {
-  done : (told : Option Files) → (course : List Taken) × AreDone (record_requests l.fn.kind l.fn.bay l.fn.first l.fn.address l.i) (state_of g.D.Station.shown l.fn.self) told course (state_of g.D.Station.shown l.self);
-  outside : l.fn.kind ≡ Verify → l.fn.address + 512 ≤ length (g.D.Station.shown l.fn.self.station).memory → SameOutside l.fn.address 512 (g.D.Station.shown l.fn.self.station).memory (g.D.Station.shown l.self.station).memory;
-  running : IsRunning g.D.Station.shown g.D.Station.is_ready l.self;
+  done : (told : Option Files) → (course : List Taken) × AreDone (record_requests l.fn.kind l.fn.bay l.fn.first l.fn.address l.i) l.fn.self told course l.self;
+  outside : l.fn.kind ≡ Verify → l.fn.address + 512 ≤ length l.fn.self.station.memory → SameOutside l.fn.address 512 l.fn.self.station.memory
+      l.self.station.memory;
 }

@@ -4,12 +4,10 @@ use Rattle.flop_base.specs.Shelf.{Files}
 use Rattle.flop_base.specs.Lists.{with_items}
 use Rattle.sector_model.specs.Runs.{Taken}
 use Rattle.floppy_session.specs.Services.{AreDone, put_request}
-use Rattle.floppy_session.specs.Session.{state_of, IsRunning}
 use Rattle.floppy_session.proofs.session.Session.put_back.Given as goal
 
 abbrev pub invariant-loop-i : goal.invariant-loop-i
 invariant-loop-i g l = record {
-  done : (told : Option Files) → (course : List Taken) × AreDone (map (put_request l.fn.address l.kept) (range_with_len 0 l.i)) (state_of g.D.Station.shown l.fn.self) told course (state_of g.D.Station.shown l.self);
-  memory : (g.D.Station.shown l.self.station).memory ≡ with_items (g.D.Station.shown l.fn.self.station).memory l.fn.address (take l.i l.kept);
-  running : IsRunning g.D.Station.shown g.D.Station.is_ready l.self;
+  done : (told : Option Files) → (course : List Taken) × AreDone (map (put_request l.fn.address l.kept) (range_with_len 0 l.i)) l.fn.self told course l.self;
+  memory : l.self.station.memory ≡ with_items l.fn.self.station.memory l.fn.address (take l.i l.kept);
 }

@@ -1,9 +1,5 @@
-use Rattle.floppy_session.specs.Session.{state_of}
 use Rattle.floppy_session.proofs.Serving.{read_done}
 use Rattle.floppy_session.proofs.session.Session.read_any.Goals as goal
 
 pub returns-in-Ok-clause-moves : goal.returns-in-Ok-clause-moves
-returns-in-Ok-clause-moves g c = λ told. read_done c.args.bay c.args.key c.args.address (state_of g.D.Station.shown c.args.self.now) (state_of g.D.Station.shown c.read_record.new.self) told c.in-Ok.field-0 (c.in-Ok.ensures.step told)
-
-pub returns-in-Err-clause-moves : goal.returns-in-Err-clause-moves
-returns-in-Err-clause-moves g c = λ told. c.in-Err.ensures.step told
+returns-in-Ok-clause-moves g c = λ told. read_done c.args.bay c.args.key c.args.address _ _ told c.in-Ok.field-0 (c.in-Ok.ensures.step told)

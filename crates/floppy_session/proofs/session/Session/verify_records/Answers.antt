@@ -1,13 +1,12 @@
 use Rattle.std.proofs.Common.{◌++◌, ℕ, List, refl, ap, ◌∙◌, subst}
 use Rattle.flop_base.specs.Lists.{with_items}
 use Rattle.floppy_session.specs.Services.{AreDone, put_requests}
-use Rattle.floppy_session.specs.Session.{state_of}
 use Rattle.floppy_session.proofs.Serving.{put_back_all}
 use Rattle.floppy_session.proofs.session.Session.verify_records.Goals as goal
 
-pub returns-clause-verifies : goal.returns-clause-verifies
-returns-clause-verifies g c = λ told.
-    let memory : List ℕ = (g.D.Station.shown c.args.self.now.station).memory in
+pub returns : goal.returns
+returns g c = λ told.
+    let memory : List ℕ = c.args.self.now.station.memory in
     let moved = c.move_records-outcome.ensures.moves told in
     let puts = c.put_back.ensures.puts told in
     let outside = c.move_records-outcome.ensures.outside refl c.bytes_at-kept.ensures.room in (
@@ -15,10 +14,13 @@ returns-clause-verifies g c = λ told.
       record {
         reads = moved.0;
         puts = puts.0;
-        mid = (state_of g.D.Station.shown c.move_records-outcome.new.self);
+        mid = c.move_records-outcome.new.self;
         course_is = refl;
         moves = moved.1;
-        puts_back = subst (λ (b : List ℕ). AreDone (put_requests c.args.address b) (state_of g.D.Station.shown c.move_records-outcome.new.self) told puts.0 (state_of g.D.Station.shown c.put_back.new.self)) c.bytes_at-kept.ensures.bytes puts.1;
-        memory = c.put_back.ensures.memory ∙ ap (with_items (g.D.Station.shown c.move_records-outcome.new.self.station).memory c.args.address) c.bytes_at-kept.ensures.bytes ∙ put_back_all memory (g.D.Station.shown c.move_records-outcome.new.self.station).memory c.args.address 512 c.bytes_at-kept.ensures.room outside;
+        puts_back = subst (λ (b : List ℕ). AreDone (put_requests c.args.address b) c.move_records-outcome.new.self told puts.0 c.put_back.new.self)
+            c.bytes_at-kept.ensures.bytes puts.1;
+        memory = c.put_back.ensures.memory ∙ ap (with_items c.move_records-outcome.new.self.station.memory c.args.address)
+            c.bytes_at-kept.ensures.bytes ∙ put_back_all memory c.move_records-outcome.new.self.station.memory c.args.address 512
+            c.bytes_at-kept.ensures.room outside;
       },
     )

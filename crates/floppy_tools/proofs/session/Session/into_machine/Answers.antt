@@ -4,4 +4,7 @@ use Rattle.floppy_tools.proofs.Machines.{shows_as}
 use Rattle.floppy_tools.proofs.session.Session.into_machine.Goals as goal
 
 pub returns : goal.returns
-returns g c = shows_as (board g.D.Drive.state c.into_machine.result) (station_shown g.D.Drive.state c.into_station.result) (station_shown g.D.Drive.state c.args.self.over.station) c.into_station.ensures.shown c.into_machine.ensures.shows
+returns g c =
+    rw (← c.self.view_is)
+    (shows_as (board g.D.Drive.state c.into_machine.result) (station_shown g.D.Drive.state c.into_station.result)
+    c.self.inside.over.station c.into_station.ensures.shown c.into_machine.ensures.shows)

@@ -1,8 +1,7 @@
 use Rattle.pc_bus.specs.Boards.{board}
-use Rattle.floppy_session.specs.Session.{state_of}
 use Rattle.machine_station.specs.Shown.{all_counts, station_shown}
 use Rattle.floppy_tools.proofs.Machines.{set_up_shown}
 use Rattle.floppy_tools.proofs.session.Session.new.Goals as goal
 
-pub returns-clause-set_up : goal.returns-clause-set_up
-returns-clause-set_up g c = set_up_shown (board g.D.Drive.state c.args.machine) (all_counts g.D.Drive.state c.args.spare.items) (state_of (station_shown g.D.Drive.state) c.new.result) (station_shown g.D.Drive.state c.set_up-station.result) c.new.ensures.start c.set_up-station.ensures.fresh c.set_up-station.ensures.starts
+pub returns : goal.returns
+returns g c = set_up_shown (board g.D.Drive.state c.args.machine) (all_counts g.D.Drive.state c.args.spare.items) c.new.result (station_shown g.D.Drive.state c.set_up-station.result) c.new.ensures c.set_up-station.ensures.fresh c.set_up-station.ensures.starts
