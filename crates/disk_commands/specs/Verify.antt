@@ -29,10 +29,6 @@ tells_failure key reply.Done rest = rest tt
 tells_failure key reply.DoneDeleted rest = rest tt
 tells_failure key (reply.Bytes address content) rest = rest tt
 
--- what the reads came to
-abbrev pub Reads : Type 0
-Reads = Tally
-
 -- no read yet
 abbrev pub no_reads : Tally
 no_reads = record { well = 0; refused = false }

@@ -18,14 +18,14 @@ use Rattle.sector_model.specs.Plays.{World, whole_status}
 use Rattle.scripts.specs.Scripts.{Script, RunsScript}
 use Rattle.scripts.specs.Leading.{Runs}
 use Rattle.disk_commands.specs.Format.{format_script, formats_disk}
-use Rattle.disk_commands.specs.Verify.{verify_script, Reads, no_reads, one_more, tells_failure, verifies_record, verifies_track}
-use Rattle.disk_commands.specs.Copy.{copy_script, write_request, no_marks, reads_record, writes_record, copies_track}
+use Rattle.disk_commands.specs.Verify.{verify_script, no_reads, one_more, tells_failure, verifies_record, verifies_track, reads_disk}
+use Rattle.disk_commands.specs.Copy.{copy_script, write_request, no_marks, reads_record, writes_record, copies_track, makes_copy, copies_disk}
 use Rattle.disk_laws.specs.Formatted.{StoresFormatted}
 use Rattle.disk_laws.specs.Copied.{IsSure, StoresCopy}
 use Rattle.disk_laws.specs.VerifyRuns.{TellsFailing}
 use Rattle.disk_laws.proofs.FormatRun.{format_stores}
 use Rattle.disk_laws.proofs.CopyRun.{copy_stores}
-use Rattle.disk_laws.proofs.VerifyRun.{verify_tells}
+use Rattle.disk_laws.proofs.VerifyRun.{Tally, verify_tells}
 use Rattle.disk_completeness.specs.Complete.{BeginsSound, EndsWellOrOutside, IsReadable, HaveSameSector, StoresSameSectors}
 use Rattle.disk_completeness.proofs.SectorRequests.{readable_unmistaken, none_failing, ReadsAlone, read_done, IsMaking, AnyDisk, HasRecords, MakesAlone, any_made, blank_made, made_still, format_done, write_done}
 use Rattle.flop_base.specs.Standard.{sectors_at}
@@ -149,7 +149,7 @@ same_sectors disk to old new course told after sure stores = record {
 pub copy_complete : (from to : List ℕ) (old new : World) (ended : Status) (files : Files) (disk : Disk) → BeginsSound old → old.files ≡ Some files
     → IsImageOf (Some files) from disk → IsReadable disk → Runs (RunsScript (copy_script from to)) old new ended
     → EndsWellOrOutside (StoresSameSectors disk to (Some files) new.files) ended
-unfolding copy_script
+unfolding copy_script makes_copy copies_disk
 copy_complete from to old new ended files disk begins told image readable runs =
     let rate = disk.rate in
     let count = disk.cylinders in
@@ -193,7 +193,7 @@ module _ (disk : Disk) (readable : IsReadable disk) (few_cylinders : disk.cylind
   none_more : (before now : Bool) → before ≡ false → now ≡ false → (before || now) ≡ false
   none_more before now e f = rw (e, f) refl
 
-  verified_goes : (c h r : ℕ) (tally : Reads) (old : Stage) → HasTrack disk c h → 1 ≤ r → r ≤ sectors_at disk.rate → IsReading tally.refused old
+  verified_goes : (c h r : ℕ) (tally : Tally) (old : Stage) → HasTrack disk c h → 1 ≤ r → r ≤ sectors_at disk.rate → IsReading tally.refused old
       → PartGoes (λ now new. IsReading now.refused new) (verifies_record c h r tally) old
   unfolding verifies_record
   verified_goes c h r tally old has least most reading rest behind =
@@ -207,7 +207,7 @@ module _ (disk : Disk) (readable : IsReadable disk) (few_cylinders : disk.cylind
 pub verify_complete : (name : List ℕ) (old new : World) (ended : Status) (files : Files) (disk : Disk) → BeginsSound old → old.files ≡ Some files
     → IsImageOf (Some files) name disk → IsReadable disk → Runs (RunsScript (verify_script name)) old new ended
     → EndsWellOrOutside (TellsFailing disk [] old new status.AllOk) ended
-unfolding verify_script verifies_track
+unfolding verify_script reads_disk verifies_track
 verify_complete name old new ended files disk begins told image readable runs =
     let ranges = image_ranges files name disk image in
     let empty = ap (λ (bays : Two Bay). (in_bay bays 0).medium) begins.fresh.bays in

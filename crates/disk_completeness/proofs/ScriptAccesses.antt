@@ -28,8 +28,9 @@ use Rattle.scripts.specs.Parts.{Part, asks, says, needs, carries, with_shape, op
 use Rattle.scripts.specs.Leading.{with_report}
 use Rattle.scripts.specs.Records.{record_address}
 use Rattle.disk_commands.specs.Format.{formats_disk, format_script}
-use Rattle.disk_commands.specs.Verify.{Reads, one_more, tells_failure, verifies_record, verifies_track, verify_script}
-use Rattle.disk_commands.specs.Copy.{write_request, reads_record, writes_record, copies_track, copy_script}
+use Rattle.disk_commands.specs.Verify.{one_more, tells_failure, verifies_record, verifies_track, verify_script, reads_disk}
+use Rattle.disk_commands.specs.Copy.{write_request, reads_record, writes_record, copies_track, copy_script, makes_copy, copies_disk}
+use Rattle.disk_laws.proofs.VerifyRun.{Tally}
 use Rattle.disk_completeness.specs.Accesses.{AccessesAtMost}
 
 -- a request that stopped the run
@@ -162,7 +163,7 @@ write_quiet marks c h r none = quiet _ (go (get_or marks (r - 1) false))
 
 pub copy_rises : (from to : List ℕ) (old new : World) (course : List Taken) (ended : Status) → RunsScript (copy_script from to) old course new ended
     → AccessesAtMost 3 old new
-unfolding copy_script copies_track
+unfolding copy_script makes_copy copies_disk copies_track
 copy_rises from to old new course ended runs =
     script_rises 3 _ old new course ended
     (opens_most 2 from _ (λ shape.
@@ -184,7 +185,7 @@ tells_quiet key reply.Done n rest most = most tt
 tells_quiet key reply.DoneDeleted n rest most = most tt
 tells_quiet key (reply.Bytes address content) n rest most = most tt
 
-verified_quiet : (c h r : ℕ) (tally : Reads) → IsQuiet (verifies_record c h r tally)
+verified_quiet : (c h r : ℕ) (tally : Tally) → IsQuiet (verifies_record c h r tally)
 unfolding verifies_record asks
 verified_quiet c h r tally n rest most = (
   n,
@@ -194,7 +195,7 @@ verified_quiet c h r tally n rest most = (
 
 pub verify_rises : (name : List ℕ) (old new : World) (course : List Taken) (ended : Status) → RunsScript (verify_script name) old course new ended
     → AccessesAtMost 1 old new
-unfolding verify_script verifies_track
+unfolding verify_script reads_disk verifies_track
 verify_rises name old new course ended runs =
     script_rises 1 _ old new course ended
     (opens_most 0 name _ (λ shape.

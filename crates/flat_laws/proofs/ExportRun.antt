@@ -75,19 +75,19 @@ read_gives source c h r old new course found given least most medium size =
     let same = is.after in
     let step = subst (λ (s : State). Step asked old.state old.files taken.answer s new.files) (sym same) is.step in
     let one = one_record c h r source old.state new.state old.files new.files taken.answer
-        (done_does old.state new.state old.files new.files asked taken.answer step given.fine) given.fine medium in
+    (done_does old.state new.state old.files new.files asked taken.answer step given.fine) given.fine medium in
     let sized = one.sized in
     let fits : address + length one.content ≤ length old.state.station.memory = omega (arith, size, sized, most) in
     let long = length-with_items old.state.station.memory address one.content fits in
     let stands : bytes_from new.state.station.memory address 512 ≡ one.content = ap (λ (m : List ℕ). bytes_from m address 512) one.memory
-        ∙ at_stands old.state.station.memory address one.content 512 sized fits in
+    ∙ at_stands old.state.station.memory address one.content 512 sized fits in
     let from_found : bytes_from found.station.memory address 512 ≡ bytes_from new.state.station.memory address 512 =
-        ap (λ (s : State). bytes_from s.station.memory address 512) (is.found_is ∙ sym same) in
+    ap (λ (s : State). bytes_from s.station.memory address 512) (is.found_is ∙ sym same) in
     let placed : one.content ≡ bytes_from found.station.memory address 512 = sym (from_found ∙ stands) in
     let mark : mark_of taken.asked taken.answer ≡ one.deleted ∷ [] = ap (λ (q : Request). mark_of q taken.answer) is.asked_is ∙ one.mark in
     let content = ap (λ (s : State). bytes_from s.station.memory address 512) is.found_is in
     let gave : Gave key one.deleted (bytes_from found.station.memory address 512) taken =
-        record { address = address; asked = is.asked_is; mark = mark; content = content } in
+    record { address = address; asked = is.asked_is; mark = mark; content = content } in
     record {
       deleted = one.deleted;
       sized = ap length (sym placed) ∙ sized;
@@ -161,9 +161,9 @@ module _ (start : Counters) (disk : Disk) (told : Option Files) where
       let sure = IsSure disk start (counts new) in
       let parts = λ (s : sure). sure_parts disk start (counts old) (counts new) holds.fell read.fell s in
       let whole : IsAsRead sure (before ++ steps) disk c h r bytes =
-          record { deleted = read.deleted; step = some_second _ before steps read.step; field = read.field; sector = λ s. read.sector (parts s).1 } in
+      record { deleted = read.deleted; step = some_second _ before steps read.step; field = read.field; sector = λ s. read.sector (parts s).1 } in
       let own : IsGivenAt sure disk sectors c h r (so_far ++ bytes) (before ++ steps) =
-          record { inside = omega (arith, at, long, sized); read = subst (λ (row : List ℕ). IsAsRead sure (before ++ steps) disk c h r row) stands whole } in
+      record { inside = omega (arith, at, long, sized); read = subst (λ (row : List ℕ). IsAsRead sure (before ++ steps) disk c h r row) stands whole } in
       let kept = λ (b g q : ℕ) (sector : IsSector sectors b g q) (which : IsBefore (c * 2 + h) (r - 1) b g q).
       given_stays (IsSure disk start (counts old)) sure disk sectors b g q so_far bytes before steps (λ s. (parts s).0) (holds.given b g q sector which) in
       record {
@@ -217,7 +217,7 @@ module _ (start : Counters) (disk : Disk) (told : Option Files) where
       let next : r ≡ r + 1 - 1 = omega arith in
       let asked = request.Read 0 (key_of c h r) (record_address r) in
       let one = needs_passes asked behind (λ after. may_starve
-          (λ none. rest (bytes ++ bytes_from after.station.memory (record_address r) 512))) old course new runs in
+      (λ none. rest (bytes ++ bytes_from after.station.memory (record_address r) 512))) old course new runs in
       let now = bytes ++ bytes_from one.found.station.memory (record_address r) 512 in
       record {
         one = one.one;
@@ -310,18 +310,18 @@ export_stores name flat old new course runs size =
     let disk = put.disk in
     let Gathered = λ (t : ℕ). IsGathered (counts old) disk old.files t 0 in
     let left = subst (λ (rate : Rate). RunsScript (by_track 80 2 (reads_track (sectors_at rate)) []
-        (λ bytes. Stores flat bytes (export_text (sectors_of shape.rate)) status.AllOk)) two.mid two.two new status.AllOk) (sym put.rate) two.left in
+    (λ bytes. Stores flat bytes (export_text (sectors_of shape.rate)) status.AllOk)) two.mid two.two new status.AllOk) (sym put.rate) two.left in
     let three = tracks_take Gathered (reads_track (sectors_at disk.rate))
-        (λ c h cylinder head bytes. track_gathered (counts old) disk old.files c h head bytes) []
-        (λ bytes. Stores flat bytes (export_text (sectors_of shape.rate)) status.AllOk) two.mid two.two new left in
+    (λ c h cylinder head bytes. track_gathered (counts old) disk old.files c h head bytes) []
+    (λ bytes. Stores flat bytes (export_text (sectors_of shape.rate)) status.AllOk) two.mid two.two new left in
     let before = one.one ++ two.one in
     let full = three.knows before (begun name shape old one.mid two.mid before two.one put two.knows size) in
     let last = last_stored flat three.found (export_text (sectors_of shape.rate)) status.AllOk three.mid three.two new status.AllOk three.left in
     let end = stored_well flat three.found (export_text (sectors_of shape.rate)) three.mid new last.1 in
     let whole : course ≡ before ++ three.one =
-        one.course_is ∙ ap (λ (l : List Taken). one.one ++ l)
-            (two.course_is ∙ ap (λ (l : List Taken). two.one ++ l) (three.course_is ∙ ap (λ (l : List Taken). three.one ++ l) last.0 ∙ append-nil three.one))
-        ∙ sym (append_assoc one.one two.one three.one) in
+    one.course_is ∙ ap (λ (l : List Taken). one.one ++ l)
+    (two.course_is ∙ ap (λ (l : List Taken). two.one ++ l) (three.course_is ∙ ap (λ (l : List Taken). three.one ++ l) last.0 ∙ append-nil three.one))
+    ∙ sym (append_assoc one.one two.one three.one) in
     let count = full.count in
     subst (λ (steps : List Taken). StoresExported name flat (counts old) old.files steps (counts new) new.files) (sym whole)
     (subst (λ (s : State). StoresExported name flat (counts old) old.files (before ++ three.one) s.station.counters new.files) (sym end.0) (record {

@@ -67,9 +67,11 @@ module _ (rate : Rate) (bytes : List ℕ) (c h : ℕ) (cylinder : c < 80) (head 
         let good : nat_le (address + 1) user_bytes ≡ true = le-leb (address + 1) user_bytes inside in
         let free : refusal_of old.state (request.Fill address 1 byte) ≡ None = rw good refl in
         let does = reaches _ (refusal_of old.state (request.Fill address 1 byte)) free step in
-        let still = ap (λ (s : StationState). bay_of s 0) does.2.becomes in
-        (ap is_refusal does.0, made_still 0 rate 80 (HasRecords sectors c h) (HasRecords sectors c h) old.state.station new.state.station
-            (λ disk has. has) still making);
+        let still = ap (λ (s : StationState). bay_of s 0) does.2.becomes in (
+          ap is_refusal does.0,
+          made_still 0 rate 80 (HasRecords sectors c h) (HasRecords sectors c h) old.state.station new.state.station
+              (λ disk has. has) still making,
+        );
   }
 
   byte_goes : (place address i : ℕ) (old : Stage) → address + i + 1 ≤ user_bytes → IsOnTrack old
@@ -84,7 +86,7 @@ module _ (rate : Rate) (bytes : List ℕ) (c h : ℕ) (cylinder : c < 80) (head 
   fills_go old making =
       let some = some_sectors rate in
       goes_each (λ none new. IsOnTrack new) (λ r. fills_record bytes (sector_place sectors c h r) (record_address r)) 1 sectors tt old
-          (λ r least below none one there.
+      (λ r least below none one there.
       goes_each (λ none new. IsOnTrack new) (fills_byte bytes (sector_place sectors c h r) (record_address r)) 0 512 none one (λ i from small same two here.
       byte_goes (sector_place sectors c h r) (record_address r) i two (omega (arith, below, some.1, small)) here) there) making
 
@@ -99,10 +101,10 @@ module _ (rate : Rate) (bytes : List ℕ) (c h : ℕ) (cylinder : c < 80) (head 
   unfolding imports_track writes_track
   track_goes old making rest behind =
       goes_carries (Makes old) (request.Format 0 c h) _ old (format_done 0 1 rate 80 c h refl (λ station value. refl) cylinder head AnyDisk old making)
-          (λ one alone.
+      (λ one alone.
       fills_go one alone.made _ (λ none two there.
       goes_each (λ none new. IsOnTrack new) (writes_record c h) 1 sectors tt two
-          (λ r least below same mid is. written_goes r mid least (omega (arith, below)) is) there rest
+      (λ r least below same mid is. written_goes r mid least (omega (arith, below)) is) there rest
       (λ same three is. behind tt three (any_made 0 rate 80 _ three.state.station is))))
 
 -- ---- The whole script.
@@ -110,7 +112,7 @@ module _ (rate : Rate) (bytes : List ℕ) (c h : ℕ) (cylinder : c < 80) (head 
 import_goes : (bytes name : List ℕ) (rate : Rate) (old : Stage) → is_loaded old.state 0 ≡ false → GoesWell (import_script (Ok (bytes, rate)) name) old
 import_goes bytes name rate old empty =
     goes_carries (λ new. IsBlank 0 rate name 80 old.state old.files new.state new.files) (blank_request 0 name 80 rate) _ old
-        (blank_done 0 rate name 80 old refl (omega arith) (omega arith) empty) (λ one is.
+    (blank_done 0 rate name 80 old refl (omega arith) (omega arith) empty) (λ one is.
     acknowledges_goes 0 1 (blank_of 80 rate) refl (λ station value. refl) _ one is.medium (λ two alone.
     goes_tracks (λ none new. IsMaking 0 rate 80 AnyDisk new.state.station) 80 2 (imports_track bytes (sectors_at rate)) tt two
     (λ c h cylinder head none mid made. track_goes rate bytes c h cylinder head mid made) (blank_made 0 rate 80 two.state.station is.valid alone.ready) _
@@ -170,7 +172,7 @@ module _ (flat name : List ℕ) (old new : World) (course : List Taken) (ended :
       → EndsWellOrOutside (StoresDisk bytes name rate (Some files) new.files) ended
   import_ends (Ok (row, at_rate)) there runs =
       completes (import_script (Ok (row, at_rate)) name) _ old new course ended old.files refl begins
-          (import_goes row name at_rate (at old.state old.files) (fresh_empty old.state 0 begins.fresh)) calm runs
+      (import_goes row name at_rate (at old.state old.files) (fresh_empty old.state 0 begins.fresh)) calm runs
       (λ done faultless.
       same_file files flat name bytes rate new.files is
       (subst (λ (f : Option Files). StoresImported flat name f new.files) told

@@ -131,12 +131,12 @@ module _ (ready : World) (bytes : List ℕ) (sectors c h w : ℕ) (few : sectors
       let from : sector_place sectors c h r + i ≡ w * 512 + (base + i) = omega (arith, place) in
       let more : base + i + 1 ≡ base + (i + 1) = omega arith in
       known status.AllOk (carries (request.Fill address 1 byte)) (Does (request.Fill address 1 byte ∷ []))
-          (Takes (HasFilled (base + i)) (HasFilled (base + (i + 1))) none)
+      (Takes (HasFilled (base + i)) (HasFilled (base + (i + 1))) none)
       (λ old course found mid did. λ before filled. record {
         fell = both_fell (counts ready) (counts old) (counts mid) filled.fell (did_fell (request.Fill address 1 byte ∷ []) old mid course did refl);
         fills = λ size. subst (λ k. Fills k mid) more
             (fills_one bytes (w * 512) (base + i) address byte ready.state.station.bays ready.state.names ready.files old mid course at
-                (omega (arith, few, most, small, least)) (ap (λ k. get_or bytes k 0) from) did (filled.fills size));
+            (omega (arith, few, most, small, least)) (ap (λ k. get_or bytes k 0) from) did (filled.fills size));
       })
       (carries_passes (request.Fill address 1 byte))
 
@@ -263,17 +263,18 @@ module _ (bytes : List ℕ) (rate : Rate) (name : List ℕ) (told : Option Files
       let fell_write = did_fell (writes_of sectors c h) full new three writes (writes_keep 0 (keys_from c h 1 sectors) (replicate sectors false)) in
       since_on start (IsImporting bytes rate name told (c * 2 + h)) (IsImporting bytes rate name told (c * 2 + h + 1)) old new since
       (both_fell (counts old) (counts ready) (counts new) fell_format (both_fell (counts ready) (counts full) (counts new) fell_fill fell_write))
-          (λ faultless holds.
+      (λ faultless holds.
       let disk = holds.disk in
       let done = one_done (request.Format 0 c h) old ready one format in
       let calm_format : IsFaultless 0 (counts old) (counts ready) =
-          (omega (arith, fell_format.first, fell_fill.first, fell_write.first, faultless.0), omega (arith, fell_fill.first, fell_write.first, faultless.1)) in
+      (omega (arith, fell_format.first, fell_fill.first, fell_write.first, faultless.0), omega (arith, fell_fill.first, fell_write.first, faultless.1)) in
       let calm_write : IsFaultless 0 (counts full) (counts new) =
-          (omega (arith, fell_format.first, fell_fill.first, fell_write.first, faultless.0), faultless.1) in
+      (omega (arith, fell_format.first, fell_fill.first, fell_write.first, faultless.0), faultless.1) in
       let track : HasTrack disk c h = (omega (arith, cylinder, holds.alike.cylinders), omega (arith, head, holds.alike.heads)) in
       let small_c : c < 256 = omega (arith, cylinder) in
       let small_h : h < 256 = omega (arith, head) in
-      let formats = one_format rate c h disk old.state ready.state old.files ready.files done.answer done.does done.fine calm_format holds.medium holds.bay_rate holds.alike.valid in
+      let formats = one_format rate c h disk old.state ready.state old.files ready.files done.answer done.does done.fine
+      calm_format holds.medium holds.bay_rate holds.alike.valid in
       let next = formats.next in
       let fills = filled.fills (ap length formats.memory ∙ holds.size) in
       let is : track_of next c h ≡ standard_track rate c h = formats.laid ∙ ap (λ (n : ℕ). formatted (format_at c h rate (gap_at rate) standard_fill) n) holds.alike.words_per_track in
@@ -290,17 +291,17 @@ module _ (bytes : List ℕ) (rate : Rate) (name : List ℕ) (told : Option Files
       let bay_rate : (bay_of full.state.station 0).rate ≡ rate = ap (λ (b : Bay). b.rate) bay ∙ formats.bay_rate in
       let next_rate : next.rate ≡ rate = formats.keeps.alike.rate ∙ holds.alike.rate in
       let writes_all = all_writes laid_tidy 0 next c h 1 sectors (replicate sectors false) full.state new.state full.files new.files three
-          (did_all (writes_of sectors c h) full three new writes)
-          (length-replicate sectors false) (omega arith) (omega (arith, few)) there formats.keeps.alike.valid regular has_next laid fills.size calm_write medium
-              (bay_rate ∙ sym next_rate) in
+      (did_all (writes_of sectors c h) full three new writes)
+      (length-replicate sectors false) (omega arith) (omega (arith, few)) there formats.keeps.alike.valid regular has_next laid fills.size calm_write medium
+      (bay_rate ∙ sym next_rate) in
       let final = writes_all.final in
       let keeps = keeps_both disk next final c h formats.keeps writes_all.keeps in
       let own = λ (r : ℕ) (sector : IsSector sectors c h r).
       let it = one_copied final full.state.station.memory c h 1 sectors writes_all.copied r sector.from_first (omega (arith, sector.to_last)) in
       let stands = record_stands ready bytes sectors c h before few refl full r fills sector.from_first sector.to_last
-          (omega (arith, place_inside rate c h r sector, whole)) in
+      (omega (arith, place_inside rate c h r sector, whole)) in
       let has : HasFlatSector bytes sectors final c h r =
-          (it.0, subst (λ (content : List ℕ). IsOnMap final (copied_entry c h r it.0 false content)) stands it.1) in
+      (it.0, subst (λ (content : List ℕ). IsOnMap final (copied_entry c h r it.0 false content)) stands it.1) in
       has in
       record {
         disk = final;
@@ -340,7 +341,7 @@ module _ (bytes : List ℕ) (rate : Rate) (name : List ℕ) (told : Option Files
             ∙ sym (append_assoc one.one (two.one ++ three.one) three.two);
         knows = λ earlier since.
             track_done two.found old ready two.mid three.mid one.one two.one three.one one.knows
-                (two.knows [] (none_filled ready bytes sectors c h before few refl)) three.knows start since;
+            (two.knows [] (none_filled ready bytes sectors c h before few refl)) three.knows start since;
         left = three.left;
       }
 
@@ -419,7 +420,7 @@ module _ (bytes name : List ℕ) (rate : Rate) (whole : length bytes ≡ flat_le
       let one = carries_passes (blank_request 0 name 80 rate) _ old course new runs in
       let two = acknowledges_passes 0 rate _ one.mid one.two new one.left in
       let three = tracks_take (λ t none row now. WasSoFar old t now) (imports_track bytes (sectors_at rate))
-          (λ c h cylinder head none. track_imported bytes rate name old.files c h whole cylinder head (counts old) none) tt _ two.mid two.two new two.left in
+      (λ c h cylinder head none. track_imported bytes rate name old.files c h whole cylinder head (counts old) none) tt _ two.mid two.two new two.left in
       let four = carries_passes (request.Eject 0) _ three.mid three.two new three.left in
       let last = last_run (import_text (sectors_of rate)) status.AllOk four.mid four.two new status.AllOk four.left in
       let full = three.knows [] (opened old one.mid two.mid one.one two.one one.knows two.knows size) in
@@ -433,8 +434,13 @@ import_stores flat name old new course imports size faultless = go imports.0 imp
   where
     go : (found : Result (List ℕ × Rate) Stop) → IsFlatFound old.files flat found → RunsScript (import_script found name) old course new status.AllOk
         → StoresImported flat name old.files new.files
-    go (Ok (bytes, rate)) is runs = (bytes, rate, is, imports_disk bytes name rate
-        (flat_size rate (length bytes) is.sectors) old new course runs size faultless)
+    go (Ok (bytes, rate)) is runs = (
+      bytes,
+      rate,
+      is,
+      imports_disk bytes name rate
+          (flat_size rate (length bytes) is.sectors) old new course runs size faultless,
+    )
     go (Err cause) is runs =
         let last = last_run (stop_text cause) (stop_status cause) old course new status.AllOk runs in
         absurd (no_stop_is_ok cause (prints_status _ _ (stop_status cause) status.AllOk _ (λ fault. fault) last.1.report).1)

@@ -79,7 +79,7 @@ each_takes P part a zero end sum takes found rest old course new runs =
 each_takes P part a (suc n) end sum takes found rest old course new runs =
     let first = takes a (omega arith) (omega arith) found (λ now. each (a + 1) n part now rest) old course new runs in
     let later = each_takes P part (a + 1) n end (omega arith)
-        (λ i least below. takes i (omega arith) below) first.found rest first.mid first.two new first.left in
+    (λ i least below. takes i (omega arith) below) first.found rest first.mid first.two new first.left in
     record {
       one = first.one ++ later.one;
       two = later.two;
@@ -135,9 +135,14 @@ one_done asked old new course did =
     let first = begins old.state new.state old.files new.files asked [] course (did_all (asked ∷ []) old course new did) in
     let end = ends_there first.mid new.state first.files new.files first.later first.behind in
     let step = subst (λ (s : State). Step asked old.state old.files first.answer s new.files) (sym end.0)
-        (subst (λ (f : Option Files). Step asked old.state old.files first.answer first.mid f) (sym end.1) first.step) in
-    record { answer = first.answer; step = step; fine = first.done; does =
-        done_does old.state new.state old.files new.files asked first.answer step first.done }
+    (subst (λ (f : Option Files). Step asked old.state old.files first.answer first.mid f) (sym end.1) first.step) in
+    record {
+      answer = first.answer;
+      step = step;
+      fine = first.done;
+      does =
+          done_does old.state new.state old.files new.files asked first.answer step first.done;
+    }
 
 -- no count fell since the start, and this holds where the drive of bay 0 had no fault since
 pub record Since (start : Counters) (P : World → Type 0) (now : World) : Type 0 where
@@ -173,9 +178,9 @@ pub readied : (rate : Rate) (disk : Disk) (old new : World) (course : List Taken
 readied rate disk old new course did is medium =
     let all = did_all (request.Ack 0 ∷ rate_requests rate 0) old course new did in
     let row = ap (λ (r : Rate). request.Ack 0 ∷ rate_requests r 0) (sym is)
-        ∙ ap (λ (l : List Request). request.Ack 0 ∷ l) (sym (append-nil (rate_requests disk.rate 0))) in
+    ∙ ap (λ (l : List Request). request.Ack 0 ∷ l) (sym (append-nil (rate_requests disk.rate 0))) in
     let ready = readies 0 disk [] old.state new.state old.files new.files course
-        (subst (λ (l : List Request). DoesAll l old.state old.files course new.state new.files) row all) medium in
+    (subst (λ (l : List Request). DoesAll l old.state old.files course new.state new.files) row all) medium in
     let end = ends_there ready.mid new.state ready.files new.files ready.course ready.behind in
     record {
       medium = ap (λ (s : State). (bay_of s.station 0).medium) end.0 ∙ ready.medium;
