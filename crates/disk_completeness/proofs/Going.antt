@@ -1,5 +1,5 @@
 -- Scripts that go to their end where nothing disturbs them.
-use Rattle.std.proofs.Common.{arith, ◌≡◌, ◌+◌, ◌<◌, ◌≤◌, ℕ, zero, suc, true, false, true≢false, List, [], ◌∷◌, refl, sym, subst, inl, inr, Option}
+use Rattle.std.proofs.Common.{arith, ◌≡◌, ◌+◌, ◌<◌, ◌≤◌, ℕ, zero, suc, true, false, true≢false, List, [], ◌∷◌, refl, sym, subst, inl, inr, Option, ◌∙◌}
 use Rattle.std.proofs.lemmas.Bool.{leb-true}
 use Rattle.flop_base.specs.Shelf.{Files}
 use Rattle.flop_base.specs.Sink.{grown}

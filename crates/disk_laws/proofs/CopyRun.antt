@@ -23,7 +23,7 @@ use Rattle.scripts.specs.Scripts.{RunsScript}
 use Rattle.scripts.specs.Parts.{Part, through, by_track, rate_requests}
 use Rattle.scripts.proofs.Reading.{last_run}
 use Rattle.scripts.proofs.Passed.{Known, Passes, Did, joined, joined_did, did_both, did_nothing, same_part, through_passes, carries_passes, acknowledges_passes, opens_passes}
-use Rattle.disk_commands.specs.Copy.{reads_record, writes_record, copies_track, copy_text, copy_script}
+use Rattle.disk_commands.specs.Copy.{reads_record, writes_record, copies_track, copy_text, makes_copy, copies_disk, copy_script}
 use Rattle.disk_commands.specs.Copy as copy
 use Rattle.disk_laws.specs.Requests.{Track, tracks_of, read_records, write_records, copy_track, copy_each, copy_opening, copy_requests, marks_read}
 use Rattle.disk_laws.specs.Done.{DoesAll}
@@ -145,7 +145,7 @@ preparing to shape = blank_request 1 to shape.cylinders shape.rate ∷ request.A
 pub copy_done : (from to : List ℕ) (old new : World) (course : List Taken) (files : Files) (disk : Disk)
     → RunsScript (copy_script from to) old course new status.AllOk → old.files ≡ Some files → IsImageOf (Some files) from disk
     → CopiesDisk from to disk old.state files course new.state new.files
-unfolding copy_script
+unfolding copy_script makes_copy copies_disk
 copy_done from to old new course files disk runs there image =
     let put = opens_passes from _ old course new runs in
     let rate = put.found.rate in

@@ -37,7 +37,7 @@ use Rattle.scripts.specs.Parts.{Part, asks, through, each, by_track}
 use Rattle.scripts.specs.Leading.{with_report}
 use Rattle.scripts.proofs.Reading.{IsWhole, ask_run, ask_answered, prints_status}
 use Rattle.scripts.proofs.Passed.{Passes, Passed, says_passes, at_once, run_both, each_nested, Did, over}
-use Rattle.disk_commands.specs.Verify.{failure_line, tells_failure, no_reads, one_more, verifies_record, verifies_track, verify_text, verify_script}
+use Rattle.disk_commands.specs.Verify.{failure_line, tells_failure, no_reads, one_more, verifies_record, verifies_track, verify_text, verify_script, reads_disk}
 use Rattle.disk_commands.specs.Disks.{sectors_of}
 use Rattle.disk_laws.specs.Requests.{read_each, verify_opening}
 use Rattle.disk_laws.specs.Verified.{refused_read, refused_reads, ReadsDisk, IsUnmistaken, all_told_of}
@@ -293,7 +293,7 @@ pub verify_tells : (name : List ℕ) (old new : World) (course : List Taken) (en
     → RunsScript (verify_script name) old course new ended → IsEndStatus ended → old.files ≡ Some files → IsImageOf (Some files) name disk
     → (bay_of old.state.station 0).medium ≡ None → IsUndisturbed 0 old.state.station.counters new.state.station.counters → IsUnmistaken disk
     → AreFailing disk (standard_keys disk) failed → TellsFailing disk (all_told_of failed) old new ended
-unfolding verify_script
+unfolding verify_script reads_disk
 verify_tells name old new course ended files disk failed runs ends there image empty quiet unmistaken failing =
     let whole = end_is_whole ended ends in
     let opened = opening_passed name disk files _ old course new ended whole there image empty quiet runs in
