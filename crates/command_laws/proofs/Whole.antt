@@ -1,0 +1,478 @@
+-- Rescues, by the status with which they end: what is stored and told, and when the log is exactly the keys that aren't found.
+use Rattle.std.proofs.Common.{◌≡◌, ◌∙◌, List, [], ◌∷◌, ◌++◌, ℕ, length, ap, subst, inl, inr, append-nil, Option, Some, arith, ◌+◌, Bool, true, false, true≢false, refl, sym, append_assoc, ◌↔◌, None, ◌≢◌, ◌-◌, cond}
+use Rattle.std.specs.Prelude.{is_some, ◌⊎◌, Contains, IfSome}
+use Rattle.std.specs.List.{list_all}
+use Rattle.std.proofs.lemmas.List.Elements.{All-from_recursion, All-weaker}
+use Rattle.std.specs.FinMap as fin
+use Rattle.std.specs.Cmp.Lexicographic.{slice_cmp, nat_list_cmp_total}
+use Rattle.std.specs.Ordering.{nat_cmp, eq_by_cmp}
+use Rattle.std.proofs.lemmas.Cmp.{eq_by_cmp_equiv}
+use Rattle.std.proofs.lemmas.Map.Views.{tells_apart}
+use Rattle.flop_base.specs.Shelf.{Files, stored, file_at}
+use Rattle.flop_base.specs.Sink.{grown}
+use Rattle.flop_base.specs.Standard.{sectors_at}
+use Rattle.flop_base.specs.declared.answers.Status.{Status}
+use Rattle.flop_base.specs.declared.answers.Status.TheVariants as status
+use Rattle.flop_base.specs.declared.key.Chrn.{Chrn}
+use Rattle.raw_image.specs.Disk.{Disk}
+use Rattle.raw_image.specs.Image.{file_of}
+use Rattle.bay_model.specs.Bays.{Two, in_bay}
+use Rattle.bay_model.specs.Counters.{IsFaultless, IsUndisturbed}
+use Rattle.bay_model.specs.Memory.{user_bytes}
+use Rattle.track_format.proofs.Laid.{laid_tidy}
+use Rattle.floppy_requests.specs.declared.request.Request.{Request}
+use Rattle.floppy_requests.specs.declared.request.Request.TheVariants as request
+use Rattle.sector_map.specs.Disks.{Entry, IsOnMap}
+use Rattle.sector_model.specs.Steps.{IsImageOf}
+use Rattle.sector_model.specs.Runs.{Taken, requests_of, has_refusal, Run}
+use Rattle.sector_model.specs.Plays.{World}
+use Rattle.sector_model.specs.Texts.{is_refusal}
+use Rattle.sector_model.specs.States.{State}
+use Rattle.floppy_session.specs.declared.shape.Shape.{Shape}
+use Rattle.floppy_session.specs.Shapes.{shape_of}
+use Rattle.scripts.specs.Scripts.{Script, Ends, Fails, RunsScript, StoresLast, IsStored, NotStored, IsStoreFault}
+use Rattle.scripts.specs.Parts.{carries, may_starve, through}
+use Rattle.scripts.proofs.Reading.{last_run, last_failed, last_stored, prints_status}
+use Rattle.scripts.proofs.Passed.{Passed, Does, Opened, joined, did_both, opens_passed}
+use Rattle.command_laws.specs.Done.{DoesAll}
+use Rattle.command_laws.specs.VerifyRuns.{IsEndStatus}
+use Rattle.command_laws.proofs.VerifyRun.{not_put, end_is_whole}
+use Rattle.command_laws.proofs.PutIn.{opened_shape}
+use Rattle.command_laws.proofs.TrackParts.{did_all}
+use Rattle.command_laws.specs.Copied.{SomeStep}
+use Rattle.command_laws.proofs.Steps.{and_both, or_false, NeverFell, begins, ends_there, never_fell}
+use Rattle.command_laws.proofs.Marks.{some_first, some_second}
+use Rattle.command_laws.specs.Verified.{IsUnmistaken}
+use Rattle.command_laws.proofs.Reading.{quiet_parts}
+use Rattle.command_laws.proofs.Verified.{image_ranges}
+use Rattle.rescue.specs.Course.{outcome_status}
+use Rattle.rescue.specs.Log.{log_text}
+use Rattle.rescue.specs.declared.line.LogLine.{LogLine}
+use Rattle.rescue.specs.declared.outcome.Outcome.{Outcome}
+use Rattle.rescue_commands.specs.Logs.{IsLogFound, IsFound}
+use Rattle.rescue_commands.specs.Rescue.{rescues, asked_keys, outcome_of, last_text, rescues_all, stores_log, rescue_found, rescue_rest, Rescues}
+use Rattle.rescue_commands.proofs.Rests.{by_rest}
+use Rattle.command_laws.specs.Rescued.{IsNotStopped, count_writes, IsLogged, IsSaved, IsSettled, WasNotRead, HasTarget, KeepsEntries, outcome_in, IsRescue, LogsNotFound, WasRefused, log_of, line_at, AreTidy}
+use Rattle.command_laws.proofs.Gone.{later_fine, not_refused, carried, GoesKeys, keys_gone, Fell, fell_both, keys_fell, line_of_done, gave_reads, never_both}
+use Rattle.command_laws.proofs.RescueOpening.{opening, ready_requests, second_request, formats_for, prepares_carried, HasOther, begins_new, begins_again, holds_first, is_plain, plain_facts, plain_keep, opening_plain}
+use Rattle.command_laws.proofs.RescueRecords.{heads_for, asked_all, asked_distinct, IsGuarded, IsPart, SavesKeys, saves_keys, ReadsKey, some_apart, keys_read, keys_counted}
+use Rattle.command_laws.proofs.Telling.{tells_keys}
+
+-- ---- the new log
+
+-- it was stored, and the last line printed
+pub record StoresLog (log : List ℕ) (asked : ℕ) (lines : List LogLine) (old : World) (course : List Taken) (new : World) (ended : Status) : Type 0 where
+  pub nothing : course ≡ []
+  pub state : new.state ≡ old.state
+  pub stores : new.files ≡ stored old.files log (log_text lines)
+  pub report : new.report ≡ grown old.report (last_text (outcome_of asked lines))
+  pub status : ended ≡ outcome_status (outcome_of asked lines)
+
+not_store : (ended : Status) → IsEndStatus ended → IsStoreFault ended → ⊥
+not_store status.AllOk whole fault = fault
+not_store status.SomeRefused whole fault = fault
+not_store status.BadImage whole fault = whole
+not_store status.Absent whole fault = whole
+not_store status.FileFault whole fault = whole
+not_store status.BadJob whole fault = whole
+not_store status.BadWords whole fault = whole
+not_store status.NoMemory whole fault = whole
+not_store status.SinkFault whole fault = whole
+
+module _ (log : List ℕ) (asked : ℕ) (lines : List LogLine) (old : World) (course : List Taken) (new : World) (ended : Status) (whole : IsEndStatus ended) where
+  abbrev Last : Type 0
+  Last = StoresLast log (log_text lines) (last_text (outcome_of asked lines)) (outcome_status (outcome_of asked lines)) old new ended
+
+  file_stored : course ≡ [] → Last → StoresLog log asked lines old course new ended
+  file_stored nothing (IsStored state files prints) =
+      let printed = prints_status old.report _ _ ended new.report (not_put ended whole) prints in
+      record { nothing = nothing; state = state; stores = files; report = printed.0; status = printed.1 }
+  file_stored nothing (NotStored same fault) = absurd (not_store ended whole fault)
+
+  log_stored : RunsScript (stores_log log asked lines) old course new ended → StoresLog log asked lines old course new ended
+  unfolding stores_log may_starve
+  log_stored (inl runs) = let last = last_stored log (log_text lines) _ _ old course new ended runs in file_stored last.0 last.1
+  log_stored (inr starved) = absurd (subst IsEndStatus starved.2 whole)
+
+-- a last line with another status than 0 or 1 was no such end
+ends_not : (line : List ℕ) (wanted : Status) (old : World) (course : List Taken) (new : World) (ended : Status)
+    → IsEndStatus ended → (IsEndStatus wanted → ⊥) → RunsScript (Ends line wanted) old course new ended → ⊥
+ends_not line wanted old course new ended whole bad runs =
+    let last = last_run line wanted old course new ended runs in
+    bad (subst IsEndStatus (prints_status old.report line wanted ended new.report (not_put ended whole) last.1.report).1 whole)
+
+-- what comes behind a line of the new log for each record that wasn't read
+abbrev Behind : List ℕ → List Chrn → List LogLine → Script
+Behind log keys lines = carries (request.Eject 1) (λ still. stores_log log (length keys) lines)
+
+-- ---- the whole
+
+-- requests were done, then records were gone through, and the other diskette was stored, each with its part of the course; then the log
+pub record GoesThrough (requests : List Request) (keys : List Chrn) (log : List ℕ) (files : Files)
+    (old : World) (course : List Taken) (new : World) (ended : Status) : Type 0 where
+  pub opened : World
+  pub rescued : World
+  pub ejected : World
+  pub top : List Taken
+  pub body : List Taken
+  pub last : List Taken
+  pub is : course ≡ top ++ (body ++ last)
+  pub opens : DoesAll requests old.state (Some files) top opened.state opened.files
+  pub goes : GoesKeys keys opened body rescued
+  pub ejects : DoesAll (request.Eject 1 ∷ []) rescued.state rescued.files last ejected.state ejected.files
+  pub report : ejected.report ≡ old.report
+  pub left : List Taken
+  pub stores : StoresLog log (length keys) (log_of body) ejected left new ended
+
+goes_on : (requests : List Request) (keys : List Chrn) (log : List ℕ) (files : Files) (old : World) (course : List Taken) (new : World) (ended : Status)
+    → IsEndStatus ended → IsNotStopped course → old.files ≡ Some files
+    → Passed {Found = Unit {0}} (Does requests) (λ none. through rescues keys [] (Behind log keys)) old course new ended
+    → GoesThrough requests keys log files old course new ended
+goes_on requests keys log files old course new ended whole fine told one =
+    let fine_two = later_fine one.one one.two course one.course_is fine in
+    let two = keys_gone keys [] (Behind log keys) one.mid one.two new ended whole fine_two one.left in
+    let fine_three = later_fine two.one two.two one.two two.course_is fine_two in
+    let three = carried (request.Eject 1 ∷ []) (stores_log log (length keys) two.found) two.mid two.two new ended whole fine_three two.left in
+    let last = log_stored log (length keys) two.found three.mid three.two new ended whole three.left in
+    let end = three.course_is ∙ ap (λ (row : List Taken). three.one ++ row) last.nothing ∙ append-nil three.one in
+    record {
+      opened = one.mid;
+      rescued = two.mid;
+      ejected = three.mid;
+      top = one.one;
+      body = two.one;
+      last = three.one;
+      is = one.course_is ∙ ap (λ (row : List Taken). one.one ++ row) (two.course_is ∙ ap (λ (row : List Taken). two.one ++ row) end);
+      opens = subst (λ (f : Option Files). DoesAll requests old.state f one.one one.mid.state one.mid.files) told
+          (did_all requests old one.one one.mid one.knows);
+      goes = two.knows.0;
+      ejects = did_all (request.Eject 1 ∷ []) two.mid three.one three.mid three.knows;
+      report = three.knows.report ∙ two.knows.2 ∙ one.knows.report;
+      left = three.two;
+      stores = subst (λ (row : List LogLine). StoresLog log (length keys) row three.mid three.two new ended) two.knows.1 last;
+    }
+
+-- a rescue of this disk, by the log that was found
+pub record RescuesDisk (from to log : List ℕ) (disk : Disk) (files : Files) (old : World) (course : List Taken) (new : World) (ended : Status) : Type 0 where
+  pub found : Option (List LogLine)
+  pub there : IsLogFound (Some files) log (sectors_at disk.rate) found
+  pub goes : GoesThrough (opening from to (shape_of disk) (is_some found)) (asked_keys (shape_of disk) found) log files old course new ended
+
+module _ (from to log : List ℕ) (disk : Disk) (files : Files) (old : World) (course : List Taken) (new : World) (ended : Status) (whole : IsEndStatus ended)
+    (fine : IsNotStopped course) (told : old.files ≡ Some files) where
+  -- behind the disk that was put in, by the log that was found
+  by_found : {rest : Shape → Script} (a : Passed (Opened from) rest old course new ended) (found : Option (List LogLine))
+      → IsLogFound (Some files) log (sectors_at disk.rate) found
+      → RunsScript (rescue_found to log (shape_of disk) found) a.mid a.two new ended → RescuesDisk from to log disk files old course new ended
+  unfolding rescue_found rescues_all may_starve
+  by_found a found there (inl runs) =
+      let shape = shape_of disk in
+      let logged = is_some found in
+      let keys = asked_keys shape found in
+      let rest = through rescues keys [] (Behind log keys) in
+      let all = subst (λ (s : Script). RunsScript s a.mid a.two new ended) (prepares_carried to shape logged (λ none. rest)) runs in
+      let requests = second_request to shape logged ∷ ready_requests disk.rate (formats_for shape logged) in
+      let b = carried requests rest a.mid a.two new ended whole (later_fine a.one a.two course a.course_is fine) all in
+      record {
+        found = found;
+        there = there;
+        goes = goes_on (opening from to shape logged) keys log files old course new ended whole fine told
+            (joined a b (did_both (request.Insert 0 from ∷ []) requests old a.mid b.mid a.one b.one a.knows.did b.knows));
+      }
+  by_found a found there (inr starved) = absurd (subst IsEndStatus starved.2 whole)
+
+  pub goes_through : Rescues from to log old course new ended → IsImageOf (Some files) from disk → RescuesDisk from to log disk files old course new ended
+  goes_through (answers, are, runs) image =
+      let rest = λ (shape : Shape). rescue_rest to log shape (answers shape.rate) in
+      let a = opens_passed from rest old course new ended (end_is_whole ended whole) (not_refused (request.Insert 0 from) old course new ended fine) runs in
+      let same = opened_shape from disk files old a.mid a.one a.found image told a.knows in
+      let left = subst (λ (s : Shape). RunsScript (rest s) a.mid a.two new ended) same a.left in
+      let there = subst (λ (f : Option Files). IsFound f log (sectors_at disk.rate) (answers disk.rate)) told (are disk.rate) in
+      by_rest (Some files) to log (shape_of disk) (λ s. RunsScript s a.mid a.two new ended → RescuesDisk from to log disk files old course new ended)
+      (by_found a)
+      (λ line. never a line status.BadJob (λ e. e)) (fails a status.FileFault (λ e. e)) (fails a status.NoMemory (λ e. e)) (answers disk.rate) there left
+    where
+      never : {rest : Shape → Script} (a : Passed (Opened from) rest old course new ended) (line : List ℕ) (wanted : Status) → (IsEndStatus wanted → ⊥)
+          → RunsScript (Ends line wanted) a.mid a.two new ended → RescuesDisk from to log disk files old course new ended
+      never a line wanted bad runs = absurd (ends_not line wanted a.mid a.two new ended whole bad runs)
+
+      fails : {rest : Shape → Script} (a : Passed (Opened from) rest old course new ended) (cause : Status) → (IsEndStatus cause → ⊥)
+          → RunsScript (Fails cause) a.mid a.two new ended → RescuesDisk from to log disk files old course new ended
+      fails a cause bad runs = absurd (bad (subst IsEndStatus (last_failed cause a.mid a.two new ended runs).2 whole))
+
+-- ---- courses that neither read nor write
+
+-- no step of the course reads a key
+plain_reads : (course : List Taken) → list_all is_plain (requests_of course) ≡ true → (key : Chrn) → SomeStep (ReadsKey key) course → ⊥
+plain_reads [] e key some = some
+plain_reads (taken ∷ later) e key (inl here) =
+    let both = and_both (is_plain taken.asked) (list_all is_plain (requests_of later)) e in
+    true≢false (sym both.0 ∙ ap is_plain here.1)
+plain_reads (taken ∷ later) e key (inr there) =
+    let both = and_both (is_plain taken.asked) (list_all is_plain (requests_of later)) e in
+    plain_reads later both.1 key there
+
+-- nor writes one
+plain_writes : (course : List Taken) → list_all is_plain (requests_of course) ≡ true → count_writes course ≡ 0
+plain_writes [] e = refl
+plain_writes (taken ∷ later) e =
+    let both = and_both (is_plain taken.asked) (list_all is_plain (requests_of later)) e in
+    let first = (plain_facts taken.asked both.0).0 in
+    let rest = plain_writes later both.1 in
+    rw first (omega (arith, rest))
+
+writes_join : (one two : List Taken) → count_writes (one ++ two) ≡ count_writes one + count_writes two
+writes_join [] two = omega arith
+writes_join (taken ∷ one) two = let rest = writes_join one two in omega (arith, rest)
+
+log_join : (one two : List Taken) → log_of (one ++ two) ≡ log_of one ++ log_of two
+log_join [] two = refl
+log_join (taken ∷ one) two =
+    ap (λ (row : List LogLine). line_at taken.asked taken.answer ++ row) (log_join one two)
+    ∙ sym (append_assoc (line_at taken.asked taken.answer) (log_of one) (log_of two))
+
+-- no line where nothing was refused
+done_lines : (course : List Taken) → has_refusal course ≡ false → log_of course ≡ []
+done_lines [] e = refl
+done_lines (taken ∷ later) e =
+    let parts = or_false (is_refusal taken.answer) (has_refusal later) e in
+    let first = line_of_done taken.asked taken.answer parts.0 in
+    rw first (done_lines later parts.1)
+
+-- a step of a course is one of either part
+some_either : (P : Taken → Type 0) (one two : List Taken) → SomeStep P (one ++ two) → SomeStep P one ⊎ SomeStep P two
+some_either P [] two some = inr some
+some_either P (taken ∷ one) two (inl here) = inl (inl here)
+some_either P (taken ∷ one) two (inr there) = elim (some_either P one two there) [ inl first ↦ inl (inr first) | inr second ↦ inr second ]
+
+-- ---- files
+
+abbrev same_name : List ℕ → List ℕ → Bool
+same_name = eq_by_cmp (slice_cmp nat_cmp)
+
+told_apart : (a b : List ℕ) → a ≢ b → same_name a b ≡ false
+told_apart a b differ = go (same_name a b) (λ same. tells_apart (fin.slice_cmp-IsAntisymmetric fin.nat_cmp-IsAntisymmetric) a b same)
+  where
+    go : (t : Bool) → (t ≡ true → a ≡ b) → t ≡ false
+    go true same = absurd (differ (same refl))
+    go false same = refl
+
+at_stored : (files : Files) (name bytes other : List ℕ) → file_at (fin.insert files name bytes) other ≡ cond (same_name other name) (Some bytes) (file_at files other)
+at_stored files name bytes other = fin.get-insert nat_list_cmp_total files name bytes other
+
+-- what was stored last stands there
+last_there : (files : Files) (name bytes : List ℕ) → file_at (fin.insert files name bytes) name ≡ Some bytes
+last_there files name bytes = at_stored files name bytes name ∙ ap (λ (t : Bool). cond t (Some bytes) (file_at files name)) ((eq_by_cmp_equiv nat_list_cmp_total).refl name)
+
+-- other names have what they had
+other_there : (files : Files) (name bytes other : List ℕ) → other ≢ name → file_at (fin.insert files name bytes) other ≡ file_at files other
+other_there files name bytes other differ = at_stored files name bytes other ∙ ap (λ (t : Bool). cond t (Some bytes) (file_at files other)) (told_apart other name differ)
+
+-- ---- what is stored
+
+-- parts of a run whose writes are Tidy
+tidy_first : (old : State) (one two : List Taken) → AreTidy old (one ++ two) → AreTidy old one
+tidy_first old [] two tidy = tt
+tidy_first old (taken ∷ one) two tidy = (tidy.0, tidy_first taken.after one two tidy.1)
+
+tidy_later : (old new : State) (told after : Option Files) (one two : List Taken) → Run old told one new after → AreTidy old (one ++ two) → AreTidy new two
+tidy_later old new told after [] two run tidy = subst (λ (s : State). AreTidy s two) (sym run.0) tidy
+tidy_later old new told after (taken ∷ one) two run tidy = tidy_later taken.after new run.0 after one two run.2 tidy.1
+
+stores_both : (files : Files) (to log disk lines : List ℕ) (after : Option Files) → to ≢ log → after ≡ stored (stored (Some files) to disk) log lines
+    → IfSome after (λ files. file_at files to ≡ Some disk) × IfSome after (λ files. file_at files log ≡ Some lines)
+stores_both files to log disk lines after differ is =
+    subst (λ (f : Option Files). IfSome f (λ files. file_at files to ≡ Some disk) × IfSome f (λ files. file_at files log ≡ Some lines)) (sym is)
+    (other_there (fin.insert files to disk) log lines to differ ∙ last_there files to disk, last_there (fin.insert files to disk) log lines)
+
+log_under : (before : Option Files) (log lines : List ℕ) (after : Option Files) → after ≡ stored before log lines → IfSome after (λ files. file_at files log ≡ Some lines)
+log_under None log lines after is = subst (λ (f : Option Files). IfSome f (λ files. file_at files log ≡ Some lines)) (sym is) tt
+log_under (Some files) log lines after is = subst (λ (f : Option Files). IfSome f (λ files. file_at files log ≡ Some lines)) (sym is) (last_there files log lines)
+
+same_outcome : (course : List Taken) (asked : ℕ) → count_writes course + length (log_of course) ≡ asked → outcome_of asked (log_of course) ≡ outcome_in course asked
+same_outcome course asked count =
+    let written : asked - length (log_of course) ≡ count_writes course = omega arith in
+    ap (λ (n : ℕ). record { written = n; asked = asked }) written
+
+-- a rescue that went on to its end, by the log that was found
+module _ (from to log : List ℕ) (disk : Disk) (found : Option (List LogLine)) (files : Files) (old : World) (course : List Taken) (new : World)
+    (ended : Status) (there : IsLogFound (Some files) log (sectors_at disk.rate) found) (image : IsImageOf (Some files) from disk)
+    (p : GoesThrough (opening from to (shape_of disk) (is_some found)) (asked_keys (shape_of disk) found) log files old course new ended) where
+  abbrev requests : List Request
+  requests = opening from to (shape_of disk) (is_some found)
+
+  abbrev keys : List Chrn
+  keys = asked_keys (shape_of disk) found
+
+  top_plain : list_all is_plain (requests_of p.top) ≡ true
+  top_plain = ap (λ (row : List Request). list_all is_plain row) p.opens.all ∙ opening_plain from to (shape_of disk) (is_some found)
+
+  last_plain : list_all is_plain (requests_of p.last) ≡ true
+  last_plain = ap (λ (row : List Request). list_all is_plain row) p.ejects.all
+
+  -- the log and the writes are those of the records
+  pub log_is : log_of course ≡ log_of p.body
+  log_is =
+      ap log_of p.is ∙ log_join p.top (p.body ++ p.last) ∙ ap (λ (row : List LogLine). row ++ log_of (p.body ++ p.last)) (done_lines p.top p.opens.done)
+      ∙ log_join p.body p.last ∙ ap (λ (row : List LogLine). log_of p.body ++ row) (done_lines p.last p.ejects.done) ∙ append-nil (log_of p.body)
+
+  counted : count_writes course + length (log_of course) ≡ length keys
+  counted =
+      let first = plain_writes p.top top_plain in
+      let more = plain_writes p.last last_plain in
+      let above : count_writes course ≡ count_writes p.top + count_writes (p.body ++ p.last) = ap count_writes p.is ∙ writes_join p.top (p.body ++ p.last) in
+      let below = writes_join p.body p.last in
+      let lines = ap (λ (row : List LogLine). length row) log_is in
+      let all = keys_counted keys p.opened p.body p.rescued p.goes in
+      omega (arith, above, below, first, more, lines, all)
+
+  -- and so are its reads
+  inner : (P : Taken → Type 0) (key : Chrn) → ((taken : Taken) → P taken → ReadsKey key taken) → SomeStep P course → SomeStep P p.body
+  inner P key reads some = elim (some_either P p.top (p.body ++ p.last) (subst (SomeStep P) p.is some)) [
+    | inl above ↦ absurd (plain_reads p.top top_plain key (some_apart P (ReadsKey key) p.top reads above))
+    | inr below ↦ elim (some_either P p.body p.last below) [
+      | inl here ↦ here
+      | inr end ↦ absurd (plain_reads p.last last_plain key (some_apart P (ReadsKey key) p.last reads end))
+    ]
+  ]
+
+  outer : (P : Taken → Type 0) → SomeStep P p.body → SomeStep P course
+  outer P some = subst (SomeStep P) (sym p.is) (some_second P p.top (p.body ++ p.last) (some_first P p.body p.last some))
+
+  -- no count falls
+  fell_top : Fell old p.opened
+  fell_top =
+      never_fell old.state p.opened.state (Some files) p.opened.files requests p.top p.opens
+      (plain_keep requests (opening_plain from to (shape_of disk) (is_some found)))
+
+  pub fell_rescued : Fell p.rescued new
+  fell_rescued =
+      subst (λ (s : State). NeverFell p.rescued.state.station.counters s.station.counters) (sym p.stores.state)
+      (never_fell p.rescued.state p.ejected.state p.rescued.files p.ejected.files (request.Eject 1 ∷ []) p.last p.ejects refl)
+
+  pub fell_opened : Fell p.opened new
+  fell_opened = fell_both p.opened p.rescued new (keys_fell keys p.opened p.body p.rescued p.goes) fell_rescued
+
+  module _ (target start : Disk) (has : HasOther start to files p.opened.state p.opened.files)
+      (saves : SavesKeys course (log_of course) keys start p.opened p.body p.rescued) where
+    disk_stored : p.ejected.files ≡ stored (Some files) to (file_of saves.final)
+    disk_stored =
+        let last = begins p.rescued.state p.ejected.state p.rescued.files p.ejected.files (request.Eject 1) [] p.last p.ejects in
+        let disk = last.does.1 in
+        let named : in_bay p.rescued.state.names 1 ≡ Some to = ap (λ (n : Two (Option (List ℕ))). in_bay n 1) saves.names ∙ has.named in
+        let same_disk : disk.0 ≡ saves.final = cc (disk.2, saves.medium) in
+        let same_name : disk.1 ≡ to = cc (disk.3, named) in
+        (ends_there last.mid p.ejected.state last.files p.ejected.files last.later last.behind).1 ∙ disk.5
+        ∙ ap (λ (n : List ℕ). stored p.rescued.files n (file_of disk.0)) same_name ∙ ap (λ (d : Disk). stored p.rescued.files to (file_of d)) same_disk
+        ∙ ap (λ (f : Option Files). stored f to (file_of saves.final)) (saves.files ∙ has.files_are)
+
+    settles : (key : Chrn) → IsLogged course (log_of course) key ⊎ IsSaved course saves.final key → IsSettled course saves.final (log_of course) key
+    settles key either = record {
+      either = either;
+      never_both = λ logged kept.
+          let reads = keys_read keys (asked_distinct disk files log found there) p.opened p.body p.rescued p.goes in
+          let refused : (taken : Taken) → WasRefused key logged.code taken → ReadsKey key taken = λ taken is. (0x10000, is.0) in
+          let gave = gave_reads key kept.deleted kept.content in
+          let one = reads.once key _ _ refused gave (inner _ key refused logged.read) (inner _ key gave kept.read) in
+          never_both key logged.code kept.deleted kept.content one.0 one.1 one.2;
+    }
+
+    is_rescue : to ≢ log → KeepsEntries found course target saves.final → IsRescue disk target to log files old course new ended
+    is_rescue differ keeps =
+        let asked = length keys in
+        let text = log_text (log_of course) in
+        let lines = sym log_is in
+        let is : new.files ≡ stored (stored (Some files) to (file_of saves.final)) log text =
+        p.stores.stores ∙ ap (λ (f : Option Files). stored f log (log_text (log_of p.body))) disk_stored
+        ∙ ap (λ (row : List LogLine). stored (stored (Some files) to (file_of saves.final)) log (log_text row)) lines in
+        let both = stores_both files to log (file_of saves.final) text new.files differ is in
+        let same = ap (λ (row : List LogLine). outcome_of asked row) lines ∙ same_outcome course asked counted in
+        record {
+          found = found;
+          there = there;
+          stores = record {
+            saved = saves.final;
+            regular = saves.regular;
+            stores = is;
+            disk_there = both.0;
+            log_there = both.1;
+            settled = All-weaker _ (IsSettled course saves.final (log_of course)) settles keys (All-from_recursion _ keys saves.settled);
+            kept = keeps;
+          };
+          tells = record {
+            report = p.stores.report ∙ ap (λ (r : Option (List ℕ)). grown r (last_text (outcome_of asked (log_of p.body)))) p.report
+                ∙ ap (λ (o : Outcome). grown old.report (last_text o)) same;
+            status = p.stores.status ∙ ap outcome_status same;
+            others = counted;
+          };
+        }
+
+  -- the records are saved to the other disk, as it is in the beginning
+  pub rescued : (target start : Disk) → to ≢ log → HasOther start to files p.opened.state p.opened.files
+      → IsGuarded (heads_for disk found) start p.opened.state p.body
+      → IsFaultless 1 old.state.station.counters new.state.station.counters
+      → ((final : Disk) → ((entry : Entry) → WasNotRead course entry.key → IsOnMap start entry ↔ IsOnMap final entry) → KeepsEntries found course target final)
+      → IsRescue disk target to log files old course new ended
+  rescued target start differ has guarded faultless keeps =
+      let fell = fell_rescued in
+      let few = image_ranges files from disk image in
+      let part : IsPart laid_tidy disk (heads_for disk found) course (log_of course) p.body = record {
+        steps = outer;
+        lines_are = λ line some. subst (λ (row : List LogLine). Contains row line) (sym log_is) some;
+      } in
+      let asked = asked_all disk files log found few.0 few.1 there in
+      let saves = saves_keys laid_tidy disk (heads_for disk found) course (log_of course) keys start p.opened p.body p.rescued p.goes part asked
+      (asked_distinct disk files log found there)
+      has.regular has.size has.medium guarded (omega (arith, fell_top.second, fell.second, faultless.0), omega (arith, fell.second, faultless.1)) in
+      is_rescue target start has saves differ (keeps saves.final
+      (λ entry unread. saves.others entry (λ deleted content some. unread deleted content (outer _ some))))
+
+  -- the log is exactly the records that aren't found
+  pub logs_exactly : IsUndisturbed 0 old.state.station.counters new.state.station.counters → IsUnmistaken disk → LogsNotFound disk log files course new
+  logs_exactly quiet unmistaken =
+      let few = image_ranges files from disk image in
+      let body = keys_fell keys p.opened p.body p.rescued p.goes in
+      let parts = quiet_parts old.state.station.counters p.opened.state.station.counters new.state.station.counters fell_top fell_opened quiet in
+      let calm = quiet_parts p.opened.state.station.counters p.rescued.state.station.counters new.state.station.counters body fell_rescued parts.1 in
+      let first = holds_first from to disk files (is_some found) old.state p.opened.state p.opened.files p.top image p.opens parts.0 in
+      record {
+        found = found;
+        there = there;
+        log_there = log_under p.ejected.files log (log_text (log_of course)) new.files
+            (p.stores.stores ∙ ap (λ (row : List LogLine). stored p.ejected.files log (log_text row)) (sym log_is));
+        exactly = λ failed failing. log_is ∙ tells_keys disk few.0 few.1 unmistaken (heads_for disk found) first.0 keys failed
+            p.opened p.body p.rescued p.goes (asked_all disk files log found few.0 few.1 there) failing first.1 calm.0;
+      }
+
+-- ---- both ways to begin
+
+pub rescue_stores : (from to log : List ℕ) (disk target : Disk) (files : Files) (old : World) (course : List Taken) (new : World) (ended : Status)
+    → Rescues from to log old course new ended → IsEndStatus ended → IsNotStopped course → to ≢ log → old.files ≡ Some files → IsImageOf (Some files) from disk
+    → length old.state.station.memory ≡ user_bytes → IsFaultless 1 old.state.station.counters new.state.station.counters
+    → ((found : Option (List LogLine)) → IsLogFound (Some files) log (sectors_at disk.rate) found → HasTarget found to target files old.state course)
+    → IsRescue disk target to log files old course new ended
+rescue_stores from to log disk target files old course new ended rescues whole fine differ told image size faultless other =
+    let all = goes_through from to log disk files old course new ended whole fine told rescues image in
+    go all.found all.there (other all.found all.there) all.goes
+  where
+    go : (found : Option (List LogLine)) → IsLogFound (Some files) log (sectors_at disk.rate) found → HasTarget found to target files old.state course
+        → GoesThrough (opening from to (shape_of disk) (is_some found)) (asked_keys (shape_of disk) found) log files old course new ended
+        → IsRescue disk target to log files old course new ended
+    go None there other p =
+        let fell = fell_opened from to log disk None files old course new ended there image p in
+        let begins = begins_new from to disk files old.state p.opened.state p.opened.files p.top image p.opens size
+        (omega (arith, fell.second, faultless.0), omega (arith, fell.second, faultless.1)) in
+        rescued from to log disk None files old course new ended there image p target begins.0 differ begins.1 (inl begins.2) faultless (λ final others. tt)
+    go (Some lines) there other p =
+        let has = begins_again from to disk target files old.state p.opened.state p.opened.files p.top image other.image other.regular p.opens size in
+        let whole_tidy = subst (λ (row : List Taken). AreTidy old.state row) p.is other.tidy in
+        let later = tidy_later old.state p.opened.state (Some files) p.opened.files p.top (p.body ++ p.last) p.opens.run whole_tidy in
+        rescued from to log disk (Some lines) files old course new ended there image p target target differ has
+        (inr (tidy_first p.opened.state p.body p.last later)) faultless (λ final others. others)
+
+pub rescue_logs : (from to log : List ℕ) (disk : Disk) (files : Files) (old : World) (course : List Taken) (new : World) (ended : Status)
+    → Rescues from to log old course new ended → IsEndStatus ended → IsNotStopped course → old.files ≡ Some files → IsImageOf (Some files) from disk
+    → IsUndisturbed 0 old.state.station.counters new.state.station.counters → IsUnmistaken disk → LogsNotFound disk log files course new
+rescue_logs from to log disk files old course new ended rescues whole fine told image quiet unmistaken =
+    let all = goes_through from to log disk files old course new ended whole fine told rescues image in
+    logs_exactly from to log disk all.found files old course new ended all.there image all.goes quiet unmistaken

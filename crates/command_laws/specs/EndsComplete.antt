@@ -1,0 +1,48 @@
+-- Where nothing can go wrong with a command on whole disks, and how it ends there.
+use Rattle.std.specs.Prelude.{◌≡◌, ℕ, Bool, List, Option}
+use Rattle.flop_base.specs.Shelf.{Files, stored}
+use Rattle.flop_base.specs.declared.key.Chrn.{Chrn}
+use Rattle.flop_base.specs.declared.answers.Status.{Status}
+use Rattle.flop_base.specs.declared.answers.Status.TheVariants as status
+use Rattle.raw_image.specs.Disk.{Disk, track_of}
+use Rattle.raw_image.specs.Image.{file_of}
+use Rattle.track_model.specs.Sectors.{IsSector}
+use Rattle.sector_map.specs.Disks.{Entry, IsOnMap, IsRegularDisk}
+use Rattle.sector_model.specs.Stations.{IsFresh}
+use Rattle.sector_model.specs.Plays.{World}
+use Rattle.sector_model.specs.Ties.{HasNothingLeft}
+use Rattle.command_laws.specs.Verified.{IsStandardKey}
+
+-- a session begins before the first request of its station, and nothing is left there that could go wrong
+pub record BeginsSound (world : World) : Type 0 where
+  pub fresh : IsFresh world.state.station
+  pub sound : HasNothingLeft world.state.station.counters
+
+-- a command went to its end, and this holds; or the outside failed: the shelf, the sink, or who gives memory
+abbrev pub EndsWellOrOutside : Type 0 → Status → Type 0
+EndsWellOrOutside Holds status.AllOk = Holds
+EndsWellOrOutside Holds status.FileFault = Unit {0}
+EndsWellOrOutside Holds status.SinkFault = Unit {0}
+EndsWellOrOutside Holds status.NoMemory = Unit {0}
+EndsWellOrOutside Holds _ = ⊥
+
+-- each standard key of a regular disk is on its map
+pub record IsReadable (disk : Disk) : Type 0 where
+  pub regular : IsRegularDisk disk
+  pub sectors : (key : Chrn) → IsStandardKey disk key → (entry : Entry) × IsOnMap disk entry × (entry.key ≡ key)
+
+-- two disks have the same sector under a key: one mark, and one content
+abbrev pub HaveSameSector : Disk → Disk → Chrn → Type 0
+HaveSameSector disk copied key =
+    (deleted : Bool) × (content : List ℕ) × IsSector (track_of disk key.c key.h) key deleted content
+    × IsSector (track_of copied key.c key.h) key deleted content
+
+-- a regular disk of the cylinders and the rate of this one, with each of its standard sectors, was stored under a name, and
+-- no other file changed
+pub record StoresSameSectors (disk : Disk) (to : List ℕ) (told after : Option Files) : Type 0 where
+  pub copied : Disk
+  pub regular : IsRegularDisk copied
+  pub cylinders : copied.cylinders ≡ disk.cylinders
+  pub rate : copied.rate ≡ disk.rate
+  pub sectors : (key : Chrn) → IsStandardKey disk key → HaveSameSector disk copied key
+  pub files : after ≡ stored told to (file_of copied)

@@ -1,0 +1,12 @@
+pub mod Requests
+pub mod Done
+pub mod Formatted
+pub mod Verified
+pub mod Copied
+pub mod VerifyRuns
+pub mod EndsComplete
+pub mod Accesses
+pub mod Imported
+pub mod Exported
+pub mod FlatComplete
+pub mod Rescued

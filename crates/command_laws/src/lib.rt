@@ -1,0 +1,37 @@
+//! Laws over runs of the scripts of the program: what a format, a copy, an import, an export and a rescue store, what a verify tells, when
+//! they end well, and how often they access media past the driver.
+#![tactic(auto)]
+
+mod accesses;
+mod copies;
+mod copy_ends;
+mod copy_runs;
+mod ends;
+mod exports;
+mod format_ends;
+mod format_runs;
+mod formats;
+mod imports;
+mod reads;
+mod rescue_logs;
+mod rescue_order;
+mod rescue_stores;
+mod verify_ends;
+mod verify_runs;
+
+pub use accesses::{copy_accesses, format_accesses, verify_accesses};
+pub use copies::copies_disk;
+pub use copy_ends::copy_ends_well;
+pub use copy_runs::copy_stores_a_copy;
+pub use ends::{export_ends_well, import_ends_well};
+pub use exports::export_stores_what_was_read;
+pub use format_ends::{format_ends_well, formatted_disk_is_readable};
+pub use format_runs::format_stores_a_formatted_disk;
+pub use formats::{formats_disk, formatted_disk_has_sectors};
+pub use imports::import_stores_the_flat_file;
+pub use reads::reads_tell_of_disk;
+pub use rescue_logs::rescue_logs_what_is_not_found;
+pub use rescue_order::rescue_stores_the_log_last;
+pub use rescue_stores::rescue_settles_each_record;
+pub use verify_ends::verify_ends_well;
+pub use verify_runs::verify_tells_failing_keys;

@@ -1,5 +1,0 @@
-use Rattle.disk_completeness.proofs.SectorRequests.{formatted_readable}
-use Rattle.disk_completeness.proofs.format_ends.formatted_disk_is_readable.Goals as goal
-
-pub returns : goal.returns
-returns c disk = formatted_readable c.args._rate c.args._cylinders disk

@@ -1,4 +1,0 @@
-pub mod ExportRun
-pub mod FlatEnds
-pub mod ImportRun
-pub mod Taking
