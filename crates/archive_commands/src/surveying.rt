@@ -1,8 +1,6 @@
 // The survey of a disk.
-ghost use Rattle.std.specs.Prelude.{◌≡◌, ◌≢◌, IfOk, IfErr, OnOk, OnErr, IsErrOf, string_bytes};
-ghost use Rattle.flop_base.specs.Sink.{grown, GrowsByPart};
-ghost use Rattle.floppy_report.specs.Faults.{BlamesAlone};
-ghost use Rattle.sector_model.specs.Plays.{IsPutFault, Prints};
+ghost use Rattle.std.specs.Prelude.{◌≡◌, IfOk, string_bytes};
+ghost use Rattle.floppy_report.specs.Puts.{Puts, PutsLast, printed_of};
 ghost use Rattle.archive_commands.specs.Files.{faulty_desk_of, faulty_files_of, Loaded, RanOnFiles};
 ghost use Rattle.archive_commands.specs.Surveys.{field_line, field_lines, survey_text, end_line, is_found, found_count, IsSectorCount, GivesSurvey, Surveys};
 
@@ -57,10 +55,7 @@ fn field_line(alloc: Global, line: SurveyLine) -> Result<String, AllocError>
 
 /// Puts the lines of address fields.
 fn put_fields<K: Sink>(alloc: Global, out: &mut K, lines: &[SurveyLine]) -> Result<(), Status>
-    ensures ok { OnOk result (K.told out.new ≡ grown (K.told out.old) (field_lines lines.now)) }
-    ensures err { OnErr result (GrowsByPart (K.told out.old) (field_lines lines.now) (K.told out.new)) }
-    ensures only { IfErr result IsPutFault }
-    ensures faults { BlamesAlone (IsErrOf result Status.SinkFault) (K.fault_count out.old) (K.fault_count out.new) }
+    ensures { Puts (field_lines lines.now) (printed_of K.told K.fault_count out.old) result (printed_of K.told K.fault_count out.new) }
 {
     for line in lines {
         put_line(out, field_line(alloc, *line))?;
@@ -78,9 +73,7 @@ fn end_line(alloc: Global, count: usize) -> Result<String, AllocError>
 
 /// Puts a survey, and gives the status.
 fn put_survey<K: Sink>(alloc: Global, out: &mut K, lines: &[SurveyLine]) -> Status
-    ensures prints { Prints (survey_text lines.now) Status.AllOk (K.told out.old) (K.told out.new) result }
-    ensures only { result ≢ Status.AllOk → IsPutFault result }
-    ensures faults { BlamesAlone (result ≡ Status.SinkFault) (K.fault_count out.old) (K.fault_count out.new) }
+    ensures { PutsLast (survey_text lines.now) Status.AllOk (printed_of K.told K.fault_count out.old) (printed_of K.told K.fault_count out.new) result }
 {
     match put_fields(alloc, out, lines) {
         Ok(()) => put_last_line(out, end_line(alloc, lines.len()), Status::AllOk),

@@ -37,7 +37,8 @@ pub record Faulty : Type 0 where
   pub shelf_faults : ℕ
   pub sink_faults : ℕ
 
-abbrev pub faulty_of : {D S K : Type 0} → (D → DriveState) → (S → Option Files) → (S → ℕ) → (K → Option (List ℕ)) → (K → ℕ) → MachineOf D → Names → S → K → Faulty
+abbrev pub faulty_of : {D S K : Type 0} → (D → DriveState) → (S → Option Files) → (S → ℕ) → (K → Option (List ℕ)) → (K → ℕ)
+    → MachineOf D → Names → S → K → Faulty
 faulty_of state files shelf_count report sink_count machine names shelf out = record {
   world = world_of state files report machine names shelf out;
   shelf_faults = shelf_count shelf;

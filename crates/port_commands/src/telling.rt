@@ -1,9 +1,7 @@
 // The line that tells an answer.
-ghost use Rattle.std.specs.Prelude.{◌≡◌, ◌≢◌, ◌++◌, codes, Some, IfOk, IfErr, OnOk, OnErr, IsErrOf, string_bytes};
-ghost use Rattle.flop_base.specs.Sink.{grown, GrowsByPart};
+ghost use Rattle.std.specs.Prelude.{◌≡◌, ◌≢◌, ◌++◌, codes, Some, IfOk, OnErr, string_bytes};
 ghost use Rattle.floppy_requests.specs.Spelling.{hex2};
-ghost use Rattle.floppy_report.specs.Faults.{BlamesAlone};
-ghost use Rattle.sector_model.specs.Plays.{IsPutFault};
+ghost use Rattle.floppy_report.specs.Puts.{Puts, printed_of};
 ghost use Rattle.sector_model.specs.Texts.{reason_text, line_end};
 ghost use Rattle.port_commands.specs.Texts.{answer_text, latch_text, port_text, verb_text};
 
@@ -89,12 +87,9 @@ pub(crate) fn put_answer<K: Sink>(
     line: &PortLine,
     answer: &Answer,
 ) -> Result<(), Status>
-    ensures ok { OnOk result (K.told out.new ≡ grown (K.told out.old) (answer_text line.now answer.now)) }
-    ensures err { OnErr result (GrowsByPart (K.told out.old) (answer_text line.now answer.now) (K.told out.new)) }
+    ensures puts { Puts (answer_text line.now answer.now) (printed_of K.told K.fault_count out.old) result
+        (printed_of K.told K.fault_count out.new) }
     ensures tells { OnErr result (answer.now ≢ Answer.Nothing) }
-    ensures only { IfErr result IsPutFault }
-    ensures faults { BlamesAlone (IsErrOf result Status.SinkFault) (K.fault_count out.old)
-        (K.fault_count out.new) }
 {
     let verb = verb_word(line);
     match answer {
