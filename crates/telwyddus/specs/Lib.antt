@@ -1,5 +1,6 @@
 -- The words of clauses, by the subjects of the code.
 pub mod Disk
+pub mod Track
 pub mod Controller
 pub mod Machine
 pub mod Driver

@@ -1,6 +1,6 @@
 //! The library under one name: what a user of it calls, by subject.
 //!
-//! Nothing is defined here. The words that clauses of these items cite are in `specs`, by the same subjects.
+//! Nothing is defined here. The words that clauses cite are in `specs`, by the same subjects.
 #![tactic(auto)]
 
 pub mod controller;
@@ -11,3 +11,4 @@ pub mod program;
 pub mod track;
 
 pub use flop_base::{Chrn, Code, NoMemory, Rate, sector_size, standard};
+pub use saved_state::{RestoreError, restore_state, save_state};
