@@ -50,22 +50,22 @@ fn main(rt: HostRuntime) -> io::Result<()> {
     let Ok(mut board) = board(rt.alloc()) else {
         return println!(rt; "no memory");
     };
-    // Out of reset, with the motor of drive 0 on, at 500 kbit/s. The interrupt comes in the first step.
+    // Out of reset, with the motor of drive 0 on, at 500 kbit/s. INT rises in the first step (docs/FORMATS.md, "Commands").
     board.write(0x3F2, 0x1C);
     board.write(0x3F7, 0x00);
     let steps = board.run(100);
     println!(rt; "reset {steps}")?;
-    // The polling has found each drive: C0 and its number, and a reset forgets the cylinders.
+    // The polling tells of each drive: C0 and its number. A reset has set their cylinder numbers to 0.
     for _drive in 0..4 {
         let [st0, cylinder] = sense(&mut board);
         println!(rt; "sense {st0:02X} {cylinder:02X}")?;
     }
-    // The heads are on cylinder 0: no pulse is needed, and the interrupt comes in the first step. 20 is the end of a seek.
+    // The heads are on cylinder 0, so that no pulse is made, and INT rises in the first step. 20: a seek ended, on drive 0.
     send(&mut board, &[0x07, 0x00]);
     let steps = board.run(100);
     let [st0, cylinder] = sense(&mut board);
     println!(rt; "recalibrate {steps}, sense {st0:02X} {cylinder:02X}")?;
-    // READ ID ends with the address field of the only sector: no error in ST0 to ST2, then the key of `disk`.
+    // The only address field that passes, once the disk is up to speed: no error in ST0 to ST2, and the key of `disk`.
     send(&mut board, &[0x4A, 0x00]);
     board.run(65_536);
     print!(rt; "read id")?;

@@ -14,7 +14,7 @@ use telwyddus::machine::{Fault, MachineOf, Pace, ScriptDrive};
 use telwyddus::track::fill_layout;
 use telwyddus::{Chrn, NoMemory};
 
-/// A disk of three cylinders with one head. The track of each has one sector of 256 bytes: record 1.
+/// A disk of three cylinders with one head, at 500 kbit/s. Cylinders 0 and 2 have a sector of 256 bytes 5A, record 1.
 fn disk(alloc: Global) -> Result<Medium, NoMemory> {
     let mut medium = Medium::blank(alloc, 3, 1, 500)?;
     let mut track = vec![in alloc; 0; 500]?;
@@ -66,8 +66,11 @@ fn main(rt: HostRuntime) -> io::Result<()> {
     let acknowledged = station.ack(0).is_ok();
     let read = station.read(0, key(2), 0x10000).is_ok();
     println!(rt; "insert {inserted}, ack {acknowledged}, read {read}")?;
+    // The first and the last of 256 bytes, which are the fill of `disk`.
     let (first, last) = (station.memory(0x10000), station.memory(0x100FF));
     println!(rt; "{first:02X} {last:02X}")?;
+    // One pulse is lost: the heads stop on cylinder 1, where nothing is recorded. The acknowledgement steps from cylinder 0
+    // alone, and finds the rate by one READ ID; then there is a READ DATA for each of two attempts, the second from track 0.
     let (faults, commands) = (station.faults(0), station.data_commands());
     println!(rt; "faults {faults}, data commands {commands}")
 }

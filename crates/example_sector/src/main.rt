@@ -26,7 +26,7 @@ fn image(alloc: Global) -> Result<Vec<u8>, NoMemory> {
     }
     let mut track = vec![in alloc; 0; 500]?;
     fill_layout(track.as_mut_slice(), &[KEY], KEY.n, 27, 0xF6);
-    // The data field with its sync: 146 words behind the index, and 44 behind the start of the address field's sync.
+    // A data field begins 146 + 44 words behind the index, and has 12 of sync, 4 of marks, the content and 2 of its check.
     fill_field_words(&mut track[190..464], true, &content);
     let mut medium = Medium::blank(alloc, 1, 1, 500)?;
     medium.set_words(0, 0, 0, &track);
@@ -50,11 +50,12 @@ fn main(rt: HostRuntime) -> io::Result<()> {
     };
     let mut content = [0; 256];
     match read_sector(rt.alloc(), &bytes, &mut content) {
-        // The mark that was recorded, and bytes 00, 01, 02, 03 as the loop in `image` counts.
+        // F8 is the mark of what is deleted (IBM System 34), as `image` says of its field.
         Ok(TurnRead::Found { deleted: true }) => println!(rt; "mark F8")?,
         Ok(TurnRead::Found { deleted: false }) => println!(rt; "mark FB")?,
         _ => return println!(rt; "not found"),
     }
+    // 00 01 02 03: `image` counts so.
     let [first, second, third, fourth, ..] = content;
     println!(rt; "{first:02X} {second:02X} {third:02X} {fourth:02X}")
 }
