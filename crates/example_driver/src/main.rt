@@ -1,0 +1,76 @@
+//! Drives a machine whose drive loses a pulse: the read is tried again, and comes out well.
+#![tactic(auto)]
+
+ghost use Rattle.std.specs.Prelude.{IfOk};
+ghost use Rattle.telwyddus.specs.Machine.Boards.{board, IsEmpty};
+ghost use Rattle.telwyddus.specs.Machine.ScriptDrive.{script_state};
+ghost use Rattle.telwyddus.specs.Driver.Started.{IsFreshBoard};
+
+use std::alloc::Global;
+use std::io;
+use telwyddus::disk::Medium;
+use telwyddus::driver::{MachineStation, Station};
+use telwyddus::machine::{Fault, MachineOf, Pace, ScriptDrive};
+use telwyddus::track::fill_layout;
+use telwyddus::{Chrn, NoMemory};
+
+/// A disk of three cylinders with one head, at 500 kbit/s. Cylinders 0 and 2 have a sector of 256 bytes 5A, record 1.
+fn disk(alloc: Global) -> Result<Medium, NoMemory> {
+    let mut medium = Medium::blank(alloc, 3, 1, 500)?;
+    let mut track = vec![in alloc; 0; 500]?;
+    fill_layout(track.as_mut_slice(), &[key(0)], 1, 27, 0x5A);
+    medium.set_words(0, 0, 0, &track);
+    fill_layout(track.as_mut_slice(), &[key(2)], 1, 27, 0x5A);
+    medium.set_words(2, 0, 0, &track);
+    Ok(medium)
+}
+
+/// The key of the sector on a cylinder.
+fn key(c: u8) -> Chrn {
+    Chrn {
+        c,
+        h: 0,
+        r: 1,
+        n: 1,
+    }
+}
+
+/// An empty drive with these faults.
+fn drive(faults: Vec<Fault>) -> ScriptDrive
+    ensures { IsEmpty (script_state result) }
+{
+    ScriptDrive::new(faults)
+}
+
+/// A machine that nothing delays, whose drive 0 loses the first pulse inward from cylinder 1.
+fn machine(alloc: Global) -> Result<MachineOf<ScriptDrive>, NoMemory>
+    ensures { IfOk result (λ machine. IsFreshBoard (board script_state machine)) }
+{
+    let faults = vec![in alloc; Fault::Lose { c: 1, count: 1 }]?;
+    let pace = Pace {
+        gaps: Vec::new(alloc),
+        holds: Vec::new(alloc),
+        strays: Vec::new(alloc),
+    };
+    let machine = MachineOf::new(alloc, drive(faults), drive(Vec::new(alloc)), pace)?;
+    Ok(machine)
+}
+
+fn main(rt: HostRuntime) -> io::Result<()> {
+    let alloc = rt.alloc();
+    let (Ok(machine), Ok(disk)) = (machine(alloc), disk(alloc)) else {
+        return println!(rt; "no memory");
+    };
+    let mut station = MachineStation::set_up(machine, Vec::new(alloc));
+    let inserted = station.insert(0, disk).is_ok();
+    let acknowledged = station.ack(0).is_ok();
+    let read = station.read(0, key(2), 0x10000).is_ok();
+    println!(rt; "insert {inserted}, ack {acknowledged}, read {read}")?;
+    // The first and the last of 256 bytes, which are the fill of `disk`.
+    let (first, last) = (station.memory(0x10000), station.memory(0x100FF));
+    println!(rt; "{first:02X} {last:02X}")?;
+    // One pulse is lost: the heads stop on cylinder 1, where nothing is recorded. The acknowledgement steps from cylinder 0
+    // alone, and finds the rate by one READ ID; then there is a READ DATA for each of two attempts, the second from track 0.
+    let (faults, commands) = (station.faults(0), station.data_commands());
+    println!(rt; "faults {faults}, data commands {commands}")
+}

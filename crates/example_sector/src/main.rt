@@ -1,0 +1,61 @@
+//! Reads one sector of an image, and prints its mark and its first bytes.
+#![tactic(auto)]
+
+ghost use Rattle.std.specs.Prelude.{◌≡◌, length};
+ghost use Rattle.telwyddus.specs.Disk.Fields.{content_size};
+
+use std::alloc::Global;
+use std::io;
+use telwyddus::disk::{ImageError, Medium, TurnRead, read_image, read_turn, write_image};
+use telwyddus::track::{fill_field_words, fill_layout};
+use telwyddus::{Chrn, NoMemory};
+
+/// Cylinder 0, head 0, record 1, of 256 bytes.
+const KEY: Chrn = Chrn {
+    c: 0,
+    h: 0,
+    r: 1,
+    n: 1,
+};
+
+/// The image of a disk of one track, on which one sector has the bytes 00, 01, 02 and so on, marked deleted.
+fn image(alloc: Global) -> Result<Vec<u8>, NoMemory> {
+    let mut content = [0; 256];
+    for i in 0..256 {
+        content[i] = i as u8;
+    }
+    let mut track = vec![in alloc; 0; 500]?;
+    fill_layout(track.as_mut_slice(), &[KEY], KEY.n, 27, 0xF6);
+    // A data field begins 146 + 44 words behind the index, and has 12 of sync, 4 of marks, the content and 2 of its check.
+    fill_field_words(&mut track[190..464], true, &content);
+    let mut medium = Medium::blank(alloc, 1, 1, 500)?;
+    medium.set_words(0, 0, 0, &track);
+    write_image(alloc, &medium)
+}
+
+/// Reads the sector of the key from an image.
+fn read_sector(alloc: Global, bytes: &[u8], content: &mut [u8]) -> Result<TurnRead, ImageError>
+    requires { length content.old ≡ content_size 1 }
+{
+    let medium = read_image(alloc, bytes)?;
+    match medium.track(0, 0) {
+        Some(track) => Ok(read_turn(track, KEY, content)),
+        None => Ok(TurnRead::NoMark),
+    }
+}
+
+fn main(rt: HostRuntime) -> io::Result<()> {
+    let Ok(bytes) = image(rt.alloc()) else {
+        return println!(rt; "no memory");
+    };
+    let mut content = [0; 256];
+    match read_sector(rt.alloc(), &bytes, &mut content) {
+        // F8 is the mark of what is deleted (IBM System 34), as `image` says of its field.
+        Ok(TurnRead::Found { deleted: true }) => println!(rt; "mark F8")?,
+        Ok(TurnRead::Found { deleted: false }) => println!(rt; "mark FB")?,
+        _ => return println!(rt; "not found"),
+    }
+    // 00 01 02 03: `image` counts so.
+    let [first, second, third, fourth, ..] = content;
+    println!(rt; "{first:02X} {second:02X} {third:02X} {fourth:02X}")
+}

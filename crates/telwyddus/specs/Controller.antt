@@ -1,0 +1,9 @@
+-- The controller, the board with its two drives, and commands of several sectors in front of it.
+pub use Rattle.fdc_core.specs.State
+pub use Rattle.fdc_core.specs.Ports
+pub use Rattle.fdc_core.specs.Heard
+pub use Rattle.fdc_core.specs.Written
+pub use Rattle.fdc_board.specs.Boards
+pub use Rattle.fdc_board.specs.History
+pub use Rattle.fdc_sequencer.specs.Fronts
+pub use Rattle.inspected_drive.specs.InspectedDrive

@@ -1,0 +1,7 @@
+-- The words of clauses, by the subjects of the code.
+pub mod Disk
+pub mod Track
+pub mod Controller
+pub mod Machine
+pub mod Driver
+pub mod Program

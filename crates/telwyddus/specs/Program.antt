@@ -1,0 +1,9 @@
+-- Files, printed text, requests, and the runs of the program.
+pub use Rattle.flop_base.specs.Shelf
+pub use Rattle.flop_base.specs.Sink
+pub use Rattle.floppy_requests.specs.Requests
+pub use Rattle.sector_model.specs.Steps
+pub use Rattle.sector_model.specs.Plays
+pub use Rattle.floppy_runs.specs.Plans
+pub use Rattle.floppy_runs.specs.Runs
+pub use Rattle.run_shelf.specs.Shelves
