@@ -56,16 +56,18 @@ fn machine(alloc: Global) -> Result<MachineOf<ScriptDrive>, NoMemory>
     Ok(machine)
 }
 
-fn main(rt: HostRuntime) -> io::Result<()> {
-    let alloc = rt.alloc();
-    let (Ok(machine), Ok(disk)) = (machine(alloc), disk(alloc)) else {
-        return println!(rt; "no memory");
-    };
-    let mut station = MachineStation::set_up(machine, Vec::new(alloc));
-    let inserted = station.insert(0, disk).is_ok();
-    let acknowledged = station.ack(0).is_ok();
-    let read = station.read(0, key(2), 0x10000).is_ok();
-    println!(rt; "insert {inserted}, ack {acknowledged}, read {read}")?;
+/// Puts the disk into bay 0, acknowledges it, and reads the sector of cylinder 2 to memory; whether all of it was done.
+fn read<S: Station>(station: &mut S, disk: Medium) -> bool
+    requires { S.is_ready station.old }
+{
+    if station.insert(0, disk).is_err() || station.ack(0).is_err() {
+        return false;
+    }
+    station.read(0, key(2), 0x10000).is_ok()
+}
+
+/// Prints what is in memory, and the counts.
+fn show<S: Station, R: Print>(rt: &R, station: &S) -> io::Result<()> {
     // The first and the last of 256 bytes, which are the fill of `disk`.
     let (first, last) = (station.memory(0x10000), station.memory(0x100FF));
     println!(rt; "{first:02X} {last:02X}")?;
@@ -73,4 +75,15 @@ fn main(rt: HostRuntime) -> io::Result<()> {
     // alone, and finds the rate by one READ ID; then there is a READ DATA for each of two attempts, the second from track 0.
     let (faults, commands) = (station.faults(0), station.data_commands());
     println!(rt; "faults {faults}, data commands {commands}")
+}
+
+fn main(rt: HostRuntime) -> io::Result<()> {
+    let alloc = rt.alloc();
+    let (Ok(machine), Ok(disk)) = (machine(alloc), disk(alloc)) else {
+        return println!(rt; "no memory");
+    };
+    let mut station = MachineStation::set_up(machine, Vec::new(alloc));
+    let done = read(&mut station, disk);
+    println!(rt; "read {done}")?;
+    show(&rt, &station)
 }
