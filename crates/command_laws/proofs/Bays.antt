@@ -131,7 +131,8 @@ truly : {P : Type 0} (Q : Type 0) (good : Bool) → good ≡ true → MatchBool 
 truly Q true is holds = holds
 truly Q false is holds = absurd (true≢false (sym is))
 
-ack_ok : (bay : ℕ) (disk : Disk) (old new : StationState) (called : Result (Unit {0}) Code) → (bay_of old bay).medium ≡ Some disk → IsUndisturbed bay old.counters new.counters → old.counters.stalls ≤ new.counters.stalls → AcksDrive bay old called new → IsOk called
+ack_ok : (bay : ℕ) (disk : Disk) (old new : StationState) (called : Result (Unit {0}) Code) → (bay_of old bay).medium ≡ Some disk
+    → IsUndisturbed bay old.counters new.counters → old.counters.stalls ≤ new.counters.stalls → AcksDrive bay old called new → IsOk called
 ack_ok bay disk old new (Ok u) medium calm stalls drive = refl
 ack_ok bay disk old new (Err code) medium calm stalls drive = elim drive.refused.cause [
   | inl none ↦ absurd (cc (none, medium))
@@ -149,7 +150,8 @@ ack_done bay disk old is_one medium = record {
       (fine, acks bay disk old.state new.state old.files new.files answer step fine medium);
 }
 
-rate_order : (one acknowledged : Bool) → one ≡ true → acknowledged ≡ true → (if not one then Some BadRequest else (if not acknowledged then Some Changed else None)) ≡ None
+rate_order : (one acknowledged : Bool) → one ≡ true → acknowledged ≡ true
+    → (if not one then Some BadRequest else (if not acknowledged then Some Changed else None)) ≡ None
 rate_order one acknowledged e f = rw (e, f) refl
 
 module _ (bay other : ℕ) (disk : Disk) (is_one : is_bay bay ≡ true) (apart : AreApart bay other) where
@@ -225,7 +227,8 @@ of_one None p q = absurd p
 of_one (Some bytes) p q = (bytes, refl, p, q)
 
 -- no stop but one of the outside comes, as the file is there and is the image of a disk
-insert_stops : (from : List ℕ) (files : Files) (disk : Disk) (old new : State) (after : Option Files) (cause : Stop) → IsImageOf (Some files) from disk → StopsAt (request.Insert 0 from) old (Some files) cause new after → IsEndStop cause
+insert_stops : (from : List ℕ) (files : Files) (disk : Disk) (old new : State) (after : Option Files) (cause : Stop)
+    → IsImageOf (Some files) from disk → StopsAt (request.Insert 0 from) old (Some files) cause new after → IsEndStop cause
 insert_stops from files disk old new after stop.FileFault image stops = tt
 insert_stops from files disk old new after stop.NoMemory image stops = tt
 insert_stops from files disk old new after (stop.BadImage name error) image stops =

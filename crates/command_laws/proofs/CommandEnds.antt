@@ -130,7 +130,8 @@ pub fresh_memory : (station : StationState) → IsFresh station → length stati
 fresh_memory station fresh = ap (λ (m : List ℕ). length m) fresh.memory ∙ length-zeroes user_bytes
 
 -- the sectors that the reads gave are those of the disk
-same_sectors : (disk : Disk) (to : List ℕ) (old new : Counters) (course : List Taken) (told after : Option Files) → IsSure disk old new → StoresCopy disk to old told course new after → StoresSameSectors disk to told after
+same_sectors : (disk : Disk) (to : List ℕ) (old new : Counters) (course : List Taken) (told after : Option Files) → IsSure disk old new
+    → StoresCopy disk to old told course new after → StoresSameSectors disk to told after
 same_sectors disk to old new course told after sure stores = record {
   copied = stores.copied;
   regular = stores.regular;

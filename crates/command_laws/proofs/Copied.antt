@@ -52,7 +52,8 @@ pub record CopiesTracks (sure : Type 0) (source : Disk) (at : Rate) (tracks : Li
   pub ready : IsReady at source final new
   pub alike : AreAlike disk final
   pub laid : (c h : ℕ) → HasTrack disk c h → (Among tracks c h ⊎ IsLaid (track_of disk c h)) → IsLaid (track_of final c h)
-  pub sectors : (c h r : ℕ) → HasTrack disk c h → 1 ≤ r → r ≤ sectors_at at → (Among tracks c h ⊎ HasAsGiven sure whole source disk c h r) → HasAsGiven sure whole source final c h r
+  pub sectors : (c h r : ℕ) → HasTrack disk c h → 1 ≤ r → r ≤ sectors_at at → (Among tracks c h ⊎ HasAsGiven sure whole source disk c h r)
+      → HasAsGiven sure whole source final c h r
   pub names : new.names ≡ old.names
   pub files : after ≡ told
 
@@ -61,13 +62,15 @@ abbrev IsPart : List Taken → List Taken → Type 0
 IsPart course whole = (c h r : ℕ) (deleted : Bool) (content : List ℕ) → SomeStep (Gave (key_of c h r) deleted content) course → SomeStep (Gave (key_of c h r) deleted content) whole
 
 -- a sector of another track stays as it was given
-given_elsewhere : (sure : Type 0) (source : Disk) (whole : List Taken) (disk : Disk) (b g : ℕ) (next : Disk) (c h r : ℕ) → KeepsTracks disk b g next → (c ≡ b → h ≡ g → ⊥) → HasAsGiven sure whole source disk c h r → HasAsGiven sure whole source next c h r
+given_elsewhere : (sure : Type 0) (source : Disk) (whole : List Taken) (disk : Disk) (b g : ℕ) (next : Disk) (c h r : ℕ) → KeepsTracks disk b g next
+    → (c ≡ b → h ≡ g → ⊥) → HasAsGiven sure whole source disk c h r → HasAsGiven sure whole source next c h r
 given_elsewhere sure source whole disk b g next c h r keeps other (place, deleted, content, step, on, sector) =
     (place, deleted, content, step, (elsewhere_on_map disk b g next keeps (copied_entry c h r place deleted content) other).0 on, sector)
 
 module _ (rate : Rate) (b g : ℕ) (later : List Track) (disk next : Disk) (keeps : KeepsTracks disk b g next) where
   -- after the first track
-  pub laid_still : IsLaid (track_of next b g) → (c h : ℕ) → HasTrack disk c h → (Among ((b, g) ∷ later) c h ⊎ IsLaid (track_of disk c h)) → (Among later c h ⊎ IsLaid (track_of next c h))
+  pub laid_still : IsLaid (track_of next b g) → (c h : ℕ) → HasTrack disk c h → (Among ((b, g) ∷ later) c h ⊎ IsLaid (track_of disk c h))
+      → (Among later c h ⊎ IsLaid (track_of next c h))
   laid_still first c h has (inl (inr among)) = inl among
   laid_still first c h has (inl (inl here)) = inr (subst (λ k. IsLaid (track_of next k h)) here.0 (subst (λ k. IsLaid (track_of next b k)) here.1 first))
   laid_still first c h has (inr laid) = elim (cases_eq c b) [
@@ -78,7 +81,8 @@ module _ (rate : Rate) (b g : ℕ) (later : List Track) (disk next : Disk) (keep
     | inr other ↦ inr (subst IsLaid (sym (keeps.others c h has (λ e _. other e))) laid)
   ]
 
-  given_still : (sure : Type 0) (source : Disk) (whole : List Taken) (r : ℕ) → HasAsGiven sure whole source next b g r → (c h : ℕ) → (Among ((b, g) ∷ later) c h ⊎ HasAsGiven sure whole source disk c h r) → (Among later c h ⊎ HasAsGiven sure whole source next c h r)
+  given_still : (sure : Type 0) (source : Disk) (whole : List Taken) (r : ℕ) → HasAsGiven sure whole source next b g r → (c h : ℕ)
+      → (Among ((b, g) ∷ later) c h ⊎ HasAsGiven sure whole source disk c h r) → (Among later c h ⊎ HasAsGiven sure whole source next c h r)
   given_still sure source whole r first c h (inl (inr among)) = inl among
   given_still sure source whole r first c h (inl (inl here)) = inr (subst (λ k. HasAsGiven sure whole source next k h r) here.0 (subst (λ k. HasAsGiven sure whole source next b k r) here.1 first))
   given_still sure source whole r first c h (inr given) = elim (cases_eq c b) [
@@ -89,7 +93,11 @@ module _ (rate : Rate) (b g : ℕ) (later : List Track) (disk next : Disk) (keep
     | inr other ↦ inr (given_elsewhere sure source whole disk b g next c h r keeps (λ e _. other e) given)
   ]
 
-pub copies_each : (tidy : AllTidy) (sure : Type 0) (source : Disk) (rate : Rate) (tracks : List Track) (marks : List Bool) (whole : List Taken) (disk : Disk) (old new : State) (told after : Option Files) (course : List Taken) → DoesAll (copy_each rate tracks marks) old told course new after → marks ≡ marks_read course → IsPart course whole → ((c h : ℕ) → Among tracks c h → HasTrack disk c h) → IsReady rate source disk old → IsFaultless 1 old.station.counters new.station.counters → (sure → IsSure source old.station.counters new.station.counters) → CopiesTracks sure source rate tracks whole disk old told new after
+pub copies_each : (tidy : AllTidy) (sure : Type 0) (source : Disk) (rate : Rate) (tracks : List Track) (marks : List Bool) (whole : List Taken)
+    (disk : Disk) (old new : State) (told after : Option Files) (course : List Taken)
+    → DoesAll (copy_each rate tracks marks) old told course new after → marks ≡ marks_read course → IsPart course whole
+    → ((c h : ℕ) → Among tracks c h → HasTrack disk c h) → IsReady rate source disk old → IsFaultless 1 old.station.counters new.station.counters
+    → (sure → IsSure source old.station.counters new.station.counters) → CopiesTracks sure source rate tracks whole disk old told new after
 copies_each tidy sure source rate [] marks whole disk old new told after course all asked part has ready faultless calm =
     let same = ends_there old new told after course all in
     record {

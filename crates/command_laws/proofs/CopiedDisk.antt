@@ -46,7 +46,10 @@ record AreIn (disk : Disk) (to : List ℕ) (files : Files) (rest : List Request)
   pub same_files : mid_files ≡ Some files
   pub behind : DoesAll rest mid mid_files course new after
 
-are_in : (from to : List ℕ) (disk : Disk) (files : Files) (rest : List Request) (old new : State) (after : Option Files) (course : List Taken) → IsImageOf (Some files) from disk → DoesAll (request.Insert 0 from ∷ blank_request 1 to disk.cylinders disk.rate ∷ rest) old (Some files) course new after → length old.station.memory ≡ user_bytes → AreIn disk to files rest new after
+are_in : (from to : List ℕ) (disk : Disk) (files : Files) (rest : List Request) (old new : State) (after : Option Files) (course : List Taken)
+    → IsImageOf (Some files) from disk
+    → DoesAll (request.Insert 0 from ∷ blank_request 1 to disk.cylinders disk.rate ∷ rest) old (Some files) course new after
+    → length old.station.memory ≡ user_bytes → AreIn disk to files rest new after
 are_in from to disk files rest old new after course image all size =
     let rate = disk.rate in
     let one = begins old new (Some files) after (request.Insert 0 from) (blank_request 1 to disk.cylinders rate ∷ rest) course all in
@@ -78,7 +81,9 @@ pub record IsCopyOpened (disk : Disk) (to : List ℕ) (files : Files) (new : Sta
   pub named : in_bay new.names 1 ≡ Some to
   pub same_files : after ≡ Some files
 
-pub opens_copy : (from to : List ℕ) (disk : Disk) (files : Files) (old new : State) (after : Option Files) (course : List Taken) → IsImageOf (Some files) from disk → DoesAll (copy_opening from to disk) old (Some files) course new after → length old.station.memory ≡ user_bytes → IsCopyOpened disk to files new after
+pub opens_copy : (from to : List ℕ) (disk : Disk) (files : Files) (old new : State) (after : Option Files) (course : List Taken)
+    → IsImageOf (Some files) from disk → DoesAll (copy_opening from to disk) old (Some files) course new after
+    → length old.station.memory ≡ user_bytes → IsCopyOpened disk to files new after
 opens_copy from to disk files old new after course image all size =
     let second = request.Ack 1 ∷ rate_requests disk.rate 1 in
     let put = are_in from to disk files (request.Ack 0 ∷ (rate_requests disk.rate 0 ++ second)) old new after course image all size in
@@ -98,15 +103,19 @@ opens_copy from to disk files old new after course image all size =
       same_files = end.1 ∙ two.same_files ∙ one.same_files ∙ put.same_files;
     }
 
-pub opening_keeps : (rate : Rate) (to : List ℕ) (cylinders : ℕ) (from : List ℕ) → list_all keeps_drives (request.Insert 0 from ∷ blank_request 1 to cylinders rate ∷ request.Ack 0 ∷ (rate_requests rate 0 ++ (request.Ack 1 ∷ rate_requests rate 1))) ≡ true
+pub opening_keeps : (rate : Rate) (to : List ℕ) (cylinders : ℕ) (from : List ℕ)
+    → list_all keeps_drives (request.Insert 0 from ∷ blank_request 1 to cylinders rate ∷ request.Ack 0 ∷ (rate_requests rate 0 ++ (request.Ack 1 ∷ rate_requests rate 1))) ≡ true
 opening_keeps R500 to cylinders from = refl
 opening_keeps R250 to cylinders from = refl
 
-pub opening_reads_none : (rate : Rate) (to : List ℕ) (cylinders : ℕ) (from : List ℕ) → list_all is_no_read (request.Insert 0 from ∷ blank_request 1 to cylinders rate ∷ request.Ack 0 ∷ (rate_requests rate 0 ++ (request.Ack 1 ∷ rate_requests rate 1))) ≡ true
+pub opening_reads_none : (rate : Rate) (to : List ℕ) (cylinders : ℕ) (from : List ℕ)
+    → list_all is_no_read (request.Insert 0 from ∷ blank_request 1 to cylinders rate ∷ request.Ack 0 ∷ (rate_requests rate 0 ++ (request.Ack 1 ∷ rate_requests rate 1))) ≡ true
 opening_reads_none R500 to cylinders from = refl
 opening_reads_none R250 to cylinders from = refl
 
-pub copies_disk : (tidy : AllTidy) (from to : List ℕ) (disk : Disk) (files : Files) (old new : State) (after : Option Files) (course : List Taken) → CopiesDisk from to disk old files course new after → length old.station.memory ≡ user_bytes → IsFaultless 1 old.station.counters new.station.counters → StoresCopy disk to old.station.counters (Some files) course new.station.counters after
+pub copies_disk : (tidy : AllTidy) (from to : List ℕ) (disk : Disk) (files : Files) (old new : State) (after : Option Files) (course : List Taken)
+    → CopiesDisk from to disk old files course new after → length old.station.memory ≡ user_bytes
+    → IsFaultless 1 old.station.counters new.station.counters → StoresCopy disk to old.station.counters (Some files) course new.station.counters after
 copies_disk tidy from to disk files old new after course all size faultless =
     let rate = disk.rate in
     let tracks = tracks_of disk.cylinders disk.heads in

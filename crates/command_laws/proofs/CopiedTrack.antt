@@ -70,7 +70,9 @@ pub record FormatsIt (at : Rate) (source : Disk) (c h : ℕ) (disk : Disk) (old 
 pub small : (disk : Disk) (c h : ℕ) → IsDisk disk → HasTrack disk c h → (c < 256) × (h < 256)
 small disk c h valid has = (omega (arith, has.0, valid.cylinders.1), omega (arith, has.1, valid.heads.1))
 
-pub formats_it : (rate : Rate) (source : Disk) (c h : ℕ) (disk : Disk) (old new : State) (told after : Option Files) (course : List Taken) → DoesAll (request.Format 1 c h ∷ []) old told course new after → IsReady rate source disk old → HasTrack disk c h → IsFaultless 1 old.station.counters new.station.counters → FormatsIt rate source c h disk old told new after
+pub formats_it : (rate : Rate) (source : Disk) (c h : ℕ) (disk : Disk) (old new : State) (told after : Option Files) (course : List Taken)
+    → DoesAll (request.Format 1 c h ∷ []) old told course new after → IsReady rate source disk old → HasTrack disk c h
+    → IsFaultless 1 old.station.counters new.station.counters → FormatsIt rate source c h disk old told new after
 formats_it rate source c h disk old new told after course all ready has faultless =
     let first = begins old new told after (request.Format 1 c h) [] course all in
     let end = ends_there first.mid new first.files after first.later first.behind in
@@ -111,7 +113,9 @@ unfolding track_keys
 track_keys_from sectors c h = refl
 
 -- a record that was read and written
-given_copied : (sure : Type 0) (source : Disk) (course : List Taken) (memory : List ℕ) (final : Disk) (c h a : ℕ) (marks : List Bool) → AreGiven sure source course memory c h a marks → AreCopied final memory c h a marks → (r : ℕ) → a ≤ r → r < a + length marks → HasAsGiven sure course source final c h r
+given_copied : (sure : Type 0) (source : Disk) (course : List Taken) (memory : List ℕ) (final : Disk) (c h a : ℕ) (marks : List Bool)
+    → AreGiven sure source course memory c h a marks → AreCopied final memory c h a marks → (r : ℕ) → a ≤ r → r < a + length marks
+    → HasAsGiven sure course source final c h r
 given_copied sure source course memory final c h a [] given copied r from below = absurd (omega arith)
 given_copied sure source course memory final c h a (deleted ∷ marks) given copied r from below = elim (cases_eq r a) [
   | inl same ↦ subst (HasAsGiven sure course source final c h) (sym same) (copied.0.0, deleted, _, given.0.step, copied.0.1, given.0.sector)
@@ -119,7 +123,9 @@ given_copied sure source course memory final c h a (deleted ∷ marks) given cop
 ]
 
 -- in a longer course
-pub given_in : (sure : Type 0) (source : Disk) (course whole : List Taken) (copied : Disk) (c h r : ℕ) → ((deleted : Bool) (content : List ℕ) → SomeStep (Gave (key_of c h r) deleted content) course → SomeStep (Gave (key_of c h r) deleted content) whole) → HasAsGiven sure course source copied c h r → HasAsGiven sure whole source copied c h r
+pub given_in : (sure : Type 0) (source : Disk) (course whole : List Taken) (copied : Disk) (c h r : ℕ)
+    → ((deleted : Bool) (content : List ℕ) → SomeStep (Gave (key_of c h r) deleted content) course → SomeStep (Gave (key_of c h r) deleted content) whole)
+    → HasAsGiven sure course source copied c h r → HasAsGiven sure whole source copied c h r
 given_in sure source course whole copied c h r more (place, deleted, content, step, on, sector) = (place, deleted, content, more deleted content step, on, sector)
 
 -- ---- the track
@@ -131,7 +137,11 @@ both_fell old mid new one two = record {
   stalls = omega (arith, one.stalls, two.stalls);
 }
 
-pub copies_track : (tidy : AllTidy) (sure : Type 0) (source : Disk) (rate : Rate) (c h : ℕ) (marks more : List Bool) (disk : Disk) (old new : State) (told after : Option Files) (course : List Taken) → DoesAll (copy_track rate (c, h) marks) old told course new after → marks ≡ take (sectors_at rate) (marks_read course ++ more) → IsReady rate source disk old → HasTrack disk c h → IsFaultless 1 old.station.counters new.station.counters → (sure → IsSure source old.station.counters new.station.counters) → CopiesTrack sure source rate c h disk old told course new after
+pub copies_track : (tidy : AllTidy) (sure : Type 0) (source : Disk) (rate : Rate) (c h : ℕ) (marks more : List Bool) (disk : Disk) (old new : State)
+    (told after : Option Files) (course : List Taken)
+    → DoesAll (copy_track rate (c, h) marks) old told course new after → marks ≡ take (sectors_at rate) (marks_read course ++ more)
+    → IsReady rate source disk old → HasTrack disk c h → IsFaultless 1 old.station.counters new.station.counters
+    → (sure → IsSure source old.station.counters new.station.counters) → CopiesTrack sure source rate c h disk old told course new after
 copies_track tidy sure source rate c h marks more disk old new told after course all asked ready has faultless calm =
     let sectors = sectors_at rate in
     let keys = track_keys sectors c h in

@@ -33,14 +33,17 @@ use Rattle.command_laws.proofs.TrackParts.{did_step}
 use Rattle.command_laws.proofs.Verified.{one_image}
 
 -- a disk is put into an empty bay
-insert_taken : (name : List ℕ) (old new : State) (told after : Option Files) (answer : Reply) → (bay_of old.station 0).medium ≡ None → Step (request.Insert 0 name) old told answer new after → is_refusal answer ≡ false
+insert_taken : (name : List ℕ) (old new : State) (told after : Option Files) (answer : Reply) → (bay_of old.station 0).medium ≡ None
+    → Step (request.Insert 0 name) old told answer new after → is_refusal answer ≡ false
 insert_taken name old new told after answer empty step =
     let free : refusal_of old (request.Insert 0 name) ≡ None = rw empty refl in
     let does = reaches _ (refusal_of old (request.Insert 0 name)) free step in
     ap is_refusal does.0
 
 -- a bay with a medium is acknowledged
-ack_taken : (disk : Disk) (old new : State) (told after : Option Files) (answer : Reply) → (bay_of old.station 0).medium ≡ Some disk → IsUndisturbed 0 old.station.counters new.station.counters → NeverFell old.station.counters new.station.counters → Step (request.Ack 0) old told answer new after → is_refusal answer ≡ false
+ack_taken : (disk : Disk) (old new : State) (told after : Option Files) (answer : Reply) → (bay_of old.station 0).medium ≡ Some disk
+    → IsUndisturbed 0 old.station.counters new.station.counters → NeverFell old.station.counters new.station.counters
+    → Step (request.Ack 0) old told answer new after → is_refusal answer ≡ false
 ack_taken disk old new told after answer medium quiet fell step = ap is_refusal step.1.1 ∙ go step.1.0 step.1.2
   where
     go : (called : Result (Unit {0}) Code) → AcksDrive 0 old.station called new.station → is_refusal (reply_of called) ≡ false
@@ -51,7 +54,8 @@ ack_taken disk old new told after answer medium quiet fell step = ap is_refusal 
     ]
 
 -- an acknowledged bay gets a rate
-rate_taken : (count : ℕ) (old new : State) (told after : Option Files) (answer : Reply) → (bay_of old.station 0).acknowledged ≡ Some count → Step (request.SetRate 0 R250) old told answer new after → is_refusal answer ≡ false
+rate_taken : (count : ℕ) (old new : State) (told after : Option Files) (answer : Reply) → (bay_of old.station 0).acknowledged ≡ Some count
+    → Step (request.SetRate 0 R250) old told answer new after → is_refusal answer ≡ false
 rate_taken count old new told after answer acknowledged step =
     let free : rate_refusal old.station 0 ≡ None = rw acknowledged refl in
     let sets = reaches _ (rate_refusal old.station 0) free step.1.2 in

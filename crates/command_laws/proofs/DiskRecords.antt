@@ -56,7 +56,9 @@ pub record ReadsOne (c h r : ℕ) (source : Disk) (old : State) (told : Option F
   pub sector : IsSure source old.station.counters new.station.counters → IsSector (track_of source c h) (key_of c h r) deleted content
 
 -- a field that was read of a regular disk is a sector of the track of its key
-read_sector : (c h r address : ℕ) (deleted : Bool) (source : Disk) (old new : StationState) (found : IsRead 0 (key_of c h r) address old deleted new) → (bay_of old 0).medium ≡ Some source → IsSure source old.counters new.counters → IsSector (track_of source c h) (key_of c h r) deleted found.content
+read_sector : (c h r address : ℕ) (deleted : Bool) (source : Disk) (old new : StationState) (found : IsRead 0 (key_of c h r) address old deleted new)
+    → (bay_of old 0).medium ≡ Some source → IsSure source old.counters new.counters
+    → IsSector (track_of source c h) (key_of c h r) deleted found.content
 read_sector c h r address deleted source old new found medium sure =
     let key = key_of c h r in
     let same : found.disk ≡ source = cc (found.medium, medium) in
@@ -74,7 +76,9 @@ told_mark : (key : Chrn) (address : ℕ) (deleted : Bool) → mark_of (request.R
 told_mark key address true = refl
 told_mark key address false = refl
 
-pub one_record : (c h r : ℕ) (source : Disk) (old new : State) (told after : Option Files) (answer : Reply) → Does (request.Read 0 (key_of c h r) (record_address r)) old told answer new after → is_refusal answer ≡ false → (bay_of old.station 0).medium ≡ Some source → ReadsOne c h r source old told answer new after
+pub one_record : (c h r : ℕ) (source : Disk) (old new : State) (told after : Option Files) (answer : Reply)
+    → Does (request.Read 0 (key_of c h r) (record_address r)) old told answer new after → is_refusal answer ≡ false
+    → (bay_of old.station 0).medium ≡ Some source → ReadsOne c h r source old told answer new after
 one_record c h r source old new told after answer does done medium =
     let key = key_of c h r in
     let address = record_address r in
@@ -100,7 +104,8 @@ one_record c h r source old new told after answer does done medium =
     }
 
 -- sureness of two parts
-pub sure_parts : (source : Disk) (old mid new : Counters) → NeverFell old mid → NeverFell mid new → IsSure source old new → IsSure source old mid × IsSure source mid new
+pub sure_parts : (source : Disk) (old mid new : Counters) → NeverFell old mid → NeverFell mid new → IsSure source old new
+    → IsSure source old mid × IsSure source mid new
 sure_parts source old mid new one two (regular, inl faultless) = (
   (regular, inl (omega (arith, one.first, two.first, faultless.0), omega (arith, two.first, faultless.1))),
   (regular, inl (omega (arith, one.first, two.first, faultless.0), faultless.1)),
@@ -120,7 +125,8 @@ AreGiven sure source course memory c h a [] = Unit {0}
 AreGiven sure source course memory c h a (deleted ∷ marks) = IsGiven sure source course memory c h a deleted × AreGiven sure source course memory c h (a + 1) marks
 
 -- also of a longer course
-pub given_later : (sure : Type 0) (source : Disk) (taken : Taken) (course : List Taken) (memory : List ℕ) (c h a : ℕ) (marks : List Bool) → AreGiven sure source course memory c h a marks → AreGiven sure source (taken ∷ course) memory c h a marks
+pub given_later : (sure : Type 0) (source : Disk) (taken : Taken) (course : List Taken) (memory : List ℕ) (c h a : ℕ) (marks : List Bool)
+    → AreGiven sure source course memory c h a marks → AreGiven sure source (taken ∷ course) memory c h a marks
 given_later sure source taken course memory c h a [] given = tt
 given_later sure source taken course memory c h a (deleted ∷ marks) given =
     (record { step = inr given.0.step; sector = given.0.sector }, given_later sure source taken course memory c h (a + 1) marks given.1)
@@ -144,7 +150,10 @@ pub reads_keep : (keys : List Chrn) → list_all keeps_drives (read_records 0 ke
 reads_keep [] = refl
 reads_keep (key ∷ later) = reads_keep later
 
-pub all_records : (sure : Type 0) (source : Disk) (c h a n : ℕ) (old new : State) (told after : Option Files) (course : List Taken) → DoesAll (read_records 0 (keys_from c h a n)) old told course new after → length old.station.memory ≡ user_bytes → 1 ≤ a → a + n ≤ 19 → (bay_of old.station 0).medium ≡ Some source → (sure → IsSure source old.station.counters new.station.counters) → ReadsAll sure source c h a n old told course new after
+pub all_records : (sure : Type 0) (source : Disk) (c h a n : ℕ) (old new : State) (told after : Option Files) (course : List Taken)
+    → DoesAll (read_records 0 (keys_from c h a n)) old told course new after → length old.station.memory ≡ user_bytes → 1 ≤ a → a + n ≤ 19
+    → (bay_of old.station 0).medium ≡ Some source → (sure → IsSure source old.station.counters new.station.counters)
+    → ReadsAll sure source c h a n old told course new after
 all_records sure source c h a zero old new told after [] all size least most medium calm = record {
   marks = [];
   marks_are = refl;

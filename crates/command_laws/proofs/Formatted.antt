@@ -28,7 +28,8 @@ blank_keeps bay R500 name cylinders = refl
 blank_keeps bay R250 name cylinders = refl
 
 -- the disk after all formats
-is_formatted : (rate : Rate) (cylinders : ℕ) (old new : State) (told after : Option Files) → FormatsTracks rate (tracks_of cylinders 2) (blank_of cylinders rate) old told new after
+is_formatted : (rate : Rate) (cylinders : ℕ) (old new : State) (told after : Option Files)
+    → FormatsTracks rate (tracks_of cylinders 2) (blank_of cylinders rate) old told new after
     → (disk : Disk) × ((bay_of new.station 0).medium ≡ Some disk) × IsFormattedDisk rate cylinders disk
 is_formatted rate cylinders old new told after formats =
     let alike = formats.alike in (
@@ -47,7 +48,9 @@ is_formatted rate cylinders old new told after formats =
       },
     )
 
-pub formats_disk : (rate : Rate) (name : List ℕ) (cylinders : ℕ) (old new : State) (told after : Option Files) (course : List Taken) → DoesAll (formatting rate name cylinders) old told course new after → IsFaultless 0 old.station.counters new.station.counters → LeavesFormatted rate name cylinders told new after
+pub formats_disk : (rate : Rate) (name : List ℕ) (cylinders : ℕ) (old new : State) (told after : Option Files) (course : List Taken)
+    → DoesAll (formatting rate name cylinders) old told course new after → IsFaultless 0 old.station.counters new.station.counters
+    → LeavesFormatted rate name cylinders told new after
 formats_disk rate name cylinders old new told after course all faultless =
     let blank = blank_of cylinders rate in
     let tracks = tracks_of cylinders 2 in
@@ -72,7 +75,9 @@ formats_disk rate name cylinders old new told after course all faultless =
     }
 
 -- and stored
-pub stores_disk : (rate : Rate) (name : List ℕ) (cylinders : ℕ) (old new : State) (told after : Option Files) (course : List Taken) → DoesAll (format_requests rate name cylinders) old told course new after → IsFaultless 0 old.station.counters new.station.counters → StoresFormatted rate name cylinders told after
+pub stores_disk : (rate : Rate) (name : List ℕ) (cylinders : ℕ) (old new : State) (told after : Option Files) (course : List Taken)
+    → DoesAll (format_requests rate name cylinders) old told course new after → IsFaultless 0 old.station.counters new.station.counters
+    → StoresFormatted rate name cylinders told after
 stores_disk rate name cylinders old new told after course all faultless =
     let parts = splits old new told after (formatting rate name cylinders) (request.Eject 0 ∷ []) course all in
     let fell = never_fell parts.mid new parts.files after (request.Eject 0 ∷ []) parts.two parts.behind refl in

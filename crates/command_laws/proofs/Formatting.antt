@@ -29,7 +29,8 @@ use Rattle.command_laws.proofs.Tracks.{Among}
 use Rattle.command_laws.proofs.Steps.{begins, ends_there, ok_called, reached, keeps_drives, never_fell, step_never_fell}
 
 -- several layings of one cylinder keep the other tracks
-lays_keep : (format : Format) (disk : Disk) (layings : List Laying) (after : Disk) → IsDisk disk → All (λ laying. laying.cylinder ≡ format.c) layings → LaysDisk format disk layings after → KeepsTracks disk format.c format.h after
+lays_keep : (format : Format) (disk : Disk) (layings : List Laying) (after : Disk) → IsDisk disk → All (λ laying. laying.cylinder ≡ format.c) layings
+    → LaysDisk format disk layings after → KeepsTracks disk format.c format.h after
 lays_keep format disk [] after valid only lays = subst (KeepsTracks disk format.c format.h) (sym lays) (keeps_itself disk format.c format.h valid)
 lays_keep format disk (laying ∷ later) after valid only lays =
     let here : laying.cylinder ≡ format.c = only 0 laying (omega arith) in
@@ -56,12 +57,15 @@ same_some : {X : Type 0} (o : Option X) (x y : X) → o ≡ Some x → o ≡ Som
 same_some o x y e f = cc
 
 -- the disks before and after, from what is in the bay
-lays_in : (format : Format) (before after : Option Disk) (disk next : Disk) (layings : List Laying) → before ≡ Some disk → after ≡ Some next → Lays format before layings after → LaysDisk format disk layings next
+lays_in : (format : Format) (before after : Option Disk) (disk next : Disk) (layings : List Laying) → before ≡ Some disk → after ≡ Some next
+    → Lays format before layings after → LaysDisk format disk layings next
 lays_in format before after disk next layings e f lays =
     let here = subst (λ (o : Option Disk). Lays format o layings after) e lays in
     subst (λ (o : Option Disk). Lays format (Some disk) layings o) f here
 
-pub drive_formats : (bay : ℕ) (rate : Rate) (c h : ℕ) (disk : Disk) (old new : StationState) (called : Result (Unit {0}) Code) → FormatsDrive (format_at c h rate (gap_at rate) standard_fill) bay old called new → IsOk called → IsFaultless bay old.counters new.counters → (bay_of old bay).medium ≡ Some disk → IsDisk disk
+pub drive_formats : (bay : ℕ) (rate : Rate) (c h : ℕ) (disk : Disk) (old new : StationState) (called : Result (Unit {0}) Code)
+    → FormatsDrive (format_at c h rate (gap_at rate) standard_fill) bay old called new → IsOk called → IsFaultless bay old.counters new.counters
+    → (bay_of old bay).medium ≡ Some disk → IsDisk disk
     → (next : Disk) × ((bay_of new bay).medium ≡ Some next) × KeepsTracks disk c h next
     × (track_of next c h ≡ formatted (format_at c h rate (gap_at rate) standard_fill) disk.words_per_track)
 drive_formats bay rate c h disk old new called drive ok faultless medium valid =
@@ -74,7 +78,9 @@ drive_formats bay rate c h disk old new called drive ok faultless medium valid =
     let keeps = lays_keep _ disk drive.layings laid.0 valid (drive.only faultless) (lays_in _ _ _ disk laid.0 drive.layings medium laid.1 drive.lays) in
     (laid.0, laid.1, keeps, laid.2)
 
-pub one_format : (rate : Rate) (c h : ℕ) (disk : Disk) (old new : State) (told after : Option Files) (answer : Reply) → Does (request.Format 0 c h) old told answer new after → is_refusal answer ≡ false → IsFaultless 0 old.station.counters new.station.counters → (bay_of old.station 0).medium ≡ Some disk → (bay_of old.station 0).rate ≡ rate → IsDisk disk → FormatsOne rate c h disk old told new after
+pub one_format : (rate : Rate) (c h : ℕ) (disk : Disk) (old new : State) (told after : Option Files) (answer : Reply)
+    → Does (request.Format 0 c h) old told answer new after → is_refusal answer ≡ false → IsFaultless 0 old.station.counters new.station.counters
+    → (bay_of old.station 0).medium ≡ Some disk → (bay_of old.station 0).rate ≡ rate → IsDisk disk → FormatsOne rate c h disk old told new after
 one_format rate c h disk old new told after answer does done faultless medium bay_rate valid =
     let called = does.1.0 in
     let ok = ok_called called answer does.1.1 done in
@@ -109,13 +115,16 @@ at_place rate words c h = formatted (format_at c h rate (gap_at rate) standard_f
 
 -- after the formats that follow the first
 module _ (rate : Rate) (b g : ℕ) (disk next final : Disk) (later : List Track) (keeps : KeepsTracks disk b g next) (first : track_of next b g ≡ at_place rate disk.words_per_track b g) (rest : (c h : ℕ) → HasTrack next c h → (Among later c h ⊎ (track_of next c h ≡ at_place rate next.words_per_track c h)) → track_of final c h ≡ at_place rate next.words_per_track c h) where
-  goes_on : (c h : ℕ) → HasTrack disk c h → (Among later c h ⊎ (track_of next c h ≡ at_place rate disk.words_per_track c h)) → track_of final c h ≡ at_place rate disk.words_per_track c h
+  goes_on : (c h : ℕ) → HasTrack disk c h → (Among later c h ⊎ (track_of next c h ≡ at_place rate disk.words_per_track c h))
+      → track_of final c h ≡ at_place rate disk.words_per_track c h
   goes_on c h has which =
       let words = keeps.alike.words_per_track in
       let has_next = (alike_tracks disk next c h keeps.alike).0 has in
       subst (λ (w : ℕ). (Among later c h ⊎ (track_of next c h ≡ at_place rate w c h)) → track_of final c h ≡ at_place rate w c h) words (rest c h has_next) which
 
-  elsewhere : (c h : ℕ) → HasTrack disk c h → (c ≡ b → h ≡ g → ⊥) → (Among ((b, g) ∷ later) c h ⊎ (track_of disk c h ≡ at_place rate disk.words_per_track c h)) → track_of final c h ≡ at_place rate disk.words_per_track c h
+  elsewhere : (c h : ℕ) → HasTrack disk c h → (c ≡ b → h ≡ g → ⊥)
+      → (Among ((b, g) ∷ later) c h ⊎ (track_of disk c h ≡ at_place rate disk.words_per_track c h))
+      → track_of final c h ≡ at_place rate disk.words_per_track c h
   elsewhere c h has other (inl (inl here)) = absurd (other (sym here.0) (sym here.1))
   elsewhere c h has other (inl (inr among)) = goes_on c h has (inl among)
   elsewhere c h has other (inr laid) = goes_on c h has (inr (keeps.others c h has other ∙ laid))
@@ -125,7 +134,8 @@ module _ (rate : Rate) (b g : ℕ) (disk next final : Disk) (later : List Track)
       let in_head = subst (λ k. track_of next b k ≡ at_place rate disk.words_per_track b k) (sym same_h) first in
       subst (λ k. track_of next k h ≡ at_place rate disk.words_per_track k h) (sym same_c) in_head
 
-  laid_still : (c h : ℕ) → HasTrack disk c h → (Among ((b, g) ∷ later) c h ⊎ (track_of disk c h ≡ at_place rate disk.words_per_track c h)) → track_of final c h ≡ at_place rate disk.words_per_track c h
+  laid_still : (c h : ℕ) → HasTrack disk c h → (Among ((b, g) ∷ later) c h ⊎ (track_of disk c h ≡ at_place rate disk.words_per_track c h))
+      → track_of final c h ≡ at_place rate disk.words_per_track c h
   laid_still c h has which = elim (cases_eq c b) [
     | inl same_c ↦ elim (cases_eq h g) [
       | inl same_h ↦ goes_on c h has (inr (at_first c h same_c same_h))
@@ -138,7 +148,9 @@ pub formats_keep : (tracks : List Track) → list_all keeps_drives (format_each 
 formats_keep [] = refl
 formats_keep (track ∷ later) = formats_keep later
 
-pub each_format : (rate : Rate) (tracks : List Track) (disk : Disk) (old new : State) (told after : Option Files) (course : List Taken) → DoesAll (format_each 0 tracks) old told course new after → IsFaultless 0 old.station.counters new.station.counters → (bay_of old.station 0).medium ≡ Some disk → (bay_of old.station 0).rate ≡ rate → IsDisk disk → FormatsTracks rate tracks disk old told new after
+pub each_format : (rate : Rate) (tracks : List Track) (disk : Disk) (old new : State) (told after : Option Files) (course : List Taken)
+    → DoesAll (format_each 0 tracks) old told course new after → IsFaultless 0 old.station.counters new.station.counters
+    → (bay_of old.station 0).medium ≡ Some disk → (bay_of old.station 0).rate ≡ rate → IsDisk disk → FormatsTracks rate tracks disk old told new after
 each_format rate [] disk old new told after course all faultless medium bay_rate valid =
     let same = ends_there old new told after course all in
     record {

@@ -180,7 +180,8 @@ stop_outside Holds stop.NoMemory only = tt
 stop_outside Holds _ only = absurd only
 
 -- a last line whose status is such a one
-pub prints_outside : (Holds : Type 0) (report : Option (List ℕ)) (line : List ℕ) (wanted ended : Status) (after : Option (List ℕ)) → EndsWellOrOutside Holds wanted → Prints line wanted report after ended → EndsWellOrOutside Holds ended
+pub prints_outside : (Holds : Type 0) (report : Option (List ℕ)) (line : List ℕ) (wanted ended : Status) (after : Option (List ℕ))
+    → EndsWellOrOutside Holds wanted → Prints line wanted report after ended → EndsWellOrOutside Holds ended
 prints_outside Holds report line wanted ended after well (plays.Whole told same) = subst (λ (s : Status). EndsWellOrOutside Holds s) (sym same) well
 prints_outside Holds report line wanted ended after well (plays.Part grows fault) = put_fault_outside Holds ended fault
 

@@ -47,7 +47,8 @@ pub record ReadKeeps (old new : StationState) : Type 0 where
   pub bays : new.bays ≡ old.bays
   pub size : length new.memory ≡ length old.memory
 
-drive_keeps : (key : Chrn) (old new : StationState) (called : Result Bool Code) → key.n ≡ 2 → length old.memory ≡ user_bytes → ReadsDrive 0 key 0x10000 old called new → ReadKeeps old new
+drive_keeps : (key : Chrn) (old new : StationState) (called : Result Bool Code) → key.n ≡ 2 → length old.memory ≡ user_bytes
+    → ReadsDrive 0 key 0x10000 old called new → ReadKeeps old new
 drive_keeps key old new (Ok deleted) sized size drive =
     let found = drive.found in
     let long : length found.content ≡ 512 = ap length found.whole.content_is ∙ length-bytes_at (track_of found.disk found.cylinder key.h) (found.mark + 64) (content_size key.n) ∙ ap content_size sized in
@@ -60,7 +61,8 @@ drive_keeps key old new (Err code) sized size drive = record {
   size = drive.refused.memory.length;
 }
 
-pub read_keeps : (key : Chrn) (old new : StationState) (called : Result Bool Code) → key.n ≡ 2 → length old.memory ≡ user_bytes → Reads 0 key 0x10000 old called new → ReadKeeps old new
+pub read_keeps : (key : Chrn) (old new : StationState) (called : Result Bool Code) → key.n ≡ 2 → length old.memory ≡ user_bytes
+    → Reads 0 key 0x10000 old called new → ReadKeeps old new
 read_keeps key old new called sized size reads =
     either (read_refusal old 0 key 0x10000) reads (drive_keeps key old new called sized size)
     (λ code refused. record {
@@ -83,7 +85,8 @@ told_mark key true = refl
 told_mark key false = refl
 
 -- it gave its mark, and what is in memory then
-pub gave : (key : Chrn) (deleted : Bool) (read : Taken) → read.asked ≡ read_of key → read.answer ≡ read_reply (Ok deleted) → Gave key deleted (bytes_from read.after.station.memory 0x10000 (content_size key.n)) read
+pub gave : (key : Chrn) (deleted : Bool) (read : Taken) → read.asked ≡ read_of key → read.answer ≡ read_reply (Ok deleted)
+    → Gave key deleted (bytes_from read.after.station.memory 0x10000 (content_size key.n)) read
 gave key deleted read asked answered = record {
   address = 0x10000;
   asked = asked;
@@ -103,7 +106,8 @@ never_both key code deleted bytes read refused given =
     cc (none, some)
 
 -- its line in the log
-pub line_of_refused : (key : Chrn) (cause : Code) (read : Taken) → read.asked ≡ read_of key → read.answer ≡ read_reply (Err cause) → line_at read.asked read.answer ≡ (record { key = key; code = cause }) ∷ []
+pub line_of_refused : (key : Chrn) (cause : Code) (read : Taken) → read.asked ≡ read_of key → read.answer ≡ read_reply (Err cause)
+    → line_at read.asked read.answer ≡ (record { key = key; code = cause }) ∷ []
 line_of_refused key cause read asked answered = ap₂ (λ (q : Request) (r : Reply). line_at q r) asked answered
 
 -- what isn't refused has none

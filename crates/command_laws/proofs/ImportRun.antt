@@ -70,7 +70,9 @@ pub record IsFilled (bytes : List ℕ) (from n : ℕ) (bays : Two Bay) (names : 
 
 -- ---- one byte
 
-one_more : (memory bytes : List ℕ) (from n address byte : ℕ) → length memory ≡ user_bytes → address ≡ 0x10000 + n → n < 9216 → byte ≡ get_or bytes (from + n) 0 → ((j : ℕ) → j < n → get_or memory (0x10000 + j) 0 ≡ get_or bytes (from + j) 0) → (j : ℕ) → j < n + 1 → get_or (with_items memory address (byte ∷ [])) (0x10000 + j) 0 ≡ get_or bytes (from + j) 0
+one_more : (memory bytes : List ℕ) (from n address byte : ℕ) → length memory ≡ user_bytes → address ≡ 0x10000 + n → n < 9216
+    → byte ≡ get_or bytes (from + n) 0 → ((j : ℕ) → j < n → get_or memory (0x10000 + j) 0 ≡ get_or bytes (from + j) 0) → (j : ℕ) → j < n + 1
+    → get_or (with_items memory address (byte ∷ [])) (0x10000 + j) 0 ≡ get_or bytes (from + j) 0
 one_more memory bytes from n address byte size at few is filled j below =
     let one = byte ∷ [] in
     let fits : address + length one ≤ length memory = omega (arith, size, at, few) in
@@ -221,7 +223,8 @@ writes_pass sectors c h =
     (each_does status.AllOk 1 sectors (writes_record c h) (λ r. request.Write 0 (key_of c h r) (record_address r) ∷ []) (λ r. record_written c h r))
 
 -- a record of those that were written
-one_copied : (disk : Disk) (memory : List ℕ) (c h a n : ℕ) → AreCopied disk memory c h a (replicate n false) → (r : ℕ) → a ≤ r → r < a + n → (place : ℕ) × IsOnMap disk (copied_entry c h r place false (bytes_from memory (record_address r) 512))
+one_copied : (disk : Disk) (memory : List ℕ) (c h a n : ℕ) → AreCopied disk memory c h a (replicate n false) → (r : ℕ) → a ≤ r → r < a + n
+    → (place : ℕ) × IsOnMap disk (copied_entry c h r place false (bytes_from memory (record_address r) 512))
 one_copied disk memory c h a zero copied r least below = absurd (omega (arith, least, below))
 one_copied disk memory c h a (suc n) copied r least below = elim (cases_eq r a) [
   | inl same ↦ subst (λ k. (place : ℕ) × IsOnMap disk (copied_entry c h k place false (bytes_from memory (record_address k) 512))) (sym same) copied.0
@@ -231,7 +234,8 @@ one_copied disk memory c h a (suc n) copied r least below = elim (cases_eq r a) 
 -- ---- the track
 
 -- a sector of a track that was imported before stays
-sector_stays : (bytes : List ℕ) (sectors : ℕ) (disk : Disk) (c h : ℕ) (after : Disk) (b g r : ℕ) → KeepsTracks disk c h after → (b ≡ c → g ≡ h → ⊥) → HasFlatSector bytes sectors disk b g r → HasFlatSector bytes sectors after b g r
+sector_stays : (bytes : List ℕ) (sectors : ℕ) (disk : Disk) (c h : ℕ) (after : Disk) (b g r : ℕ) → KeepsTracks disk c h after → (b ≡ c → g ≡ h → ⊥)
+    → HasFlatSector bytes sectors disk b g r → HasFlatSector bytes sectors after b g r
 sector_stays bytes sectors disk c h after b g r keeps other had =
     (had.0, (elsewhere_on_map disk c h after keeps (copied_entry b g r had.0 false (sector_bytes bytes sectors b g r)) other).0 had.1)
 

@@ -38,7 +38,9 @@ module _ (track : List ℕ) (key : Chrn) (plain : IsPlain track) (single : (p q 
   no_sector marked none = (marked, λ p address. none (p, record { clear = plain_clear track p plain address.mark; address = address }))
 
   -- why a read was refused without a disturbance
-  pub cause_look : (tries bay : ℕ) (cause : Code) (old new : StationState) → IsReadCause track key tries bay old cause new → IsUndisturbed bay old.counters new.counters → old.counters.stalls ≤ new.counters.stalls → faults_of old.counters bay ≤ faults_of new.counters bay
+  pub cause_look : (tries bay : ℕ) (cause : Code) (old new : StationState) → IsReadCause track key tries bay old cause new
+      → IsUndisturbed bay old.counters new.counters → old.counters.stalls ≤ new.counters.stalls
+      → faults_of old.counters bay ≤ faults_of new.counters bay
       → (look : Look) × LookFor track key look × (told_of key look ≡ (key, cause) ∷ [])
   cause_look tries bay code.NoMark old new is quiet fell kept = elim (is.no_mark refl quiet) [
     | inl none ↦ (NoMark, no_mark none, refl)

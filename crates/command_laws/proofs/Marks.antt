@@ -77,7 +77,8 @@ some_second P (taken ∷ one) two some = inr (some_second P one two some)
 
 -- ---- the mark of a read
 
-called_mark : (bay : ℕ) (key : Chrn) (address : ℕ) (called : Result Bool Code) → is_refusal (read_reply called) ≡ false → mark_of (request.Read bay key address) (read_reply called) ≡ tells_deleted (read_reply called) ∷ []
+called_mark : (bay : ℕ) (key : Chrn) (address : ℕ) (called : Result Bool Code) → is_refusal (read_reply called) ≡ false
+    → mark_of (request.Read bay key address) (read_reply called) ≡ tells_deleted (read_reply called) ∷ []
 called_mark bay key address (Ok true) done = refl
 called_mark bay key address (Ok false) done = refl
 called_mark bay key address (Err code) done = absurd (true≢false done)

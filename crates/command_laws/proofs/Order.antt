@@ -241,7 +241,8 @@ module _ (to log : List ℕ) where
   shape_in_order rest next (Some shape) = next shape
   shape_in_order rest next None = ends_in_order [] status.AllOk
 
-pub stores_in_order : (from to log : List ℕ) (old new : World) (course : List Taken) (ended : Status) → Rescues from to log old course new ended → StoresInOrder to log (log_of course) old.files new.files
+pub stores_in_order : (from to log : List ℕ) (old new : World) (course : List Taken) (ended : Status) → Rescues from to log old course new ended
+    → StoresInOrder to log (log_of course) old.files new.files
 unfolding opens
 stores_in_order from to log old new course ended (answers, are, runs) =
     let rest = λ (shape : Shape). rescue_rest to log shape (answers shape.rate) in

@@ -58,7 +58,8 @@ blank_valid cylinders rate least most = record {
 }
 
 -- a request that wasn't refused was a good one
-good_request : (old new : State) (told after : Option Files) (good : Bool) (next : Option Reason) (answer : Reply) (P : Type 0) → MatchOption (unless_bad good next) P (λ cause. IsRefused cause old told answer new after) → is_refusal answer ≡ false → good ≡ true
+good_request : (old new : State) (told after : Option Files) (good : Bool) (next : Option Reason) (answer : Reply) (P : Type 0)
+    → MatchOption (unless_bad good next) P (λ cause. IsRefused cause old told answer new after) → is_refusal answer ≡ false → good ≡ true
 good_request old new told after true next answer P holds done = refl
 good_request old new told after false next answer P holds done =
     absurd (true≢false (subst (λ (r : Reply). is_refusal r ≡ false) holds.answered done))
@@ -67,7 +68,8 @@ good_request old new told after false next answer P holds done =
 pub in_with : {T : Type 0} (two : Two T) (bay : ℕ) (value : T) → in_bay (with_bay two bay value) bay ≡ value
 in_with {T} two bay value = go (bay == 0)
   where
-    go : (b : Bool) → (if b then (if b then record two { first = value } else record two { second = value }).first else (if b then record two { first = value } else record two { second = value }).second) ≡ value
+    go : (b : Bool)
+        → (if b then (if b then record two { first = value } else record two { second = value }).first else (if b then record two { first = value } else record two { second = value }).second) ≡ value
     go true = refl
     go false = refl
 
@@ -79,7 +81,9 @@ pub record IsBlank (bay : ℕ) (rate : Rate) (name : List ℕ) (count : ℕ) (ol
   pub becomes : Becomes (set_bay old.station bay (fresh_bay (Some (blank_of count rate)))) new.station
   pub files : after ≡ told
 
-is_blank : (bay : ℕ) (rate : Rate) (name : List ℕ) (cylinders : ℕ) (old new : State) (told after : Option Files) → is_blank_request bay cylinders ≡ true → ChangesMedium bay (Some name) (Some (blank_of cylinders rate)) old new → after ≡ told → IsBlank bay rate name cylinders old told new after
+is_blank : (bay : ℕ) (rate : Rate) (name : List ℕ) (cylinders : ℕ) (old new : State) (told after : Option Files)
+    → is_blank_request bay cylinders ≡ true → ChangesMedium bay (Some name) (Some (blank_of cylinders rate)) old new → after ≡ told
+    → IsBlank bay rate name cylinders old told new after
 is_blank bay rate name cylinders old new told after good changes files =
     let most = and_both _ _ good in
     let least = and_both _ _ most.0 in
@@ -92,7 +96,9 @@ is_blank bay rate name cylinders old new told after good changes files =
       files = files;
     }
 
-pub blanks : (bay : ℕ) (rate : Rate) (name : List ℕ) (cylinders : ℕ) (old new : State) (told after : Option Files) (answer : Reply) → Step (blank_request bay name cylinders rate) old told answer new after → is_refusal answer ≡ false → IsBlank bay rate name cylinders old told new after
+pub blanks : (bay : ℕ) (rate : Rate) (name : List ℕ) (cylinders : ℕ) (old new : State) (told after : Option Files) (answer : Reply)
+    → Step (blank_request bay name cylinders rate) old told answer new after → is_refusal answer ≡ false
+    → IsBlank bay rate name cylinders old told new after
 blanks bay R500 name cylinders old new told after answer step done =
     let does = done_does old new told after (request.Blank bay name cylinders) answer step done in
     is_blank bay R500 name cylinders old new told after (good_request old new told after _ _ answer _ step done) does.2 does.1
@@ -116,7 +122,8 @@ only_high : (rate of_disk : Rate) → (rate ≡ R250 → of_disk ≡ R250) → o
 only_high R500 of_disk double high = refl
 only_high R250 of_disk double high = let low = double refl in absurd (cc (low, high))
 
-drive_acks : {P : Type 0} (good : Bool) (code : Code) (called : Result (Unit {0}) Code) (old new : StationState) → MatchBool good P (IsRefusedAtOnce code old called new) → IsOk called → P
+drive_acks : {P : Type 0} (good : Bool) (code : Code) (called : Result (Unit {0}) Code) (old new : StationState)
+    → MatchBool good P (IsRefusedAtOnce code old called new) → IsOk called → P
 drive_acks true code called old new holds ok = holds
 drive_acks false code called old new holds ok = absurd (true≢false (sym (subst IsOk holds.refused ok)))
 
@@ -129,7 +136,8 @@ acked_bay bay disk old new acked medium =
     ∙ in_with old.bays bay (record { medium = Some acked.disk; acknowledged = Some count; rate = acked.rate })
     ∙ ap (λ (d : Disk). record { medium = Some d; acknowledged = Some count; rate = acked.rate }) same
 
-pub acks : (bay : ℕ) (disk : Disk) (old new : State) (told after : Option Files) (answer : Reply) → Does (request.Ack bay) old told answer new after → is_refusal answer ≡ false → (bay_of old.station bay).medium ≡ Some disk → IsAcked bay disk old told new after
+pub acks : (bay : ℕ) (disk : Disk) (old new : State) (told after : Option Files) (answer : Reply) → Does (request.Ack bay) old told answer new after
+    → is_refusal answer ≡ false → (bay_of old.station bay).medium ≡ Some disk → IsAcked bay disk old told new after
 acks bay disk old new told after answer does done medium =
     let ok = ok_called does.1.0 answer does.1.1 done in
     let drive = drive_acks (is_bay bay) BadRequest does.1.0 old.station new.station does.1.2 ok in
@@ -167,11 +175,14 @@ pub record IsRated (bay : ℕ) (disk : Disk) (old : State) (told : Option Files)
 with_itself : (two : Two Bay) (bay : ℕ) → two ≡ with_bay two bay (in_bay two bay)
 with_itself two bay = go (bay == 0)
   where
-    go : (b : Bool) → two ≡ (if b then record two { first = (if b then two.first else two.second) } else record two { second = (if b then two.first else two.second) })
+    go : (b : Bool)
+        → two ≡ (if b then record two { first = (if b then two.first else two.second) } else record two { second = (if b then two.first else two.second) })
     go true = refl
     go false = refl
 
-pub rates : (bay : ℕ) (rate : Rate) (disk : Disk) (rest : List Request) (old new : State) (told after : Option Files) (course : List Taken) → DoesAll (rate_requests rate bay ++ rest) old told course new after → disk.rate ≡ rate → (bay_of old.station bay).medium ≡ Some disk → (disk.rate ≡ R500 → (bay_of old.station bay).rate ≡ R500) → IsRated bay disk old told rest new after
+pub rates : (bay : ℕ) (rate : Rate) (disk : Disk) (rest : List Request) (old new : State) (told after : Option Files) (course : List Taken)
+    → DoesAll (rate_requests rate bay ++ rest) old told course new after → disk.rate ≡ rate → (bay_of old.station bay).medium ≡ Some disk
+    → (disk.rate ≡ R500 → (bay_of old.station bay).rate ≡ R500) → IsRated bay disk old told rest new after
 rates bay R500 disk rest old new told after course all is medium high = record {
   mid = old;
   files = told;

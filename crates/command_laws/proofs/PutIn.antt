@@ -19,7 +19,9 @@ use Rattle.command_laws.proofs.TrackParts.{did_step}
 use Rattle.command_laws.proofs.Verified.{one_image}
 
 -- a disk that was put in has the shape of its image
-pub put_shape : (name : List ℕ) (disk : Disk) (files : Files) (old new : State) (after : Option Files) (answer : Reply) (shape : Shape) → IsImageOf (Some files) name disk → Step (request.Insert 0 name) old (Some files) answer new after → is_refusal answer ≡ false → shape_in (bay_of new.station 0) ≡ Some shape → shape ≡ shape_of disk
+pub put_shape : (name : List ℕ) (disk : Disk) (files : Files) (old new : State) (after : Option Files) (answer : Reply) (shape : Shape)
+    → IsImageOf (Some files) name disk → Step (request.Insert 0 name) old (Some files) answer new after → is_refusal answer ≡ false
+    → shape_in (bay_of new.station 0) ≡ Some shape → shape ≡ shape_of disk
 put_shape name disk files old new after answer shape image step done there =
     let put = (done_does old new (Some files) after (request.Insert 0 name) answer step done).2 in
     let same : put.0 ≡ disk = one_image files name put.0 disk put.1 image in

@@ -40,7 +40,8 @@ pub record Holds (disk : Disk) (count : ℕ) (station : StationState) : Type 0 w
   pub faults : faults_of station.counters 0 ≡ count
 
 -- such a read reaches the drive
-pub not_refused : (station : StationState) (c h r count : ℕ) → c ≤ 79 → h ≤ 1 → 1 ≤ r → (bay_of station 0).acknowledged ≡ Some count → read_refusal station 0 (key_of c h r) 0x10000 ≡ None
+pub not_refused : (station : StationState) (c h r count : ℕ) → c ≤ 79 → h ≤ 1 → 1 ≤ r → (bay_of station 0).acknowledged ≡ Some count
+    → read_refusal station 0 (key_of c h r) 0x10000 ≡ None
 not_refused station c h r count cylinder head sector acknowledged =
     let one : nat_le c 79 ≡ true = le-leb c 79 cylinder in
     let two : nat_le h 1 ≡ true = le-leb h 1 head in
@@ -52,10 +53,12 @@ reaches Q None e p = p
 reaches Q (Some code) e q = absurd (cc e)
 
 -- the bays after a call that changed memory and counters alone
-pub bays_stay : (old new : StationState) (memory : List ℕ) → new ≡ record (record old { memory = memory }) { counters = new.counters } → bay_of new 0 ≡ bay_of old 0
+pub bays_stay : (old new : StationState) (memory : List ℕ) → new ≡ record (record old { memory = memory }) { counters = new.counters }
+    → bay_of new 0 ≡ bay_of old 0
 bays_stay old new memory becomes = ap (λ (s : StationState). bay_of s 0) becomes
 
-pub holds_on : (disk : Disk) (count : ℕ) (old new : StationState) → Holds disk count old → bay_of new 0 ≡ bay_of old 0 → faults_of new.counters 0 ≡ count → Holds disk count new
+pub holds_on : (disk : Disk) (count : ℕ) (old new : StationState) → Holds disk count old → bay_of new 0 ≡ bay_of old 0
+    → faults_of new.counters 0 ≡ count → Holds disk count new
 holds_on disk count old new holds same faults = record {
   medium = ap (λ (b : Bay). b.medium) same ∙ holds.medium;
   rate = ap (λ (b : Bay). b.rate) same ∙ holds.rate;
@@ -89,7 +92,8 @@ module _ (disk : Disk) (unmistaken : IsUnmistaken disk) (count : ℕ) (key : Chr
       let on = subst (λ (d : Disk). IsSector (track_of d key.c key.h) key deleted is.content) same here in
       found_look (track_of disk key.c key.h) key plain single deleted is.content on
 
-  cause_tells : (tries : ℕ) (cause : Code) → IsReadCause (track_of disk key.c key.h) key tries 0 old cause new → (look : Look) × LookFor (track_of disk key.c key.h) key look × (told_of key look ≡ (key, cause) ∷ [])
+  cause_tells : (tries : ℕ) (cause : Code) → IsReadCause (track_of disk key.c key.h) key tries 0 old cause new
+      → (look : Look) × LookFor (track_of disk key.c key.h) key look × (told_of key look ≡ (key, cause) ∷ [])
   cause_tells tries cause is = cause_look (track_of disk key.c key.h) key plain single tries 0 cause old new is quiet fell.stalls fell.first
 
   -- what the driver answered
@@ -121,7 +125,10 @@ pub key_is : (key : Chrn) → key.n ≡ standard_code → key ≡ key_of key.c k
 key_is key size = ap (λ (n : ℕ). record { c = key.c; h = key.h; r = key.r; n = n }) size
 
 -- a read of a standard key
-pub one_read : (disk : Disk) (count : ℕ) (key : Chrn) (old new : State) (told after : Option Files) (answer : Reply) → disk.cylinders ≤ 80 → disk.heads ≤ 2 → IsUnmistaken disk → IsStandardKey disk key → Does (request.Read 0 key 0x10000) old told answer new after → Holds disk count old.station → IsUndisturbed 0 old.station.counters new.station.counters → NeverFell old.station.counters new.station.counters → Tells disk count key answer new.station
+pub one_read : (disk : Disk) (count : ℕ) (key : Chrn) (old new : State) (told after : Option Files) (answer : Reply) → disk.cylinders ≤ 80
+    → disk.heads ≤ 2 → IsUnmistaken disk → IsStandardKey disk key → Does (request.Read 0 key 0x10000) old told answer new after
+    → Holds disk count old.station → IsUndisturbed 0 old.station.counters new.station.counters → NeverFell old.station.counters new.station.counters
+    → Tells disk count key answer new.station
 one_read disk count key old new told after answer few_cylinders few_heads unmistaken standard does holds quiet fell =
     let cylinder : key.c ≤ 79 = omega (arith, standard.track.0, few_cylinders) in
     let head : key.h ≤ 1 = omega (arith, standard.track.1, few_heads) in
@@ -162,7 +169,11 @@ told_more key look rest =
     ∙ ap (λ (row : List (Chrn × Code)). row ++ all_told_of rest) (told_alone key look)
 
 -- the reads of some keys tell of those that aren't found
-pub reads_tell : (disk : Disk) (count : ℕ) (keys : List Chrn) (failed : List (Chrn × Look)) (old new : State) (told after : Option Files) (course : List Taken) → disk.cylinders ≤ 80 → disk.heads ≤ 2 → IsUnmistaken disk → All (IsStandardKey disk) keys → AreFailing disk keys failed → Run old told course new after → requests_of course ≡ read_each 0 keys → Holds disk count old.station → IsUndisturbed 0 old.station.counters new.station.counters → refused_reads course ≡ all_told_of failed
+pub reads_tell : (disk : Disk) (count : ℕ) (keys : List Chrn) (failed : List (Chrn × Look)) (old new : State) (told after : Option Files)
+    (course : List Taken)
+    → disk.cylinders ≤ 80 → disk.heads ≤ 2 → IsUnmistaken disk → All (IsStandardKey disk) keys → AreFailing disk keys failed
+    → Run old told course new after → requests_of course ≡ read_each 0 keys → Holds disk count old.station
+    → IsUndisturbed 0 old.station.counters new.station.counters → refused_reads course ≡ all_told_of failed
 reads_tell disk count [] failed old new told after [] few_cylinders few_heads unmistaken standard failing run all holds quiet = ap all_told_of (sym failing)
 reads_tell disk count [] failed old new told after (taken ∷ later) few_cylinders few_heads unmistaken standard failing run all holds quiet = absurd (cc all)
 reads_tell disk count (key ∷ keys) failed old new told after [] few_cylinders few_heads unmistaken standard failing run all holds quiet = absurd (cc all)

@@ -101,7 +101,8 @@ ready_plain : (rate : Rate) (formats : List Request) → list_all is_plain forma
 ready_plain R500 formats e = e
 ready_plain R250 formats e = e
 
-blank_plain : (from to : List ℕ) (cylinders : ℕ) (rate : Rate) (formats : List Request) → list_all is_plain formats ≡ true → list_all is_plain (request.Insert 0 from ∷ blank_request 1 to cylinders rate ∷ ready_requests rate formats) ≡ true
+blank_plain : (from to : List ℕ) (cylinders : ℕ) (rate : Rate) (formats : List Request) → list_all is_plain formats ≡ true
+    → list_all is_plain (request.Insert 0 from ∷ blank_request 1 to cylinders rate ∷ ready_requests rate formats) ≡ true
 blank_plain from to cylinders R500 formats e = e
 blank_plain from to cylinders R250 formats e = e
 
@@ -219,7 +220,8 @@ record IsSet (rate : Rate) (old : State) (told : Option Files) (rest : List Requ
   pub fell : NeverFell old.station.counters mid.station.counters
   pub behind : DoesAll rest mid files course new after
 
-sets : (rate : Rate) (rest : List Request) (old new : State) (told after : Option Files) (course : List Taken) → DoesAll (rate_requests rate 1 ++ rest) old told course new after → IsSet rate old told rest new after
+sets : (rate : Rate) (rest : List Request) (old new : State) (told after : Option Files) (course : List Taken)
+    → DoesAll (rate_requests rate 1 ++ rest) old told course new after → IsSet rate old told rest new after
 sets R500 rest old new told after course all = record {
   mid = old;
   files = told;
@@ -323,7 +325,8 @@ are_open from to disk files logged old new after course image all =
 -- ---- the formats
 
 -- the formats leave bay 0 as it is
-pub first_stays : (tracks : List Track) (old new : State) (told after : Option Files) (course : List Taken) → DoesAll (format_each 1 tracks) old told course new after → bay_of new.station 0 ≡ bay_of old.station 0
+pub first_stays : (tracks : List Track) (old new : State) (told after : Option Files) (course : List Taken)
+    → DoesAll (format_each 1 tracks) old told course new after → bay_of new.station 0 ≡ bay_of old.station 0
 first_stays [] old new told after course all = ap (λ (s : State). bay_of s.station 0) (ends_there old new told after course all).0
 first_stays (track ∷ later) old new told after course all =
     let one = begins old new told after (request.Format 1 track.0 track.1) (format_each 1 later) course all in
@@ -341,7 +344,9 @@ pub record LaysTracks (at : Rate) (source : Disk) (tracks : List Track) (disk : 
   pub names : new.names ≡ old.names
   pub files : after ≡ told
 
-pub lays_tracks : (rate : Rate) (source : Disk) (tracks : List Track) (disk : Disk) (old new : State) (told after : Option Files) (course : List Taken) → DoesAll (format_each 1 tracks) old told course new after → ((c h : ℕ) → Among tracks c h → HasTrack disk c h) → IsReady rate source disk old → IsFaultless 1 old.station.counters new.station.counters → LaysTracks rate source tracks disk old told new after
+pub lays_tracks : (rate : Rate) (source : Disk) (tracks : List Track) (disk : Disk) (old new : State) (told after : Option Files) (course : List Taken)
+    → DoesAll (format_each 1 tracks) old told course new after → ((c h : ℕ) → Among tracks c h → HasTrack disk c h) → IsReady rate source disk old
+    → IsFaultless 1 old.station.counters new.station.counters → LaysTracks rate source tracks disk old told new after
 lays_tracks rate source [] disk old new told after course all has ready faultless =
     let same = ends_there old new told after course all in
     record {
@@ -379,7 +384,9 @@ lays_tracks rate source (track ∷ later) disk old new told after course all has
     }
 
 -- so bay 0, whether or not there is a log
-formats_stay : (shape : Shape) (logged : Bool) (old new : State) (told after : Option Files) (course : List Taken) → DoesAll (formats_for shape logged) old told course new after → (bay_of new.station 0 ≡ bay_of old.station 0) × NeverFell old.station.counters new.station.counters
+formats_stay : (shape : Shape) (logged : Bool) (old new : State) (told after : Option Files) (course : List Taken)
+    → DoesAll (formats_for shape logged) old told course new after
+    → (bay_of new.station 0 ≡ bay_of old.station 0) × NeverFell old.station.counters new.station.counters
 formats_stay shape true old new told after course all = (first_stays [] old new told after course all, never_fell old new told after [] course all refl)
 formats_stay shape false old new told after course all =
     let tracks = tracks_of shape.cylinders shape.heads in (

@@ -229,7 +229,8 @@ abbrev pub IsGuarded : ℕ → Disk → State → List Taken → Type 0
 IsGuarded heads disk state course = AreLaid heads disk ⊎ AreTidy state course
 
 -- the disk of a list of changes that isn't empty has an address field for the first of them
-first_change : (written : Written) (disk : Disk) (earlier : List Change) (last : Change) (after : Disk) → ChangesDisk written disk (earlier ++ last ∷ []) after → (change : Change) × (next : Disk) × IsChange written disk change next
+first_change : (written : Written) (disk : Disk) (earlier : List Change) (last : Change) (after : Disk)
+    → ChangesDisk written disk (earlier ++ last ∷ []) after → (change : Change) × (next : Disk) × IsChange written disk change next
 first_change written disk [] last after changes = (last, changes.0, changes.1)
 first_change written disk (change ∷ earlier) last after changes = (change, changes.0, changes.1)
 
@@ -245,7 +246,9 @@ pub record GoesToField (disk : Disk) (key : Chrn) (old : StationState) : Type 0 
   pub address : IsAddressAt (track_of disk key.c key.h) place key
   pub rate : (bay_of old 1).rate ≡ disk.rate
 
-goes_to_field : (key : Chrn) (address : ℕ) (deleted : Bool) (disk : Disk) (old new : StationState) (called : Result (Unit {0}) Code) → IsRegularDisk disk → WritesDrive (written_from old key address deleted) 1 old called new → IsOk called → IsFaultless 1 old.counters new.counters → (bay_of old 1).medium ≡ Some disk → GoesToField disk key old
+goes_to_field : (key : Chrn) (address : ℕ) (deleted : Bool) (disk : Disk) (old new : StationState) (called : Result (Unit {0}) Code)
+    → IsRegularDisk disk → WritesDrive (written_from old key address deleted) 1 old called new → IsOk called → IsFaultless 1 old.counters new.counters
+    → (bay_of old 1).medium ≡ Some disk → GoesToField disk key old
 goes_to_field key address deleted disk old new called regular drive ok faultless medium =
     let written = written_from old key address deleted in
     let done = drive.done ok in
@@ -275,7 +278,8 @@ module _ (heads : ℕ) (disk next : Disk) (c h : ℕ) (keeps : KeepsTracks disk 
 
 -- ---- the write
 
-pub write_does : (key : Chrn) (deleted : Bool) (old new : State) (told after : Option Files) (answer : Reply) → Step (write_of key deleted) old told answer new after
+pub write_does : (key : Chrn) (deleted : Bool) (old new : State) (told after : Option Files) (answer : Reply)
+    → Step (write_of key deleted) old told answer new after
     → IsDriverCall old told new after × ((called : Result (Unit {0}) Code) × (answer ≡ reply_of called) × WritesTo 1 key 0x10000 deleted old.station called new.station)
 write_does key true old new told after answer step = step
 write_does key false old new told after answer step = step
@@ -324,7 +328,9 @@ module _ (tidy : AllTidy) (heads : ℕ) (disk : Disk) (key : Chrn) (deleted : Bo
     files = call.files;
   }
 
-  pub guarded_saves : (told after : Option Files) (later : List Taken) → IsDriverCall old told new after → (AreLaid heads disk ⊎ (IsTidyWrite old.station 1 key 0x10000 deleted × AreTidy new later)) → SavesKey heads disk key deleted old told new after later
+  pub guarded_saves : (told after : Option Files) (later : List Taken) → IsDriverCall old told new after
+      → (AreLaid heads disk ⊎ (IsTidyWrite old.station 1 key 0x10000 deleted × AreTidy new later))
+      → SavesKey heads disk key deleted old told new after later
   guarded_saves told after later call (inl laid) =
       let on = laid key.c key.h went.has head in
       let neat = tidy (track_of disk key.c key.h) went.place deleted content on field in
@@ -333,7 +339,12 @@ module _ (tidy : AllTidy) (heads : ℕ) (disk : Disk) (key : Chrn) (deleted : Bo
   guarded_saves told after later call (inr (first, rest)) =
       saves told after later (first disk key.c went.place medium went.has went.address) call (inr rest)
 
-pub saves_key : (tidy : AllTidy) (heads : ℕ) (disk : Disk) (key : Chrn) (deleted : Bool) (old : State) (told : Option Files) (taken : Taken) (after : Option Files) (later : List Taken) → IsRegularDisk disk → length old.station.memory ≡ user_bytes → key.n ≡ 2 → key.h < heads → taken.asked ≡ write_of key deleted → Step (write_of key deleted) old told taken.answer taken.after after → is_refusal taken.answer ≡ false → IsFaultless 1 old.station.counters taken.after.station.counters → (bay_of old.station 1).medium ≡ Some disk → IsGuarded heads disk old (taken ∷ later) → SavesKey heads disk key deleted old told taken.after after later
+pub saves_key : (tidy : AllTidy) (heads : ℕ) (disk : Disk) (key : Chrn) (deleted : Bool) (old : State) (told : Option Files) (taken : Taken)
+    (after : Option Files) (later : List Taken)
+    → IsRegularDisk disk → length old.station.memory ≡ user_bytes → key.n ≡ 2 → key.h < heads → taken.asked ≡ write_of key deleted
+    → Step (write_of key deleted) old told taken.answer taken.after after → is_refusal taken.answer ≡ false
+    → IsFaultless 1 old.station.counters taken.after.station.counters → (bay_of old.station 1).medium ≡ Some disk
+    → IsGuarded heads disk old (taken ∷ later) → SavesKey heads disk key deleted old told taken.after after later
 saves_key tidy heads disk key deleted old told taken after later regular size sized head asked step done faultless medium guarded =
     let call = write_does key deleted old taken.after told after taken.answer step in
     let ok = ok_called call.1.0 taken.answer call.1.1 done in
@@ -358,7 +369,8 @@ pub record SavesKeys (whole : List Taken) (lines : List LogLine) (keys : List Ch
   pub others : (entry : Entry) → WasNotRead course entry.key → IsOnMap disk entry ↔ IsOnMap final entry
 
 -- the rest of a course is guarded too
-guard_later : (heads : ℕ) (disk : Disk) (old : State) (first : Taken) (later : List Taken) → IsGuarded heads disk old (first ∷ later) → IsGuarded heads disk first.after later
+guard_later : (heads : ℕ) (disk : Disk) (old : State) (first : Taken) (later : List Taken) → IsGuarded heads disk old (first ∷ later)
+    → IsGuarded heads disk first.after later
 guard_later heads disk old first later (inl laid) = inl laid
 guard_later heads disk old first later (inr neat) = inr neat.1
 

@@ -75,7 +75,8 @@ sector_asked bay c h r place is_one cylinder head least from few =
     let inside : nat_le (record_address place + content_size standard_code) user_bytes ≡ true = le-leb _ _ (omega arith) in
     both_true _ _ (both_true _ _ (both_true _ _ (both_true _ _ is_one there) refl) (le-leb 1 r least)) inside
 
-read_order : (good crosses acknowledged : Bool) → good ≡ true → crosses ≡ false → acknowledged ≡ true → (if not good then Some BadRequest else (if crosses then Some Page else (if not acknowledged then Some Changed else None))) ≡ None
+read_order : (good crosses acknowledged : Bool) → good ≡ true → crosses ≡ false → acknowledged ≡ true
+    → (if not good then Some BadRequest else (if crosses then Some Page else (if not acknowledged then Some Changed else None))) ≡ None
 read_order good crosses acknowledged e f g = rw (e, f, g) refl
 
 -- an undisturbed call is disturbed less than its attempts stand
@@ -119,7 +120,8 @@ module _ (source : Disk) (readable : IsReadable source) (c h r : ℕ) (has : Has
       let on = subst (λ (track : List ℕ). IsReadCause track (key_of c h r) old.tries 0 old code new) is cause in
       on.never (clear source readable.regular (key_of c h r) has standard) (all_found source readable.regular (key_of c h r) has standard) (disturbed_less old.tries 0 old.counters new.counters calm)
 
-  called_taken : (address : ℕ) (called : Result Bool Code) → ReadsDrive 0 (key_of c h r) address old called new → (is_refusal (read_reply called) ≡ false) × (new.bays ≡ old.bays)
+  called_taken : (address : ℕ) (called : Result Bool Code) → ReadsDrive 0 (key_of c h r) address old called new
+      → (is_refusal (read_reply called) ≡ false) × (new.bays ≡ old.bays)
   called_taken address (Ok true) drive = (refl, ap (λ (s : StationState). s.bays) drive.found.becomes)
   called_taken address (Ok false) drive = (refl, ap (λ (s : StationState). s.bays) drive.found.becomes)
   called_taken address (Err code) drive = absurd (read_never code drive.refused.cause)
@@ -275,7 +277,8 @@ remade bay other rate count Before Also old new next apart made becomes medium a
 -- ---- A track is formatted.
 
 -- the sectors of a rate fit on its tracks
-standard_fits : (rate : Rate) (c h words : ℕ) → words ≡ words_at rate → Fits (format_keys (format_at c h rate (gap_at rate) standard_fill)) standard_code (gap_at rate) words
+standard_fits : (rate : Rate) (c h words : ℕ) → words ≡ words_at rate
+    → Fits (format_keys (format_at c h rate (gap_at rate) standard_fill)) standard_code (gap_at rate) words
 standard_fits rate c h words same = (format_fits (format_at c h rate (gap_at rate) standard_fill) words).1 (go rate words same)
   where
     go : (r : Rate) (w : ℕ) → w ≡ words_at r → laid_words (sectors_at r) standard_code (gap_at r) ≤ w
@@ -287,10 +290,12 @@ gap_asked R500 = (refl, refl)
 gap_asked R250 = (refl, refl)
 
 -- a medium that isn't protected
-pub protected_by : (medium : Option Disk) (disk : Disk) → medium ≡ Some disk → disk.protected ≡ false → option_map_or (λ (d : Disk). d.protected) medium false ≡ false
+pub protected_by : (medium : Option Disk) (disk : Disk) → medium ≡ Some disk → disk.protected ≡ false
+    → option_map_or (λ (d : Disk). d.protected) medium false ≡ false
 protected_by medium disk is free = rw (is, free) refl
 
-format_order : (good acknowledged protected : Bool) → good ≡ true → acknowledged ≡ true → protected ≡ false → (if not good then Some BadRequest else (if not acknowledged then Some Changed else (if protected then Some Protected else None))) ≡ None
+format_order : (good acknowledged protected : Bool) → good ≡ true → acknowledged ≡ true → protected ≡ false
+    → (if not good then Some BadRequest else (if not acknowledged then Some Changed else (if protected then Some Protected else None))) ≡ None
 format_order good acknowledged protected e f g = rw (e, f, g) refl
 
 module _ (bay other : ℕ) (rate : Rate) (count c h : ℕ) (is_one : is_bay bay ≡ true) (apart : AreApart bay other) (cylinder : c < count) (head : h < 2)
@@ -367,7 +372,8 @@ write_called : (bay : ℕ) (key : Chrn) (address : ℕ) (deleted : Bool) (old ne
 write_called bay key address true old new told after answer step = step
 write_called bay key address false old new told after answer step = step
 
-write_order : (good crosses acknowledged protected : Bool) → good ≡ true → crosses ≡ false → acknowledged ≡ true → protected ≡ false → (if not good then Some BadRequest else (if crosses then Some Page else (if not acknowledged then Some Changed else (if protected then Some Protected else None)))) ≡ None
+write_order : (good crosses acknowledged protected : Bool) → good ≡ true → crosses ≡ false → acknowledged ≡ true → protected ≡ false
+    → (if not good then Some BadRequest else (if crosses then Some Page else (if not acknowledged then Some Changed else (if protected then Some Protected else None)))) ≡ None
 write_order good crosses acknowledged protected e f g i = rw (e, f, g, i) refl
 
 other_key : (c h r s : ℕ) → (r ≡ s → ⊥) → key_of c h r ≢ key_of c h s

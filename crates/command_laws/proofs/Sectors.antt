@@ -109,7 +109,8 @@ pub record HasContent (track : List ℕ) (place : ℕ) (key : Chrn) (content : L
   pub address : IsAddressAt track place key
   pub found : (data_place : ℕ) × LookAt track place key.n (Found false data_place) × (content ≡ content_at track data_place key.n)
 
-pub track_sector : (rate : Rate) (c h r : ℕ) → c < 256 → h < 256 → 1 ≤ r → r ≤ sectors_at rate → (place : ℕ) × HasContent (standard_track rate c h) place (key_of c h r) standard_content
+pub track_sector : (rate : Rate) (c h r : ℕ) → c < 256 → h < 256 → 1 ≤ r → r ≤ sectors_at rate
+    → (place : ℕ) × HasContent (standard_track rate c h) place (key_of c h r) standard_content
 unfolding standard_content
 track_sector rate c h r small_c small_h least most =
     let fields = track_fields rate c h small_c small_h in

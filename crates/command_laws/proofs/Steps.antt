@@ -26,7 +26,8 @@ or_false true b e = absurd (true≢false e)
 or_false false b e = (refl, e)
 
 -- a request that wasn't refused was done
-pub done_does : (old new : State) (told after : Option Files) (asked : Request) (answer : Reply) → Step asked old told answer new after → is_refusal answer ≡ false → Does asked old told answer new after
+pub done_does : (old new : State) (told after : Option Files) (asked : Request) (answer : Reply) → Step asked old told answer new after
+    → is_refusal answer ≡ false → Does asked old told answer new after
 done_does old new told after asked answer step done =
     either (refusal_of old asked) step (λ does. does)
     (λ cause refused. absurd (true≢false (subst (λ (r : Reply). is_refusal r ≡ false) refused.answered done)))
@@ -42,7 +43,8 @@ pub record Begins (old : State) (told : Option Files) (asked : Request) (rest : 
   pub does : Does asked old told answer mid files
   pub behind : DoesAll rest mid files later new after
 
-pub begins : (old new : State) (told after : Option Files) (asked : Request) (rest : List Request) (course : List Taken) → DoesAll (asked ∷ rest) old told course new after → Begins old told asked rest new after
+pub begins : (old new : State) (told after : Option Files) (asked : Request) (rest : List Request) (course : List Taken)
+    → DoesAll (asked ∷ rest) old told course new after → Begins old told asked rest new after
 begins old new told after asked rest [] all = let e = all.all in absurd (cc e)
 begins old new told after asked rest (taken ∷ later) all =
     let e = all.all in
@@ -73,7 +75,8 @@ ok_called (Ok u) answer e done = refl
 ok_called (Err code) answer e done = absurd (true≢false (subst (λ (r : Reply). is_refusal r ≡ false) e done))
 
 -- a call that was Ok wasn't refused at once
-pub reached : {A P : Type 0} (refusal : Option Code) (called : Result A Code) (old new : StationState) → MatchOption refusal P (λ code. IsRefusedAtOnce code old called new) → IsOk called → P
+pub reached : {A P : Type 0} (refusal : Option Code) (called : Result A Code) (old new : StationState)
+    → MatchOption refusal P (λ code. IsRefusedAtOnce code old called new) → IsOk called → P
 reached {A} {P} refusal called old new holds ok =
     either {R = P} refusal holds (λ p. p) (λ code refused. absurd (true≢false (sym (subst IsOk refused.refused ok))))
 
@@ -84,7 +87,8 @@ abbrev pub keeps_drives : Request → Bool
 keeps_drives (request.Unit bay) = false
 keeps_drives _ = true
 
-does_goes : (old new : State) (told after : Option Files) (asked : Request) (answer : Reply) → Does asked old told answer new after → keeps_drives asked ≡ true → GoesOn old.station.counters new.station.counters
+does_goes : (old new : State) (told after : Option Files) (asked : Request) (answer : Reply) → Does asked old told answer new after
+    → keeps_drives asked ≡ true → GoesOn old.station.counters new.station.counters
 does_goes old new told after (request.Insert bay name) answer does keeps = does.2.2.counts
 does_goes old new told after (request.Blank bay name cylinders) answer does keeps = does.2.counts
 does_goes old new told after (request.BlankDd bay name cylinders) answer does keeps = does.2.counts
@@ -106,7 +110,8 @@ pub record NeverFell (old new : Counters) : Type 0 where
   pub second : old.drives.second.faults ≤ new.drives.second.faults
   pub stalls : old.stalls ≤ new.stalls
 
-pub step_never_fell : (old new : State) (told after : Option Files) (asked : Request) (answer : Reply) → Step asked old told answer new after → keeps_drives asked ≡ true → NeverFell old.station.counters new.station.counters
+pub step_never_fell : (old new : State) (told after : Option Files) (asked : Request) (answer : Reply) → Step asked old told answer new after
+    → keeps_drives asked ≡ true → NeverFell old.station.counters new.station.counters
 step_never_fell old new told after asked answer step keeps =
     let goes : GoesOn old.station.counters new.station.counters =
     either (refusal_of old asked) step (λ does. does_goes old new told after asked answer does keeps) (λ cause refused. refused.same.counts) in
@@ -117,7 +122,8 @@ and_both true b e = (refl, e)
 and_both false b e = absurd (true≢false (sym e))
 
 -- nor in a run, whatever its answers
-pub run_never_fell : (old new : State) (told after : Option Files) (course : List Taken) → Run old told course new after → list_all keeps_drives (requests_of course) ≡ true → NeverFell old.station.counters new.station.counters
+pub run_never_fell : (old new : State) (told after : Option Files) (course : List Taken) → Run old told course new after
+    → list_all keeps_drives (requests_of course) ≡ true → NeverFell old.station.counters new.station.counters
 run_never_fell old new told after [] run keeps =
     subst (λ (s : State). NeverFell old.station.counters s.station.counters) (sym run.0) (record { first = omega arith; second = omega arith; stalls = omega arith })
 run_never_fell old new told after (taken ∷ later) run keeps =
@@ -126,7 +132,8 @@ run_never_fell old new told after (taken ∷ later) run keeps =
     let there = run_never_fell taken.after new run.0 after later run.2 both.1 in
     record { first = omega arith; second = omega arith; stalls = omega arith }
 
-pub never_fell : (old new : State) (told after : Option Files) (requests : List Request) (course : List Taken) → DoesAll requests old told course new after → list_all keeps_drives requests ≡ true → NeverFell old.station.counters new.station.counters
+pub never_fell : (old new : State) (told after : Option Files) (requests : List Request) (course : List Taken)
+    → DoesAll requests old told course new after → list_all keeps_drives requests ≡ true → NeverFell old.station.counters new.station.counters
 never_fell old new told after requests course all keeps =
     run_never_fell old new told after course all.run (ap (λ (l : List Request). list_all keeps_drives l) all.all ∙ keeps)
 
@@ -145,7 +152,8 @@ pub record SplitsRun (old : State) (told : Option Files) (first second : List Re
   pub all_one : requests_of one ≡ first
   pub all_two : requests_of two ≡ second
 
-pub splits_run : (old new : State) (told after : Option Files) (first second : List Request) (course : List Taken) → Run old told course new after → requests_of course ≡ first ++ second → SplitsRun old told first second course new after
+pub splits_run : (old new : State) (told after : Option Files) (first second : List Request) (course : List Taken) → Run old told course new after
+    → requests_of course ≡ first ++ second → SplitsRun old told first second course new after
 splits_run old new told after [] second course run all = record {
   mid = old;
   files = told;
@@ -194,7 +202,8 @@ refusals_apart (taken ∷ one) two done =
     let first = parts.0 in
     (rw first rest.0, rest.1)
 
-pub splits : (old new : State) (told after : Option Files) (first second : List Request) (course : List Taken) → DoesAll (first ++ second) old told course new after → Splits old told first second course new after
+pub splits : (old new : State) (told after : Option Files) (first second : List Request) (course : List Taken)
+    → DoesAll (first ++ second) old told course new after → Splits old told first second course new after
 splits old new told after first second course all =
     let parts = splits_run old new told after first second course all.run all.all in
     let done = refusals_apart parts.one parts.two (subst (λ (row : List Taken). has_refusal row ≡ false) parts.is all.done) in

@@ -5,7 +5,8 @@ use Rattle.flop_base.specs.Lists.{with_items}
 use Rattle.bay_model.specs.Memory.{bytes_from}
 use Rattle.track_model.proofs.Splices.{length-with_items, with_items_before, with_items_at}
 
-pub with_at : (memory : List ℕ) (address : ℕ) (bytes : List ℕ) → address + length bytes ≤ length memory → (k : ℕ) → k < length bytes → get_or (with_items memory address bytes) (address + k) 0 ≡ get_or bytes k 0
+pub with_at : (memory : List ℕ) (address : ℕ) (bytes : List ℕ) → address + length bytes ≤ length memory → (k : ℕ) → k < length bytes
+    → get_or (with_items memory address bytes) (address + k) 0 ≡ get_or bytes k 0
 with_at memory address bytes fits k at = with_items_at memory address bytes fits (address + k) k refl at
 
 -- the bytes of a range, one by one
@@ -16,7 +17,8 @@ pub length-bytes_from : (memory : List ℕ) (place count : ℕ) → place + coun
 length-bytes_from memory place count inside = omega (arith, length-take count (drop place memory), length-drop place memory)
 
 -- what is before a range stays
-pub below_stays : (memory : List ℕ) (address : ℕ) (bytes : List ℕ) (place count : ℕ) → address + length bytes ≤ length memory → place + count ≤ address → bytes_from (with_items memory address bytes) place count ≡ bytes_from memory place count
+pub below_stays : (memory : List ℕ) (address : ℕ) (bytes : List ℕ) (place count : ℕ) → address + length bytes ≤ length memory
+    → place + count ≤ address → bytes_from (with_items memory address bytes) place count ≡ bytes_from memory place count
 below_stays memory address bytes place count fits below =
     let long = length-with_items memory address bytes fits in
     let one : length (bytes_from (with_items memory address bytes) place count) ≡ count = length-bytes_from (with_items memory address bytes) place count (omega arith) in
@@ -29,7 +31,8 @@ below_stays memory address bytes place count fits below =
     ∙ sym (byte_from memory place count k inside))
 
 -- what is put at a range stands there
-pub at_stands : (memory : List ℕ) (address : ℕ) (bytes : List ℕ) (count : ℕ) → length bytes ≡ count → address + length bytes ≤ length memory → bytes_from (with_items memory address bytes) address count ≡ bytes
+pub at_stands : (memory : List ℕ) (address : ℕ) (bytes : List ℕ) (count : ℕ) → length bytes ≡ count → address + length bytes ≤ length memory
+    → bytes_from (with_items memory address bytes) address count ≡ bytes
 at_stands memory address bytes count sized fits =
     let long = length-with_items memory address bytes fits in
     let one : length (bytes_from (with_items memory address bytes) address count) ≡ count = length-bytes_from (with_items memory address bytes) address count (omega arith) in

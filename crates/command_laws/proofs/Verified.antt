@@ -57,15 +57,18 @@ one_image files name a b one two = go (file_at files name) one two
     same : (r : Result Disk ImageError) → r ≡ Ok a → r ≡ Ok b → a ≡ b
     same r e f = cc (e, f)
 
-    go : (o : Option (List ℕ)) → IsSomeAnd o (λ bytes. (length bytes ≤ most_image_bytes) × (image_of bytes ≡ Ok a)) → IsSomeAnd o (λ bytes. (length bytes ≤ most_image_bytes) × (image_of bytes ≡ Ok b)) → a ≡ b
+    go : (o : Option (List ℕ)) → IsSomeAnd o (λ bytes. (length bytes ≤ most_image_bytes) × (image_of bytes ≡ Ok a))
+        → IsSomeAnd o (λ bytes. (length bytes ≤ most_image_bytes) × (image_of bytes ≡ Ok b)) → a ≡ b
     go None x y = absurd x
     go (Some bytes) x y = same (image_of bytes) x.1 y.1
 
 -- such a disk has ranges
-pub image_ranges : (files : Files) (name : List ℕ) (disk : Disk) → IsImageOf (Some files) name disk → (disk.cylinders ≤ 80) × (disk.heads ≤ 2) × (1 ≤ disk.cylinders)
+pub image_ranges : (files : Files) (name : List ℕ) (disk : Disk) → IsImageOf (Some files) name disk
+    → (disk.cylinders ≤ 80) × (disk.heads ≤ 2) × (1 ≤ disk.cylinders)
 image_ranges files name disk is = go (file_at files name) is
   where
-    go : (o : Option (List ℕ)) → IsSomeAnd o (λ bytes. (length bytes ≤ most_image_bytes) × (image_of bytes ≡ Ok disk)) → (disk.cylinders ≤ 80) × (disk.heads ≤ 2) × (1 ≤ disk.cylinders)
+    go : (o : Option (List ℕ)) → IsSomeAnd o (λ bytes. (length bytes ≤ most_image_bytes) × (image_of bytes ≡ Ok disk))
+        → (disk.cylinders ≤ 80) × (disk.heads ≤ 2) × (1 ≤ disk.cylinders)
     go None x = absurd x
     go (Some bytes) x = image_range bytes disk x.1
 
@@ -77,7 +80,9 @@ record IsOpened (disk : Disk) (new : State) (end : Counters) : Type 0 where
   pub holds : Holds disk count new.station
   pub quiet : IsUndisturbed 0 new.station.counters end
 
-opens : (name : List ℕ) (disk : Disk) (files : Files) (old new : State) (after : Option Files) (course : List Taken) (end : Counters) → IsImageOf (Some files) name disk → DoesAll (verify_opening name disk) old (Some files) course new after → NeverFell new.station.counters end → IsUndisturbed 0 old.station.counters end → IsOpened disk new end
+opens : (name : List ℕ) (disk : Disk) (files : Files) (old new : State) (after : Option Files) (course : List Taken) (end : Counters)
+    → IsImageOf (Some files) name disk → DoesAll (verify_opening name disk) old (Some files) course new after → NeverFell new.station.counters end
+    → IsUndisturbed 0 old.station.counters end → IsOpened disk new end
 opens name disk files old new after course end image all last quiet =
     let one = begins old new (Some files) after (request.Insert 0 name) (request.Ack 0 ∷ rate_requests disk.rate 0) course all in
     let put = one.does.2 in
@@ -131,7 +136,9 @@ opening_tells name disk (one ∷ two ∷ later) all =
     go R250 (taken ∷ next ∷ later) all = absurd (cc all)
 
 -- the reads of a whole disk tell of its standard keys that aren't found
-pub disk_tells : (old new : State) (files : Files) (name : List ℕ) (disk : Disk) (course : List Taken) (after : Option Files) (failed : List (Chrn × Look)) → ReadsDisk name disk old files course new after → IsUndisturbed 0 old.station.counters new.station.counters → IsUnmistaken disk → AreFailing disk (standard_keys disk) failed → refused_reads course ≡ all_told_of failed
+pub disk_tells : (old new : State) (files : Files) (name : List ℕ) (disk : Disk) (course : List Taken) (after : Option Files) (failed : List (Chrn × Look))
+    → ReadsDisk name disk old files course new after → IsUndisturbed 0 old.station.counters new.station.counters → IsUnmistaken disk
+    → AreFailing disk (standard_keys disk) failed → refused_reads course ≡ all_told_of failed
 disk_tells old new files name disk course after failed all quiet unmistaken failing =
     let parts = splits_run old new (Some files) after (verify_opening name disk) (read_each 0 (standard_keys disk)) course all.run all.all in
     let done = subst (λ (row : List Taken). has_refusal row ≡ false) parts.begun all.opened in

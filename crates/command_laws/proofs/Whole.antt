@@ -257,7 +257,8 @@ told_apart a b differ = go (same_name a b) (λ same. tells_apart (fin.slice_cmp-
     go true same = absurd (differ (same refl))
     go false same = refl
 
-at_stored : (files : Files) (name bytes other : List ℕ) → file_at (fin.insert files name bytes) other ≡ cond (same_name other name) (Some bytes) (file_at files other)
+at_stored : (files : Files) (name bytes other : List ℕ)
+    → file_at (fin.insert files name bytes) other ≡ cond (same_name other name) (Some bytes) (file_at files other)
 at_stored files name bytes other = fin.get-insert nat_list_cmp_total files name bytes other
 
 -- what was stored last stands there
@@ -285,11 +286,13 @@ stores_both files to log disk lines after differ is =
     subst (λ (f : Option Files). IfSome f (λ files. file_at files to ≡ Some disk) × IfSome f (λ files. file_at files log ≡ Some lines)) (sym is)
     (other_there (fin.insert files to disk) log lines to differ ∙ last_there files to disk, last_there (fin.insert files to disk) log lines)
 
-log_under : (before : Option Files) (log lines : List ℕ) (after : Option Files) → after ≡ stored before log lines → IfSome after (λ files. file_at files log ≡ Some lines)
+log_under : (before : Option Files) (log lines : List ℕ) (after : Option Files) → after ≡ stored before log lines
+    → IfSome after (λ files. file_at files log ≡ Some lines)
 log_under None log lines after is = subst (λ (f : Option Files). IfSome f (λ files. file_at files log ≡ Some lines)) (sym is) tt
 log_under (Some files) log lines after is = subst (λ (f : Option Files). IfSome f (λ files. file_at files log ≡ Some lines)) (sym is) (last_there files log lines)
 
-same_outcome : (course : List Taken) (asked : ℕ) → count_writes course + length (log_of course) ≡ asked → outcome_of asked (log_of course) ≡ outcome_in course asked
+same_outcome : (course : List Taken) (asked : ℕ) → count_writes course + length (log_of course) ≡ asked
+    → outcome_of asked (log_of course) ≡ outcome_in course asked
 same_outcome course asked count =
     let written : asked - length (log_of course) ≡ count_writes course = omega arith in
     ap (λ (n : ℕ). record { written = n; asked = asked }) written

@@ -56,7 +56,8 @@ fell_at bay old new fell = go (bay == 0)
 -- ---- one write
 
 -- both writes are the driver's, with their marks
-write_does : (bay : ℕ) (key : Chrn) (deleted : Bool) (old new : State) (told after : Option Files) (answer : Reply) → Does (write_record bay key deleted) old told answer new after
+write_does : (bay : ℕ) (key : Chrn) (deleted : Bool) (old new : State) (told after : Option Files) (answer : Reply)
+    → Does (write_record bay key deleted) old told answer new after
     → IsDriverCall old told new after × ((called : Result (Unit {0}) Code) × (answer ≡ reply_of called) × WritesTo bay key (record_address key.r) deleted old.station called new.station)
 write_does bay key true old new told after answer does = does
 write_does bay key false old new told after answer does = does
@@ -93,7 +94,12 @@ module _ (tidy : AllTidy) (bay c h r : ℕ) (deleted : Bool) (disk : Disk) (regu
   still_laid : IsLaid (track_of stands.next c h)
   still_laid = subst IsLaid (sym stands.window) (written_laid (track_of disk c h) p deleted content laid field)
 
-pub one_write : (tidy : AllTidy) (bay : ℕ) (disk : Disk) (c h r p : ℕ) (deleted : Bool) (old new : State) (told after : Option Files) (answer : Reply) → IsRegularDisk disk → HasTrack disk c h → IsLaid (track_of disk c h) → IsAddressAt (track_of disk c h) p (key_of c h r) → length old.station.memory ≡ user_bytes → record_address r + 512 ≤ user_bytes → Does (write_record bay (key_of c h r) deleted) old told answer new after → is_refusal answer ≡ false → IsFaultless bay old.station.counters new.station.counters → (bay_of old.station bay).medium ≡ Some disk → (bay_of old.station bay).rate ≡ disk.rate → WritesOne bay disk c h r deleted old told new after
+pub one_write : (tidy : AllTidy) (bay : ℕ) (disk : Disk) (c h r p : ℕ) (deleted : Bool) (old new : State) (told after : Option Files) (answer : Reply)
+    → IsRegularDisk disk → HasTrack disk c h → IsLaid (track_of disk c h) → IsAddressAt (track_of disk c h) p (key_of c h r)
+    → length old.station.memory ≡ user_bytes → record_address r + 512 ≤ user_bytes
+    → Does (write_record bay (key_of c h r) deleted) old told answer new after → is_refusal answer ≡ false
+    → IsFaultless bay old.station.counters new.station.counters → (bay_of old.station bay).medium ≡ Some disk
+    → (bay_of old.station bay).rate ≡ disk.rate → WritesOne bay disk c h r deleted old told new after
 one_write tidy bay disk c h r p deleted old new told after answer regular has laid address size few does done faultless medium rate =
     let call = write_does bay (key_of c h r) deleted old new told after answer does in
     let ok = ok_called call.1.0 answer call.1.1 done in
@@ -156,7 +162,12 @@ writes_keep bay (key ∷ keys) (deleted ∷ marks) = let first = write_keeps bay
 other_key : (c h r s : ℕ) → (r ≡ s → ⊥) → key_of c h r ≢ key_of c h s
 other_key c h r s differ e = differ (ap (λ (k : Chrn). k.r) e)
 
-pub all_writes : (tidy : AllTidy) (bay : ℕ) (disk : Disk) (c h a n : ℕ) (marks : List Bool) (old new : State) (told after : Option Files) (course : List Taken) → DoesAll (write_records bay (keys_from c h a n) marks) old told course new after → length marks ≡ n → 1 ≤ a → a + n ≤ 19 → ((r : ℕ) → a ≤ r → r < a + n → HasSome disk c h r) → IsDisk disk → IsRegularDisk disk → HasTrack disk c h → IsLaid (track_of disk c h) → length old.station.memory ≡ user_bytes → IsFaultless bay old.station.counters new.station.counters → (bay_of old.station bay).medium ≡ Some disk → (bay_of old.station bay).rate ≡ disk.rate → WritesAll bay disk c h a marks old told new after
+pub all_writes : (tidy : AllTidy) (bay : ℕ) (disk : Disk) (c h a n : ℕ) (marks : List Bool) (old new : State) (told after : Option Files)
+    (course : List Taken)
+    → DoesAll (write_records bay (keys_from c h a n) marks) old told course new after → length marks ≡ n → 1 ≤ a → a + n ≤ 19
+    → ((r : ℕ) → a ≤ r → r < a + n → HasSome disk c h r) → IsDisk disk → IsRegularDisk disk → HasTrack disk c h → IsLaid (track_of disk c h)
+    → length old.station.memory ≡ user_bytes → IsFaultless bay old.station.counters new.station.counters → (bay_of old.station bay).medium ≡ Some disk
+    → (bay_of old.station bay).rate ≡ disk.rate → WritesAll bay disk c h a marks old told new after
 all_writes tidy bay disk c h a zero [] old new told after course all count least most there valid regular has laid size faultless medium rate =
     let same = ends_there old new told after course all in
     record {

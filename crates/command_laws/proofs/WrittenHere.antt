@@ -22,11 +22,13 @@ use Rattle.command_laws.proofs.WholeWindow.{whole_is}
 
 -- ---- the last change
 
-last_change : (written : Written) (disk : Disk) (earlier : List Change) (last : Change) (after : Disk) → ChangesDisk written disk (earlier ++ last ∷ []) after → (mid : Disk) × IsChange written mid last after
+last_change : (written : Written) (disk : Disk) (earlier : List Change) (last : Change) (after : Disk)
+    → ChangesDisk written disk (earlier ++ last ∷ []) after → (mid : Disk) × IsChange written mid last after
 last_change written disk [] last after changes = (disk, subst (λ (d : Disk). IsChange written disk last d) (sym changes.2) changes.1)
 last_change written disk (change ∷ earlier) last after changes = last_change written changes.0 earlier last after changes.2
 
-pub reaches_in : (written : Written) (before after : Option Disk) (disk next : Disk) (changes : List Change) → before ≡ Some disk → after ≡ Some next → Reaches written before changes after → ChangesDisk written disk changes next
+pub reaches_in : (written : Written) (before after : Option Disk) (disk next : Disk) (changes : List Change) → before ≡ Some disk → after ≡ Some next
+    → Reaches written before changes after → ChangesDisk written disk changes next
 reaches_in written before after disk next changes e f reach =
     let here = subst (λ (o : Option Disk). Reaches written o changes after) e reach in
     subst (λ (o : Option Disk). Reaches written (Some disk) changes o) f here

@@ -7,11 +7,13 @@ use Rattle.scripts.specs.Parts.{Part, through, each}
 use Rattle.scripts.specs.Leading.{Leads, Goes, IsAtTurn}
 
 -- the first turn, and the others
-each_more : {Found : Type 0} (i n : ℕ) (part : ℕ → Found → Part Found) (found : Found) (rest : Found → Script) → each i (suc n) part found rest ≡ part i found (λ now. each (i + 1) n part now rest)
+each_more : {Found : Type 0} (i n : ℕ) (part : ℕ → Found → Part Found) (found : Found) (rest : Found → Script)
+    → each i (suc n) part found rest ≡ part i found (λ now. each (i + 1) n part now rest)
 unfolding each through
 each_more i n part found rest = refl
 
-turn_is : {Found : Type 0} (i n : ℕ) (part : ℕ → Found → Part Found) (found : Found) (rest : Found → Script) → 1 ≤ n → each i n part found rest ≡ part i found (λ now. each (i + 1) (n - 1) part now rest)
+turn_is : {Found : Type 0} (i n : ℕ) (part : ℕ → Found → Part Found) (found : Found) (rest : Found → Script) → 1 ≤ n
+    → each i n part found rest ≡ part i found (λ now. each (i + 1) (n - 1) part now rest)
 turn_is i zero part found rest some = absurd (omega (arith, some))
 turn_is i (suc n) part found rest some =
     let left : n ≡ suc n - 1 = omega arith in

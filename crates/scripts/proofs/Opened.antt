@@ -21,14 +21,16 @@ by_refusal (Some cause) holds none some = some cause holds
 not_refused : (answer : Reply) (cause : Reason) → is_refusal answer ≡ false → answer ≡ reply.Refused cause → ⊥
 not_refused answer cause fine refused = true≢false (sym (ap is_refusal refused) ∙ fine)
 
-pub put_in : (name : List ℕ) (answer : Reply) (old new : State) (told after : Option Files) → is_refusal answer ≡ false → Step (request.Insert 0 name) old told answer new after → (disk : Disk) × ((bay_of new.station 0).medium ≡ Some disk)
+pub put_in : (name : List ℕ) (answer : Reply) (old new : State) (told after : Option Files) → is_refusal answer ≡ false
+    → Step (request.Insert 0 name) old told answer new after → (disk : Disk) × ((bay_of new.station 0).medium ≡ Some disk)
 put_in name answer old new told after fine step =
     by_refusal (refusal_of old (request.Insert 0 name)) step
     (λ does. (does.2.0, ap (λ (s : StationState). (bay_of s 0).medium) does.2.2.exchanged.becomes))
     (λ cause refused. absurd (not_refused answer cause fine refused.answered))
 
 -- there is a shape where there is a disk
-pub there_is : (name : List ℕ) (answer : Reply) (old new : State) (told after : Option Files) → is_refusal answer ≡ false → Step (request.Insert 0 name) old told answer new after → shape_in (bay_of new.station 0) ≡ None → ⊥
+pub there_is : (name : List ℕ) (answer : Reply) (old new : State) (told after : Option Files) → is_refusal answer ≡ false
+    → Step (request.Insert 0 name) old told answer new after → shape_in (bay_of new.station 0) ≡ None → ⊥
 there_is name answer old new told after fine step none =
     let disk = put_in name answer old new told after fine step in
     let some : shape_in (bay_of new.station 0) ≡ Some (shape_of disk.0) = ap (λ (medium : Option Disk). option_map shape_of medium) disk.1 in

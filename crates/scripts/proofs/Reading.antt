@@ -19,6 +19,7 @@ use Rattle.floppy_report.specs.LastLines.{stopped_text}
 use Rattle.scripts.specs.Scripts.{Script, Ends, Fails, Asks, Stores, RunsScript, IsPrinted, StoresLast, unless_refused}
 use Rattle.scripts.specs.Parts.{asks, needs, carries}
 use Rattle.scripts.specs.Leading.{with_report}
+use Rattle.scripts.proofs.Running.{goes_on}
 
 -- a request was answered, and what follows was run
 pub record IsAnswered (asked : Request) (rest : Reply → State → Script) (old : World) (course : List Taken) (new : World) (ended : Status) : Type 0 where
@@ -52,7 +53,8 @@ pub data AskRun (asked : Request) (rest : Reply → State → Script) (old : Wor
   Answered : IsAnswered asked rest old course new ended → AskRun asked rest old course new ended
   Stopped : IsStopped asked old course new ended → AskRun asked rest old course new ended
 
-asked_run : (asked : Request) (rest : Reply → State → Script) (old : World) (course : List Taken) (new : World) (ended : Status) → RunsScript (Asks asked rest) old course new ended → AskRun asked rest old course new ended
+asked_run : (asked : Request) (rest : Reply → State → Script) (old : World) (course : List Taken) (new : World) (ended : Status)
+    → RunsScript (Asks asked rest) old course new ended → AskRun asked rest old course new ended
 asked_run asked rest old [] new ended runs = Stopped (record { cause = runs.0; nothing = refl; stops = runs.1; prints = runs.2 })
 asked_run asked rest old (taken ∷ later) new ended runs = Answered (record {
   taken = taken;
@@ -64,7 +66,8 @@ asked_run asked rest old (taken ∷ later) new ended runs = Answered (record {
   left = runs.3;
 })
 
-pub ask_run : (asked : Request) (rest : Reply → State → Script) (old : World) (course : List Taken) (new : World) (ended : Status) → RunsScript (asks asked rest) old course new ended → AskRun asked rest old course new ended
+pub ask_run : (asked : Request) (rest : Reply → State → Script) (old : World) (course : List Taken) (new : World) (ended : Status)
+    → RunsScript (asks asked rest) old course new ended → AskRun asked rest old course new ended
 unfolding asks
 ask_run asked rest old course new ended runs = asked_run asked rest old course new ended runs
 
@@ -92,9 +95,28 @@ pub last_stored : (name bytes line : List ℕ) (wanted : Status) (old : World) (
 last_stored name bytes line wanted old [] new ended runs = (refl, runs)
 last_stored name bytes line wanted old (taken ∷ later) new ended runs = absurd runs
 
-by_answer : (asked : Request) (rest : Reply → State → Script) (old : World) (course : List Taken) (new : World) (ended : Status) (answer : Reply) (run : IsAnswered asked (λ given after. unless_refused asked given (rest given after)) old course new ended) → run.taken.answer ≡ answer → NeedRun asked rest old course new ended
+-- any other answer than a refusal goes on
+as_done : (asked : Request) (rest : Reply → State → Script) (old : World) (course : List Taken) (new : World) (ended : Status)
+    → (run : IsAnswered asked (λ given after. unless_refused asked given (rest given after)) old course new ended)
+    → is_refusal run.taken.answer ≡ false → NeedRun asked rest old course new ended
+as_done asked rest old course new ended run fine =
+    let same = goes_on asked run.taken.answer (rest run.taken.answer run.taken.after) fine in
+    Done (record {
+      taken = run.taken;
+      later = run.later;
+      files = run.files;
+      course_is = run.course_is;
+      asked_is = run.asked_is;
+      step = run.step;
+      left = subst (λ (s : Script). RunsScript s (with_report run.taken.after run.files old.report) run.later new ended) same run.left;
+    }) fine
+
+by_answer : (asked : Request) (rest : Reply → State → Script) (old : World) (course : List Taken) (new : World) (ended : Status) (answer : Reply)
+    (run : IsAnswered asked (λ given after. unless_refused asked given (rest given after)) old course new ended)
+    → run.taken.answer ≡ answer → NeedRun asked rest old course new ended
 by_answer asked rest old course new ended (reply.Refused cause) run is =
-    let left = subst (λ (a : Reply). RunsScript (unless_refused asked a (rest a run.taken.after)) (with_report run.taken.after run.files old.report) run.later new ended) is run.left in
+    let left = subst (λ (a : Reply). RunsScript (unless_refused asked a (rest a run.taken.after))
+    (with_report run.taken.after run.files old.report) run.later new ended) is run.left in
     let last = last_run (stopped_text asked cause) status.SomeRefused (with_report run.taken.after run.files old.report) run.later new ended left in
     Refused (record {
       taken = run.taken;
@@ -108,25 +130,22 @@ by_answer asked rest old course new ended (reply.Refused cause) run is =
           (subst (λ (a : Reply). Step asked old.state old.files a run.taken.after run.files) is run.step));
       prints = last.1.report;
     })
-by_answer asked rest old course new ended reply.Done run is =
-    let left = subst (λ (a : Reply). RunsScript (unless_refused asked a (rest run.taken.answer run.taken.after)) (with_report run.taken.after run.files old.report) run.later new ended) is run.left in
-    Done (record { taken = run.taken; later = run.later; files = run.files; course_is = run.course_is; asked_is = run.asked_is; step = run.step; left = left }) (ap is_refusal is)
-by_answer asked rest old course new ended reply.DoneDeleted run is =
-    let left = subst (λ (a : Reply). RunsScript (unless_refused asked a (rest run.taken.answer run.taken.after)) (with_report run.taken.after run.files old.report) run.later new ended) is run.left in
-    Done (record { taken = run.taken; later = run.later; files = run.files; course_is = run.course_is; asked_is = run.asked_is; step = run.step; left = left }) (ap is_refusal is)
-by_answer asked rest old course new ended (reply.Bytes address content) run is =
-    let left = subst (λ (a : Reply). RunsScript (unless_refused asked a (rest run.taken.answer run.taken.after)) (with_report run.taken.after run.files old.report) run.later new ended) is run.left in
-    Done (record { taken = run.taken; later = run.later; files = run.files; course_is = run.course_is; asked_is = run.asked_is; step = run.step; left = left }) (ap is_refusal is)
+by_answer asked rest old course new ended reply.Done run is = as_done asked rest old course new ended run (ap is_refusal is)
+by_answer asked rest old course new ended reply.DoneDeleted run is = as_done asked rest old course new ended run (ap is_refusal is)
+by_answer asked rest old course new ended (reply.Bytes address content) run is = as_done asked rest old course new ended run (ap is_refusal is)
 
-pub need_run : (asked : Request) (rest : Reply → State → Script) (old : World) (course : List Taken) (new : World) (ended : Status) → RunsScript (needs asked rest) old course new ended → NeedRun asked rest old course new ended
+pub need_run : (asked : Request) (rest : Reply → State → Script) (old : World) (course : List Taken) (new : World) (ended : Status)
+    → RunsScript (needs asked rest) old course new ended → NeedRun asked rest old course new ended
 unfolding needs
-need_run asked rest old course new ended runs = by_run (asked_run asked (λ given after. unless_refused asked given (rest given after)) old course new ended runs)
+need_run asked rest old course new ended runs =
+    by_run (asked_run asked (λ given after. unless_refused asked given (rest given after)) old course new ended runs)
   where
     by_run : AskRun asked (λ given after. unless_refused asked given (rest given after)) old course new ended → NeedRun asked rest old course new ended
     by_run (Answered run) = by_answer asked rest old course new ended run.taken.answer run refl
     by_run (Stopped run) = Halted run
 
-pub carry_run : (asked : Request) (rest : Unit {0} → Script) (old : World) (course : List Taken) (new : World) (ended : Status) → RunsScript (carries asked rest) old course new ended → NeedRun asked (λ answer after. rest tt) old course new ended
+pub carry_run : (asked : Request) (rest : Unit {0} → Script) (old : World) (course : List Taken) (new : World) (ended : Status)
+    → RunsScript (carries asked rest) old course new ended → NeedRun asked (λ answer after. rest tt) old course new ended
 unfolding carries
 carry_run asked rest old course new ended runs = need_run asked (λ answer after. rest tt) old course new ended runs
 
