@@ -1,21 +1,27 @@
 -- What the program does with its words.
-use Rattle.std.specs.Prelude.{◌≡◌, List, [], Option, Some, None}
+use Rattle.std.specs.Prelude.{◌≡◌, ◌≤◌, ◌+◌, ℕ, List, [], Option, Some, None}
 use Rattle.flop_base.specs.declared.answers.Rate.TheVariants.{R500, R250}
 use Rattle.flop_base.specs.declared.answers.Status.{Status}
 use Rattle.flop_base.specs.declared.answers.Status.TheVariants as status
+use Rattle.floppy_requests.specs.declared.request.Request.{Request}
+use Rattle.bay_model.specs.Bays.{Two}
 use Rattle.sector_model.specs.Faults.{Blames}
+use Rattle.sector_model.specs.Stations.{StationState}
+use Rattle.sector_model.specs.States.{start_of}
+use Rattle.sector_model.specs.Ties.{IsJob, accesses_of_job}
 use Rattle.floppy_report.specs.Faults.{BlamesAlone}
 use Rattle.sector_model.specs.Runs.{Taken}
 use Rattle.sector_model.specs.Plays.{World, Plays, TellsAlone, IsIdle}
 use Rattle.floppy_report.specs.LastLines.{bad_words_text}
 use Rattle.floppy_words.specs.declared.form.Form.{Form}
 use Rattle.floppy_words.specs.declared.form.Form.TheVariants as form
+use Rattle.floppy_words.specs.Forms.{form_of}
 use Rattle.scripts.specs.Scripts.{RunsScript}
-use Rattle.scripts.specs.Leading.{Faulty}
+use Rattle.scripts.specs.Leading.{Faulty, Runs}
 use Rattle.disk_commands.specs.Format.{format_script}
 use Rattle.disk_commands.specs.Verify.{verify_script}
 use Rattle.disk_commands.specs.Copy.{copy_script}
-use Rattle.archive_commands.specs.Files.{Desk}
+use Rattle.archive_commands.specs.Files.{Desk, FaultyDesk}
 use Rattle.archive_commands.specs.Making.{FromImd, ToImd, Remaster}
 use Rattle.archive_commands.specs.Surveys.{Surveys}
 use Rattle.flat_commands.specs.Import.{Imports}
@@ -66,3 +72,20 @@ pub record Performed (Does : World → World → Status → Type 0) (NoForm : Ty
   pub bad_words : ended ≡ status.BadWords → NoForm
   pub shelf_faults : Blames (ended ≡ status.FileFault) old.shelf_faults new.shelf_faults
   pub sink_faults : BlamesAlone (ended ≡ status.SinkFault) old.sink_faults new.sink_faults
+
+-- a world of a station, under whose media no names are told, and of a desk
+abbrev pub begun_on : StationState → Desk → World
+begun_on station desk = record { state = start_of station; files = desk.files; report = desk.report }
+
+abbrev pub left_on : StationState → Two (Option (List ℕ)) → Desk → World
+left_on station names desk = record { state = record { station = station; names = names }; files = desk.files; report = desk.report }
+
+-- words were done on a station that came fresh; a job made no more accesses past the driver than its requests may; and each fault that the
+-- status tells was counted
+pub record RanWords (words : List (List ℕ)) (old : StationState) (before : FaultyDesk) (new : StationState) (after : FaultyDesk) (ended : Status) : Type 0 where
+  pub runs : (names : Two (Option (List ℕ))) × Runs (Does (form_of words)) (begun_on old before.desk) (left_on new names after.desk) ended
+  pub accesses : (job : List ℕ) (requests : List Request) → form_of words ≡ Some (form.Play job) → IsJob before.desk.files job requests
+      → new.counters.direct ≤ old.counters.direct + accesses_of_job requests
+  pub bad_words : ended ≡ status.BadWords → form_of words ≡ None
+  pub shelf_faults : Blames (ended ≡ status.FileFault) before.shelf_faults after.shelf_faults
+  pub sink_faults : BlamesAlone (ended ≡ status.SinkFault) before.sink_faults after.sink_faults

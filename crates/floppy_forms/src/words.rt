@@ -1,19 +1,17 @@
 // The words of the program, done over a session.
 ghost use Rattle.std.specs.Prelude.{◌≡◌, ◌≤◌, ◌+◌, ℕ, List, Option, Some, None, Ok, map, string_bytes};
 ghost use Rattle.floppy_requests.specs.declared.request.Request.{Request};
-ghost use Rattle.bay_model.specs.Bays.{Two};
 ghost use Rattle.sector_model.specs.Faults.{Blames};
 ghost use Rattle.floppy_report.specs.Faults.{BlamesAlone};
 ghost use Rattle.sector_model.specs.Ties.{IsJob, accesses_of_job};
 ghost use Rattle.sector_model.specs.Stations.{IsFresh};
-ghost use Rattle.sector_model.specs.States.{start_of};
 ghost use Rattle.floppy_words.specs.declared.form.Form.TheVariants as form;
 ghost use Rattle.floppy_words.specs.declared.form.Form.{Form};
 ghost use Rattle.floppy_words.specs.Forms.{form_of, Reads};
 ghost use Rattle.scripts.specs.Leading.{Runs};
 ghost use Rattle.scripts.specs.Leading.{world_of, faulty_of, Ran};
-ghost use Rattle.floppy_forms.specs.Rounds.{world};
-ghost use Rattle.floppy_forms.specs.Programs.{Does, DoesForm, Performed};
+ghost use Rattle.archive_commands.specs.Files.{faulty_desk_of};
+ghost use Rattle.floppy_forms.specs.Programs.{Does, DoesForm, Performed, RanWords};
 
 use crate::play::play;
 use archive_commands::{from_imd, remaster_disk, survey_disk, to_imd};
@@ -46,17 +44,10 @@ pub fn run_words<S: Shelf, K: Sink, D: Station>(
     requires ready { D.is_ready station }
     // The headline: what is printed and stored is a run of the sector model, whose counts are those that the station shows
     // before and after it.
-    ensures runs { (names : Two (Option (List ℕ))) × Runs (Does (form_of (map string_bytes words.now)))
-        (world (start_of (D.shown station)) (S.told shelf.old) (K.told out.old))
-        (world (record { station = D.shown result.1; names = names }) (S.told shelf.new) (K.told out.new)) result.0 }
-    ensures accesses { (job : List ℕ) (requests : List Request)
-        → form_of (map string_bytes words.now) ≡ Some (form.Play job) → IsJob (S.told shelf.old) job requests
-        → (D.shown result.1).counters.direct ≤ (D.shown station).counters.direct + accesses_of_job requests }
-    // 2 exactly where the words are no form, also where nothing is told.
-    ensures bad_words { result.0 ≡ Status.BadWords → form_of (map string_bytes words.now) ≡ None }
+    ensures ran { RanWords (map string_bytes words.now)
+        (D.shown station) (faulty_desk_of S.told S.fault_count K.told K.fault_count shelf.old out.old)
+        (D.shown result.1) (faulty_desk_of S.told S.fault_count K.told K.fault_count shelf.new out.new) result.0 }
     ensures ready { D.is_ready result.1 }
-    ensures shelf_faults { Blames (result.0 ≡ Status.FileFault) (S.fault_count shelf.old) (S.fault_count shelf.new) }
-    ensures sink_faults { BlamesAlone (result.0 ≡ Status.SinkFault) (K.fault_count out.old) (K.fault_count out.new) }
 {
     let mut session = Session::new(alloc, station);
     let status = perform(alloc, &mut session, words, shelf, out);

@@ -1,21 +1,13 @@
 // The top call.
-ghost use Rattle.std.specs.Prelude.{◌≡◌, ◌≤◌, ◌+◌, All, List, ℕ, None, Some, map, string_bytes};
-ghost use Rattle.floppy_requests.specs.declared.request.Request.{Request};
+ghost use Rattle.std.specs.Prelude.{All, None, Some, map, string_bytes};
 ghost use Rattle.pc_bus.specs.Boards.{board, IsEmpty};
-ghost use Rattle.sector_model.specs.Faults.{Blames};
-ghost use Rattle.floppy_report.specs.Faults.{BlamesAlone};
-ghost use Rattle.sector_model.specs.Ties.{IsJob, accesses_of_job};
-ghost use Rattle.floppy_words.specs.declared.form.Form.TheVariants as form;
 ghost use Rattle.floppy_words.specs.Forms.{form_of};
-ghost use Rattle.archive_commands.specs.Files.{desk_of};
 ghost use Rattle.machine_station.specs.Shown.{all_counts};
 ghost use Rattle.machine_station.specs.Started.{IsFreshBoard};
-ghost use Rattle.port_commands.specs.Benches.{Names, no_names};
+ghost use Rattle.port_commands.specs.Benches.{no_names};
 ghost use Rattle.port_commands.specs.Faults.{Ran, faulty_of};
-ghost use Rattle.port_commands.specs.Guards.{RunsBare, RunsPorts};
-ghost use Rattle.port_commands.specs.Plays.{world_of};
-ghost use Rattle.floppy_tools.specs.Machines.{RunsOver};
-ghost use Rattle.floppy_tools.specs.Performed.{Performed, stand_of};
+ghost use Rattle.port_commands.specs.Guards.{RunsBare};
+ghost use Rattle.floppy_tools.specs.Performed.{Performed, RanOver, stand_of};
 
 use crate::session::Session;
 use drive_model::Drive;
@@ -85,15 +77,9 @@ fn over_driver<S: Shelf, K: Sink, D: Drive>(
 ) -> (Status, MachineOf<D>)
     requires machine { IsFreshBoard (board D.state machine) }
     requires spare { All (λ drive. IsEmpty (D.state drive)) spare.items }
-    ensures runs { RunsOver (form_of (map string_bytes words.now)) (board D.state machine) (all_counts D.state spare.items)
-        (desk_of S.told K.told shelf.old out.old) (board D.state result.1) (desk_of S.told K.told shelf.new out.new)
-        result.0 }
-    ensures accesses { (job : List ℕ) (requests : List Request)
-        → form_of (map string_bytes words.now) ≡ Some (form.Play job) → IsJob (S.told shelf.old) job requests
-        → (board D.state result.1).bus.direct ≤ (board D.state machine).bus.direct + accesses_of_job requests }
-    ensures bad_words { result.0 ≡ Status.BadWords → form_of (map string_bytes words.now) ≡ None }
-    ensures shelf_faults { Blames (result.0 ≡ Status.FileFault) (S.fault_count shelf.old) (S.fault_count shelf.new) }
-    ensures sink_faults { BlamesAlone (result.0 ≡ Status.SinkFault) (K.fault_count out.old) (K.fault_count out.new) }
+    ensures { RanOver (form_of (map string_bytes words.now)) (all_counts D.state spare.items)
+        (stand_of D.state S.told S.fault_count K.told K.fault_count machine shelf.old out.old)
+        (stand_of D.state S.told S.fault_count K.told K.fault_count result.1 shelf.new out.new) result.0 }
 {
     let asked = form_named(alloc, words);
     let mut session = Session::new(alloc, machine, spare);

@@ -1,5 +1,4 @@
 use Rattle.std.proofs.Common.{rules}
-use Rattle.floppy_forms.specs.Rounds.{world}
 use Rattle.floppy_forms.proofs.InRounds.{text_plays, missed_plays}
 use Rattle.floppy_forms.proofs.play.play.Goals as goal
 
