@@ -37,6 +37,12 @@ Answers part old (Ok answer) new =
 Answers part old (Err ended) new =
     (whole : Script) (start : World) (rest : Reply → State → Script) → Leads whole start (part rest) old → IsRunOf whole start new ended
 
+-- a status with which a script may end by itself: its words were a form, and it tells no fault
+pub record IsTold (ended : Status) : Type 0 where
+  pub form : ended ≢ status.BadWords
+  pub shelf : ended ≢ status.FileFault
+  pub sink : ended ≢ status.SinkFault
+
 -- what was left of a script ended
 abbrev pub Finishes : Script → World → World → Status → Type 0
 Finishes left old new ended = (whole : Script) (start : World) → Leads whole start left old → IsRunOf whole start new ended

@@ -6,7 +6,7 @@ ghost use Rattle.sector_model.specs.Plays.{whole_status};
 ghost use Rattle.floppy_report.specs.Faults.{BlamesAlone};
 ghost use Rattle.scripts.specs.Scripts.{Ends};
 ghost use Rattle.scripts.specs.Parts.{says};
-ghost use Rattle.scripts.specs.Leading.{Goes, Finishes, with_report};
+ghost use Rattle.scripts.specs.Leading.{Goes, Finishes, IsTold, with_report};
 
 use flop_base::{Sink, Status};
 use floppy_report::{put_last_line, put_line};
@@ -25,9 +25,7 @@ pub fn say<K: Sink>(out: &mut K, line: Result<String, AllocError>) -> Result<(),
 
 /// Puts the last line of a script, and gives the status.
 pub fn finish<K: Sink>(out: &mut K, line: Result<String, AllocError>, status: Status) -> Status
-    requires sink { status ≢ Status.SinkFault }
-    requires shelf { status ≢ Status.FileFault }
-    requires form { status ≢ Status.BadWords }
+    requires { IsTold status }
     ensures goes { (text : List ℕ) (state : State) (files : Option Files) → IfOk line (λ made. string_bytes made ≡ text)
         → Finishes (Ends text status) (with_report state files (K.told out.old)) (with_report state files (K.told out.new)) result }
     ensures is_form { result ≢ Status.BadWords }
@@ -40,9 +38,7 @@ pub fn finish<K: Sink>(out: &mut K, line: Result<String, AllocError>, status: St
 /// The status of a script that went on to its end: 1 where something was refused, else 0.
 pub fn whole_status(refused: bool) -> Status
     ensures value { result ≡ whole_status refused }
-    ensures no_sink_fault { result ≢ Status.SinkFault }
-    ensures no_shelf_fault { result ≢ Status.FileFault }
-    ensures is_form { result ≢ Status.BadWords }
+    ensures told { IsTold result }
 {
     if refused {
         Status::SomeRefused

@@ -4,7 +4,7 @@ ghost use Rattle.sector_model.specs.States.{State};
 ghost use Rattle.sector_model.specs.Faults.{Blames};
 ghost use Rattle.floppy_report.specs.Faults.{BlamesAlone};
 ghost use Rattle.scripts.specs.Scripts.{Stores};
-ghost use Rattle.scripts.specs.Leading.{Finishes, with_report};
+ghost use Rattle.scripts.specs.Leading.{Finishes, IsTold, with_report};
 
 use flop_base::{Shelf, Sink, Status, StoreError};
 use floppy_report::put_last_line;
@@ -19,9 +19,7 @@ pub fn store_last<S: Shelf, K: Sink>(
     shelf: &mut S,
     out: &mut K,
 ) -> Status
-    requires sink { status ≢ Status.SinkFault }
-    requires shelf { status ≢ Status.FileFault }
-    requires form { status ≢ Status.BadWords }
+    requires { IsTold status }
     ensures goes { (text : List ℕ) (state : State) → IfOk line (λ made. string_bytes made ≡ text)
         → Finishes (Stores name.now bytes.now text status) (with_report state (S.told shelf.old) (K.told out.old))
         (with_report state (S.told shelf.new) (K.told out.new)) result }
