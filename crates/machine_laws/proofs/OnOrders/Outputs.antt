@@ -1,0 +1,79 @@
+-- Port writes that leave a data command as it is: a byte to the data port, which takes none, and a write to a port where nothing answers.
+use Rattle.std.proofs.Common.{◌≡◌, ◌⊎◌, inl, inr, ℕ, ◌==◌, Bool, true, false, List, refl, sym, ◌∙◌, ap, subst, arith}
+use Rattle.std.proofs.lemmas.Bool.{false≢true}
+use Rattle.std.proofs.lemmas.Bool.Decides.{nat_tests}
+use Rattle.drive_model.specs.Drive.{DriveState}
+use Rattle.dma_8237.specs.Channel.{Channel, after_write}
+use Rattle.fdc_stages.specs.History.{Past}
+use Rattle.fdc_writing.specs.Formats.{Numbers}
+use Rattle.fdc_core.specs.Heard.{MayReadIn, MayReadIdIn, Sent}
+use Rattle.fdc_core.specs.Listening.{is_executing}
+use Rattle.fdc_core.specs.Ports.{Writes, takes_in, is_taking}
+use Rattle.fdc_core.specs.State.{is_held}
+use Rattle.fdc_core.specs.Written.{MayWriteIn, MayFormatIn}
+use Rattle.fdc_core.specs.declared.controller.Fdc.{Fdc}
+use Rattle.fdc_core.specs.declared.phases.Phase.{Phase}
+use Rattle.fdc_core.specs.declared.phases.Phase.TheVariants as phase
+use Rattle.fdc_fifo.specs.Fifo.{Fifo}
+use Rattle.pc_bus.specs.Boards.{Board, controller_of, channel_of, drive_in, lines_of}
+use Rattle.pc_bus.specs.Ports.{is_controllers, WritesPort, Outputs}
+use Rattle.pc_bus.specs.Transfers.{shown_again}
+use Rattle.pc_bus.specs.declared.chips.Chips.{Chips}
+use Rattle.machine_laws.specs.OnReads.Scenes.{Scene}
+use Rattle.machine_laws.proofs.OnReads.Steps.{same_drive}
+use Rattle.machine_laws.proofs.OnSteps.Runs.{outputs}
+use Rattle.machine_laws.specs.OnOrders.Orders.{Laid, Window, Track, Order, Identify, Read, Write, May, AtDrive, IsDoneBy, Underway}
+use Rattle.machine_laws.proofs.OnOrders.Steps.{underway}
+
+-- the data port takes no byte
+taking_in : (p : Phase) → (p ≡ phase.Command → ⊥) → (held : Bool) → takes_in p held ≡ false
+taking_in phase.Command busy held = absurd (busy refl)
+taking_in (phase.Result answer) busy held = refl
+taking_in (phase.Execute execution) busy held = refl
+
+not_command : (order : Order) (scene : Scene) (past : Past) (fdc : Fdc) → May order scene past fdc → fdc.phase ≡ phase.Command → ⊥
+not_command Identify scene past fdc may is = subst (λ p. MayReadIdIn past scene.sent.head_drive p) is may
+not_command Read scene past fdc may is = subst (λ p. MayReadIn past scene.sent p fdc.asking fdc.fifo.bytes) is may
+not_command (Write (Window deleted)) scene past fdc may is = subst (λ p. MayWriteIn past scene.sent deleted p fdc.asking fdc.fifo) is may
+not_command (Write (Track numbers)) scene past fdc may is = subst (λ p. MayFormatIn past scene.sent.head_drive numbers p fdc.asking fdc.fifo) is may
+
+-- a port whose write changes neither DOR, nor the rate, nor the channel, nor resets
+pub record Leaves (port value : ℕ) (board : Board) : Type 0 where
+  pub output : (port == 0x3F2) ≡ false
+  pub select : (port == 0x3F4) ≡ false
+  pub control : (port == 0x3F7) ≡ false
+  pub channel : is_controllers port ≡ false → after_write port value (channel_of board) ≡ channel_of board
+
+port_is : (port at : ℕ) → (port == at) ≡ true → port ≡ at
+port_is port at is = grind (arith, nat_tests)
+
+same_fdc : (order : Order) (scene : Scene) (past : Past) (port value : ℕ) (board : Board) (new : Fdc) → Leaves port value board → May order scene past (controller_of board) → Writes port value (lines_of board) (controller_of board) new → new ≡ controller_of board
+same_fdc order scene past port value board new leaves may writes = by_data (port == 0x3F5) refl
+  where
+    by_data : (b : Bool) → (port == 0x3F5) ≡ b → new ≡ controller_of board
+    by_data true is = (writes.bytes (port_is port 0x3F5 is)).1 (taking_in (controller_of board).phase (not_command order scene past (controller_of board) may) (is_held (controller_of board)))
+    by_data false is = writes.others leaves.output leaves.select is leaves.control
+
+same_chips : (order : Order) (scene : Scene) (past : Past) (port value : ℕ) (old between : Board) → Leaves port value old → IsDoneBy order scene past old.bus.chips → (writes : WritesPort port value old between)
+    → (b : Bool) → is_controllers port ≡ b → IsDoneBy order scene past between.bus.chips × (between.bus.chips.controller ≡ controller_of old)
+same_chips order scene past port value old between leaves was writes true is =
+    let (controller, does, chips) = writes.writes.controllers is in
+    let same = same_fdc order scene past port value old controller leaves was.may does in
+    let now : between.bus.chips ≡ shown_again (record old.bus.chips { controller = controller_of old }) = ap (λ bus. bus.chips) writes.bus ∙ (chips ∙ ap (λ c. shown_again (record old.bus.chips { controller = c })) same) in
+    (subst (IsDoneBy order scene past) (sym now) (record { may = was.may; shows = was.shows; dor = was.dor; rate = was.rate; moves = was.moves }), ap (λ c. c.controller) now)
+same_chips order scene past port value old between leaves was writes false is =
+    let now : between.bus.chips ≡ old.bus.chips = ap (λ bus. bus.chips) writes.bus ∙ (writes.writes.channels is ∙ ap (λ (c : Channel). record old.bus.chips { channel = c }) (leaves.channel is)) in
+    (subst (IsDoneBy order scene past) (sym now) was, ap (λ c. c.controller) now)
+
+pub outputs_keep : (order : Order) (scene : Scene) (port value : ℕ) (old new : Board) → Outputs port value old new → Leaves port value old → Underway order scene old → Underway order scene new
+outputs_keep order scene port value old new access leaves (past, was) = outputs (Underway order scene) (underway order scene) port value old new (λ between writes.
+    let (chips, same) = same_chips order scene past port value old between leaves was.chips writes (is_controllers port) refl in
+    let drive_is : drive_in between scene.bay ≡ drive_in old scene.bay =
+    same_drive old.first old.second between.first between.second (writes.motors.first_stays leaves.output) (writes.motors.second_stays leaves.output) (scene.bay == 0) in (
+      past,
+      record {
+        scene_is = was.scene_is;
+        chips = chips;
+        drive = subst (λ p. AtDrive order scene past (is_executing p) (drive_in between scene.bay)) (ap (λ (f : Fdc). f.phase) (sym same)) (subst (AtDrive order scene past (is_executing (controller_of old).phase)) (sym drive_is) was.drive);
+      },
+    )) access

@@ -1,0 +1,84 @@
+-- What holds until a stall is counted.
+use Rattle.std.proofs.Common.{◌≡◌, ◌⊎◌, inl, inr, ℕ, nat_lt, Bool, true, false, if◌then◌else◌, refl, sym, ◌∙◌, ap, subst, arith}
+use Rattle.dma_8237.specs.Channel.{grants}
+use Rattle.fdc_core.specs.Dma.{to_memory_of}
+use Rattle.machine_pace.specs.Entries.{next_entry}
+use Rattle.machine_pace.specs.Holds.{Holds, is_due, looked, waited, shown, counted}
+use Rattle.machine_pace.specs.declared.holding.Request.{Request}
+use Rattle.machine_pace.specs.declared.holding.Request.TheVariants.{Low, High}
+use Rattle.pc_bus.specs.Boards.{Board, holds_of}
+use Rattle.pc_bus.specs.Ports.{RunsGap}
+use Rattle.pc_bus.specs.Steps.{Step, Runs, Waits}
+use Rattle.pc_bus.specs.Transfers.{moved, moved_to_memory, moved_from_memory, moved_up_to, looked_at, shown_again, granted, dma_stepped}
+use Rattle.pc_bus.specs.declared.chips.Chips.{Chips}
+use Rattle.machine_laws.specs.OnSteps.Steady.{Steady}
+use Rattle.machine_laws.specs.OnSteps.Stalls.{Stalled, Grows, UntilStalled, Keeping}
+use Rattle.machine_laws.proofs.OnSteps.Runs.{runs, waits, gap}
+use Rattle.machine_laws.proofs.OnSteps.Transfers.{up_to}
+
+-- no transfer changes the holds
+holding_moved : (holding : Holds) (chips : Chips) → chips.holding ≡ holding → (moved chips).holding ≡ holding
+unfolding moved
+holding_moved holding chips is = by_way (to_memory_of chips.controller)
+  where
+    by_way : (b : Bool) → (if b then moved_to_memory chips else moved_from_memory chips).holding ≡ holding
+    by_way true = is
+    by_way false = is
+
+pub up_to_holding : (n : ℕ) (chips : Chips) → (moved_up_to n chips).holding ≡ chips.holding
+up_to_holding n chips = up_to (λ c. c.holding ≡ chips.holding) (holding_moved chips.holding) n chips refl
+
+shown_stalls : (line : Bool) (holding : Holds) → (shown line holding).stalls ≡ holding.stalls
+shown_stalls true holding = refl
+shown_stalls false holding = refl
+
+pub dma_stalls : (chips : Chips) → (dma_stepped chips).holding.stalls ≡ (looked_at chips).holding.stalls
+unfolding dma_stepped granted
+dma_stalls chips = by_due (is_due (looked_at chips).holding.request) (grants chips.channel)
+  where
+    by_due : (due granting : Bool) → (if due then (if granting then shown_again (moved_up_to 16 (looked_at chips)) else looked_at chips) else looked_at chips).holding.stalls ≡ (looked_at chips).holding.stalls
+    by_due true true = shown_stalls _ (moved_up_to 16 (looked_at chips)).holding ∙ ap (λ (h : Holds). h.stalls) (up_to_holding 16 (looked_at chips))
+    by_due true false = refl
+    by_due false granting = refl
+
+taken_grows : (b : Bool) (stalls : ℕ) → Grows stalls (if b then counted stalls else stalls)
+taken_grows true stalls = omega arith
+taken_grows false stalls = omega arith
+
+waited_grows : (request : Request) (old : Holds) → Grows old.stalls (waited request old).stalls
+waited_grows Low old = taken_grows (nat_lt 8 (next_entry old.entries)) old.stalls
+waited_grows (High left) old = omega arith
+
+looked_grows : (line : Bool) (old : Holds) → Grows old.stalls (looked line old).stalls
+looked_grows true old = waited_grows old.request old
+looked_grows false old = omega arith
+
+pub step_grows : (old new : Board) → Step old new → Grows (holds_of old).stalls (holds_of new).stalls
+step_grows old new step =
+    let chips : Chips = record old.bus.chips { controller = step.between } in
+    let is : new.bus.chips.holding.stalls ≡ (looked_at chips).holding.stalls = ap (λ bus. bus.chips.holding.stalls) step.bus ∙ dma_stalls chips in
+    subst (Grows (holds_of old).stalls) (sym is) (looked_grows _ old.bus.chips.holding)
+
+pub until_stalled : (P : Board → Type 0) → Keeping P → (start : Board) → Steady (UntilStalled P start)
+until_stalled P keeps start = record {
+  step = λ old new step was. let grows = was.grows in let more = step_grows old new step in record {
+    grows = omega arith;
+    holds = elim was.holds [
+      | inl on ↦ elim (keeps.step old new step on) [ inl still ↦ inl still | inr rose ↦ inr (omega arith) ]
+      | inr rose ↦ inr (omega arith)
+    ];
+  };
+  idle = λ old gaps fresh was. record { grows = was.grows; holds = elim was.holds [ inl on ↦ inl (keeps.idle old gaps fresh on) | inr rose ↦ inr rose ] };
+}
+
+begins : (P : Board → Type 0) (start : Board) → P start → UntilStalled P start start
+begins P start was = record { grows = omega arith; holds = inl was }
+
+pub runs_until : (P : Board → Type 0) → Keeping P → (n : ℕ) (old new : Board) → Runs n old new → P old → P new ⊎ Stalled old new
+runs_until P keeps n old new ran was = (runs (UntilStalled P old) (until_stalled P keeps old) n old new ran (begins P old was)).holds
+
+pub waits_until : (P : Board → Type 0) → Keeping P → (most : ℕ) (set : Bool) (old new : Board) → Waits most old set new → P old → P new ⊎ Stalled old new
+waits_until P keeps most set old new ran was = (waits (UntilStalled P old) (until_stalled P keeps old) most set old new ran (begins P old was)).holds
+
+pub gap_until : (P : Board → Type 0) → Keeping P → (between new : Board) → RunsGap between new → P between → P new ⊎ Stalled between new
+gap_until P keeps between new ran was = (gap (UntilStalled P between) (until_stalled P keeps between) between new ran (begins P between was)).holds

@@ -1,0 +1,43 @@
+-- What transfers keep.
+use Rattle.std.proofs.Common.{◌≡◌, ℕ, zero, suc, Bool, true, false, if◌then◌else◌, refl, sym, ap, subst}
+use Rattle.dma_8237.specs.Channel.{grants}
+use Rattle.machine_pace.specs.Holds.{is_due}
+use Rattle.pc_bus.specs.Boards.{Board}
+use Rattle.pc_bus.specs.Steps.{Step}
+use Rattle.pc_bus.specs.Transfers.{can_move, moved, moved_up_to, looked_at, shown_again, granted, dma_stepped}
+use Rattle.pc_bus.specs.declared.chips.Chips.{Chips}
+use Rattle.machine_laws.specs.OnSteps.Steady.{Transferred, Moving}
+
+up_to_if : (P : Chips → Type 0) (n : ℕ) (chips : Chips) → P chips → (can : Bool) → (can ≡ true → P (moved_up_to n (moved chips))) → P (if can then moved_up_to n (moved chips) else chips)
+up_to_if P n chips was true on = on refl
+up_to_if P n chips was false on = was
+
+up_to_moves : (P : Chips → Type 0) → ((chips : Chips) → can_move chips ≡ true → P chips → P (moved chips)) → (n : ℕ) (chips : Chips) → P chips → P (moved_up_to n chips)
+unfolding moved_up_to
+up_to_moves P one zero chips was = was
+up_to_moves P one (suc n) chips was = up_to_if P n chips was (can_move chips) (λ can. up_to_moves P one n (moved chips) (one chips can was))
+
+pub up_to : (P : Chips → Type 0) → ((chips : Chips) → P chips → P (moved chips)) → (n : ℕ) (chips : Chips) → P chips → P (moved_up_to n chips)
+up_to P one = up_to_moves P (λ chips can. one chips)
+
+pub served_moves : (P : Chips → Type 0) → Moving P → (chips : Chips) → P chips → P (dma_stepped chips)
+unfolding dma_stepped granted
+served_moves P keeps chips was = by_due (is_due (looked_at chips).holding.request) (grants chips.channel)
+  where
+    look : P (looked_at chips)
+    look = keeps.held chips (looked_at chips).holding was
+
+    by_due : (due granting : Bool) → P (if due then (if granting then shown_again (moved_up_to 16 (looked_at chips)) else looked_at chips) else looked_at chips)
+    by_due true true = keeps.held (moved_up_to 16 (looked_at chips)) (shown_again (moved_up_to 16 (looked_at chips))).holding (up_to_moves P keeps.one 16 (looked_at chips) look)
+    by_due true false = look
+    by_due false granting = look
+
+pub served : (P : Chips → Type 0) → Transferred P → (chips : Chips) → P chips → P (dma_stepped chips)
+served P keeps = served_moves P (record { one = λ chips can. keeps.one chips; held = keeps.held })
+
+-- the chips at the end of a device step, from those behind its word time
+pub after_moves : (P : Chips → Type 0) → Moving P → (old new : Board) → (step : Step old new) → P (record old.bus.chips { controller = step.between }) → P new.bus.chips
+after_moves P keeps old new step was = subst P (sym (ap (λ bus. bus.chips) step.bus)) (served_moves P keeps (record old.bus.chips { controller = step.between }) was)
+
+pub after_step : (P : Chips → Type 0) → Transferred P → (old new : Board) → (step : Step old new) → P (record old.bus.chips { controller = step.between }) → P new.bus.chips
+after_step P keeps = after_moves P (record { one = λ chips can. keeps.one chips; held = keeps.held })
