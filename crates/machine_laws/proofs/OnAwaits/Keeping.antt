@@ -1,6 +1,5 @@
 -- What is known of a write and of a FORMAT, where the chips and the drives are the same.
 use Rattle.std.proofs.Common.{false}
-use Rattle.fdc_writing.specs.Formats.{Numbers}
 use Rattle.machine_laws.specs.OnReads.Scenes.{Scene}
 use Rattle.machine_laws.proofs.OnSteps.Runs.{runs, unset}
 use Rattle.machine_laws.specs.OnOrders.Orders.{Laid, Write, Underway}

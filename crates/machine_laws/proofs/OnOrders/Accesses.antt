@@ -1,5 +1,5 @@
 -- Port accesses of a data command: the write that begins it, and reads.
-use Rattle.std.proofs.Common.{◌≡◌, ◌⊎◌, inl, inr, ℕ, ◌+◌, ◌==◌, ◌||◌, nat_le, Bool, true, false, not, List, if◌then◌else◌, refl, sym, ◌∙◌, ap, subst}
+use Rattle.std.proofs.Common.{◌≡◌, ◌⊎◌, inl, inr, ℕ, ◌+◌, ◌==◌, ◌||◌, nat_le, Bool, true, false, not, Option, List, if◌then◌else◌, refl, sym, ◌∙◌, subst}
 use Rattle.drive_model.specs.Drive.{DriveState}
 use Rattle.dma_8237.specs.Channel.{Channel, grants, after_read}
 use Rattle.fdc_fifo.specs.Fifo.{Fifo}
@@ -8,7 +8,6 @@ use Rattle.fdc_stages.specs.declared.ending.Ending.{Ending}
 use Rattle.fdc_commands.specs.declared.results.Results.{Results}
 use Rattle.fdc_core.specs.Listening.{is_executing}
 use Rattle.fdc_core.specs.Ports.{given, phase_after}
-use Rattle.fdc_core.specs.declared.answers.Answer.{Answer}
 use Rattle.fdc_core.specs.declared.answers.Answer.TheVariants.{Short, Long}
 use Rattle.fdc_core.specs.declared.controller.Fdc.{Fdc}
 use Rattle.fdc_core.specs.declared.phases.Phase.{Phase}
@@ -25,20 +24,19 @@ use Rattle.machine_laws.proofs.OnReads.Steps.{same_drive}
 use Rattle.machine_laws.proofs.OnWrites.Covered.{read_refuses}
 use Rattle.machine_laws.proofs.OnWrites.Drives.{drive_less}
 use Rattle.machine_laws.specs.OnSteps.Moves.{read_from}
-use Rattle.machine_laws.specs.OnSteps.Steady.{Steady}
 use Rattle.machine_laws.proofs.OnSteps.Runs.{gap, outputs}
-use Rattle.machine_laws.specs.OnOrders.Orders.{Laid, Window, Track, Order, Identify, Read, Write, MayIn, May, Shows, Moves, AtDrive, IsDoneBy, Underway, CanBegin}
+use Rattle.machine_laws.specs.OnOrders.Orders.{Window, Track, Order, Identify, Read, Write, MayIn, Shows, Moves, AtDrive, IsDoneBy, Underway, CanBegin}
 use Rattle.machine_laws.proofs.OnOrders.Behind.{laid_on}
 use Rattle.machine_laws.proofs.OnOrders.Beginning.{begun_at, begun_by, none_heard}
 use Rattle.machine_laws.proofs.OnOrders.Steps.{underway}
 
 -- ---- a read of the data port
 
-no_short : (order : Order) (scene : Scene) (past : Past) (answer : Answer) (asking : Bool) (fifo : Fifo) → (next : ℕ) (last : _) → answer ≡ Short next last → MayIn order scene past (phase.Result answer) asking fifo → ⊥
-no_short Identify scene past answer asking fifo next last is may = subst (λ a. MayIn Identify scene past (phase.Result a) asking fifo) is may
-no_short Read scene past answer asking fifo next last is may = subst (λ a. MayIn Read scene past (phase.Result a) asking fifo) is may
-no_short (Write (Window deleted)) scene past answer asking fifo next last is may = subst (λ a. MayIn (Write (Window deleted)) scene past (phase.Result a) asking fifo) is may
-no_short (Write (Track numbers)) scene past answer asking fifo next last is may = subst (λ a. MayIn (Write (Track numbers)) scene past (phase.Result a) asking fifo) is may
+no_short : (order : Order) (scene : Scene) (past : Past) (next : ℕ) (last : Option ℕ) (asking : Bool) (fifo : Fifo) → MayIn order scene past (phase.Result (Short next last)) asking fifo → ⊥
+no_short Identify scene past next last asking fifo may = may
+no_short Read scene past next last asking fifo may = may
+no_short (Write (Window deleted)) scene past next last asking fifo may = may
+no_short (Write (Track numbers)) scene past next last asking fifo may = may
 
 next_byte : (order : Order) (scene : Scene) (past : Past) (ending : Ending) (results : Results) (taken : ℕ) (asking : Bool) (fifo : Fifo) → MayIn order scene past (phase.Result (Long ending results taken)) asking fifo
     → MayIn order scene past (phase.Result (Long ending results (taken + 1))) asking fifo
@@ -51,7 +49,7 @@ may_given : (order : Order) (scene : Scene) (past : Past) (p : Phase) (asking : 
     → MayIn order scene past (phase_after p) asking fifo ⊎ (phase_after p ≡ phase.Command)
 may_given order scene past phase.Command asking fifo may = inr refl
 may_given order scene past (phase.Execute execution) asking fifo may = inl may
-may_given order scene past (phase.Result (Short next last)) asking fifo may = absurd (no_short order scene past (Short next last) asking fifo next last refl may)
+may_given order scene past (phase.Result (Short next last)) asking fifo may = absurd (no_short order scene past next last asking fifo may)
 may_given order scene past (phase.Result (Long ending results taken)) asking fifo may = by_last (nat_le 6 taken)
   where
     by_last : (b : Bool) → MayIn order scene past (if b then phase.Command else phase.Result (Long ending results (taken + 1))) asking fifo

@@ -1,5 +1,5 @@
 -- What is known behind a word time, and in the transfers that follow it.
-use Rattle.std.proofs.Common.{◌≡◌, ℕ, ◌≤◌, Bool, true, false, List, length, ◌∙◌, subst}
+use Rattle.std.proofs.Common.{◌≡◌, ◌≤◌, Bool, true, length, ◌∙◌, subst}
 use Rattle.drive_model.specs.Drive.{DriveState}
 use Rattle.fdc_stages.specs.History.{Past}
 use Rattle.fdc_core.specs.Listening.{is_executing}

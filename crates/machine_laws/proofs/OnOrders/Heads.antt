@@ -1,5 +1,5 @@
 -- What the port write that begins a data command leaves of the drives.
-use Rattle.std.proofs.Common.{◌≡◌, ℕ, ◌%◌, ◌∷◌, ◌++◌, [], refl, ◌∙◌, ap, arith}
+use Rattle.std.proofs.Common.{◌≡◌, ℕ, ◌%◌, refl, ◌∙◌, ap, arith}
 use Rattle.fdc_seek.specs.Seeking.{Seeking, seek_bits}
 use Rattle.fdc_core.specs.declared.controller.Fdc.{Fdc}
 use Rattle.machine_pace.specs.Entries.{next_entry}

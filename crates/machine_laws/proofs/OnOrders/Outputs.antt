@@ -1,6 +1,6 @@
 -- Port writes that leave a data command as it is: a byte to the data port, which takes none, one that clears the channel's flip-flop, and a write to a port
 -- where nothing answers.
-use Rattle.std.proofs.Common.{◌≡◌, ◌⊎◌, ℕ, ◌==◌, Bool, true, false, refl, sym, ◌∙◌, ap, subst, arith}
+use Rattle.std.proofs.Common.{◌≡◌, ℕ, ◌==◌, Bool, true, false, refl, sym, ◌∙◌, ap, subst, arith}
 use Rattle.std.proofs.lemmas.Bool.{false≢true}
 use Rattle.std.proofs.lemmas.Bool.Decides.{nat_tests}
 use Rattle.dma_8237.specs.Channel.{Channel, after_write}

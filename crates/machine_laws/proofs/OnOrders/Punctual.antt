@@ -1,5 +1,5 @@
 -- A command that writes begins on time.
-use Rattle.std.proofs.Common.{◌≡◌, ◌⊎◌, inl, inr, ℕ, ◌%◌, ◌∷◌, ◌++◌, [], Bool, true, false, refl, sym, ◌∙◌, ap, subst, arith}
+use Rattle.std.proofs.Common.{◌≡◌, ◌⊎◌, inl, inr, ℕ, ◌%◌, [], Bool, true, false, refl, sym, ◌∙◌, ap, subst, arith}
 use Rattle.flop_base.specs.Counts.{Rose}
 use Rattle.fdc_fifo.specs.Fifo.{emptied}
 use Rattle.fdc_core.specs.State.{dor_of, is_gated}

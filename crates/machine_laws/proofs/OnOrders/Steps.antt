@@ -1,13 +1,12 @@
 -- A device step of a data command.
-use Rattle.std.proofs.Common.{◌≡◌, ◌⊎◌, ℕ, ◌+◌, ◌%◌, ◌≤◌, ◌==◌, ◌&&◌, Bool, true, false, List, length, [], ◌∷◌, ◌++◌, if◌then◌else◌, refl, sym, ◌∙◌, ap, subst}
+use Rattle.std.proofs.Common.{◌≡◌, ℕ, ◌+◌, ◌%◌, ◌≤◌, ◌==◌, Bool, true, false, List, length, [], ◌∷◌, ◌++◌, if◌then◌else◌, refl, sym, ◌∙◌, ap, subst}
 use Rattle.std.proofs.lemmas.Bool.{false≢true}
 use Rattle.drive_model.specs.Drive.{DriveState}
 use Rattle.dma_8237.specs.Channel.{grants, after_transfer}
 use Rattle.fdc_stages.specs.History.{Past}
-use Rattle.fdc_core.proofs.MayRead.{out_reads, told_reads}
 use Rattle.fdc_core.proofs.MayWrite.{in_writes, in_formats, told_writes, told_formats}
-use Rattle.fdc_core.specs.Dma.{phase_told, taken_in, taken_out, told_count, byte_out}
-use Rattle.fdc_core.specs.Heard.{gave, told_in}
+use Rattle.fdc_core.specs.Dma.{phase_told, taken_in, told_count}
+use Rattle.fdc_core.specs.Heard.{told_in}
 use Rattle.fdc_core.specs.Listening.{is_executing}
 use Rattle.fdc_core.specs.Phases.{is_read, is_reading}
 use Rattle.fdc_core.specs.State.{asks, is_gated}
@@ -22,12 +21,11 @@ use Rattle.fdc_core.specs.declared.answers.Answer.TheVariants.{Short, Long}
 use Rattle.fdc_fifo.specs.Fifo.{Fifo}
 use Rattle.pc_bus.specs.Boards.{Board, controller_of, drive_in}
 use Rattle.pc_bus.specs.Steps.{Step}
-use Rattle.pc_bus.specs.Transfers.{can_move, moved, moved_to_memory, moved_from_memory, byte_read, memory_after, told_if}
+use Rattle.pc_bus.specs.Transfers.{can_move, moved, moved_to_memory, moved_from_memory, byte_read, told_if}
 use Rattle.pc_bus.specs.declared.chips.Chips.{Chips}
 use Rattle.machine_laws.specs.OnReads.Scenes.{Scene}
 use Rattle.machine_laws.specs.OnQuiet.Quiet.{StandsStill}
-use Rattle.machine_laws.specs.OnReads.Underway.{IsHearing, IsMoved}
-use Rattle.machine_laws.proofs.OnReads.Bytes as moving
+use Rattle.machine_laws.specs.OnReads.Underway.{IsHearing}
 use Rattle.machine_laws.proofs.OnReads.Steps as reads
 use Rattle.machine_laws.specs.OnWrites.Underway.{IsTaken, refuses}
 use Rattle.machine_laws.proofs.OnWrites.Bytes as taking_bytes
@@ -35,24 +33,12 @@ use Rattle.machine_laws.proofs.OnWrites.Drives.{drive_less}
 use Rattle.machine_laws.specs.OnSteps.Steady.{regapped, Steady, Moving}
 use Rattle.machine_laws.proofs.OnSteps.Transfers.{after_moves}
 use Rattle.machine_laws.proofs.OnSteps.Words.{selected}
-use Rattle.machine_laws.specs.OnOrders.Orders.{Laid, Window, Track, Order, Identify, Read, Write, MayLayIn, MayLay, May, LaysOn, AtDrive, IsDoneBy, Underway}
+use Rattle.machine_laws.specs.OnOrders.Orders.{Laid, Window, Track, Order, Identify, Read, Write, MayLayIn, MayLay, LaysOn, AtDrive, IsDoneBy, Underway}
 use Rattle.machine_laws.proofs.OnOrders.Behind.{IsBehind, laid_on}
+use Rattle.machine_laws.proofs.OnOrders.Fetching.{fetched, first_true, second_true, told_busy}
 use Rattle.machine_laws.proofs.OnOrders.Words.{word_time, no_command}
 
 -- ---- one transfer
-
-pub first_true : (a b : Bool) → (a && b) ≡ true → a ≡ true
-first_true true b h = refl
-first_true false b h = absurd cc
-
-pub second_true : (a b : Bool) → (a && b) ≡ true → b ≡ true
-second_true true b h = h
-second_true false b h = absurd cc
-
-pub told_busy : (p : Phase) → is_executing (phase_told p) ≡ is_executing p
-told_busy phase.Command = refl
-told_busy (phase.Result answer) = refl
-told_busy (phase.Execute execution) = refl
 
 told_refuses : (p : Phase) → refuses (phase_told p) ≡ refuses p
 told_refuses phase.Command = refl
@@ -101,46 +87,22 @@ laid_retaken laid scene past executes drive bytes counted was =
     laid_on laid scene past (retaken past bytes counted) executes executes drive drive (drive_less scene past executes executes drive bytes counted (λ busy. busy)) refl refl was
 
 -- to memory
-read_moved : (scene : Scene) (drive : DriveState) → scene.address + scene.size ≤ length scene.memory → (chips : Chips) → chips.controller.asking ≡ true → grants chips.channel ≡ true
-    → (was : IsBehind Read scene chips drive) → is_reading chips.controller.phase ≡ true → IsBehind Read scene (moved_to_memory chips) drive
-read_moved scene drive fits chips up granting was reading =
-    by_count (moving.still_uncounted scene was.past.given was.past.counted chips.memory chips.channel was.known.moves granting) (chips.channel.count == 0) refl
-  where
-    fdc : Fdc
-    fdc = taken_out chips.controller
-
-    given : Past
-    given = gave (byte_out chips.controller) was.past
-
-    out : May Read scene given fdc
-    out = out_reads was.past scene.sent chips.controller.phase chips.controller.asking chips.controller.fifo up reading was.known.may
-
-    busy : is_executing chips.controller.phase ≡ true
-    busy = was.known.shows up
-
-    by_count : was.past.counted ≡ false → (last : Bool) → (chips.channel.count == 0) ≡ last
-        → IsBehind Read scene (record chips { controller = told_if last fdc; channel = after_transfer chips.channel; memory = memory_after chips.channel (byte_out chips.controller) chips.memory }) drive
-    by_count uncounted last is = by_last last (moving.moved_more scene was.past.given chips.memory chips.channel (byte_out chips.controller) fits
-        (subst (λ c. IsMoved scene was.past.given c chips.memory chips.channel) uncounted was.known.moves) last is)
-      where
-        by_last : (last : Bool) → IsMoved scene given.given last (memory_after chips.channel (byte_out chips.controller) chips.memory) (after_transfer chips.channel)
-            → IsBehind Read scene (record chips { controller = told_if last fdc; channel = after_transfer chips.channel; memory = memory_after chips.channel (byte_out chips.controller) chips.memory }) drive
-        by_last true moves = record {
-          past = told_in true given;
-          known = record {
-            may = subst (λ b. May Read scene (told_in b given) (told_count fdc)) busy (told_reads given scene.sent fdc.phase fdc.asking fdc.fifo out);
-            shows = λ _. told_busy fdc.phase ∙ busy;
-            dor = was.known.dor;
-            rate = was.known.rate;
-            moves = moves;
-          };
-          at = subst (λ b. IsHearing scene (told_in true given) b drive) (sym (told_busy fdc.phase)) (reads.hearing_same scene was.past (told_in true given) (is_executing fdc.phase) drive (record { turns = refl; seen = refl }) was.at);
-        }
-        by_last false moves = record {
-          past = given;
-          known = record { may = out; shows = λ _. busy; dor = was.known.dor; rate = was.known.rate; moves = subst (λ c. IsMoved scene given.given c (memory_after chips.channel (byte_out chips.controller) chips.memory) (after_transfer chips.channel)) (sym uncounted) moves };
-          at = reads.hearing_same scene was.past given (is_executing fdc.phase) drive (record { turns = refl; seen = refl }) was.at;
-        }
+read_moved : (scene : Scene) (drive : DriveState) → scene.address + scene.size ≤ length scene.memory → (chips : Chips) → can_move chips ≡ true → IsBehind Read scene chips drive → IsBehind Read scene (moved chips) drive
+read_moved scene drive fits chips can was =
+    let is = fetched scene fits was.past chips can was.known.may was.known.shows was.known.moves in
+    let now : Past = record was.past { given = is.given; counted = is.counted } in
+    let up = second_true (is_gated chips.controller) chips.controller.asking (first_true (asks chips.controller) (grants chips.channel) can) in
+    record {
+      past = now;
+      known = record {
+        may = is.may;
+        shows = λ _. is.busy ∙ was.known.shows up;
+        dor = ap (λ dor. dor.0) is.dor ∙ was.known.dor;
+        rate = is.rate ∙ was.known.rate;
+        moves = is.moved;
+      };
+      at = subst (λ b. IsHearing scene now b drive) (sym is.busy) (reads.hearing_same scene was.past now (is_executing chips.controller.phase) drive (record { turns = refl; seen = refl }) was.at);
+    }
 
 -- from memory
 laid_moved : (laid : Laid) (scene : Scene) (drive : DriveState) → scene.address + scene.size ≤ length scene.memory → (chips : Chips) → chips.controller.asking ≡ true → grants chips.channel ≡ true
@@ -181,27 +143,19 @@ laid_moved laid scene drive fits chips up granting was busy =
           at = laid_retaken laid scene was.past (is_executing fdc.phase) drive (was.past.taken ++ byte ∷ []) was.past.counted was.at;
         }
 
-one : (order : Order) (scene : Scene) (drive : DriveState) → scene.address + scene.size ≤ length scene.memory → (chips : Chips) → can_move chips ≡ true → IsBehind order scene chips drive → IsBehind order scene (moved chips) drive
+laid_one : (laid : Laid) (scene : Scene) (drive : DriveState) → scene.address + scene.size ≤ length scene.memory → (chips : Chips) → can_move chips ≡ true → IsBehind (Write laid) scene chips drive → IsBehind (Write laid) scene (moved chips) drive
 unfolding moved
-one order scene drive fits chips can was = by_order order was
-  where
-    asking : asks chips.controller ≡ true
-    asking = first_true (asks chips.controller) (grants chips.channel) can
+laid_one laid scene drive fits chips can was =
+    let granting = second_true (asks chips.controller) (grants chips.channel) can in
+    let up = second_true (is_gated chips.controller) chips.controller.asking (first_true (asks chips.controller) (grants chips.channel) can) in
+    let is = taking laid scene was.past chips.controller.phase chips.controller.asking chips.controller.fifo up was.known.may in
+    subst (λ b. IsBehind (Write laid) scene (if b then moved_to_memory chips else moved_from_memory chips) drive) (sym is.from_memory) (laid_moved laid scene drive fits chips up granting was is.busy)
 
-    granting : grants chips.channel ≡ true
-    granting = second_true (asks chips.controller) (grants chips.channel) can
-
-    up : chips.controller.asking ≡ true
-    up = second_true (is_gated chips.controller) chips.controller.asking asking
-
-    by_order : (order : Order) → IsBehind order scene chips drive → IsBehind order scene (if is_reading chips.controller.phase then moved_to_memory chips else moved_from_memory chips) drive
-    by_order Identify was = absurd (false≢true (sym was.known.shows.0 ∙ up))
-    by_order Read was =
-        let reading = reads.reads_there was.past scene.sent chips.controller.phase chips.controller.asking chips.controller.fifo.bytes was.known.may (was.known.shows up) in
-        subst (λ b. IsBehind Read scene (if b then moved_to_memory chips else moved_from_memory chips) drive) (sym reading) (read_moved scene drive fits chips up granting was reading)
-    by_order (Write laid) was =
-        let is = taking laid scene was.past chips.controller.phase chips.controller.asking chips.controller.fifo up was.known.may in
-        subst (λ b. IsBehind (Write laid) scene (if b then moved_to_memory chips else moved_from_memory chips) drive) (sym is.from_memory) (laid_moved laid scene drive fits chips up granting was is.busy)
+one : (order : Order) (scene : Scene) (drive : DriveState) → scene.address + scene.size ≤ length scene.memory → (chips : Chips) → can_move chips ≡ true → IsBehind order scene chips drive → IsBehind order scene (moved chips) drive
+one Identify scene drive fits chips can was =
+    absurd (false≢true (sym was.known.shows.0 ∙ second_true (is_gated chips.controller) chips.controller.asking (first_true (asks chips.controller) (grants chips.channel) can)))
+one Read scene drive fits chips can was = read_moved scene drive fits chips can was
+one (Write laid) scene drive fits chips can was = laid_one laid scene drive fits chips can was
 
 -- ---- the device step
 

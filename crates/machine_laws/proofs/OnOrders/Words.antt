@@ -1,5 +1,5 @@
 -- The word time of a data command.
-use Rattle.std.proofs.Common.{◌≡◌, ℕ, ◌+◌, ◌≤◌, ◌==◌, ◌&&◌, not, Bool, true, false, List, if◌then◌else◌, refl, sym, ◌∙◌, ap, subst}
+use Rattle.std.proofs.Common.{◌≡◌, ℕ, ◌==◌, ◌&&◌, not, Bool, true, false, List, if◌then◌else◌, refl, sym, ◌∙◌, ap, subst}
 use Rattle.drive_model.specs.Drive.{DriveState}
 use Rattle.fdc_fifo.specs.Fifo.{Fifo}
 use Rattle.fdc_seek.specs.Seeking.{with_polls}
