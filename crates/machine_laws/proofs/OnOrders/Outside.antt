@@ -1,25 +1,22 @@
 -- A READ DATA puts bytes into its range alone, whatever the drive is.
-use Rattle.std.proofs.Common.{◌≡◌, ℕ, ◌+◌, ◌≤◌, ◌==◌, ◌&&◌, Bool, true, false, List, length, [], ◌∷◌, ◌++◌, if◌then◌else◌, refl, sym, ◌∙◌, ap, subst, arith}
+use Rattle.std.proofs.Common.{◌≡◌, ℕ, ◌+◌, ◌≤◌, ◌==◌, ◌&&◌, Bool, true, false, List, length, [], ◌∷◌, ◌++◌, if◌then◌else◌, refl, sym, ◌∙◌, ap, subst}
 use Rattle.std.proofs.lemmas.Bool.{false≢true}
-use Rattle.drive_model.specs.Drive.{DriveState}
 use Rattle.dma_8237.specs.Channel.{grants, after_transfer}
 use Rattle.fdc_commands.specs.Table.{kept}
 use Rattle.fdc_stages.specs.History.{Past, begun as new_past}
 use Rattle.fdc_core.proofs.MayRead.{out_reads, told_reads}
 use Rattle.fdc_core.specs.Commands.{TakesAs}
-use Rattle.fdc_core.specs.Dma.{phase_told, phase_asks, taken_out, told_count, byte_out}
+use Rattle.fdc_core.specs.Dma.{taken_out, told_count, byte_out}
 use Rattle.fdc_core.specs.Heard.{MayRead, gave, told_in}
 use Rattle.fdc_core.specs.Listening.{is_executing, after_step as past_after, Follows}
-use Rattle.fdc_core.specs.Phases.{is_reading}
 use Rattle.fdc_core.specs.State.{asks, is_gated}
 use Rattle.fdc_core.specs.Steps.{polled, RestsIn, FlowsIn}
 use Rattle.fdc_core.specs.declared.controller.Fdc.{Fdc}
 use Rattle.fdc_core.specs.declared.phases.Phase.{Phase}
 use Rattle.fdc_core.specs.declared.phases.Phase.TheVariants as phase
-use Rattle.fdc_fifo.specs.Fifo.{Fifo}
 use Rattle.pc_bus.specs.Boards.{Board, controller_of, memory_of, channel_of, lines_of}
 use Rattle.pc_bus.specs.Ports.{Outputs}
-use Rattle.pc_bus.specs.Steps.{Step}
+use Rattle.pc_bus.specs.Steps.{Runs}
 use Rattle.pc_bus.specs.Transfers.{can_move, moved, moved_to_memory, moved_from_memory, memory_after, told_if}
 use Rattle.pc_bus.specs.declared.chips.Chips.{Chips}
 use Rattle.machine_laws.specs.OnReads.Results.{StaysOutside}
@@ -28,24 +25,19 @@ use Rattle.machine_laws.specs.OnReads.Underway.{IsMoved}
 use Rattle.machine_laws.proofs.OnReads.Accesses.{none_moved}
 use Rattle.machine_laws.proofs.OnReads.Bytes as moving
 use Rattle.machine_laws.proofs.OnReads.Results.{stays_outside}
-use Rattle.machine_laws.proofs.OnReads.Steps.{polled_phase, polled_asking}
-use Rattle.machine_laws.proofs.OnReads.Transfers.{reads_there}
-use Rattle.machine_laws.specs.OnSteps.Steady.{regapped, Steady, Moving}
-use Rattle.machine_laws.proofs.OnSteps.Runs.{outputs}
+use Rattle.machine_laws.proofs.OnReads.Steps.{polled_phase, polled_asking, reads_there, asks_busy}
+use Rattle.machine_laws.specs.OnSteps.Steady.{Steady, Moving}
+use Rattle.machine_laws.proofs.OnSteps.Runs.{outputs, runs}
 use Rattle.machine_laws.proofs.OnSteps.Transfers.{after_moves}
 use Rattle.machine_laws.proofs.OnSteps.Words.{controller}
-use Rattle.machine_laws.specs.OnOrders.Outside.{Fetches, CanFetch}
+use Rattle.machine_laws.specs.OnOrders.Outside.{Fetches, IsFetching, CanFetch}
+use Rattle.machine_laws.proofs.OnOrders.Steps.{first_true, second_true, told_busy}
 
 -- ---- the word time
 
 same_given : (executes index : Bool) (word : ℕ) (past : Past) (P : List ℕ → Bool → Type 0) → P past.given past.counted → P (past_after executes index word past).given (past_after executes index word past).counted
 same_given true index word past P was = was
 same_given false index word past P was = was
-
-asks_busy : (p : Phase) (asking : Bool) (fifo : Fifo) → phase_asks p asking fifo ≡ true → is_executing p ≡ true
-asks_busy phase.Command asking fifo up = absurd (false≢true up)
-asks_busy (phase.Execute execution) asking fifo up = refl
-asks_busy (phase.Result answer) asking fifo up = absurd (false≢true up)
 
 still_quiet : (p : Phase) (track0 : Bool) (old between : Fdc) → (polled old).phase ≡ p → (old.asking ≡ true → is_executing p ≡ true) → RestsIn p track0 (polled old) between → FlowsIn p old.asking between
     → between.asking ≡ true → is_executing between.phase ≡ true
@@ -63,19 +55,6 @@ word scene chips between index track0 value was follows rests flows = record {
 }
 
 -- ---- one transfer
-
-told_busy : (p : Phase) → is_executing (phase_told p) ≡ is_executing p
-told_busy phase.Command = refl
-told_busy (phase.Result answer) = refl
-told_busy (phase.Execute execution) = refl
-
-first_true : (a b : Bool) → (a && b) ≡ true → a ≡ true
-first_true true b h = refl
-first_true false b h = absurd cc
-
-second_true : (a b : Bool) → (a && b) ≡ true → b ≡ true
-second_true true b h = h
-second_true false b h = absurd cc
 
 by_last : (scene : Scene) (chips : Chips) → (was : Fetches scene chips) → is_executing chips.controller.phase ≡ true → MayRead (gave (byte_out chips.controller) was.past) scene.sent (taken_out chips.controller) → was.past.counted ≡ false
     → (last : Bool) → IsMoved scene (was.past.given ++ byte_out chips.controller ∷ []) last (memory_after chips.channel (byte_out chips.controller) chips.memory) (after_transfer chips.channel)
@@ -113,7 +92,7 @@ one scene fits chips can was =
 transfers : (scene : Scene) → scene.address + scene.size ≤ length scene.memory → Moving (Fetches scene)
 transfers scene fits = record { one = one scene fits; held = λ chips holding was. record { past = was.past; may = was.may; quiet = was.quiet; moved = was.moved } }
 
-pub fetching : (scene : Scene) → scene.address + scene.size ≤ length scene.memory → Steady (λ board. Fetches scene board.bus.chips)
+pub fetching : (scene : Scene) → scene.address + scene.size ≤ length scene.memory → Steady (IsFetching scene)
 fetching scene fits = record {
   step = λ old new step was. after_moves (Fetches scene) (transfers scene fits) old new step
       (controller (Fetches scene (record old.bus.chips { controller = step.between })) old new step
@@ -123,8 +102,8 @@ fetching scene fits = record {
 }
 
 -- it begins so, and no byte outside the range changes
-pub begins : (scene : Scene) (byte : ℕ) (old new : Board) → Outputs 0x3F5 byte old new → CanFetch scene byte old → Fetches scene new.bus.chips
-begins scene byte old new access can = outputs (λ board. Fetches scene board.bus.chips) (fetching scene can.fits) 0x3F5 byte old new (λ between writes.
+pub begins : (scene : Scene) (byte : ℕ) (old new : Board) → Outputs 0x3F5 byte old new → CanFetch scene byte old → IsFetching scene new
+begins scene byte old new access can = outputs (IsFetching scene) (fetching scene can.fits) 0x3F5 byte old new (λ between writes.
     let (controller, does, chips_are) = writes.writes.controllers refl in
     let bytes = (controller_of old).command ++ byte ∷ [] in
     let takes = subst (λ accepted. TakesAs accepted (lines_of old) (record (controller_of old) { command = kept accepted bytes }) controller) can.last.whole ((does.bytes refl).0 can.last.taking) in
@@ -136,5 +115,8 @@ begins scene byte old new access can = outputs (λ board. Fetches scene board.bu
       moved = none_moved scene old.bus.chips.memory old.bus.chips.channel can.left can.memory can.size can.channel;
     })) access
 
-pub outside : (scene : Scene) (board : Board) → Fetches scene board.bus.chips → StaysOutside scene (memory_of board)
+pub outside : (scene : Scene) (board : Board) → IsFetching scene board → StaysOutside scene (memory_of board)
 outside scene board was = stays_outside scene was.past.given was.past.counted (memory_of board) (channel_of board) was.moved
+
+pub runs_outside : (scene : Scene) (byte n : ℕ) (old between new : Board) → CanFetch scene byte old → Outputs 0x3F5 byte old between → Runs n between new → StaysOutside scene (memory_of new)
+runs_outside scene byte n old between new can access ran = outside scene new (runs (IsFetching scene) (fetching scene can.fits) n between new ran (begins scene byte old between access can))

@@ -13,7 +13,7 @@ use Rattle.fdc_core.specs.Answers.{after_byte}
 use Rattle.fdc_core.specs.Commands.{BeginsData, Begins, Obeys, ObeysAtRest, TakesAs, sensing_by, answered}
 use Rattle.fdc_core.specs.Dma.{phase_told, taken_out, taken_in, to_memory_of}
 use Rattle.fdc_core.specs.Listening.{is_executing}
-use Rattle.fdc_core.specs.Ports.{Writes, phase_after, takes_in, is_taking}
+use Rattle.fdc_core.specs.Ports.{dsr_resets, Writes, phase_after, takes_in, is_taking}
 use Rattle.fdc_core.specs.Rates.{rate_chosen}
 use Rattle.fdc_core.specs.State.{data_commands_of, is_held, reset}
 use Rattle.fdc_core.specs.Steps.{polled, steps_left, EndsIn, RestsIn}
@@ -197,9 +197,9 @@ writes_hold port value lines old new writes = by_port (port == 0x3F2) (port == 0
   where
     by_port : (a b c d : Bool) → (port == 0x3F2) ≡ a → (port == 0x3F4) ≡ b → (port == 0x3F5) ≡ c → (port == 0x3F7) ≡ d → Holds old new
     by_port true b c d p q r s = subst (Holds old) (sym (writes.output (port_is port 0x3F2 p))) (resets _ (record old { dor = record { 0 = value } }) old refl refl)
-    by_port false true c d p q r s = subst (Holds old) (sym (writes.select (port_is port 0x3F4 q))) (dsr (bit_and value 0x80 == 0))
+    by_port false true c d p q r s = subst (Holds old) (sym (writes.select (port_is port 0x3F4 q))) (dsr (dsr_resets value))
       where
-        dsr : (b : Bool) → Holds old (if b then record old { rate = rate_chosen value } else reset (record old { rate = rate_chosen value }))
+        dsr : (b : Bool) → Holds old (if b then reset (record old { rate = rate_chosen value }) else record old { rate = rate_chosen value })
         dsr true = Holds.Same refl (omega arith)
         dsr false = Holds.Same refl (omega arith)
     by_port false false true d p q r s = sent value lines old new port (port_is port 0x3F5 r) writes

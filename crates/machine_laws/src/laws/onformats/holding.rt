@@ -2,7 +2,7 @@
 ghost use Rattle.std.specs.Prelude.{◌≡◌, ◌⊎◌, ℕ, true};
 ghost use Rattle.fdc_core.specs.State.{is_gated};
 ghost use Rattle.fdc_writing.specs.Formats.{Numbers};
-ghost use Rattle.machine_laws.specs.OnFormats.Begins.{CanBegin};
+ghost use Rattle.machine_laws.specs.OnOrders.Orders.{CanBegin, Track, Write};
 ghost use Rattle.machine_laws.specs.OnReads.Timely.{Stalled};
 ghost use Rattle.machine_pace.specs.declared.holding.Request.TheVariants.{Low};
 ghost use Rattle.machine_laws.specs.OnReads.Scenes.{Scene};
@@ -10,13 +10,9 @@ ghost use Rattle.machine_laws.specs.OnWrites.Timely.{IsOnTime};
 ghost use Rattle.pc_bus.specs.Boards.{Board, controller_of, holds_of};
 ghost use Rattle.pc_bus.specs.Ports.{Outputs};
 
-use crate::laws::onreads::a_served_request_falls;
-
 /// A FORMAT TRACK that begins with the FIFO on, threshold 8, DRQ let out and no request left from before is on time.
 pub fn a_format_begins_on_time()
-    ensures { (scene : Scene) (numbers : Numbers) (byte : ℕ) (old new : Board) → Outputs 0x3F5 byte old new → CanBegin scene numbers byte old
+    ensures { (scene : Scene) (numbers : Numbers) (byte : ℕ) (old new : Board) → Outputs 0x3F5 byte old new → CanBegin (Write (Track numbers)) scene byte old
         → (controller_of old).fifo.on ≡ true → (controller_of old).fifo.threshold ≡ 8 → is_gated (controller_of old) ≡ true
         → (holds_of old).request ≡ Low → IsOnTime new ⊎ Stalled old new }
-{
-    a_served_request_falls();
-}
+{}

@@ -1,8 +1,9 @@
 use Rattle.machine_laws.proofs.OnAwaits.Courses.{goes_begins, goes_runs, goes_waits, goes_status, goes_stray}
-use Rattle.machine_laws.proofs.OnWrites.Accesses.{outputs_begin}
-use Rattle.machine_laws.proofs.OnWrites.Begun.{write_leaves}
+use Rattle.machine_laws.specs.OnOrders.Orders.{Write, Window}
+use Rattle.machine_laws.proofs.OnOrders.Accesses.{begins}
+use Rattle.machine_laws.proofs.OnOrders.Heads.{begin_leaves}
 use Rattle.machine_laws.proofs.OnAwaits.Accesses.{write_begins}
-use Rattle.machine_laws.proofs.OnAwaits.Keeping.{keeps_write}
+use Rattle.machine_laws.proofs.OnAwaits.Keeping.{keeps_laid}
 use Rattle.machine_laws.proofs.laws.onawaits.going.a_write_goes_on.Goals as goal
 
 pub returns-clause-begins : goal.returns-clause-begins
@@ -14,8 +15,8 @@ returns-clause-begins c = λ scene deleted byte old new access can out hushed on
       wait_counts = c.counts_go_on.ensures.wait;
       waits_count = c.counts_go_on.ensures.waits;
       read_counts = c.counts_go_on.ensures.read;
-    }) _ (keeps_write scene deleted) old new (outputs_begin scene deleted byte old new access can) (write_begins scene deleted byte old new access can out hushed)
-    (write_leaves scene deleted byte old new access can) (c.counts_go_on.ensures.write 0x3F5 byte old new access)
+    }) _ (keeps_laid (Window deleted) scene) old new (begins (Write (Window deleted)) scene byte old new access can) (write_begins scene deleted byte old new access can out hushed)
+    (begin_leaves (Write (Window deleted)) scene byte old new access can) (c.counts_go_on.ensures.write 0x3F5 byte old new access)
     (c.a_write_begins_on_time.ensures scene deleted byte old new access can on threshold out.gated low)
 
 pub returns-clause-runs : goal.returns-clause-runs
@@ -26,7 +27,7 @@ returns-clause-runs c = λ scene other n start old new runs was. goes_runs (reco
   wait_counts = c.counts_go_on.ensures.wait;
   waits_count = c.counts_go_on.ensures.waits;
   read_counts = c.counts_go_on.ensures.read;
-}) _ (keeps_write scene other) n start old new runs was
+}) _ (keeps_laid (Window other) scene) n start old new runs was
 
 pub returns-clause-waits : goal.returns-clause-waits
 returns-clause-waits c = λ scene other most set start old new waits was. goes_waits (record {
@@ -36,7 +37,7 @@ returns-clause-waits c = λ scene other most set start old new waits was. goes_w
   wait_counts = c.counts_go_on.ensures.wait;
   waits_count = c.counts_go_on.ensures.waits;
   read_counts = c.counts_go_on.ensures.read;
-}) _ (keeps_write scene other) most set start old new waits was
+}) _ (keeps_laid (Window other) scene) most set start old new waits was
 
 pub returns-clause-status : goal.returns-clause-status
 returns-clause-status c = λ scene other value start old new access was. goes_status (record {
@@ -46,7 +47,7 @@ returns-clause-status c = λ scene other value start old new access was. goes_st
   wait_counts = c.counts_go_on.ensures.wait;
   waits_count = c.counts_go_on.ensures.waits;
   read_counts = c.counts_go_on.ensures.read;
-}) _ (keeps_write scene other) value start old new access was
+}) _ (keeps_laid (Window other) scene) value start old new access was
 
 pub returns-clause-strays : goal.returns-clause-strays
 returns-clause-strays c = λ scene other start old busy was. goes_stray (record {
@@ -56,4 +57,4 @@ returns-clause-strays c = λ scene other start old busy was. goes_stray (record 
   wait_counts = c.counts_go_on.ensures.wait;
   waits_count = c.counts_go_on.ensures.waits;
   read_counts = c.counts_go_on.ensures.read;
-}) _ (keeps_write scene other) start old busy was
+}) _ (keeps_laid (Window other) scene) start old busy was

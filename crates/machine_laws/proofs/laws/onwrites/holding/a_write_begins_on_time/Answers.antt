@@ -1,5 +1,6 @@
-use Rattle.machine_laws.proofs.OnWrites.Beginning.{write_on_time}
+use Rattle.machine_laws.specs.OnOrders.Orders.{Window}
+use Rattle.machine_laws.proofs.OnOrders.Punctual.{begins_on_time}
 use Rattle.machine_laws.proofs.laws.onwrites.holding.a_write_begins_on_time.Goals as goal
 
 pub returns : goal.returns
-returns c = write_on_time c.a_served_request_falls.ensures.falls
+returns c = λ scene deleted. begins_on_time (Window deleted) scene
