@@ -1,0 +1,21 @@
+use Rattle.machine_laws.proofs.OnReads.EndCalls.{begins_prompt, still_prompt, inputs_prompt}
+use Rattle.machine_laws.proofs.OnReads.EndSteps.{prompting}
+use Rattle.machine_laws.proofs.laws.onreads.ending.a_read_is_prompt_until_a_stall.Goals as goal
+
+pub returns-clause-begins : goal.returns-clause-begins
+returns-clause-begins c = begins_prompt
+
+pub returns-clause-keeping : goal.returns-clause-keeping
+returns-clause-keeping c = prompting
+
+pub returns-clause-still : goal.returns-clause-still
+returns-clause-still c = still_prompt
+
+pub returns-clause-read : goal.returns-clause-read
+returns-clause-read c = inputs_prompt
+
+pub returns-clause-no_overrun : goal.returns-clause-no_overrun
+returns-clause-no_overrun c = λ scene board ((under, punctual), soon). punctual.no_overrun
+
+pub returns-clause-no_late : goal.returns-clause-no_late
+returns-clause-no_late c = λ scene board (in_time, soon). soon.no_late
