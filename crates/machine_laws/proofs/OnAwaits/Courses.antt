@@ -14,7 +14,7 @@ use Rattle.machine_pace.specs.Holds.{Holds, counted, shown}
 use Rattle.machine_laws.proofs.OnReads.Accesses.{read_board}
 use Rattle.machine_laws.specs.OnWrites.Guards.{LeavesOthers}
 use Rattle.machine_laws.specs.OnWrites.Timely.{IsTimely, IsOnTime}
-use Rattle.machine_laws.proofs.OnWrites.Guards.{leaves_on, runs_leave, unset_leaves}
+use Rattle.machine_laws.proofs.OnWrites.Guards.{leaves_on, leaving}
 use Rattle.machine_laws.specs.OnAwaits.Awaits.{IsAwaited, is_unread}
 use Rattle.machine_laws.specs.OnAwaits.Goes.{CountsOn, GoesOn}
 use Rattle.machine_laws.proofs.OnAwaits.Awaiting.{runs_await, waits_await, same_await}
@@ -24,6 +24,7 @@ use Rattle.pc_bus.specs.Handling.{irq_taken}
 use Rattle.pc_bus.specs.Ports.{Inputs}
 use Rattle.pc_bus.specs.Steps.{Runs, RunsUnset, Waits, stirred}
 use Rattle.pc_bus.specs.declared.chips.Chips.{Chips}
+use Rattle.machine_laws.proofs.OnSteps.Runs.{goes_runs as steps_go, unset_runs}
 
 -- ---- the counts
 
@@ -137,7 +138,7 @@ module _ (laws : HasLaws) (Underway : Board → Type 0) (kept : IsKept Underway)
   pub goes_runs : (n : ℕ) (start old new : Board) → Runs n (stirred old) new → GoesOn Underway start old → GoesOn Underway start new
   goes_runs n start old new runs was =
       let begun = counted (data_commands_of (controller_of start)) in
-      let others = runs_leave n (stirred old) new runs in
+      let others = steps_go LeavesOthers leaving n (stirred old) new runs in
       goes_then start old new was (kept.runs n (stirred old) new runs (kept.stirs old was.underway))
       (runs_await n begun start (stirred old) new runs (same_await begun start old (stirred old) refl refl refl refl was.awaited))
       (record { dor = others.dor; first = others.first; second = others.second }) (laws.wait_counts n old new runs)
@@ -146,7 +147,7 @@ module _ (laws : HasLaws) (Underway : Board → Type 0) (kept : IsKept Underway)
   pub goes_waits : (most : ℕ) (set : Bool) (start old new : Board) → Waits most old set new → GoesOn Underway start old → GoesOn Underway start new
   goes_waits most set start old new waits was =
       let begun = counted (data_commands_of (controller_of start)) in
-      let others = unset_leaves waits.steps (stirred old) new waits.runs in
+      let others = steps_go LeavesOthers leaving waits.steps (stirred old) new (unset_runs waits.steps (stirred old) new waits.runs) in
       goes_then start old new was (kept.unset waits.steps (stirred old) new waits.runs (kept.stirs old was.underway)) (waits_await most begun set start old new waits was.awaited)
       (record { dor = others.dor; first = others.first; second = others.second }) (laws.waits_count most set old new waits)
       (λ time. laws.unset_time waits.steps (stirred old) new waits.runs (stirred_time old time))
@@ -166,7 +167,7 @@ module _ (laws : HasLaws) (Underway : Board → Type 0) (kept : IsKept Underway)
         | inr over ↦ absurd (not_over begun start new awaited over)
       ] in
       goes_then start old new was under awaited
-      (leaves_on old between new (record { dor = refl; first = λ _. refl; second = λ _. refl }) (runs_leave n between new access.gap.runs)) (laws.read_counts 0x3F4 value old new access)
+      (leaves_on old between new (record { dor = refl; first = λ _. refl; second = λ _. refl }) (steps_go LeavesOthers leaving n between new access.gap.runs)) (laws.read_counts 0x3F4 value old new access)
       (λ time. elim (laws.runs_time n between new access.gap.runs (status_time laws old time)) [
         | inl now ↦ inl now
         | inr rose ↦ inr (subst (λ stalls. Rose stalls (holds_of new).stalls) (shown_stalls (asks (controller_of old)) (holds_of old)) rose)

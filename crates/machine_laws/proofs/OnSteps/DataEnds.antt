@@ -33,6 +33,7 @@ use Rattle.machine_laws.proofs.OnSteps.Acts.{Touches, at_controller}
 use Rattle.machine_laws.proofs.OnSteps.Moves.{lasts}
 use Rattle.machine_laws.proofs.OnSteps.Transfers.{after_step}
 use Rattle.machine_laws.proofs.OnSteps.Words.{controller}
+use Rattle.machine_laws.specs.OnSteps.Steady.{Marching}
 
 -- what is counted of a controller
 record Shows (left begun : ℕ) (fdc : Fdc) : Type 0 where
@@ -96,6 +97,21 @@ step_ticks old new step =
     (record { steps = refl; count = refl }) in
     let fewer = word.steps in let same = shows.steps in
     record { steps = omega arith; count = shows.count ∙ word.count }
+
+left_of : (p : Phase) → steps_left p ≡ turns_left p - 1
+left_of phase.Command = refl
+left_of (phase.Result answer) = refl
+left_of (phase.Execute execution) = omega arith
+
+pub ending : (start : Board) → Marching (λ n board. steps_left (controller_of board).phase ≤ steps_left (controller_of start).phase - n)
+ending start = record {
+  step = λ n old new step was.
+      let fewer = (step_ticks old new step).steps in
+      let before = left_of (controller_of old).phase in
+      let after = left_of (controller_of new).phase in
+      omega arith;
+  idle = λ n old gaps fresh was. was;
+}
 
 -- ---- the acts
 

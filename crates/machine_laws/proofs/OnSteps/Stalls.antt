@@ -28,7 +28,7 @@ holding_moved holding chips is = by_way (to_memory_of chips.controller)
 pub up_to_holding : (n : ℕ) (chips : Chips) → (moved_up_to n chips).holding ≡ chips.holding
 up_to_holding n chips = up_to (λ c. c.holding ≡ chips.holding) (holding_moved chips.holding) n chips refl
 
-shown_stalls : (line : Bool) (holding : Holds) → (shown line holding).stalls ≡ holding.stalls
+pub shown_stalls : (line : Bool) (holding : Holds) → (shown line holding).stalls ≡ holding.stalls
 shown_stalls true holding = refl
 shown_stalls false holding = refl
 

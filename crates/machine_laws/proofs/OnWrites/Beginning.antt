@@ -23,7 +23,8 @@ use Rattle.machine_laws.proofs.OnReads.Accesses.{gapped}
 use Rattle.machine_laws.specs.OnWrites.Begins.{CanBegin, write_of}
 use Rattle.machine_laws.specs.OnWrites.Timely.{fills_task, IsOnTime, IsPunctual}
 use Rattle.machine_laws.proofs.OnWrites.Accesses.{begins_write}
-use Rattle.machine_laws.proofs.OnWrites.OnTime.{Falls, begun_punctual, runs_on_time}
+use Rattle.machine_laws.proofs.OnWrites.OnTime.{begun_punctual, on_time}
+use Rattle.machine_laws.proofs.OnSteps.Stalls.{runs_until}
 
 filling_task : (sent : Sent) (deleted : Bool) (task : Task) → IsWritingData sent deleted task → fills_task task ≡ true
 filling_task sent deleted (Write writing) is = refl
@@ -35,10 +36,10 @@ same_stalls : (line : Bool) (holding : Holds) → (shown line holding).stalls �
 same_stalls true holding = refl
 same_stalls false holding = refl
 
-pub write_on_time : Falls → (scene : Scene) (deleted : Bool) (byte : ℕ) (old new : Board) → Outputs 0x3F5 byte old new → CanBegin scene deleted byte old
+pub write_on_time : (scene : Scene) (deleted : Bool) (byte : ℕ) (old new : Board) → Outputs 0x3F5 byte old new → CanBegin scene deleted byte old
     → (controller_of old).fifo.on ≡ true → (controller_of old).fifo.threshold ≡ 8 → is_gated (controller_of old) ≡ true
     → (holds_of old).request ≡ Low → IsOnTime new ⊎ Stalled old new
-write_on_time falls scene deleted byte old new access can on threshold gated low =
+write_on_time scene deleted byte old new access can on threshold gated low =
     let (controller, writes, chips_are) = access.writes.writes.controllers refl in
     let fdc = controller_of old in
     let bytes = fdc.command ++ byte ∷ [] in
@@ -54,7 +55,7 @@ write_on_time falls scene deleted byte old new access can on threshold gated low
     let dor : dor_of (controller_of access.between) ≡ scene.dor = ap (λ chips. dor_of chips.controller) at ∙ (ap dor_of after ∙ can.dor) in
     let selected : selected_of access.between ≡ scene.bay = ap (λ byte. byte % 4) dor ∙ can.scene_is.selects in
     let small = can.scene_is.bay in
-    elim (runs_on_time falls (next_entry access.between.bus.gaps) (gapped access.between) new access.gap.runs (record { selects = omega arith; punctual = punctual })) [
+    elim (runs_until IsOnTime on_time (next_entry access.between.bus.gaps) (gapped access.between) new access.gap.runs (record { selects = omega arith; punctual = punctual })) [
       | inl on_time ↦ inl on_time
       | inr rose ↦ inr (subst (λ stalls. Rose stalls (holds_of new).stalls) same rose)
     ]
