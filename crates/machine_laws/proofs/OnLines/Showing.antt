@@ -1,31 +1,22 @@
 -- Change lines of empty drives, call by call.
-use Rattle.std.proofs.Common.{◌≡◌, inl, inr, ℕ, zero, suc, ◌≤◌, ◌/◌, ◌%◌, Bool, true, false, Option, Some, None, is_some, if◌then◌else◌, refl, sym, ◌∙◌, ap, subst, arith}
+use Rattle.std.proofs.Common.{◌≡◌, inl, inr, ℕ, zero, suc, ◌≤◌, Bool, true, false, Option, Some, None, is_some, if◌then◌else◌, refl, sym, ◌∙◌, ap, subst, arith}
 use Rattle.raw_image.specs.Disk.{Disk}
 use Rattle.drive_model.specs.Drive.{DriveState, Becomes, Pulses, loaded, unloaded}
-use Rattle.fdc_fifo.specs.Fifo.{Fifo}
-use Rattle.fdc_core.specs.Phases.{is_listening}
-use Rattle.fdc_core.specs.Steps.{polled, Moves, MovesIn, MovesTask}
-use Rattle.fdc_core.specs.Writes.{WritesIn, WritesTask}
+use Rattle.fdc_core.specs.Steps.{Moves}
 use Rattle.fdc_core.specs.declared.controller.Fdc.{Fdc}
-use Rattle.fdc_core.specs.declared.phases.Phase.{Phase}
-use Rattle.fdc_core.specs.declared.phases.Phase.TheVariants.{Command, Execute, Result as Answered}
-use Rattle.fdc_core.specs.declared.phases.Task.{Task}
-use Rattle.fdc_core.specs.declared.phases.Task.TheVariants.{ReadId, Read, Write, Format}
 use Rattle.irq_events.specs.declared.pace.Pace.{Pace}
-use Rattle.machine_pace.specs.Entries.{next_entry, rest_of}
-use Rattle.pc_bus.specs.Boards.{AreSetIfEmpty, Board, IsEmpty, IsNew, IsSetIfEmpty, controller_of, drive_in, selected_of}
+use Rattle.pc_bus.specs.Boards.{AreSetIfEmpty, Board, IsEmpty, IsNew, IsSetIfEmpty, controller_of, drive_in}
 use Rattle.pc_bus.specs.Calls.{AreCalled, IsCalled, ByEject, ByExchange, ByInb, ByInsert, ByOutb, ByRamSet, ByRefusal, ByTakeIrq, ByWait, ByWaitIrq}
 use Rattle.pc_bus.specs.Handling.{Touches, byte_set, irq_taken}
-use Rattle.pc_bus.specs.Ports.{FollowsMotor, FollowsWrite, Inputs, Outputs, WritesPort, port_read}
-use Rattle.pc_bus.specs.Steps.{Works, Step, Runs, RunsUnset, Waits, stirred}
+use Rattle.pc_bus.specs.Ports.{FollowsMotor, FollowsWrite, Inputs, Outputs, WritesPort}
+use Rattle.pc_bus.specs.Steps.{Step}
 use Rattle.pc_bus.specs.declared.bus.Bus.{Bus}
 use Rattle.pc_bus.proofs.Lines.{write_leaves}
 use Rattle.machine_laws.specs.OnAwaits.Awaits.{TurnsOn}
 use Rattle.machine_laws.proofs.OnAwaits.Turning.{on_let, on_time}
 use Rattle.machine_laws.specs.OnSteps.Steady.{regapped, Steady}
-use Rattle.machine_laws.proofs.OnSteps.Controllers.{polled_phase}
 use Rattle.machine_laws.proofs.OnSteps.Runs.{inputs, outputs, read_from, wait, waits}
-use Rattle.machine_laws.proofs.OnSteps.Words.{drives}
+use Rattle.machine_laws.proofs.OnSteps.Drives.{both}
 
 -- ---- a drive
 
@@ -65,27 +56,6 @@ leaves_moved None old new becomes = leaves_turned old new (on_let old new become
 leaves_moved (Some inward) old new (between, pulses, becomes) =
     leaves_on old between new (leaves_pulsed inward old between pulses) (leaves_turned between new (on_let between new becomes))
 
-by_task : (task : Task) (head_drive steps : ℕ) (asking : Bool) (fifo : Fifo) (polls : Fdc) (before after : DriveState) (new : Fdc) → MovesTask (is_listening task) before after
-    → WritesTask task head_drive steps asking fifo polls before after new → LeavesEmpty before after
-by_task (ReadId search) head_drive steps asking fifo polls before after new moves writes = leaves_moved None before after moves
-by_task (Read reading) head_drive steps asking fifo polls before after new moves writes = leaves_moved None before after moves
-by_task (Write writing) head_drive steps asking fifo polls before after new moves writes =
-    leaves_turned before after (on_time writes.step.does.time polls.rate (head_drive / 4 % 2) before after writes.step.does.is)
-by_task (Format formatting) head_drive steps asking fifo polls before after new moves writes =
-    leaves_turned before after (on_time writes.step.does.time polls.rate (head_drive / 4 % 2) before after writes.step.does.is)
-
-by_phase : (phase : Phase) (asking : Bool) (fifo : Fifo) (polls : Fdc) (before after : DriveState) (new : Fdc) → MovesIn phase polls before after
-    → WritesIn phase asking fifo polls before after new → LeavesEmpty before after
-by_phase Command asking fifo polls before after new moves writes = leaves_moved _ before after moves
-by_phase (Answered answer) asking fifo polls before after new moves writes = leaves_moved _ before after moves
-by_phase (Execute execution) asking fifo polls before after new moves writes =
-    by_task execution.task execution.head_drive execution.steps asking fifo polls before after new moves writes
-
-leaves_worked : (old : Fdc) (before : DriveState) (new : Fdc) (after : DriveState) → Works old before new after → LeavesEmpty before after
-leaves_worked old before new after works =
-    by_phase old.phase old.asking old.fifo (polled old) before after new
-    (subst (λ phase. MovesIn phase (polled old) before after) (polled_phase old) works.drive) works.writes
-
 -- ---- device steps
 
 lines_on : (old new : Board) → LeavesEmpty old.first new.first → LeavesEmpty old.second new.second → AreSetIfEmpty old → AreSetIfEmpty new
@@ -93,7 +63,7 @@ lines_on old new first second was = record { first = set_on old.first new.first 
 
 pub step_lines : (old new : Board) → Step old new → AreSetIfEmpty old → AreSetIfEmpty new
 step_lines old new step =
-    let (first, second) = drives LeavesEmpty old new step (λ before after. leaves_worked (controller_of old) before step.between after) (leaves_moved None) in
+    let (first, second) = both LeavesEmpty leaves_moved (λ time rate head before after is. leaves_turned before after (on_time time rate head before after is)) old new step in
     lines_on old new first second
 
 lines_beside : (bus : Bus) (old : Board) → AreSetIfEmpty old → AreSetIfEmpty (record old { bus = bus })

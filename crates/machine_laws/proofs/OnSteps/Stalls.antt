@@ -32,6 +32,11 @@ pub shown_stalls : (line : Bool) (holding : Holds) → (shown line holding).stal
 shown_stalls true holding = refl
 shown_stalls false holding = refl
 
+-- a request that is low stays so
+pub shown_low : (line : Bool) (holding : Holds) → holding.request ≡ Low → (shown line holding).request ≡ Low
+shown_low true holding is = is
+shown_low false holding is = refl
+
 pub dma_stalls : (chips : Chips) → (dma_stepped chips).holding.stalls ≡ (looked_at chips).holding.stalls
 unfolding dma_stepped granted
 dma_stalls chips = by_due (is_due (looked_at chips).holding.request) (grants chips.channel)

@@ -1,5 +1,5 @@
 -- The write gates, step by step.
-use Rattle.std.proofs.Common.{◌≡◌, ◌⊎◌, inl, inr, ℕ, zero, suc, ◌+◌, ◌<◌, ◌/◌, ◌%◌, ◌&&◌, not, Bool, true, false, Option, Some, None, if◌then◌else◌, refl, sym, ◌∙◌, ap, subst, arith}
+use Rattle.std.proofs.Common.{◌≡◌, ◌⊎◌, inl, inr, ℕ, ◌+◌, ◌<◌, ◌/◌, ◌%◌, ◌&&◌, not, Bool, true, false, Option, Some, None, if◌then◌else◌, refl, sym, ◌∙◌, ap, subst}
 use Rattle.std.proofs.lemmas.Bool.{and_parts, false≢true}
 use Rattle.drive_model.specs.Drive.{DriveState, Writes, at_speed, can_write, rewritten}
 use Rattle.fdc_fifo.specs.Fifo.{Fifo}
@@ -23,7 +23,7 @@ use Rattle.fdc_core.specs.declared.rates.DataRate.{DataRate}
 use Rattle.fdc_core.specs.declared.transfers.Formatting.{Formatting}
 use Rattle.fdc_core.specs.declared.transfers.Writing.{Writing}
 use Rattle.pc_bus.specs.Boards.{Board, controller_of, selected_of}
-use Rattle.pc_bus.specs.Steps.{Passes, Works, Step, Runs, RunsUnset}
+use Rattle.pc_bus.specs.Steps.{Works, Step}
 use Rattle.machine_laws.specs.OnWrites.Guards.{GatesDrives, HoldsGates, IsGated, IsGateOf, IsGivenWord, MakesTask, MakesTime, PassesClosed, is_recording}
 use Rattle.machine_laws.proofs.OnQuiet.Steps.{listens_told}
 use Rattle.machine_laws.proofs.OnWrites.Guards.{closes_same, moves_same, opens_same, step_leaves}

@@ -1,26 +1,22 @@
 -- A command that takes bytes from memory, on time through device steps.
-use Rattle.std.proofs.Common.{◌≡◌, ◌⊎◌, inl, inr, ℕ, ◌+◌, ◌-◌, ◌%◌, ◌≤◌, ◌==◌, ◌&&◌, not, Bool, true, false, length, if◌then◌else◌, refl, sym, ◌∙◌, ap, subst, arith, bit_and}
+use Rattle.std.proofs.Common.{◌≡◌, ◌⊎◌, inl, inr, ℕ, ◌+◌, ◌-◌, ◌%◌, ◌≤◌, ◌==◌, Bool, true, false, length, if◌then◌else◌, refl, sym, ◌∙◌, ap, subst, arith}
 use Rattle.std.proofs.lemmas.Bool.{false≢true}
-use Rattle.std.proofs.lemmas.Bool.Decides.{nat_tests}
 use Rattle.std.proofs.lemmas.List.{length-drop}
 use Rattle.flop_base.specs.Counts.{Rose}
 use Rattle.drive_model.specs.Drive.{DriveState}
 use Rattle.dma_8237.specs.Channel.{grants}
 use Rattle.fdc_fifo.specs.Fifo.{Fifo, emptied, room_of}
-use Rattle.fdc_registers.specs.Dor.{gate}
-use Rattle.fdc_registers.specs.declared.drive_lines.Dor.{Dor}
-use Rattle.fdc_seek.specs.Seeking.{with_polls}
 use Rattle.fdc_writing.specs.declared.formatting.FormatNext.{FormatNext}
 use Rattle.fdc_writing.specs.declared.formatting.FormatNext.TheVariants as format_next
 use Rattle.fdc_writing.specs.declared.writing.WriteNext.{WriteNext}
 use Rattle.fdc_writing.specs.declared.writing.WriteNext.TheVariants as write_next
 use Rattle.fdc_core.specs.Commands.{WaitsAtFirst, begun}
-use Rattle.fdc_core.specs.Dma.{asked, phase_asks, phase_told}
+use Rattle.fdc_core.specs.Dma.{asked}
 use Rattle.fdc_core.specs.Formatting.{FormatDoes, after_laid}
 use Rattle.fdc_core.specs.Listening.{is_executing}
 use Rattle.fdc_core.specs.Phases.{is_overrun, is_reading}
-use Rattle.fdc_core.specs.State.{asks, is_gated, is_held}
-use Rattle.fdc_core.specs.Steps.{polled, RestsIn, FlowsIn}
+use Rattle.fdc_core.specs.State.{asks, is_gated}
+use Rattle.fdc_core.specs.Steps.{polled}
 use Rattle.fdc_core.specs.Times.{WordTime, Saw, KeptOut, Wrote, Stopped}
 use Rattle.fdc_core.specs.Waiting.{Lasts, LastsIn, PhaseWaits, phase_counted}
 use Rattle.fdc_core.specs.Writes.{WritesIn, WritesTask}
@@ -32,15 +28,15 @@ use Rattle.fdc_core.specs.declared.phases.Task.{Task}
 use Rattle.fdc_core.specs.declared.phases.Task.TheVariants.{ReadId, Read, Write, Format}
 use Rattle.fdc_core.specs.declared.transfers.Formatting.{Formatting}
 use Rattle.fdc_core.specs.declared.transfers.Writing.{Writing}
-use Rattle.machine_pace.specs.Holds.{Holds, IsInTime, IsReady, is_due, looked, shown}
+use Rattle.machine_pace.specs.Holds.{IsInTime, IsReady, is_due, looked}
 use Rattle.machine_pace.specs.declared.holding.Request.{Request}
-use Rattle.machine_pace.specs.declared.holding.Request.TheVariants.{Low, High}
+use Rattle.machine_pace.specs.declared.holding.Request.TheVariants.{Low}
 use Rattle.machine_pace.proofs.InTime.{in_time}
-use Rattle.machine_laws.specs.OnReads.Served.{IsRuled, moves_left}
+use Rattle.machine_laws.specs.OnReads.Served.{IsRuled}
 use Rattle.machine_laws.specs.OnReads.Timely.{Stalled}
 use Rattle.pc_bus.specs.Boards.{drive_in, Board, selected_of}
 use Rattle.pc_bus.specs.Steps.{Works, Step}
-use Rattle.pc_bus.specs.Transfers.{can_move, moved, moved_from_memory, moved_to_memory, moved_up_to, looked_at, shown_again, granted, dma_stepped}
+use Rattle.pc_bus.specs.Transfers.{can_move, moved_up_to, looked_at, shown_again, granted, dma_stepped}
 use Rattle.pc_bus.specs.declared.chips.Chips.{Chips}
 use Rattle.machine_laws.specs.OnWrites.Timely.{fills, fills_task, IsFilling, IsTimely, IsPunctual, IsOnTime}
 use Rattle.machine_laws.proofs.OnWrites.Filling.{counted_waits, filling_held, filling_low, filling_moved, not_reading, rule_again, ruled_by}
@@ -49,7 +45,7 @@ use Rattle.machine_laws.specs.OnSteps.Stalls.{Keeping}
 use Rattle.machine_laws.proofs.OnSteps.Words.{some_drive}
 use Rattle.machine_laws.proofs.OnSteps.Transfers.{up_to}
 use Rattle.machine_laws.proofs.OnSteps.Controllers.{dma_executing, dma_overrun, gated_same, polled_fifo}
-use Rattle.machine_laws.proofs.OnSteps.Stalls.{dma_stalls}
+use Rattle.machine_laws.proofs.OnSteps.Stalls.{dma_stalls, shown_low}
 use Rattle.machine_laws.proofs.OnQuiet.Standing.{rested}
 use Rattle.machine_laws.proofs.OnReads.Served.{served}
 use Rattle.machine_laws.proofs.OnReads.Timely.{first_low, flows_in, not_due, ready_low, ready_one}
@@ -282,10 +278,6 @@ pub on_time : Keeping IsOnTime
 on_time = record { step = step_on_time; idle = λ old gaps fresh was. record { selects = was.selects; punctual = was.punctual } }
 
 -- ---- the beginning
-
-shown_low : (line : Bool) (holding : Holds) → holding.request ≡ Low → (shown line holding).request ≡ Low
-shown_low true holding is = is
-shown_low false holding is = refl
 
 -- a command that begins asks for bytes, and can wait nine device steps for them
 pub begun_punctual : (chips : Chips) (head_drive : ℕ) (task : Task) (old : Fdc) → fills_task task ≡ true → WaitsAtFirst task → old.fifo.on ≡ true → old.fifo.threshold ≡ 8 → is_gated old ≡ true
