@@ -12,7 +12,7 @@ up_to_if : (P : Chips → Type 0) (n : ℕ) (chips : Chips) → P chips → (can
 up_to_if P n chips was true on = on refl
 up_to_if P n chips was false on = was
 
-up_to_moves : (P : Chips → Type 0) → ((chips : Chips) → can_move chips ≡ true → P chips → P (moved chips)) → (n : ℕ) (chips : Chips) → P chips → P (moved_up_to n chips)
+pub up_to_moves : (P : Chips → Type 0) → ((chips : Chips) → can_move chips ≡ true → P chips → P (moved chips)) → (n : ℕ) (chips : Chips) → P chips → P (moved_up_to n chips)
 unfolding moved_up_to
 up_to_moves P one zero chips was = was
 up_to_moves P one (suc n) chips was = up_to_if P n chips was (can_move chips) (λ can. up_to_moves P one n (moved chips) (one chips can was))

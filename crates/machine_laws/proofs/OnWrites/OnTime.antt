@@ -33,7 +33,7 @@ use Rattle.machine_pace.specs.declared.holding.Request.{Request}
 use Rattle.machine_pace.specs.declared.holding.Request.TheVariants.{Low}
 use Rattle.machine_pace.proofs.InTime.{in_time}
 use Rattle.machine_laws.specs.OnReads.Served.{IsRuled}
-use Rattle.machine_laws.specs.OnReads.Timely.{Stalled}
+use Rattle.machine_laws.specs.OnSteps.Stalls.{Stalled}
 use Rattle.pc_bus.specs.Boards.{drive_in, Board, selected_of}
 use Rattle.pc_bus.specs.Steps.{Works, Step}
 use Rattle.pc_bus.specs.Transfers.{can_move, moved_up_to, looked_at, shown_again, granted, dma_stepped}
@@ -41,7 +41,7 @@ use Rattle.pc_bus.specs.declared.chips.Chips.{Chips}
 use Rattle.machine_laws.specs.OnWrites.Timely.{fills, fills_task, IsFilling, IsTimely, IsPunctual, IsOnTime}
 use Rattle.machine_laws.proofs.OnWrites.Filling.{counted_waits, filling_held, filling_low, filling_moved, not_reading, rule_again, ruled_by}
 use Rattle.machine_laws.proofs.OnWrites.Guards.{step_leaves}
-use Rattle.machine_laws.specs.OnSteps.Stalls.{Keeping}
+use Rattle.machine_laws.specs.OnSteps.Stalls.{Keeping, Stalled}
 use Rattle.machine_laws.proofs.OnSteps.Words.{some_drive}
 use Rattle.machine_laws.proofs.OnSteps.Transfers.{up_to}
 use Rattle.machine_laws.proofs.OnSteps.Controllers.{dma_executing, dma_overrun, gated_same, polled_fifo}
