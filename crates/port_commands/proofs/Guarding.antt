@@ -13,7 +13,8 @@ use Rattle.floppy_jobs.specs.declared.ports.PortLine.{PortLine}
 use Rattle.floppy_jobs.specs.declared.ports.PortLine.TheVariants as line
 use Rattle.machine_pace.specs.Entries.{next_entry}
 use Rattle.machine_laws.specs.OnSteps.Steady.{regapped, Marching, Steady}
-use Rattle.machine_laws.proofs.OnSteps.Runs.{inputs, march_gap, march_wait, march_waits, outputs, read_from, wait}
+use Rattle.machine_laws.specs.OnSteps.Moves.{read_from}
+use Rattle.machine_laws.proofs.OnSteps.Runs.{inputs, march_gap, march_wait, march_waits, outputs, wait}
 use Rattle.machine_laws.proofs.OnWrites.Guards.{guarding, step_guards}
 use Rattle.pc_bus.specs.Boards.{Board, drive_in}
 use Rattle.pc_bus.specs.Handling.{Touches}

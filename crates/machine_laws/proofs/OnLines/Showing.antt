@@ -15,8 +15,9 @@ use Rattle.pc_bus.proofs.Lines.{write_leaves}
 use Rattle.machine_laws.specs.OnAwaits.Awaits.{TurnsOn}
 use Rattle.machine_laws.proofs.OnAwaits.Turning.{on_let, on_time}
 use Rattle.machine_laws.specs.OnSteps.Steady.{regapped, Steady}
-use Rattle.machine_laws.proofs.OnSteps.Runs.{inputs, outputs, read_from, wait, waits}
+use Rattle.machine_laws.proofs.OnSteps.Runs.{inputs, outputs, wait, waits}
 use Rattle.machine_laws.proofs.OnSteps.Drives.{both}
+use Rattle.machine_laws.specs.OnSteps.Moves.{read_from}
 
 -- ---- a drive
 
