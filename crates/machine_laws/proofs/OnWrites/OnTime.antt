@@ -28,7 +28,7 @@ use Rattle.fdc_core.specs.declared.phases.Task.{Task}
 use Rattle.fdc_core.specs.declared.phases.Task.TheVariants.{ReadId, Read, Write, Format}
 use Rattle.fdc_core.specs.declared.transfers.Formatting.{Formatting}
 use Rattle.fdc_core.specs.declared.transfers.Writing.{Writing}
-use Rattle.machine_pace.specs.Holds.{IsInTime, IsReady, is_due, looked}
+use Rattle.machine_pace.specs.Holds.{IsInTime, IsReady, looked}
 use Rattle.machine_pace.specs.declared.holding.Request.{Request}
 use Rattle.machine_pace.specs.declared.holding.Request.TheVariants.{Low}
 use Rattle.machine_pace.proofs.InTime.{in_time}
@@ -36,14 +36,14 @@ use Rattle.machine_laws.specs.OnReads.Served.{IsRuled}
 use Rattle.machine_laws.specs.OnSteps.Stalls.{Stalled}
 use Rattle.pc_bus.specs.Boards.{drive_in, Board, selected_of}
 use Rattle.pc_bus.specs.Steps.{Works, Step}
-use Rattle.pc_bus.specs.Transfers.{can_move, moved_up_to, looked_at, shown_again, granted, dma_stepped}
+use Rattle.pc_bus.specs.Transfers.{can_move, moved_up_to, looked_at, shown_again, dma_stepped}
 use Rattle.pc_bus.specs.declared.chips.Chips.{Chips}
 use Rattle.machine_laws.specs.OnWrites.Timely.{fills, fills_task, IsFilling, IsTimely, IsPunctual, IsOnTime}
 use Rattle.machine_laws.proofs.OnWrites.Filling.{counted_waits, filling_held, filling_low, filling_moved, not_reading, rule_again, ruled_by}
 use Rattle.machine_laws.proofs.OnWrites.Guards.{step_leaves}
 use Rattle.machine_laws.specs.OnSteps.Stalls.{Keeping, Stalled}
 use Rattle.machine_laws.proofs.OnSteps.Words.{some_drive}
-use Rattle.machine_laws.proofs.OnSteps.Transfers.{up_to}
+use Rattle.machine_laws.proofs.OnSteps.Transfers.{by_request, up_to}
 use Rattle.machine_laws.proofs.OnSteps.Controllers.{dma_executing, dma_overrun, gated_same, polled_fifo}
 use Rattle.machine_laws.proofs.OnSteps.Stalls.{dma_stalls, shown_low}
 use Rattle.machine_laws.proofs.OnQuiet.Standing.{rested}
@@ -142,17 +142,10 @@ served_timely slack chips was = by_counted (phase_counted then_chips.controller.
 
 -- behind a look at the request
 dma_timely : (slack : ℕ) (chips : Chips) → IsFilling slack chips → (phase_counted chips.controller.phase ≡ false → IsInTime (looked_at chips).holding.request slack) → IsTimely (dma_stepped chips)
-unfolding dma_stepped granted
-dma_timely slack chips was enough = by_due (is_due (looked_at chips).holding.request) (grants chips.channel) refl refl
-  where
-    look : IsFilling slack (looked_at chips)
-    look = filling_held slack chips (looked_at chips).holding was
-
-    by_due : (due granting : Bool) → is_due (looked_at chips).holding.request ≡ due → grants chips.channel ≡ granting
-        → IsTimely (if due then (if granting then shown_again (moved_up_to 16 (looked_at chips)) else looked_at chips) else looked_at chips)
-    by_due true true is grant = served_timely slack (looked_at chips) look
-    by_due true false is grant = record { slack = slack; filling = look; ready = λ uncounted. absurd (false≢true (sym grant ∙ was.granting uncounted)) }
-    by_due false granting is grant = record { slack = slack; filling = look; ready = λ uncounted. not_due (looked_at chips).holding.request slack (enough uncounted) is }
+dma_timely slack chips was enough =
+    let look = filling_held slack chips (looked_at chips).holding was in
+    by_request IsTimely chips (λ is. record { slack = slack; filling = look; ready = λ uncounted. not_due (looked_at chips).holding.request slack (enough uncounted) is })
+    (λ masked. record { slack = slack; filling = look; ready = λ uncounted. absurd (false≢true (sym masked ∙ was.granting uncounted)) }) (λ _. served_timely slack (looked_at chips) look)
 
 -- the line is looked at
 behind : (before slack : ℕ) (chips : Chips) → IsFilling slack chips → before ≤ slack + 1 → (phase_counted chips.controller.phase ≡ false → IsReady chips.holding.request before)
