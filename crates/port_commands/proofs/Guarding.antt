@@ -53,7 +53,8 @@ changing start = record { step = λ n. changed_step n start; idle = λ n. change
 
 pub read_changes : (port value : ℕ) (old new : Board) → Inputs port old value new → ChangesWords (next_entry old.bus.gaps) old new
 read_changes port value old new inputs =
-    march_gap (λ n. ChangesWords n old) (changing old) (read_from port old) new inputs.gap (none_changed old (read_from port old) (record { first = refl; second = refl }))
+    march_gap (λ n. ChangesWords n old) (changing old) (read_from port old) new inputs.gap
+    (none_changed old (read_from port old) (record { first = refl; second = refl }))
 
 gaps_same : (port value : ℕ) (old new : Board) (outputs : Outputs port value old new) → outputs.between.bus.gaps ≡ old.bus.gaps
 gaps_same port value old new outputs = ap (λ (bus : Bus). bus.gaps) outputs.writes.bus
@@ -68,8 +69,12 @@ pub wait_changes : (n : ℕ) (old new : Board) → Runs n (stirred old) new → 
 wait_changes n old new runs = march_wait (λ n. ChangesWords n old) (changing old) n old new runs (none_changed old old (record { first = refl; second = refl }))
 
 pub wait_irq_changes : (most : ℕ) (old new : Board) (set : Bool) → Waits most old set new → (n : ℕ) × (n ≤ most) × ChangesWords n old new
-wait_irq_changes most old new set waits =
-    (waits.steps, waits.within, march_waits (λ n. ChangesWords n old) (changing old) most set old new waits (none_changed old old (record { first = refl; second = refl })))
+wait_irq_changes most old new set waits = (
+  waits.steps,
+  waits.within,
+  march_waits (λ n. ChangesWords n old) (changing old) most set old new waits
+      (none_changed old old (record { first = refl; second = refl })),
+)
 
 -- ---- a protected medium over a line
 
@@ -92,7 +97,8 @@ read_guards port value old new access bay covered = inputs (KeepsBay bay old) (k
 
 write_guards : (port value : ℕ) (old new : Board) → Outputs port value old new → (bay : ℕ) → GuardsBay bay old new
 write_guards port value old new access bay covered =
-    outputs (KeepsBay bay old) (kept bay old covered) port value old new (λ between writes. bay_same old between (write_same port value old between writes) bay) access
+    outputs (KeepsBay bay old) (kept bay old covered) port value old new
+    (λ between writes. bay_same old between (write_same port value old between writes) bay) access
 
 wait_guards : (n : ℕ) (old new : Board) → Runs n (stirred old) new → (bay : ℕ) → GuardsBay bay old new
 wait_guards n old new runs bay covered = wait (KeepsBay bay old) (kept bay old covered) n old new runs refl
@@ -165,7 +171,8 @@ rising start = record {
 
 gap_rises : (between new : Board) → RunsGap between new → RoseBy 0 between.bus.steps new.bus.steps
 gap_rises between new gap =
-    rose_least (next_entry between.bus.gaps) between.bus.steps new.bus.steps (march_gap (λ n board. RoseBy n between.bus.steps board.bus.steps) (rising between) between new gap (rose_same between.bus.steps between.bus.steps refl))
+    rose_least (next_entry between.bus.gaps) between.bus.steps new.bus.steps
+    (march_gap (λ n board. RoseBy n between.bus.steps board.bus.steps) (rising between) between new gap (rose_same between.bus.steps between.bus.steps refl))
 
 write_rises : (port value : ℕ) (old new : Board) → Outputs port value old new → RoseBy 0 old.bus.steps new.bus.steps
 write_rises port value old new outputs =
@@ -189,7 +196,8 @@ eject_rises old new bay said (Some cause) refused = same_steps old new refused.s
 line_rises : (old new : Bench) (asked : PortLine) (said : Answer) → DoesLine asked old said new → RoseBy (waits_in asked) old.board.bus.steps new.board.bus.steps
 line_rises old new (line.In port) said (reads, keeps) = gap_rises (read_from port old.board) new.board reads.inputs.gap
 line_rises old new (line.Out port value) said (nothing, writes, keeps) = write_rises port value old.board new.board writes
-line_rises old new (line.Wait steps) said (nothing, runs, keeps) = march_wait (λ n board. RoseBy n old.board.bus.steps board.bus.steps) (rising old.board) steps old.board new.board runs (rose_same old.board.bus.steps old.board.bus.steps refl)
+line_rises old new (line.Wait steps) said (nothing, runs, keeps) = march_wait (λ n board. RoseBy n old.board.bus.steps board.bus.steps)
+    (rising old.board) steps old.board new.board runs (rose_same old.board.bus.steps old.board.bus.steps refl)
 line_rises old new line.Irq said (latch, is, keeps) = rose_same old.board.bus.steps new.board.bus.steps (ap (λ (board : Board). board.bus.steps) is)
 line_rises old new (line.Insert bay name) said does = rose_same old.board.bus.steps new.board.bus.steps (insert_rises old new bay name said (insert_refusal old.names bay) does)
 line_rises old new (line.Eject bay) said does = rose_same old.board.bus.steps new.board.bus.steps (eject_rises old new bay said (eject_refusal old.names bay) does)

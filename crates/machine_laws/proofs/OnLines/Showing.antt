@@ -64,7 +64,8 @@ lines_on old new first second was = record { first = set_on old.first new.first 
 
 pub step_lines : (old new : Board) → Step old new → AreSetIfEmpty old → AreSetIfEmpty new
 step_lines old new step =
-    let (first, second) = both LeavesEmpty leaves_moved (λ time rate head before after is. leaves_turned before after (on_time time rate head before after is)) old new step in
+    let (first, second) = both LeavesEmpty leaves_moved
+    (λ time rate head before after is. leaves_turned before after (on_time time rate head before after is)) old new step in
     lines_on old new first second
 
 lines_beside : (bus : Bus) (old : Board) → AreSetIfEmpty old → AreSetIfEmpty (record old { bus = bus })
@@ -87,7 +88,8 @@ written_lines port value old between writes =
     (leaves_followed port value 1 writes.chips.controller old.second between.second writes.lines.second)
 
 output_lines : (port value : ℕ) (old new : Board) → Outputs port value old new → AreSetIfEmpty old → AreSetIfEmpty new
-output_lines port value old new access was = outputs AreSetIfEmpty showing port value old new (λ between writes. written_lines port value old between writes was) access
+output_lines port value old new access was =
+    outputs AreSetIfEmpty showing port value old new (λ between writes. written_lines port value old between writes was) access
 
 -- ---- media and drives
 

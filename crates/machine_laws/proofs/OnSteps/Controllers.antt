@@ -21,7 +21,8 @@ use Rattle.machine_laws.proofs.OnSteps.Transfers.{served}
 
 -- ---- a poll
 
-polled_keeps : {V : Type 0} (F : Fdc → V) (old : Fdc) → F (record old { poll_due = false; interrupt = true; seeks = with_polls old.seeks }) ≡ F old → F (polled old) ≡ F old
+polled_keeps : {V : Type 0} (F : Fdc → V) (old : Fdc) → F (record old { poll_due = false; interrupt = true; seeks = with_polls old.seeks }) ≡ F old
+    → F (polled old) ≡ F old
 polled_keeps F old same = by_poll (old.poll_due && not (is_held old))
   where
     by_poll : (b : Bool) → F (if b then record old { poll_due = false; interrupt = true; seeks = with_polls old.seeks } else old) ≡ F old
@@ -53,32 +54,39 @@ if_told : (P : Fdc → Type 0) → ((fdc : Fdc) → P fdc → P (told_count fdc)
 if_told P told true fdc was = told fdc was
 if_told P told false fdc was = was
 
-one_byte : (P : Fdc → Type 0) → ((fdc : Fdc) → P fdc → P (told_count fdc)) → ((fdc : Fdc) → P fdc → P (taken_out fdc)) → ((byte : ℕ) (fdc : Fdc) → P fdc → P (taken_in byte fdc))
+one_byte : (P : Fdc → Type 0) → ((fdc : Fdc) → P fdc → P (told_count fdc)) → ((fdc : Fdc) → P fdc → P (taken_out fdc))
+    → ((byte : ℕ) (fdc : Fdc) → P fdc → P (taken_in byte fdc))
     → (chips : Chips) → P chips.controller → P (moved chips).controller
 unfolding moved
 one_byte P told out into chips was = by_way (to_memory_of chips.controller)
   where
     by_way : (b : Bool) → P (if b then moved_to_memory chips else moved_from_memory chips).controller
     by_way true = if_told P told (chips.channel.count == 0) (taken_out chips.controller) (out chips.controller was)
-    by_way false = if_told P told (chips.channel.count == 0) (taken_in (byte_read chips.channel chips.memory) chips.controller) (into (byte_read chips.channel chips.memory) chips.controller was)
+    by_way false = if_told P told (chips.channel.count == 0) (taken_in (byte_read chips.channel chips.memory) chips.controller)
+        (into (byte_read chips.channel chips.memory) chips.controller was)
 
 -- what bytes and TC keep of the controller, each transfer keeps
-pub by_bytes : (P : Fdc → Type 0) → ((fdc : Fdc) → P fdc → P (told_count fdc)) → ((fdc : Fdc) → P fdc → P (taken_out fdc)) → ((byte : ℕ) (fdc : Fdc) → P fdc → P (taken_in byte fdc))
+pub by_bytes : (P : Fdc → Type 0) → ((fdc : Fdc) → P fdc → P (told_count fdc)) → ((fdc : Fdc) → P fdc → P (taken_out fdc))
+    → ((byte : ℕ) (fdc : Fdc) → P fdc → P (taken_in byte fdc))
     → Transferred (λ chips. P chips.controller)
 by_bytes P told out into = record { one = one_byte P told out into; held = λ chips holding was. was }
 
 -- and so it is with what TC keeps of the phase
-pub by_phase : {V : Type 0} (F : Phase → V) → ((phase : Phase) → F (phase_told phase) ≡ F phase) → (value : V) → Transferred (λ chips. F chips.controller.phase ≡ value)
+pub by_phase : {V : Type 0} (F : Phase → V) → ((phase : Phase) → F (phase_told phase) ≡ F phase) → (value : V)
+    → Transferred (λ chips. F chips.controller.phase ≡ value)
 by_phase F told value = by_bytes (λ fdc. F fdc.phase ≡ value) (λ fdc is. told fdc.phase ∙ is) (λ fdc is. is) (λ byte fdc is. is)
 
-pub phase_dma : {V : Type 0} (F : Phase → V) → ((phase : Phase) → F (phase_told phase) ≡ F phase) → (chips : Chips) → F (dma_stepped chips).controller.phase ≡ F chips.controller.phase
+pub phase_dma : {V : Type 0} (F : Phase → V) → ((phase : Phase) → F (phase_told phase) ≡ F phase) → (chips : Chips)
+    → F (dma_stepped chips).controller.phase ≡ F chips.controller.phase
 phase_dma F told chips = served (λ c. F c.controller.phase ≡ F chips.controller.phase) (by_phase F told (F chips.controller.phase)) chips refl
 
 -- what no transfer changes of the controller
-pub controller_dma : {V : Type 0} (F : Fdc → V) → ((fdc : Fdc) → F (told_count fdc) ≡ F fdc) → ((fdc : Fdc) → F (taken_out fdc) ≡ F fdc) → ((byte : ℕ) (fdc : Fdc) → F (taken_in byte fdc) ≡ F fdc)
+pub controller_dma : {V : Type 0} (F : Fdc → V) → ((fdc : Fdc) → F (told_count fdc) ≡ F fdc) → ((fdc : Fdc) → F (taken_out fdc) ≡ F fdc)
+    → ((byte : ℕ) (fdc : Fdc) → F (taken_in byte fdc) ≡ F fdc)
     → (chips : Chips) → F (dma_stepped chips).controller ≡ F chips.controller
 controller_dma F told out into chips =
-    served (λ c. F c.controller ≡ F chips.controller) (by_bytes (λ fdc. F fdc ≡ F chips.controller) (λ fdc is. told fdc ∙ is) (λ fdc is. out fdc ∙ is) (λ byte fdc is. into byte fdc ∙ is)) chips refl
+    served (λ c. F c.controller ≡ F chips.controller) (by_bytes (λ fdc. F fdc ≡ F chips.controller)
+    (λ fdc is. told fdc ∙ is) (λ fdc is. out fdc ∙ is) (λ byte fdc is. into byte fdc ∙ is)) chips refl
 
 -- ---- phases behind TC
 

@@ -105,7 +105,11 @@ left_of (phase.Execute execution) = omega arith
 
 -- a data command has fewer device steps left with each of them
 pub step_ends : (old new : Board) → Step old new → steps_left (controller_of new).phase ≤ steps_left (controller_of old).phase - 1
-step_ends old new step = let fewer = (step_ticks old new step).steps in let before = left_of (controller_of old).phase in let after = left_of (controller_of new).phase in omega arith
+step_ends old new step =
+    let fewer = (step_ticks old new step).steps in
+    let before = left_of (controller_of old).phase in
+    let after = left_of (controller_of new).phase in
+    omega arith
 
 pub ending : (start : Board) → Marching (λ n board. steps_left (controller_of board).phase ≤ steps_left (controller_of start).phase - n)
 ending start = record { step = λ n old new step was. let fewer = step_ends old new step in omega arith; idle = λ n old gaps fresh was. was }

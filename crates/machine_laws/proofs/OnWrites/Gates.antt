@@ -191,7 +191,8 @@ given_word old new before after given = record {
   gate = given.gate;
 }
 
-selected_gated : (old : Board) (new : Fdc) (bay : ℕ) (before after : DriveState) → selected_of old ≡ bay → Works (controller_of old) before new after → IsGated old bay before after
+selected_gated : (old : Board) (new : Fdc) (bay : ℕ) (before after : DriveState) → selected_of old ≡ bay → Works (controller_of old) before new after
+    → IsGated old bay before after
 selected_gated old new bay before after at works = elim (works_gate (controller_of old) before new after works).time [
   | inl closed ↦ inl closed
   | inr (records, given) ↦ inr (at, records, given_word (controller_of old) new before after given)
@@ -199,7 +200,8 @@ selected_gated old new bay before after at works = elim (works_gate (controller_
 
 pub step_gates : (old new : Board) → Step old new → GatesDrives old new
 step_gates old new step =
-    let (first, second) = bays (IsGated old) old new step (selected_gated old step.between) (λ bay before after passes. inl (moves_closed None before after passes)) in
+    let (first, second) = bays (IsGated old) old new step (selected_gated old step.between)
+    (λ bay before after passes. inl (moves_closed None before after passes)) in
     record { first = first; second = second }
 
 -- ---- behind a device step

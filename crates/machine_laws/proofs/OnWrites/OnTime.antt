@@ -124,7 +124,8 @@ served_timely slack chips was = by_counted (phase_counted then_chips.controller.
     ruled = record { rule = was.rule; room = let wide : room_of chips.controller.fifo.on ≡ 16 = ap room_of was.on in let few = was.room in omega arith }
 
     quiet : can_move (moved_up_to 16 chips) ≡ false
-    quiet = (served 16 chips ruled (left_filling (is_reading chips.controller.phase) (length chips.controller.fifo.bytes) (room_of chips.controller.fifo.on) (not_reading chips.controller.phase was.fills_it) (ap room_of was.on))).falls
+    quiet = (served 16 chips ruled (left_filling (is_reading chips.controller.phase) (length chips.controller.fifo.bytes) (room_of chips.controller.fifo.on)
+        (not_reading chips.controller.phase was.fills_it) (ap room_of was.on))).falls
 
     by_counted : (counted : Bool) → phase_counted (moved_up_to 16 chips).controller.phase ≡ counted → IsTimely (shown_again (moved_up_to 16 chips))
     by_counted true is = record {
@@ -141,14 +142,18 @@ served_timely slack chips was = by_counted (phase_counted then_chips.controller.
         }
 
 -- behind a look at the request
-dma_timely : (slack : ℕ) (chips : Chips) → IsFilling slack chips → (phase_counted chips.controller.phase ≡ false → IsInTime (looked_at chips).holding.request slack) → IsTimely (dma_stepped chips)
+dma_timely : (slack : ℕ) (chips : Chips) → IsFilling slack chips
+    → (phase_counted chips.controller.phase ≡ false → IsInTime (looked_at chips).holding.request slack) → IsTimely (dma_stepped chips)
 dma_timely slack chips was enough =
     let look = filling_held slack chips (looked_at chips).holding was in
-    by_request IsTimely chips (λ is. record { slack = slack; filling = look; ready = λ uncounted. not_due (looked_at chips).holding.request slack (enough uncounted) is })
-    (λ masked. record { slack = slack; filling = look; ready = λ uncounted. absurd (false≢true (sym masked ∙ was.granting uncounted)) }) (λ _. served_timely slack (looked_at chips) look)
+    by_request IsTimely chips (λ is. record { slack = slack; filling = look; ready = λ uncounted. not_due (looked_at chips).holding.request slack
+        (enough uncounted) is })
+    (λ masked. record { slack = slack; filling = look; ready = λ uncounted. absurd (false≢true (sym masked ∙ was.granting uncounted)) })
+    (λ _. served_timely slack (looked_at chips) look)
 
 -- the line is looked at
-behind : (before slack : ℕ) (chips : Chips) → IsFilling slack chips → before ≤ slack + 1 → (phase_counted chips.controller.phase ≡ false → IsReady chips.holding.request before)
+behind : (before slack : ℕ) (chips : Chips) → IsFilling slack chips → before ≤ slack + 1
+    → (phase_counted chips.controller.phase ≡ false → IsReady chips.holding.request before)
     → (counted : Bool) → phase_counted chips.controller.phase ≡ counted → (line : Bool) → asks chips.controller ≡ line
     → IsTimely (dma_stepped chips) ⊎ Rose chips.holding.stalls (looked_at chips).holding.stalls
 behind before slack chips was less ready true is line line_is = inl (dma_timely slack chips was (λ uncounted. absurd (false≢true (sym uncounted ∙ is))))
@@ -196,7 +201,8 @@ slack_of chips was false is =
       ready = λ _. ready;
     }
 
-module _ (chips : Chips) (drive : DriveState) (between : Fdc) (after : DriveState) (works : Works chips.controller drive between after) (was : IsPunctual chips) where
+module _ (chips : Chips) (drive : DriveState) (between : Fdc) (after : DriveState) (works : Works chips.controller drive between after)
+    (was : IsPunctual chips) where
   -- the command was in execution
   busy_step : is_executing chips.controller.phase ≡ true → (busy : Bool) → is_executing between.phase ≡ busy
       → IsPunctual (dma_stepped (record chips { controller = between })) ⊎ Rose chips.holding.stalls (dma_stepped (record chips { controller = between })).holding.stalls
@@ -230,7 +236,8 @@ module _ (chips : Chips) (drive : DriveState) (between : Fdc) (after : DriveStat
             granting = λ uncounted. filling.granting (lasts.uncounted uncounted);
             waits = lasts.waits;
           } in
-          elim (behind slack.before slack.after (record chips { controller = between }) then_is slack.less (λ uncounted. slack.ready (lasts.uncounted uncounted))
+          elim (behind slack.before slack.after (record chips { controller = between }) then_is slack.less
+              (λ uncounted. slack.ready (lasts.uncounted uncounted))
           (phase_counted between.phase) refl (asks between) refl) [
             | inl on_time ↦ inl (record { timely = λ _. on_time; no_overrun = over })
             | inr rose ↦ inr (subst (λ stalls. Rose chips.holding.stalls stalls) (sym (dma_stalls (record chips { controller = between }))) rose)
@@ -258,7 +265,8 @@ step_on_time old new step was =
     let same : selected_of new ≡ selected_of old = ap (λ byte. byte % 4) leaves.dor in
     let selects = was.selects in
     let chips_are : new.bus.chips ≡ dma_stepped (record chips { controller = step.between }) = ap (λ bus. bus.chips) step.bus in
-    let result = some_drive (IsPunctual (dma_stepped (record chips { controller = step.between })) ⊎ Rose chips.holding.stalls (dma_stepped (record chips { controller = step.between })).holding.stalls) old new was.selects step
+    let result = some_drive (IsPunctual (dma_stepped (record chips { controller = step.between })) ⊎ Rose chips.holding.stalls
+    (dma_stepped (record chips { controller = step.between })).holding.stalls) old new was.selects step
     (λ bay works. in_step chips (drive_in old bay) step.between (drive_in new bay) works was.punctual (is_executing chips.controller.phase) refl) in
     elim result [
       | inl on_time ↦ inl (record { selects = omega arith; punctual = subst IsPunctual (sym chips_are) on_time })
