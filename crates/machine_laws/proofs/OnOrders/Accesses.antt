@@ -17,6 +17,7 @@ use Rattle.fdc_core.specs.declared.phases.Phase.TheVariants.{Command}
 use Rattle.pc_bus.specs.Boards.{Board, controller_of, drive_in, lines_of}
 use Rattle.pc_bus.specs.Ports.{is_controllers, port_read, WritesPort, Inputs, Outputs}
 use Rattle.pc_bus.specs.Transfers.{shown_again}
+use Rattle.pc_bus.proofs.Lines.{drive_stays}
 use Rattle.pc_bus.specs.declared.chips.Chips.{Chips}
 use Rattle.machine_laws.specs.OnReads.Scenes.{Scene, IsScene}
 use Rattle.machine_laws.proofs.OnReads.Accesses as reads
@@ -129,7 +130,7 @@ pub begins : (order : Order) (scene : Scene) (byte : ℕ) (old new : Board) → 
 begins order scene byte old new access can = outputs (Underway order scene) (underway order scene) 0x3F5 byte old new (λ between writes.
     let (controller, does, chips_are) = writes.writes.controllers refl in
     let drive_is : drive_in between scene.bay ≡ drive_in old scene.bay =
-    reads_same_drive old.first old.second between.first between.second (writes.motors.first_stays refl) (writes.motors.second_stays refl) (scene.bay == 0) in (
+    reads_same_drive old.first old.second between.first between.second (drive_stays writes.lines.first refl) (drive_stays writes.lines.second refl) (scene.bay == 0) in (
       new_past,
       record {
         scene_is = can.scene_is;

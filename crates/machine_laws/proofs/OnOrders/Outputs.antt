@@ -16,7 +16,8 @@ use Rattle.fdc_core.specs.declared.phases.Phase.{Phase}
 use Rattle.fdc_core.specs.declared.phases.Phase.TheVariants as phase
 use Rattle.fdc_fifo.specs.Fifo.{Fifo}
 use Rattle.pc_bus.specs.Boards.{Board, controller_of, channel_of, drive_in, lines_of}
-use Rattle.pc_bus.specs.Ports.{is_controllers, WritesPort, Outputs}
+use Rattle.pc_bus.specs.Ports.{is_controllers, sets_lines, WritesPort, Outputs}
+use Rattle.pc_bus.proofs.Lines.{drive_stays}
 use Rattle.pc_bus.specs.Transfers.{shown_again}
 use Rattle.pc_bus.specs.declared.chips.Chips.{Chips}
 use Rattle.machine_laws.specs.OnReads.Scenes.{Scene}
@@ -65,11 +66,14 @@ same_chips order scene past port value old between leaves was writes false is =
     let now : between.bus.chips ≡ old.bus.chips = ap (λ bus. bus.chips) writes.bus ∙ (writes.writes.channels is ∙ ap (λ (c : Channel). record old.bus.chips { channel = c }) (leaves.channel is)) in
     (subst (IsDoneBy order scene past) (sym now) was, ap (λ c. c.controller) now)
 
+no_lines : (port value : ℕ) → (port == 0x3F2) ≡ false → (port == 0x3F4) ≡ false → sets_lines port value ≡ false
+no_lines port value output select = rw (output, select) refl
+
 pub outputs_keep : (order : Order) (scene : Scene) (port value : ℕ) (old new : Board) → Outputs port value old new → Leaves port value old → Underway order scene old → Underway order scene new
 outputs_keep order scene port value old new access leaves (past, was) = outputs (Underway order scene) (underway order scene) port value old new (λ between writes.
     let (chips, same) = same_chips order scene past port value old between leaves was.chips writes (is_controllers port) refl in
     let drive_is : drive_in between scene.bay ≡ drive_in old scene.bay =
-    same_drive old.first old.second between.first between.second (writes.motors.first_stays leaves.output) (writes.motors.second_stays leaves.output) (scene.bay == 0) in (
+    same_drive old.first old.second between.first between.second (drive_stays writes.lines.first (no_lines port value leaves.output leaves.select)) (drive_stays writes.lines.second (no_lines port value leaves.output leaves.select)) (scene.bay == 0) in (
       past,
       record {
         scene_is = was.scene_is;

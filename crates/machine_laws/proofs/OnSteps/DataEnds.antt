@@ -1,5 +1,5 @@
 -- A data command ends in time, whatever is done meanwhile.
-use Rattle.std.proofs.Common.{◌≡◌, ◌⊎◌, inl, inr, ℕ, suc, ◌+◌, ◌-◌, ◌<◌, ◌≤◌, ◌==◌, nat_le, min, Bool, true, false, Option, Some, None, List, [], ◌∷◌, ◌++◌, if◌then◌else◌, bit_and, refl, sym, ◌∙◌, ap, subst, arith}
+use Rattle.std.proofs.Common.{◌≡◌, ◌⊎◌, inl, inr, ℕ, suc, ◌+◌, ◌-◌, ◌<◌, ◌≤◌, ◌==◌, nat_le, min, not, Bool, true, false, Option, Some, None, List, [], ◌∷◌, ◌++◌, if◌then◌else◌, bit_and, refl, sym, ◌∙◌, ap, subst, arith}
 use Rattle.std.proofs.lemmas.Bool.{false≢true}
 use Rattle.std.proofs.lemmas.Bool.Decides.{nat_tests}
 use Rattle.flop_base.specs.Counts.{last_count, Rose}
@@ -199,7 +199,7 @@ writes_hold port value lines old new writes = by_port (port == 0x3F2) (port == 0
     by_port true b c d p q r s = subst (Holds old) (sym (writes.output (port_is port 0x3F2 p))) (resets _ (record old { dor = record { 0 = value } }) old refl refl)
     by_port false true c d p q r s = subst (Holds old) (sym (writes.select (port_is port 0x3F4 q))) (dsr (bit_and value 0x80 == 0))
       where
-        dsr : (b : Bool) → Holds old (if b then record old { rate = rate_chosen value } else reset (record old { rate = rate_chosen value }))
+        dsr : (b : Bool) → Holds old (if not b then reset (record old { rate = rate_chosen value }) else record old { rate = rate_chosen value })
         dsr true = Holds.Same refl (omega arith)
         dsr false = Holds.Same refl (omega arith)
     by_port false false true d p q r s = sent value lines old new port (port_is port 0x3F5 r) writes

@@ -220,7 +220,7 @@ resets false set old seeks idle = Goes_on.Same (ap (λ s. s.seek) seeks) idle
 writes_go : (port value : ℕ) (lines : Lines) (old new : Fdc) → is_executing old.phase ≡ false → is_seeking old.seeks ≡ true → Writes port value lines old new → Goes_on old new
 writes_go port value lines old new idle runs writes = by_port (port == 0x3F2) (port == 0x3F4) (port == 0x3F5) (port == 0x3F7) refl refl refl refl
   where
-    dsr : (b : Bool) → Goes_on old (if b then record old { rate = rate_chosen value } else reset (record old { rate = rate_chosen value }))
+    dsr : (b : Bool) → Goes_on old (if not b then reset (record old { rate = rate_chosen value }) else record old { rate = rate_chosen value })
     dsr true = Goes_on.Same refl idle
     dsr false = Goes_on.Forgets refl
 
