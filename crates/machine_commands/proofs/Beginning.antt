@@ -2,7 +2,7 @@
 use Rattle.std.proofs.Common.{◌≡◌, inl, inr, ℕ, zero, suc, ◌+◌, ◌*◌, ◌/◌, ◌%◌, ◌<◌, ◌≤◌, ◌==◌, not, Bool, true, false, List, [], ◌∷◌, ◌++◌, length, Result as result, refl, sym, ◌∙◌, ap, subst, arith}
 use Rattle.std.specs.Prelude.{bit_and}
 use Rattle.dma_8237.specs.Channel.{Channel, after_write, has_bit, reads_memory}
-use Rattle.dma_8237.specs.SetUp.{IsSetUp, set_up}
+use Rattle.dma_8237.specs.SetUp.{set_up}
 use Rattle.dma_8237.proofs.SettingUp.{is_set_up}
 use Rattle.fdc_commands.specs.Table.{answer, kept}
 use Rattle.fdc_commands.specs.declared.bytes.Accepted.{Accepted}
@@ -19,7 +19,7 @@ use Rattle.flop_base.specs.declared.answers.Rate.{Rate}
 use Rattle.flop_base.specs.declared.answers.Rate.TheVariants.{R500, R250}
 use Rattle.machine_pace.specs.Holds.{Holds, shown}
 use Rattle.machine_pace.specs.declared.holding.Request.TheVariants.{Low}
-use Rattle.machine_laws.specs.OnAwaits.Goes.{GoesOn, StandsReady}
+use Rattle.machine_laws.specs.OnAwaits.Goes.{StandsReady}
 use Rattle.machine_laws.specs.OnOrders.Orders.{Order, CanBegin, IsLast, IsSetFor}
 use Rattle.machine_laws.specs.OnReads.Begins.{IsDriveOf, scene_of}
 use Rattle.machine_laws.specs.OnReads.Scenes.{Scene, IsScene, data_rate}
@@ -29,14 +29,14 @@ use Rattle.machine_laws.specs.OnWrites.Underway.{IsReadSet}
 use Rattle.machine_laws.proofs.OnAwaits.Courses.{goes_begins}
 use Rattle.machine_laws.proofs.OnReads.Beginnings.{is_set}
 use Rattle.machine_laws.proofs.OnSteps.Runs.{gap}
-use Rattle.pc_bus.specs.Boards.{Board, channel_of, controller_of, drive_in, holds_of, lines_of, memory_of}
+use Rattle.pc_bus.specs.Boards.{Board, controller_of, drive_in, holds_of, lines_of, memory_of}
 use Rattle.pc_bus.specs.Ports.{Outputs}
 use Rattle.pc_bus.specs.Transfers.{shown_again}
 use Rattle.bay_model.specs.Bays.{in_bay}
 use Rattle.raw_image.specs.Disk.{Disk}
 use Rattle.machine_commands.specs.Awaited.{AreCounts, Finishes, Prepares}
 use Rattle.machine_commands.specs.Codes.{rate_byte}
-use Rattle.machine_commands.specs.Ready.{dor_with, AreSeeksOver, IsIdle, IsReady}
+use Rattle.machine_commands.specs.Ready.{AreSeeksOver, IsIdle}
 use Rattle.machine_commands.specs.Sending.{Sends}
 use Rattle.machine_commands.specs.Shown.{rig_of}
 use Rattle.machine_commands.specs.declared.motors.Motors.{Motors}

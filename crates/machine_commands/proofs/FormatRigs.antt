@@ -13,7 +13,6 @@ use Rattle.raw_image.specs.Disk.{Disk, HasTrack}
 use Rattle.sector_map.specs.Layings.{Format, IsLaying, Laying, format_keys}
 use Rattle.sector_map.proofs.MetTracks.{same_rates}
 use Rattle.track_model.specs.Layouts.{Fits}
-use Rattle.machine_laws.specs.OnWritten.Written.{IsCalm}
 use Rattle.fdc_core.specs.Rates.{rate_fits}
 use Rattle.fdc_stages.specs.declared.ending.Ending.{Ending}
 use Rattle.fdc_stages.specs.declared.ending.Ending.TheVariants as ending
@@ -22,8 +21,7 @@ use Rattle.machine_laws.specs.OnFormats.Results.{EndsAs, FitsOn, HasLaying, Lays
 use Rattle.machine_laws.specs.OnFormats.Underway.{IsThere}
 use Rattle.machine_laws.specs.OnOrders.Orders.{Track, Write}
 use Rattle.machine_laws.specs.OnSteps.Stalls.{Stalled}
-use Rattle.machine_laws.specs.OnReads.Begins.{IsDriveOf}
-use Rattle.machine_laws.specs.OnReads.Scenes.{Scene, data_rate, head_sent}
+use Rattle.machine_laws.specs.OnReads.Scenes.{Scene, head_sent}
 use Rattle.machine_laws.specs.OnWrites.Results.{IsUnchanged}
 use Rattle.pc_bus.specs.Boards.{Board, drive_in, memory_of}
 use Rattle.single_commands.specs.Writing.{FormatsTrack, HasTrackUnder, IsFormatMiss, LaysMedium}

@@ -1,5 +1,5 @@
 -- READ ID.
-use Rattle.std.proofs.Common.{◌≡◌, ℕ, ◌*◌, ◌+◌, ◌≤◌, true, List, [], ◌∷◌, Result as result, Ok, Err, IfOk, IfErr, sym, ◌∙◌, ap, subst, arith}
+use Rattle.std.proofs.Common.{◌≡◌, ℕ, ◌*◌, ◌+◌, ◌≤◌, true, List, [], Result as result, Ok, Err, IfOk, IfErr, sym, ◌∙◌, ap, subst, arith}
 use Rattle.flop_base.specs.declared.key.Chrn.{Chrn}
 use Rattle.flop_base.specs.declared.answers.Code.{Code}
 use Rattle.flop_base.specs.declared.answers.Rate.{Rate}

@@ -19,7 +19,7 @@ use Rattle.machine_commands.specs.Codes.{rate_byte}
 use Rattle.machine_commands.specs.Ready.{dor_with, IsIdle, IsReady}
 use Rattle.machine_commands.specs.Shown.{is_spun, rig_of}
 use Rattle.machine_commands.specs.declared.motors.Motors.{Motors}
-use Rattle.machine_commands.proofs.Idling.{IsResting, KeepsSpeed, StaysIdle, Idles}
+use Rattle.machine_commands.proofs.Idling.{IsResting, KeepsSpeed, StaysIdle}
 use Rattle.machine_commands.proofs.Accesses.{gap_idles, output_idles, same_drive, same_speed}
 use Rattle.machine_commands.proofs.Questions.{drive_kept, ready_rests, ready_with}
 use Rattle.machine_commands.proofs.Selecting.{selects_idle, with_dor}

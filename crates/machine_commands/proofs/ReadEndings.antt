@@ -1,5 +1,5 @@
 -- READ DATA.
-use Rattle.std.proofs.Common.{◌≡◌, ◌⊎◌, inl, inr, ℕ, zero, suc, ◌+◌, ◌-◌, ◌*◌, ◌/◌, ◌%◌, ◌<◌, ◌≤◌, Bool, true, false, List, [], ◌∷◌, length, get_or, Some, Result as result, Ok, Err, IfOk, IfErr, refl, sym, ◌∙◌, ap, subst, arith}
+use Rattle.std.proofs.Common.{◌≡◌, ◌⊎◌, inl, inr, ℕ, zero, suc, ◌+◌, ◌-◌, ◌*◌, ◌/◌, ◌%◌, ◌<◌, ◌≤◌, Bool, true, false, List, [], ◌∷◌, length, get_or, Result as result, Ok, Err, IfOk, IfErr, refl, sym, ◌∙◌, ap, subst, arith}
 use Rattle.std.proofs.lemmas.List.FromFn.{length-map-range_with_len}
 use Rattle.flop_base.specs.Standard.{read_gap_at}
 use Rattle.flop_base.specs.declared.key.Chrn.{Chrn}
@@ -36,12 +36,12 @@ use Rattle.machine_laws.specs.OnReads.Underway.{IsCalm, HasBytes}
 use Rattle.machine_laws.specs.OnSteps.Stalls.{Stalled}
 use Rattle.machine_laws.proofs.OnOrders.Ends.{read_ended, read_outside}
 use Rattle.machine_laws.proofs.OnReads.TrackMet.{rate_is, recorded}
-use Rattle.pc_bus.specs.Boards.{Board, channel_of, controller_of, drive_in, memory_of}
+use Rattle.pc_bus.specs.Boards.{Board, channel_of, drive_in, memory_of}
 use Rattle.single_commands.specs.Reading.{FindsField, IsReadReason, IsReadCode, IsReadMiss, ReadsData, ReadsBack}
 use Rattle.single_commands.specs.Rigs.{track_under}
 use Rattle.machine_commands.specs.Awaited.{SendsRead, mark_told}
 use Rattle.machine_commands.specs.Ready.{IsIdle}
-use Rattle.machine_commands.specs.Shown.{counters_of, rig_of, user_part, page_part}
+use Rattle.machine_commands.specs.Shown.{rig_of, user_part, page_part}
 use Rattle.machine_commands.specs.declared.motors.Motors.{Motors}
 use Rattle.machine_commands.specs.declared.results.Done.{Done}
 use Rattle.machine_commands.proofs.Beginning.{IsRun, head_of_sent, is_run, set_to_memory, small_drive}

@@ -1,12 +1,10 @@
 -- One device step behind results, and polls.
-use Rattle.std.proofs.Common.{◌≡◌, ◌⊎◌, inl, inr, ℕ, zero, suc, sym, ◌∙◌, ap, subst, arith}
+use Rattle.std.proofs.Common.{◌≡◌, ◌⊎◌, inl, inr, ℕ, zero, suc, sym, ◌∙◌, ap, subst}
 use Rattle.fdc_core.specs.State.{interrupts}
 use Rattle.fdc_core.specs.Steps.{polled}
 use Rattle.fdc_core.specs.declared.controller.Fdc.{Fdc}
 use Rattle.pc_bus.specs.Boards.{Board, controller_of}
 use Rattle.pc_bus.specs.Steps.{Step, Runs, stirred}
-use Rattle.flop_base.specs.Counts.{Spends}
-use Rattle.drive_model.specs.Drive.{DriveState}
 use Rattle.machine_commands.proofs.Idling.{IsResting, KeepsDrive, KeepsSpeed, KeepsAll}
 use Rattle.machine_commands.specs.Ready.{is_up}
 use Rattle.machine_commands.specs.Sending.{Settles}

@@ -1,7 +1,6 @@
 -- A WRITE DATA or WRITE DELETED DATA as its driver sees it.
-use Rattle.std.proofs.Common.{◌≡◌, ◌⊎◌, inl, inr, ℕ, zero, suc, ◌+◌, ◌-◌, ◌≤◌, ◌&&◌, Bool, true, false, List, length, take, drop, nat_lt, Option, Some, None, if◌then◌else◌, Result, Ok, Err, refl, sym, ◌∙◌, ap, subst, arith}
-use Rattle.std.specs.Prelude.{IsOk, IfErr, MatchOption, bit_and}
-use Rattle.std.specs.Int.RustNames.{bit_or}
+use Rattle.std.proofs.Common.{◌≡◌, ◌⊎◌, inl, inr, ℕ, zero, suc, ◌+◌, ◌-◌, ◌≤◌, Bool, true, false, List, length, take, drop, Option, Some, None, Result, Err, refl, sym, ◌∙◌, ap, subst, arith}
+use Rattle.std.specs.Prelude.{IsOk, IfErr, MatchOption}
 use Rattle.std.proofs.lemmas.Bool.{false≢true}
 use Rattle.std.proofs.lemmas.List.{take-take, drop-take}
 use Rattle.flop_base.specs.Counts.{RoseBy}
@@ -14,13 +13,11 @@ use Rattle.bay_model.specs.Counters.{IsFaultless, IsUndisturbed}
 use Rattle.bay_model.specs.Memory.{user_bytes, bytes_from}
 use Rattle.raw_image.specs.Disk.{HasTrack, track_of}
 use Rattle.sector_map.specs.Changes.{Change, Written, window_of}
-use Rattle.sector_map.specs.Met.{HasNoClearMark, HasClearAddress, met_in, same_rate, unrecorded}
+use Rattle.sector_map.specs.Met.{HasNoClearMark, HasClearAddress, met_in, same_rate}
 use Rattle.sector_map.specs.MetTracks.{MeetsTrack}
 use Rattle.sector_map.proofs.MetTracks.{length-met_track, met_track, nothing_from, rates_same}
 use Rattle.track_model.specs.Fields.{IsAddressAt, content_size}
 use Rattle.track_model.specs.Looks.{HasAddressMark}
-use Rattle.machine_laws.specs.OnWritten.Written.{IsCalm}
-use Rattle.fdc_core.specs.Answers.{st0_of, st1_of}
 use Rattle.fdc_core.specs.Phases.{is_overrun}
 use Rattle.fdc_core.specs.Rates.{rate_fits}
 use Rattle.fdc_core.specs.declared.answers.Answer.TheVariants.{Long}
@@ -31,8 +28,7 @@ use Rattle.fdc_stages.specs.declared.ending.Ending.TheVariants as ending
 use Rattle.machine_laws.specs.OnOrders.Orders.{Laid, Window, Write}
 use Rattle.machine_laws.specs.OnSteps.Stalls.{Stalled}
 use Rattle.machine_laws.proofs.OnReads.TrackMet.{met_is}
-use Rattle.machine_laws.specs.OnReads.Begins.{IsDriveOf}
-use Rattle.machine_laws.specs.OnReads.Scenes.{Scene, IsScene, data_rate, head_sent, track_met}
+use Rattle.machine_laws.specs.OnReads.Scenes.{Scene, data_rate, head_sent, track_met}
 use Rattle.machine_laws.specs.OnWrites.Results.{EndsAs, HasChanged, IsInsideTrack, IsUnchanged, IsWholeWindow, written_in}
 use Rattle.machine_laws.specs.OnWrites.Results as write
 use Rattle.machine_laws.proofs.OnWrites.Results.{changes_disk}
