@@ -12,8 +12,7 @@ use Rattle.machine_laws.specs.OnCounts.Counts.{CountsGoOn}
 use Rattle.machine_laws.proofs.OnCounts.Counting.{counting, input_counts, output_counts}
 use Rattle.machine_laws.specs.OnQuiet.Quiet.{GoesQuietly, HoldsOn, Turned, only_listens}
 use Rattle.machine_laws.proofs.OnQuiet.Steps.{quietly, starts_quietly}
-use Rattle.machine_laws.proofs.OnReads.Beginnings as read
-use Rattle.machine_laws.proofs.OnReads.IdAccesses as identify
+use Rattle.machine_laws.proofs.OnReads.Beginnings.{begins_quietly}
 use Rattle.machine_laws.specs.OnReads.Scenes.{Scene}
 use Rattle.machine_laws.proofs.OnReads.EndCalls.{begins_prompt, inputs_prompt}
 use Rattle.machine_pace.specs.Holds.{Holds, counted, shown}
@@ -22,21 +21,20 @@ use Rattle.machine_laws.specs.OnWrites.Timely.{IsTimely, IsOnTime}
 use Rattle.machine_laws.proofs.OnReads.EndSteps.{prompting}
 use Rattle.machine_laws.proofs.OnWrites.Guards.{leaving}
 use Rattle.machine_laws.proofs.OnWrites.OnTime.{on_time}
-use Rattle.machine_laws.proofs.OnWrites.Beginning.{write_on_time}
-use Rattle.machine_laws.proofs.OnFormats.Beginning.{format_on_time}
+use Rattle.machine_laws.proofs.OnOrders.Heads.{begin_leaves}
+use Rattle.machine_laws.proofs.OnOrders.Punctual.{begins_on_time}
 use Rattle.machine_laws.specs.OnSteps.Moves.{read_from}
 use Rattle.machine_laws.specs.OnSteps.Stalls.{Stalled, Keeping}
 use Rattle.machine_laws.specs.OnSteps.Steady.{regapped, Steady}
 use Rattle.machine_laws.proofs.OnSteps.Runs.{from_start, inputs, wait, waits}
 use Rattle.machine_laws.proofs.OnSteps.Stalls.{gap_until, until_stalled}
-use Rattle.machine_laws.specs.OnOrders.Orders.{Order, Identify, Read, Write, Window, Track, CanBegin}
+use Rattle.machine_laws.specs.OnOrders.Orders.{Order, Identify, Read, Write, CanBegin}
 use Rattle.machine_laws.proofs.OnOrders.Accesses.{begins, inputs_keep}
 use Rattle.machine_laws.proofs.OnOrders.Steps.{underway}
 use Rattle.machine_laws.specs.OnAwaits.Awaits.{IsAwaited, is_unread}
 use Rattle.machine_laws.specs.OnAwaits.Goes.{CountsOn, GoesOn, InTime, Listens, StandsReady, with_one}
 use Rattle.machine_laws.proofs.OnAwaits.Awaiting.{awaiting}
-use Rattle.machine_laws.proofs.OnAwaits.Accesses.{begins_alone, begins_awaited, input_awaits, stray_awaits}
-use Rattle.machine_laws.proofs.OnAwaits.Kept.{can_format, can_identify, can_read, can_write}
+use Rattle.machine_laws.proofs.OnAwaits.Accesses.{begins_awaited, input_awaits, stray_awaits}
 use Rattle.pc_bus.specs.Boards.{Board, controller_of, holds_of}
 use Rattle.pc_bus.specs.Handling.{irq_taken}
 use Rattle.pc_bus.specs.Ports.{Inputs, Outputs}
@@ -137,16 +135,13 @@ status_in_time (Write laid) scene value old new access other was = elim (gap_unt
 
 taken_in_time : (order : Order) (scene : Scene) (old : Board) → InTime order scene old → InTime order scene (record old { bus = irq_taken old.bus })
 taken_in_time Identify scene old was = tt
-taken_in_time Read scene old (((past, is), punctual), soon) = (((past, record { scene_is = is.scene_is; chips = is.chips; hears = is.hears }), punctual), soon)
+taken_in_time Read scene old (((past, is), punctual), soon) = (((past, record { scene_is = is.scene_is; chips = is.chips; drive = is.drive }), punctual), soon)
 taken_in_time (Write laid) scene old was = record { selects = was.selects; punctual = was.punctual }
 
 begins_in_time : (order : Order) (scene : Scene) (byte : ℕ) (old new : Board) → Outputs 0x3F5 byte old new → CanBegin order scene byte old → StandsReady old → InTime order scene new ⊎ Stalled old new
 begins_in_time Identify scene byte old new access can ready = inl tt
-begins_in_time Read scene byte old new access can ready = begins_prompt scene byte old new access (can_read scene byte old can) ready.on ready.threshold ready.out.gated
-begins_in_time (Write (Window deleted)) scene byte old new access can ready =
-    write_on_time scene deleted byte old new access (can_write scene deleted byte old can) ready.on ready.threshold ready.out.gated ready.low
-begins_in_time (Write (Track numbers)) scene byte old new access can ready =
-    format_on_time scene numbers byte old new access (can_format scene numbers byte old can) ready.on ready.threshold ready.out.gated ready.low
+begins_in_time Read scene byte old new access can ready = begins_prompt scene byte old new access can ready.on ready.threshold ready.out.gated
+begins_in_time (Write laid) scene byte old new access can ready = begins_on_time laid scene byte old new access can ready.on ready.threshold ready.out.gated ready.low
 
 -- ---- the drives under a command that reads
 
@@ -180,10 +175,10 @@ taking_listens (Execute execution) held taking = absurd (false≢true taking)
 
 begins_listening : (order : Order) (scene : Scene) (byte : ℕ) (old new : Board) → Outputs 0x3F5 byte old new → CanBegin order scene byte old → StandsReady old → Listens order (with_one old) old new
 begins_listening Identify scene byte old new access can ready =
-    identify.begins_quietly (data_commands_of (controller_of old)) old scene byte old new access (can_identify scene byte old can)
+    begins_quietly Identify tt (data_commands_of (controller_of old)) old scene byte old new access can
     (starts_quietly old (record { no_seek = ready.out.no_seek; listens = taking_listens (controller_of old).phase (is_held (controller_of old)) can.last.taking }))
 begins_listening Read scene byte old new access can ready =
-    read.begins_quietly (data_commands_of (controller_of old)) old scene byte old new access (can_read scene byte old can)
+    begins_quietly Read tt (data_commands_of (controller_of old)) old scene byte old new access can
     (starts_quietly old (record { no_seek = ready.out.no_seek; listens = taking_listens (controller_of old).phase (is_held (controller_of old)) can.last.taking }))
 begins_listening (Write laid) scene byte old new access can ready = tt
 
@@ -194,7 +189,7 @@ goes_begins order scene byte old new access can ready = record {
   underway = begins order scene byte old new access can;
   awaited = begins_awaited order scene byte old new access can ready.out ready.hushed;
   listens = begins_listening order scene byte old new access can ready;
-  others = begins_alone order scene byte old new access can ready.out ready.hushed;
+  others = begin_leaves order scene byte old new access can;
   counts = counts_then old old new (counts_none old) (output_counts 0x3F5 byte old new access);
   in_time = begins_in_time order scene byte old new access can ready;
 }

@@ -1,67 +1,113 @@
 -- Port accesses of a data command: the write that begins it, and reads.
-use Rattle.std.proofs.Common.{◌≡◌, ◌⊎◌, inl, inr, ℕ, ◌+◌, ◌≤◌, ◌==◌, Bool, true, false, List, [], ◌∷◌, ◌++◌, if◌then◌else◌, refl, sym, ◌∙◌, ap, subst, arith}
-use Rattle.std.proofs.lemmas.Bool.{false≢true}
+use Rattle.std.proofs.Common.{◌≡◌, ◌⊎◌, inl, inr, ℕ, ◌+◌, ◌==◌, ◌||◌, nat_le, Bool, true, false, not, Option, List, if◌then◌else◌, refl, sym, ◌∙◌, subst}
 use Rattle.drive_model.specs.Drive.{DriveState}
-use Rattle.dma_8237.specs.Channel.{Channel, after_read}
-use Rattle.fdc_commands.specs.Table.{kept}
-use Rattle.fdc_commands.specs.declared.bytes.Accepted.TheVariants.{Ready}
-use Rattle.fdc_fifo.specs.Fifo.{emptied}
+use Rattle.dma_8237.specs.Channel.{Channel, grants, after_read}
+use Rattle.fdc_fifo.specs.Fifo.{Fifo}
 use Rattle.fdc_stages.specs.History.{Past, begun as new_past}
-use Rattle.fdc_core.proofs.MayRead.{given_reads, given_identifies}
-use Rattle.fdc_core.specs.Commands.{TakesAs}
+use Rattle.fdc_stages.specs.declared.ending.Ending.{Ending}
+use Rattle.fdc_commands.specs.declared.results.Results.{Results}
 use Rattle.fdc_core.specs.Listening.{is_executing}
-use Rattle.fdc_core.specs.Ports.{given, phase_after, after_read as controller_after, Writes}
-use Rattle.fdc_core.specs.State.{dor_of}
+use Rattle.fdc_core.specs.Ports.{given, phase_after}
+use Rattle.fdc_core.specs.declared.answers.Answer.TheVariants.{Short, Long}
 use Rattle.fdc_core.specs.declared.controller.Fdc.{Fdc}
-use Rattle.fdc_core.specs.declared.phases.Phase.TheVariants.{Command}
-use Rattle.pc_bus.specs.Boards.{Board, controller_of, drive_in, lines_of}
+use Rattle.fdc_core.specs.declared.phases.Phase.{Phase}
+use Rattle.fdc_core.specs.declared.phases.Phase.TheVariants as phase
+use Rattle.pc_bus.specs.Boards.{Board, controller_of, drive_in}
 use Rattle.pc_bus.specs.Ports.{is_controllers, port_read, WritesPort, Inputs, Outputs}
 use Rattle.pc_bus.specs.Transfers.{shown_again}
-use Rattle.pc_bus.proofs.Lines.{drive_stays}
 use Rattle.pc_bus.specs.declared.chips.Chips.{Chips}
-use Rattle.machine_laws.specs.OnReads.Scenes.{Scene, IsScene}
-use Rattle.machine_laws.proofs.OnReads.Accesses as reads
-use Rattle.machine_laws.proofs.OnReads.Steps.{same_drive as reads_same_drive}
-use Rattle.machine_laws.specs.OnReads.Begins.{IsDriveOf}
+use Rattle.pc_bus.proofs.Lines.{drive_stays}
+use Rattle.machine_laws.specs.OnReads.Scenes.{Scene}
+use Rattle.machine_laws.proofs.OnReads.Accesses.{busy_before, still_busy, calm_read, hearing_less}
 use Rattle.machine_laws.proofs.OnReads.Commands.{step_command}
-use Rattle.machine_laws.proofs.OnReads.EndCalls.{calm_read}
-use Rattle.machine_laws.proofs.OnReads.IdAccesses as ids
-use Rattle.machine_laws.specs.OnReads.Ends.{is_late}
-use Rattle.machine_laws.specs.OnWrites.Underway.{refuses}
-use Rattle.machine_laws.proofs.OnWrites.Accesses as writes
+use Rattle.machine_laws.proofs.OnReads.Steps.{same_drive}
 use Rattle.machine_laws.proofs.OnWrites.Covered.{read_refuses}
-use Rattle.machine_laws.proofs.OnFormats.Accesses as formats
+use Rattle.machine_laws.proofs.OnWrites.Drives.{drive_less}
 use Rattle.machine_laws.specs.OnSteps.Moves.{read_from}
-use Rattle.machine_laws.specs.OnSteps.Steady.{Steady}
-use Rattle.machine_laws.proofs.OnSteps.Runs.{inputs, outputs, gap}
-use Rattle.machine_laws.specs.OnOrders.Orders.{Laid, Window, Track, Order, Identify, Read, Write, MayLay, May, Shows, Moves, LaysOn, AtDrive, IsDoneBy, IsDone, Underway, IsLast, IsSetFor, CanBegin}
+use Rattle.machine_laws.proofs.OnSteps.Runs.{gap, outputs}
+use Rattle.machine_laws.specs.OnOrders.Orders.{Window, Track, Order, Identify, Read, Write, MayIn, Shows, Moves, AtDrive, IsDoneBy, Underway, CanBegin}
+use Rattle.machine_laws.proofs.OnOrders.Behind.{laid_on}
+use Rattle.machine_laws.proofs.OnOrders.Beginning.{begun_at, begun_by, none_heard}
 use Rattle.machine_laws.proofs.OnOrders.Steps.{underway}
 
--- ---- reads
+-- ---- a read of the data port
 
--- a read of the data port, by the order
-may_given : (order : Order) (scene : Scene) (past : Past) (fdc : Fdc) → May order scene past fdc → May order scene past (given fdc) ⊎ (phase_after fdc.phase ≡ Command)
-may_given Identify scene past fdc may = given_identifies past scene.sent.head_drive fdc.phase may
-may_given Read scene past fdc may = given_reads past scene.sent fdc.phase fdc.asking fdc.fifo.bytes may
-may_given (Write (Window deleted)) scene past fdc may = writes.given_writes past scene.sent deleted fdc.phase fdc.asking fdc.fifo may
-may_given (Write (Track numbers)) scene past fdc may = formats.given_writes past scene.sent.head_drive numbers fdc.phase fdc.asking fdc.fifo may
+no_short : (order : Order) (scene : Scene) (past : Past) (next : ℕ) (last : Option ℕ) (asking : Bool) (fifo : Fifo) → MayIn order scene past (phase.Result (Short next last)) asking fifo → ⊥
+no_short Identify scene past next last asking fifo may = may
+no_short Read scene past next last asking fifo may = may
+no_short (Write (Window deleted)) scene past next last asking fifo may = may
+no_short (Write (Track numbers)) scene past next last asking fifo may = may
+
+next_byte : (order : Order) (scene : Scene) (past : Past) (ending : Ending) (results : Results) (taken : ℕ) (asking : Bool) (fifo : Fifo) → MayIn order scene past (phase.Result (Long ending results taken)) asking fifo
+    → MayIn order scene past (phase.Result (Long ending results (taken + 1))) asking fifo
+next_byte Identify scene past ending results taken asking fifo may = may
+next_byte Read scene past ending results taken asking fifo may = may
+next_byte (Write (Window deleted)) scene past ending results taken asking fifo may = may
+next_byte (Write (Track numbers)) scene past ending results taken asking fifo may = may
+
+may_given : (order : Order) (scene : Scene) (past : Past) (p : Phase) (asking : Bool) (fifo : Fifo) → MayIn order scene past p asking fifo
+    → MayIn order scene past (phase_after p) asking fifo ⊎ (phase_after p ≡ phase.Command)
+may_given order scene past phase.Command asking fifo may = inr refl
+may_given order scene past (phase.Execute execution) asking fifo may = inl may
+may_given order scene past (phase.Result (Short next last)) asking fifo may = absurd (no_short order scene past next last asking fifo may)
+may_given order scene past (phase.Result (Long ending results taken)) asking fifo may = by_last (nat_le 6 taken)
+  where
+    by_last : (b : Bool) → MayIn order scene past (if b then phase.Command else phase.Result (Long ending results (taken + 1))) asking fifo
+        ⊎ ((if b then phase.Command else phase.Result (Long ending results (taken + 1))) ≡ phase.Command)
+    by_last true = inr refl
+    by_last false = inl (next_byte order scene past ending results taken asking fifo may)
 
 shows_given : (order : Order) (scene : Scene) (fdc : Fdc) → Shows order scene fdc → Shows order scene (given fdc)
 shows_given Identify scene fdc (low, calm) = (low, calm_read fdc.phase calm)
-shows_given Read scene fdc quiet = λ up. reads.still_busy fdc.phase (quiet up)
+shows_given Read scene fdc quiet = λ up. still_busy fdc.phase (quiet up)
 shows_given (Write laid) scene fdc covered = λ is. covered (read_refuses fdc.phase is)
 
--- and of the channel
-moves_read : (order : Order) (scene : Scene) (past : Past) (memory : List ℕ) (channel : Channel) (port : ℕ) → Moves order scene past memory channel → Moves order scene past memory (after_read port channel)
-moves_read Identify scene past memory channel port was = was
-moves_read Read scene past memory channel port was = reads.moved_read scene past.given past.counted memory port channel was
-moves_read (Write laid) scene past memory channel port was = writes.taken_read scene past.taken past.counted memory port channel was
+-- ---- the channel
 
-drive_less : (order : Order) (scene : Scene) (past : Past) (before now : Bool) (drive : DriveState) → (now ≡ true → before ≡ true) → AtDrive order scene past before drive → AtDrive order scene past now drive
-drive_less (Write (Window deleted)) scene past before now drive less was = writes.drive_less scene past before now drive less was
-drive_less (Write (Track numbers)) scene past before now drive less was = formats.drive_less scene past before now drive less was
-drive_less Identify scene past before now drive less was = reads.hearing_less scene past before now drive less was
-drive_less Read scene past before now drive less was = reads.hearing_less scene past before now drive less was
+-- of its flip-flop and its terminal count nothing is known
+same_grants : (channel : Channel) (high told : Bool) → grants (record channel { high_byte_next = high; terminal_count = told }) ≡ grants channel
+unfolding grants
+same_grants channel high told = refl
+
+pub moves_flipped : (order : Order) (scene : Scene) (past : Past) (memory : List ℕ) (channel : Channel) (high told : Bool) → Moves order scene past memory channel
+    → Moves order scene past memory (record channel { high_byte_next = high; terminal_count = told })
+moves_flipped Identify scene past memory channel high told was = was
+moves_flipped Read scene past memory channel high told was = record {
+  bytes = was.bytes;
+  goes_on = λ uncounted. let (left, all, set) = was.goes_on uncounted in (
+    left,
+    all,
+    record { granting = same_grants channel high told ∙ set.granting; writing = set.writing; place = set.place; count = set.count; room = set.room },
+  );
+  over = λ counted. let (masked, all) = was.over counted in (same_grants channel high told ∙ masked, all);
+}
+moves_flipped (Write laid) scene past memory channel high told was = record {
+  same = was.same;
+  first = was.first;
+  goes_on = λ uncounted. let (left, all, set) = was.goes_on uncounted in (
+    left,
+    all,
+    record { granting = same_grants channel high told ∙ set.granting; reading = set.reading; place = set.place; count = set.count; room = set.room },
+  );
+  over = λ counted. let (masked, all) = was.over counted in (same_grants channel high told ∙ masked, all);
+}
+
+moves_read : (order : Order) (scene : Scene) (past : Past) (memory : List ℕ) (channel : Channel) (port : ℕ) → Moves order scene past memory channel → Moves order scene past memory (after_read port channel)
+unfolding after_read
+moves_read order scene past memory channel port was = by_port (port == 4 || port == 5) (port == 8)
+  where
+    by_port : (a b : Bool) → Moves order scene past memory (if a then record channel { high_byte_next = not channel.high_byte_next } else (if b then record channel { terminal_count = false } else channel))
+    by_port true b = moves_flipped order scene past memory channel (not channel.high_byte_next) channel.terminal_count was
+    by_port false true = moves_flipped order scene past memory channel channel.high_byte_next false was
+    by_port false false = was
+
+-- ---- reads
+
+drive_on : (order : Order) (scene : Scene) (past : Past) (before now : Bool) (drive : DriveState) → (now ≡ true → before ≡ true) → AtDrive order scene past before drive → AtDrive order scene past now drive
+drive_on (Write laid) scene past before now drive less was =
+    laid_on laid scene past past before now drive drive (drive_less scene past before now drive past.taken past.counted less) refl refl was
+drive_on Identify scene past before now drive less was = hearing_less scene past before now drive less was
+drive_on Read scene past before now drive less was = hearing_less scene past before now drive less was
 
 -- it is as before, or the controller takes commands
 record IsReadOn (order : Order) (scene : Scene) (past : Past) (old new : Chips) : Type 0 where
@@ -70,11 +116,11 @@ record IsReadOn (order : Order) (scene : Scene) (past : Past) (old new : Chips) 
 
 by_port : (order : Order) (scene : Scene) (past : Past) (port : ℕ) (chips : Chips) → IsDoneBy order scene past chips → (b d : Bool)
     → IsReadOn order scene past chips (if b then shown_again (record chips { controller = if d then given chips.controller else chips.controller }) else record chips { channel = after_read port chips.channel })
-    ⊎ ((if b then shown_again (record chips { controller = if d then given chips.controller else chips.controller }) else record chips { channel = after_read port chips.channel }).controller.phase ≡ Command)
-by_port order scene past port chips was true true = elim (may_given order scene past chips.controller was.may) [
+    ⊎ ((if b then shown_again (record chips { controller = if d then given chips.controller else chips.controller }) else record chips { channel = after_read port chips.channel }).controller.phase ≡ phase.Command)
+by_port order scene past port chips was true true = elim (may_given order scene past chips.controller.phase chips.controller.asking chips.controller.fifo was.may) [
   | inl may ↦ inl (record {
     known = record { may = may; shows = shows_given order scene chips.controller was.shows; dor = was.dor; rate = was.rate; moves = was.moves };
-    busy = reads.busy_before chips.controller.phase;
+    busy = busy_before chips.controller.phase;
   })
   | inr over ↦ inr over
 ]
@@ -83,59 +129,44 @@ by_port order scene past port chips was true false =
 by_port order scene past port chips was false d =
     inl (record { known = record { may = was.may; shows = was.shows; dor = was.dor; rate = was.rate; moves = moves_read order scene past chips.memory chips.channel port was.moves }; busy = λ busy. busy })
 
-pub inputs_keep : (order : Order) (scene : Scene) (port value : ℕ) (old new : Board) → Inputs port old value new → Underway order scene old → Underway order scene new ⊎ ((controller_of new).phase ≡ Command)
-inputs_keep order scene port value old new access (past, was) = elim (by_port order scene past port old.bus.chips was.chips (is_controllers port) (port == 0x3F5)) [
-  | inl on ↦ inl (inputs (Underway order scene) (underway order scene) port value old new (past, record {
-    scene_is = was.scene_is;
-    chips = on.known;
-    drive = drive_less order scene past (is_executing (controller_of old).phase) (is_executing (port_read port old.bus.chips).controller.phase) (drive_in old scene.bay) on.busy was.drive;
-  }) access)
-  | inr over ↦ inr (inputs (λ board. (controller_of board).phase ≡ Command) (record { step = step_command; idle = λ old gaps fresh is. is }) port value old new over access)
+-- before the gap; or the controller takes commands behind it
+pub read_between : (order : Order) (scene : Scene) (port value : ℕ) (old new : Board) → Inputs port old value new → Underway order scene old
+    → Underway order scene (read_from port old) ⊎ ((controller_of new).phase ≡ phase.Command)
+read_between order scene port value old new access (past, was) = elim (by_port order scene past port old.bus.chips was.chips (is_controllers port) (port == 0x3F5)) [
+  | inl on ↦ inl (
+    past,
+    record {
+      scene_is = was.scene_is;
+      chips = on.known;
+      drive = drive_on order scene past (is_executing (controller_of old).phase) (is_executing (port_read port old.bus.chips).controller.phase) (drive_in old scene.bay) on.busy was.drive;
+    },
+  )
+  | inr over ↦ inr (gap (λ board. (controller_of board).phase ≡ phase.Command) (record { step = step_command; idle = λ old gaps fresh is. is }) (read_from port old) new access.gap over)
+]
+
+pub inputs_keep : (order : Order) (scene : Scene) (port value : ℕ) (old new : Board) → Inputs port old value new → Underway order scene old
+    → Underway order scene new ⊎ ((controller_of new).phase ≡ phase.Command)
+inputs_keep order scene port value old new access was = elim (read_between order scene port value old new access was) [
+  | inl on ↦ inl (gap (Underway order scene) (underway order scene) (read_from port old) new access.gap on)
+  | inr over ↦ inr over
 ]
 
 -- ---- the write that begins it
 
--- by the order
-begun_by : (order : Order) (scene : Scene) (chips : Chips) (byte : ℕ) (old : Board) (controller : Fdc) → CanBegin order scene byte old → Writes 0x3F5 byte (lines_of old) (controller_of old) controller
-    → chips ≡ shown_again (record old.bus.chips { controller = controller }) → IsDoneBy order scene new_past chips
-begun_by Identify scene chips byte old controller can does is =
-    let begun = ids.begun_by scene old.bus.chips (controller_of old) controller can.dor can.rate can.memory
-    (ids.has_begun scene byte old controller (record { scene_is = can.scene_is; dor = can.dor; rate = can.rate; drive = can.drive; memory = can.memory; last = can.last }) does) in
-    subst (IsDoneBy Identify scene new_past) (sym is) (record { may = begun.identifies; shows = (begun.low, begun.no_late); dor = begun.dor; rate = begun.rate; moves = begun.memory })
-begun_by Read scene chips byte old controller can does is =
-    let (left, size, channel) = can.channel in
-    let moved = reads.none_moved scene old.bus.chips.memory old.bus.chips.channel left can.memory size channel in
-    let begun = reads.begun_by scene old.bus.chips byte (controller_of old) controller (lines_of old) can.dor can.rate moved can.last does in
-    subst (IsDoneBy Read scene new_past) (sym is) (record { may = begun.reads; shows = begun.quiet; dor = begun.dor; rate = begun.rate; moves = begun.moved })
-begun_by (Write (Window deleted)) scene chips byte old controller can does is =
-    let (left, size, channel) = can.channel in
-    let taken = writes.none_taken scene old.bus.chips.memory old.bus.chips.channel left can.memory size channel in
-    let begun = writes.begun_by scene deleted old.bus.chips byte (controller_of old) controller (lines_of old) can.dor can.rate taken can.last does in
-    let not = writes.begun_not scene deleted old.bus.chips byte (controller_of old) controller (lines_of old) can.last does in
-    subst (IsDoneBy (Write (Window deleted)) scene new_past) (sym is) (record { may = begun.writes; shows = λ yes. absurd (false≢true (sym not ∙ yes)); dor = begun.dor; rate = begun.rate; moves = begun.taken })
-begun_by (Write (Track numbers)) scene chips byte old controller can does is =
-    let (left, size, channel) = can.channel in
-    let taken = writes.none_taken scene old.bus.chips.memory old.bus.chips.channel left can.memory size channel in
-    let begun = formats.begun_by scene numbers old.bus.chips byte (controller_of old) controller (lines_of old) can.dor can.rate taken can.last does in
-    let not = formats.begun_not scene numbers byte (controller_of old) controller (lines_of old) can.last does in
-    subst (IsDoneBy (Write (Track numbers)) scene new_past) (sym is) (record { may = begun.formats; shows = λ yes. absurd (false≢true (sym not ∙ yes)); dor = begun.dor; rate = begun.rate; moves = begun.taken })
-
-none_heard : (order : Order) (scene : Scene) (executes : Bool) (drive : DriveState) → IsScene scene → IsDriveOf scene drive → AtDrive order scene new_past executes drive
-none_heard (Write (Window deleted)) scene executes drive whole is = writes.none_heard scene executes drive whole is
-none_heard (Write (Track numbers)) scene executes drive whole is = formats.none_heard scene executes drive whole is
-none_heard Identify scene executes drive whole is = reads.none_heard scene executes drive whole is
-none_heard Read scene executes drive whole is = reads.none_heard scene executes drive whole is
-
-pub begins : (order : Order) (scene : Scene) (byte : ℕ) (old new : Board) → Outputs 0x3F5 byte old new → CanBegin order scene byte old → Underway order scene new
-begins order scene byte old new access can = outputs (Underway order scene) (underway order scene) 0x3F5 byte old new (λ between writes.
-    let (controller, does, chips_are) = writes.writes.controllers refl in
+-- before the gap
+pub begun_underway : (order : Order) (scene : Scene) (byte : ℕ) (old between : Board) → WritesPort 0x3F5 byte old between → CanBegin order scene byte old → Underway order scene between
+begun_underway order scene byte old between writes can =
+    let (has, chips_are) = begun_at order scene byte old between writes can in
     let drive_is : drive_in between scene.bay ≡ drive_in old scene.bay =
-    reads_same_drive old.first old.second between.first between.second (drive_stays writes.lines.first refl) (drive_stays writes.lines.second refl) (scene.bay == 0) in (
+    same_drive old.first old.second between.first between.second (drive_stays writes.lines.first refl) (drive_stays writes.lines.second refl) (scene.bay == 0) in (
       new_past,
       record {
         scene_is = can.scene_is;
-        chips = begun_by order scene between.bus.chips byte old controller can does (ap (λ bus. bus.chips) writes.bus ∙ chips_are);
+        chips = subst (IsDoneBy order scene new_past) (sym chips_are) (begun_by order scene byte old (controller_of between) can has);
         drive = subst (AtDrive order scene new_past (is_executing (controller_of between).phase)) (sym drive_is)
             (none_heard order scene (is_executing (controller_of between).phase) (drive_in old scene.bay) can.scene_is can.drive);
       },
-    )) access
+    )
+
+pub begins : (order : Order) (scene : Scene) (byte : ℕ) (old new : Board) → Outputs 0x3F5 byte old new → CanBegin order scene byte old → Underway order scene new
+begins order scene byte old new access can = outputs (Underway order scene) (underway order scene) 0x3F5 byte old new (λ between writes. begun_underway order scene byte old between writes can) access

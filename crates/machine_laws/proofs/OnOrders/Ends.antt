@@ -1,5 +1,5 @@
--- What a command that writes leaves, and what its results say.
-use Rattle.std.proofs.Common.{◌≡◌, ℕ, Bool, false, List, ◌∙◌, arith}
+-- What a data command leaves, and what its results say.
+use Rattle.std.proofs.Common.{◌≡◌, false, List, ◌∙◌, arith}
 use Rattle.flop_base.specs.declared.key.Chrn.{Chrn}
 use Rattle.track_model.specs.Fields.{IsSizeCode, content_size}
 use Rattle.fdc_core.proofs.Meanings.{read_tells, id_tells}
@@ -9,7 +9,6 @@ use Rattle.pc_bus.specs.Boards.{Board, controller_of, memory_of, channel_of, dri
 use Rattle.machine_laws.specs.OnReads.Ids.{IdEnded}
 use Rattle.machine_laws.specs.OnReads.Results.{ReadEnded, StaysOutside}
 use Rattle.machine_laws.specs.OnReads.Scenes.{Scene}
-use Rattle.machine_laws.specs.OnReads.Underway.{ReadUnderway}
 use Rattle.machine_laws.proofs.OnReads.IdResults as ids
 use Rattle.machine_laws.proofs.OnReads.Results as reads
 use Rattle.machine_laws.proofs.OnWrites.Results as writes
@@ -44,13 +43,6 @@ ended (Track numbers) scene keys board (size, are) (past, was) =
     fdc.phase fdc.asking fdc.fifo was.chips.shows was.chips.may
 
 -- ---- those that listen
-
-pub as_read : (scene : Scene) (board : Board) → Underway Read scene board → ReadUnderway scene board
-as_read scene board (past, was) = (past, record {
-  scene_is = was.scene_is;
-  chips = record { reads = was.chips.may; dor = was.chips.dor; rate = was.chips.rate; quiet = was.chips.shows; moved = was.chips.moves };
-  hears = was.drive;
-})
 
 pub read_ended : (scene : Scene) (board : Board) → IsSizeCode scene.sent.key.n → scene.size ≡ content_size scene.sent.key.n → Underway Read scene board → ReadEnded scene board
 read_ended scene board coded size (past, was) =

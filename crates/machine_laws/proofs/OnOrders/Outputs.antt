@@ -1,29 +1,26 @@
--- Port writes that leave a data command as it is: a byte to the data port, which takes none, and a write to a port where nothing answers.
-use Rattle.std.proofs.Common.{◌≡◌, ◌⊎◌, inl, inr, ℕ, ◌==◌, Bool, true, false, List, refl, sym, ◌∙◌, ap, subst, arith}
+-- Port writes that leave a data command as it is: a byte to the data port, which takes none, one that clears the channel's flip-flop, and a write to a port
+-- where nothing answers.
+use Rattle.std.proofs.Common.{◌≡◌, ℕ, ◌==◌, Bool, true, false, refl, sym, ◌∙◌, ap, subst, arith}
 use Rattle.std.proofs.lemmas.Bool.{false≢true}
 use Rattle.std.proofs.lemmas.Bool.Decides.{nat_tests}
-use Rattle.drive_model.specs.Drive.{DriveState}
 use Rattle.dma_8237.specs.Channel.{Channel, after_write}
 use Rattle.fdc_stages.specs.History.{Past}
-use Rattle.fdc_writing.specs.Formats.{Numbers}
-use Rattle.fdc_core.specs.Heard.{MayReadIn, MayReadIdIn, Sent}
 use Rattle.fdc_core.specs.Listening.{is_executing}
-use Rattle.fdc_core.specs.Ports.{Writes, takes_in, is_taking}
+use Rattle.fdc_core.specs.Ports.{Writes, takes_in}
 use Rattle.fdc_core.specs.State.{is_held}
-use Rattle.fdc_core.specs.Written.{MayWriteIn, MayFormatIn}
 use Rattle.fdc_core.specs.declared.controller.Fdc.{Fdc}
 use Rattle.fdc_core.specs.declared.phases.Phase.{Phase}
 use Rattle.fdc_core.specs.declared.phases.Phase.TheVariants as phase
-use Rattle.fdc_fifo.specs.Fifo.{Fifo}
 use Rattle.pc_bus.specs.Boards.{Board, controller_of, channel_of, drive_in, lines_of}
 use Rattle.pc_bus.specs.Ports.{is_controllers, sets_lines, WritesPort, Outputs}
-use Rattle.pc_bus.proofs.Lines.{drive_stays}
 use Rattle.pc_bus.specs.Transfers.{shown_again}
-use Rattle.pc_bus.specs.declared.chips.Chips.{Chips}
+use Rattle.pc_bus.proofs.Lines.{drive_stays}
 use Rattle.machine_laws.specs.OnReads.Scenes.{Scene}
 use Rattle.machine_laws.proofs.OnReads.Steps.{same_drive}
 use Rattle.machine_laws.proofs.OnSteps.Runs.{outputs}
-use Rattle.machine_laws.specs.OnOrders.Orders.{Laid, Window, Track, Order, Identify, Read, Write, May, AtDrive, IsDoneBy, Underway}
+use Rattle.machine_laws.specs.OnOrders.Orders.{Order, Identify, Read, Write, MayIn, May, AtDrive, IsDoneBy, Underway, Leaves}
+use Rattle.machine_laws.proofs.OnOrders.Accesses.{moves_flipped}
+use Rattle.machine_laws.proofs.OnOrders.Words.{no_command}
 use Rattle.machine_laws.proofs.OnOrders.Steps.{underway}
 
 -- the data port takes no byte
@@ -33,17 +30,9 @@ taking_in (phase.Result answer) busy held = refl
 taking_in (phase.Execute execution) busy held = refl
 
 not_command : (order : Order) (scene : Scene) (past : Past) (fdc : Fdc) → May order scene past fdc → fdc.phase ≡ phase.Command → ⊥
-not_command Identify scene past fdc may is = subst (λ p. MayReadIdIn past scene.sent.head_drive p) is may
-not_command Read scene past fdc may is = subst (λ p. MayReadIn past scene.sent p fdc.asking fdc.fifo.bytes) is may
-not_command (Write (Window deleted)) scene past fdc may is = subst (λ p. MayWriteIn past scene.sent deleted p fdc.asking fdc.fifo) is may
-not_command (Write (Track numbers)) scene past fdc may is = subst (λ p. MayFormatIn past scene.sent.head_drive numbers p fdc.asking fdc.fifo) is may
-
--- a port whose write changes neither DOR, nor the rate, nor the channel, nor resets
-pub record Leaves (port value : ℕ) (board : Board) : Type 0 where
-  pub output : (port == 0x3F2) ≡ false
-  pub select : (port == 0x3F4) ≡ false
-  pub control : (port == 0x3F7) ≡ false
-  pub channel : is_controllers port ≡ false → after_write port value (channel_of board) ≡ channel_of board
+not_command Identify scene past fdc may is = subst (λ p. MayIn Identify scene past p fdc.asking fdc.fifo) is may
+not_command Read scene past fdc may is = subst (λ p. MayIn Read scene past p fdc.asking fdc.fifo) is may
+not_command (Write laid) scene past fdc may is = no_command laid scene past fdc.asking fdc.fifo (subst (λ p. MayIn (Write laid) scene past p fdc.asking fdc.fifo) is may)
 
 port_is : (port at : ℕ) → (port == at) ≡ true → port ≡ at
 port_is port at is = grind (arith, nat_tests)
@@ -63,8 +52,11 @@ same_chips order scene past port value old between leaves was writes true is =
     let now : between.bus.chips ≡ shown_again (record old.bus.chips { controller = controller_of old }) = ap (λ bus. bus.chips) writes.bus ∙ (chips ∙ ap (λ c. shown_again (record old.bus.chips { controller = c })) same) in
     (subst (IsDoneBy order scene past) (sym now) (record { may = was.may; shows = was.shows; dor = was.dor; rate = was.rate; moves = was.moves }), ap (λ c. c.controller) now)
 same_chips order scene past port value old between leaves was writes false is =
-    let now : between.bus.chips ≡ old.bus.chips = ap (λ bus. bus.chips) writes.bus ∙ (writes.writes.channels is ∙ ap (λ (c : Channel). record old.bus.chips { channel = c }) (leaves.channel is)) in
-    (subst (IsDoneBy order scene past) (sym now) was, ap (λ c. c.controller) now)
+    let (high, flipped) = leaves.channel is in
+    let now : between.bus.chips ≡ record old.bus.chips { channel = record (channel_of old) { high_byte_next = high } } =
+    ap (λ bus. bus.chips) writes.bus ∙ (writes.writes.channels is ∙ ap (λ (c : Channel). record old.bus.chips { channel = c }) flipped) in
+    let moves = moves_flipped order scene past old.bus.chips.memory (channel_of old) high (channel_of old).terminal_count was.moves in
+    (subst (IsDoneBy order scene past) (sym now) (record { may = was.may; shows = was.shows; dor = was.dor; rate = was.rate; moves = moves }), ap (λ c. c.controller) now)
 
 no_lines : (port value : ℕ) → (port == 0x3F2) ≡ false → (port == 0x3F4) ≡ false → sets_lines port value ≡ false
 no_lines port value output select = rw (output, select) refl
@@ -81,3 +73,14 @@ outputs_keep order scene port value old new access leaves (past, was) = outputs 
         drive = subst (λ p. AtDrive order scene past (is_executing p) (drive_in between scene.bay)) (ap (λ (f : Fdc). f.phase) (sym same)) (subst (AtDrive order scene past (is_executing (controller_of old).phase)) (sym drive_is) was.drive);
       },
     )) access
+
+-- ---- which they are
+
+-- a byte to the data port
+pub leaves_data : (value : ℕ) (board : Board) → Leaves 0x3F5 value board
+leaves_data value board = record { output = refl; select = refl; control = refl; channel = λ no. absurd (false≢true (sym no)) }
+
+-- 0C clears the flip-flop
+pub leaves_clear : (value : ℕ) (board : Board) → Leaves 0x0C value board
+unfolding after_write
+leaves_clear value board = record { output = refl; select = refl; control = refl; channel = λ _. (false, refl) }

@@ -146,8 +146,12 @@ dma_timely : (slack : ℕ) (chips : Chips) → IsFilling slack chips
     → (phase_counted chips.controller.phase ≡ false → IsInTime (looked_at chips).holding.request slack) → IsTimely (dma_stepped chips)
 dma_timely slack chips was enough =
     let look = filling_held slack chips (looked_at chips).holding was in
-    by_request IsTimely chips (λ is. record { slack = slack; filling = look; ready = λ uncounted. not_due (looked_at chips).holding.request slack
-        (enough uncounted) is })
+    by_request IsTimely chips (λ is. record {
+      slack = slack;
+      filling = look;
+      ready = λ uncounted. not_due (looked_at chips).holding.request slack
+          (enough uncounted) is;
+    })
     (λ masked. record { slack = slack; filling = look; ready = λ uncounted. absurd (false≢true (sym masked ∙ was.granting uncounted)) })
     (λ _. served_timely slack (looked_at chips) look)
 
@@ -237,7 +241,7 @@ module _ (chips : Chips) (drive : DriveState) (between : Fdc) (after : DriveStat
             waits = lasts.waits;
           } in
           elim (behind slack.before slack.after (record chips { controller = between }) then_is slack.less
-              (λ uncounted. slack.ready (lasts.uncounted uncounted))
+          (λ uncounted. slack.ready (lasts.uncounted uncounted))
           (phase_counted between.phase) refl (asks between) refl) [
             | inl on_time ↦ inl (record { timely = λ _. on_time; no_overrun = over })
             | inr rose ↦ inr (subst (λ stalls. Rose chips.holding.stalls stalls) (sym (dma_stalls (record chips { controller = between }))) rose)

@@ -41,7 +41,8 @@ use Rattle.machine_laws.specs.OnWritten.Written.{IsCalm}
 use Rattle.machine_laws.specs.OnReads.Scenes.{Scene, IsScene, head_sent, track_met}
 use Rattle.machine_laws.proofs.OnReads.Words.{length-met}
 use Rattle.machine_laws.specs.OnWrites.Results.{ChangesTo, ChangesWhole, EndedIn, EndsAs, HasChanged, IsUnchanged, WritesWell, window_in, written_in}
-use Rattle.machine_laws.specs.OnWrites.Underway.{IsAtDrive, IsTaken, range_of, refuses, refuses_as}
+use Rattle.machine_laws.specs.OnWrites.Drives.{IsAtWindow}
+use Rattle.machine_laws.specs.OnWrites.Underway.{IsTaken, range_of, refuses, refuses_as}
 use Rattle.machine_laws.proofs.OnWrites.Content.{handed_all, handed_rest, not_all}
 use Rattle.machine_laws.proofs.OnWrites.Words.{heard_met}
 
@@ -135,17 +136,17 @@ address_kept track p k words key cuttable address =
     let long = length-take k words in
     same_address_at track (cut_of track p k words) p key (same_before track (window_word p) (take k words) (omega arith) p 160 (omega arith)) address
 
-made : (scene : Scene) (deleted executes : Bool) (past : Past) (drive : DriveState) → IsScene scene → IsAtDrive scene past executes drive → (of : IsOfWindow scene deleted past) → MakesChange scene deleted past drive of.p
+made : (scene : Scene) (deleted executes : Bool) (past : Past) (drive : DriveState) → IsScene scene → IsAtWindow scene past executes drive → (of : IsOfWindow scene deleted past) → MakesChange scene deleted past drive of.p
 made scene deleted executes past drive whole was of =
     let start = start_of scene.from past.turns in
-    let met = heard_met scene past drive.faults was.hears of.p scene.sent.key of.address in
-    let put = was.medium.put of.some in
+    let met = heard_met scene past drive.faults was.at.hears of.p scene.sent.key of.address in
+    let put = was.at.medium.put (was.there of.some) of.some in
     let (others, is) = of.first in
     let track = track_of scene.disk scene.cylinder (head_sent scene.sent) in
     let place = of.place in
     let at : window_word (of.p + 16 * start) ≡ start + length past.seen = omega arith in
     let address : IsAddressAt track (of.p + 16 * start) scene.sent.key =
-    subst (λ t. IsAddressAt t (of.p + 16 * start) scene.sent.key) met.is (address_heard (track_met scene) start past.seen was.hears.heard.now of.p scene.sent.key of.address) in
+    subst (λ t. IsAddressAt t (of.p + 16 * start) scene.sent.key) met.track (address_heard (track_met scene) start past.seen was.at.hears.heard.now of.p scene.sent.key of.address) in
     let long = length-track_of scene.disk scene.cylinder (head_sent scene.sent) whole.disk met.has in
     let few = put.stands.few in
     let inside = put.stands.inside in
@@ -165,7 +166,7 @@ made scene deleted executes past drive whole was of =
         changes = record {
           cylinder = refl;
           rate = met.fits;
-          unprotected = was.unprotected of.some;
+          unprotected = was.at.unprotected of.some;
           track = met.has;
           address = address;
           cuttable = cuttable;
@@ -178,9 +179,9 @@ made scene deleted executes past drive whole was of =
       place = refl;
     }
 
-pub only : (scene : Scene) (deleted executes : Bool) (past : Past) (drive : DriveState) → IsScene scene → IsAtDrive scene past executes drive → (past.words ≡ []) ⊎ IsOfWindow scene deleted past
+pub only : (scene : Scene) (deleted executes : Bool) (past : Past) (drive : DriveState) → IsScene scene → IsAtWindow scene past executes drive → (past.words ≡ []) ⊎ IsOfWindow scene deleted past
     → IsUnchanged scene drive ⊎ HasChanged scene deleted drive
-only scene deleted executes past drive whole was (inl none) = inl (was.medium.quiet none)
+only scene deleted executes past drive whole was (inl none) = inl (was.at.medium.quiet none)
 only scene deleted executes past drive whole was (inr of) = inr (made scene deleted executes past drive whole was of).changed
 
 -- ---- a turn that was heard
@@ -212,7 +213,7 @@ among_between turns seen between first is = inr (subst (λ t. IsAmong t between)
 
 -- ---- the endings
 
-module _ (scene : Scene) (deleted executes : Bool) (past : Past) (drive : DriveState) (memory : List ℕ) (channel : Channel) (whole : IsScene scene) (was : IsAtDrive scene past executes drive)
+module _ (scene : Scene) (deleted executes : Bool) (past : Past) (drive : DriveState) (memory : List ℕ) (channel : Channel) (whole : IsScene scene) (was : IsAtWindow scene past executes drive)
     (taken : IsTaken scene past.taken past.counted memory channel) (size : scene.size ≡ content_size scene.sent.key.n) where
   done_ends : (handed : List ℕ) → IsContent past.counted past.taken handed → (p : ℕ) → IsWhole past.seen past.words scene.sent.key deleted handed p → ChangesWhole scene deleted drive
   done_ends handed content p is =
@@ -233,47 +234,47 @@ module _ (scene : Scene) (deleted executes : Bool) (past : Past) (drive : DriveS
 
   mark_ends : past.words ≡ [] → IsMissed past (Some scene.sent.key) NoMark → EndsAs scene deleted drive NoMark
   mark_ends none (missed, unmarked) = (
-    was.medium.quiet none,
+    was.at.medium.quiet none,
     λ calm mark.
-        let same = between_is (track_met scene) scene.from past missed.between was.hears.heard (was.hears.whole calm) missed.is in
+        let same = between_is (track_met scene) scene.from past missed.between was.at.hears.heard (was.at.hears.whole calm) missed.is in
         unmarked (missed.between, among_between past.turns past.seen missed.between missed.is.first missed.is.turns, subst HasAddressMark (sym same) mark),
   )
 
   sector_ends : past.words ≡ [] → IsMissed past (Some scene.sent.key) NoSector → EndsAs scene deleted drive NoSector
   sector_ends none (missed, (words, among, (p, mark))) =
-      let (start, turned) = turn_heard (track_met scene) scene.from past.turns past.seen words was.hears.heard among in (
-        was.medium.quiet none,
+      let (start, turned) = turn_heard (track_met scene) scene.from past.turns past.seen words was.at.hears.heard among in (
+        was.at.medium.quiet none,
         (p + 16 * start, mark_heard (track_met scene) start words turned p mark),
         λ calm.
-            let same = between_is (track_met scene) scene.from past missed.between was.hears.heard (was.hears.whole calm) missed.is in
+            let same = between_is (track_met scene) scene.from past missed.between was.at.hears.heard (was.at.hears.whole calm) missed.is in
             subst (HasNoClear (Some scene.sent.key)) same (missed.none missed.between (among_between past.turns past.seen missed.between missed.is.first missed.is.turns)),
       )
 
   field_ends : (past.words ≡ []) ⊎ IsOfWindow scene deleted past → HasNoWindow past scene.sent.key → EndsAs scene deleted drive NoField
   field_ends either (inl (none, (turn, p, behind))) =
-      let heard_over : AreHeard (track_met scene) scene.from (turn ∷ behind.over.earlier) = subst (AreHeard (track_met scene) scene.from) behind.over.last was.hears.heard.over in
+      let heard_over : AreHeard (track_met scene) scene.from (turn ∷ behind.over.earlier) = subst (AreHeard (track_met scene) scene.from) behind.over.last was.at.hears.heard.over in
       let start = start_of scene.from behind.over.earlier in
       let end = heard_over.1 in
       let late = behind.behind in (
-        inl (was.medium.quiet none),
+        inl (was.at.medium.quiet none),
         (p + 16 * start, address_heard (track_met scene) start turn heard_over.0 p scene.sent.key behind.address, λ inside. omega arith),
       )
   field_ends (inl none) (inr (inl (p, short))) = let zero_words = ap length none in let some = short.some in absurd (omega arith)
   field_ends (inr of) (inr (inl (p, short))) =
       let makes = made scene deleted executes past drive whole was of in
       let start = start_of scene.from past.turns in
-      let end = was.index short.index short.some in
+      let end = was.at.index short.index short.some in
       let few = short.few in
       let place = of.place in
       let at = makes.place in
       let long = length-met scene whole.disk in (
         inr (record { changed = makes.changed; out = λ inside. omega arith }),
-        (of.p + 16 * start, address_heard (track_met scene) start past.seen was.hears.heard.now of.p scene.sent.key of.address, λ inside. omega arith),
+        (of.p + 16 * start, address_heard (track_met scene) start past.seen was.at.hears.heard.now of.p scene.sent.key of.address, λ inside. omega arith),
       )
   field_ends either (inr (inr (none, barred))) = absurd (false≢true (sym was.unbarred ∙ barred))
 
   late_ends : past.steps ≡ 65536 → ⊥
-  late_ends last = let early = was.early in let few = whole.disk.words_per_track.1 in omega arith
+  late_ends last = let early = was.at.early in let few = whole.disk.words_per_track.1 in omega arith
 
   ends : (handed : List ℕ) → IsContent past.counted past.taken handed → (ending : Ending) → (refuses_as ending ≡ true → scene.disk.protected ≡ true) → HasWritten past scene.sent.key deleted handed ending
       → EndsAs scene deleted drive ending
@@ -287,7 +288,7 @@ module _ (scene : Scene) (deleted executes : Bool) (past : Past) (drive : DriveS
       let (uncounted, (p, is)) = has.cause in
       let long = is.size in
       not_all scene past.taken past.counted memory channel whole taken handed content (omega arith) uncounted
-  ends handed content Protected covered has = (was.medium.quiet has.cause, covered refl)
+  ends handed content Protected covered has = (was.at.medium.quiet has.cause, covered refl)
   ends handed content Late covered has = late_ends has.cause
 
   pub ended : (phase : Phase) (asking : Bool) (fifo : Fifo) → (refuses phase ≡ true → scene.disk.protected ≡ true) → MayWriteIn past scene.sent deleted phase asking fifo → EndedIn scene deleted drive phase

@@ -1,27 +1,29 @@
 -- A data command between two device steps.
-use Rattle.std.specs.Prelude.{◌≡◌, ℕ, ◌+◌, ◌≤◌, Bool, true, false, List, length}
+use Rattle.std.specs.Prelude.{◌≡◌, ℕ, ◌+◌, ◌==◌, Bool, true, false, List}
 use Rattle.drive_model.specs.Drive.{DriveState}
-use Rattle.dma_8237.specs.Channel.{Channel}
+use Rattle.dma_8237.specs.Channel.{Channel, after_write}
+use Rattle.fdc_fifo.specs.Fifo.{Fifo}
 use Rattle.fdc_stages.specs.History.{Past}
 use Rattle.fdc_writing.specs.Formats.{Numbers}
-use Rattle.fdc_core.specs.Heard.{MayRead, MayReadId}
+use Rattle.fdc_core.specs.Heard.{MayReadIn, MayReadIdIn}
 use Rattle.fdc_core.specs.Listening.{is_executing}
 use Rattle.fdc_core.specs.State.{dor_of}
-use Rattle.fdc_core.specs.Written.{MayWrite, MayFormat}
+use Rattle.fdc_core.specs.Written.{MayWriteIn, MayFormatIn}
 use Rattle.fdc_core.specs.declared.controller.Fdc.{Fdc}
+use Rattle.fdc_core.specs.declared.phases.Phase.{Phase}
 use Rattle.pc_bus.specs.Boards.{Board, controller_of, channel_of, memory_of, drive_in}
+use Rattle.pc_bus.specs.Ports.{is_controllers}
 use Rattle.pc_bus.specs.declared.chips.Chips.{Chips}
 use Rattle.machine_laws.specs.OnReads.Begins.{IsDriveOf}
 use Rattle.machine_laws.specs.OnReads.Begins as read_begins
-use Rattle.machine_laws.specs.OnReads.Ends.{is_late}
 use Rattle.machine_laws.specs.OnReads.Ids.{IsLastOfId}
+use Rattle.machine_laws.specs.OnReads.Late.{is_late}
 use Rattle.machine_laws.specs.OnReads.Scenes.{Scene, IsScene}
 use Rattle.machine_laws.specs.OnReads.Underway.{IsHearing, IsMoved, IsSet}
 use Rattle.machine_laws.specs.OnWrites.Begins as write_begins
+use Rattle.machine_laws.specs.OnWrites.Drives.{IsAtDrive, IsAtWindow}
 use Rattle.machine_laws.specs.OnWrites.Underway.{IsTaken, IsReadSet, refuses}
-use Rattle.machine_laws.specs.OnWrites.Underway as write
 use Rattle.machine_laws.specs.OnFormats.Begins as format_begins
-use Rattle.machine_laws.specs.OnFormats.Underway as format
 
 -- what is written: a window with this mark (WRITE DATA, WRITE DELETED), or a track of these numbers (FORMAT TRACK)
 pub data Laid : Type 0 where
@@ -36,15 +38,21 @@ pub data Order : Type 0 where
 
 -- ---- what is known
 
--- of the controller's history
+-- of the controller's history, in a phase with DRQ and the FIFO
+abbrev pub MayLayIn : Laid → Scene → Past → Phase → Bool → Fifo → Type 0
+MayLayIn (Window deleted) scene past phase asking fifo = MayWriteIn past scene.sent deleted phase asking fifo
+MayLayIn (Track numbers) scene past phase asking fifo = MayFormatIn past scene.sent.head_drive numbers phase asking fifo
+
+abbrev pub MayIn : Order → Scene → Past → Phase → Bool → Fifo → Type 0
+MayIn Identify scene past phase asking fifo = MayReadIdIn past scene.sent.head_drive phase
+MayIn Read scene past phase asking fifo = MayReadIn past scene.sent phase asking fifo.bytes
+MayIn (Write laid) scene past phase asking fifo = MayLayIn laid scene past phase asking fifo
+
 abbrev pub MayLay : Laid → Scene → Past → Fdc → Type 0
-MayLay (Window deleted) scene past fdc = MayWrite past scene.sent deleted fdc
-MayLay (Track numbers) scene past fdc = MayFormat past scene.sent.head_drive numbers fdc
+MayLay laid scene past fdc = MayLayIn laid scene past fdc.phase fdc.asking fdc.fifo
 
 abbrev pub May : Order → Scene → Past → Fdc → Type 0
-May Identify scene past fdc = MayReadId past scene.sent.head_drive fdc
-May Read scene past fdc = MayRead past scene.sent fdc
-May (Write laid) scene past fdc = MayLay laid scene past fdc
+May order scene past fdc = MayIn order scene past fdc.phase fdc.asking fdc.fifo
 
 -- of its lines and results: READ ID moves no byte, and has steps left; DRQ is low outside execution; NW comes of a protected medium alone
 abbrev pub Shows : Order → Scene → Fdc → Type 0
@@ -60,8 +68,8 @@ Moves _ scene past memory channel = IsTaken scene past.taken past.counted memory
 
 -- of the drive
 abbrev pub LaysOn : Laid → Scene → Past → Bool → DriveState → Type 0
-LaysOn (Window deleted) scene past executes drive = write.IsAtDrive scene past executes drive
-LaysOn (Track numbers) scene past executes drive = format.IsAtDrive scene past executes drive
+LaysOn (Window deleted) scene past executes drive = IsAtWindow scene past executes drive
+LaysOn (Track numbers) scene past executes drive = IsAtDrive scene past executes drive
 
 abbrev pub AtDrive : Order → Scene → Past → Bool → DriveState → Type 0
 AtDrive (Write laid) scene past executes drive = LaysOn laid scene past executes drive
@@ -99,6 +107,7 @@ IsSetFor Identify scene channel = Unit {0}
 IsSetFor Read scene channel = (left : ℕ) × (left + 1 ≡ scene.size) × IsSet channel scene.address left
 IsSetFor _ scene channel = (left : ℕ) × (left + 1 ≡ scene.size) × IsReadSet channel scene.address left
 
+-- all stands as in the scene, and the last byte of the command is written
 pub record CanBegin (order : Order) (scene : Scene) (byte : ℕ) (board : Board) : Type 0 where
   pub scene_is : IsScene scene
   pub dor : dor_of (controller_of board) ≡ scene.dor
@@ -107,3 +116,16 @@ pub record CanBegin (order : Order) (scene : Scene) (byte : ℕ) (board : Board)
   pub memory : memory_of board ≡ scene.memory
   pub channel : IsSetFor order scene (channel_of board)
   pub last : IsLast order scene byte (controller_of board)
+
+-- ---- what leaves it as it is
+
+-- the same channel, but for its flip-flop
+abbrev pub IsFlipped : Channel → Channel → Type 0
+IsFlipped old new = (high : Bool) × (new ≡ record old { high_byte_next = high })
+
+-- a port whose write changes neither DOR nor the rate, resets nothing, and leaves the channel but for its flip-flop
+pub record Leaves (port value : ℕ) (board : Board) : Type 0 where
+  pub output : (port == 0x3F2) ≡ false
+  pub select : (port == 0x3F4) ≡ false
+  pub control : (port == 0x3F7) ≡ false
+  pub channel : is_controllers port ≡ false → IsFlipped (channel_of board) (after_write port value (channel_of board))

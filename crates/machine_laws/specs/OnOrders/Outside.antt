@@ -16,6 +16,10 @@ pub record Fetches (scene : Scene) (chips : Chips) : Type 0 where
   pub quiet : chips.controller.asking ≡ true → is_executing chips.controller.phase ≡ true
   pub moved : IsMoved scene past.given past.counted chips.memory chips.channel
 
+abbrev pub IsFetching : Scene → Board → Type 0
+IsFetching scene board = Fetches scene board.bus.chips
+
+-- the channel is set to the range, and the last byte of a READ DATA is written
 pub record CanFetch (scene : Scene) (byte : ℕ) (board : Board) : Type 0 where
   pub fits : scene.address + scene.size ≤ length scene.memory
   pub memory : memory_of board ≡ scene.memory

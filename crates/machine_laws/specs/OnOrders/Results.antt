@@ -1,5 +1,5 @@
 -- What the results of a command that writes say.
-use Rattle.std.specs.Prelude.{◌≡◌, ℕ, ◌*◌, List, length}
+use Rattle.std.specs.Prelude.{◌≡◌, ◌*◌, List}
 use Rattle.flop_base.specs.declared.key.Chrn.{Chrn}
 use Rattle.track_model.specs.Fields.{content_size}
 use Rattle.pc_bus.specs.Boards.{Board}

@@ -4,7 +4,7 @@ ghost use Rattle.fdc_core.specs.State.{is_gated};
 ghost use Rattle.machine_laws.specs.OnSteps.Stalls.{Keeping, Stalled};
 ghost use Rattle.machine_pace.specs.declared.holding.Request.TheVariants.{Low};
 ghost use Rattle.machine_laws.specs.OnReads.Scenes.{Scene};
-ghost use Rattle.machine_laws.specs.OnWrites.Begins.{CanBegin};
+ghost use Rattle.machine_laws.specs.OnOrders.Orders.{CanBegin, Window, Write};
 ghost use Rattle.machine_laws.specs.OnWrites.Timely.{IsOnTime};
 ghost use Rattle.pc_bus.specs.Boards.{Board, controller_of, holds_of};
 ghost use Rattle.pc_bus.specs.Ports.{Outputs};
@@ -17,7 +17,7 @@ pub fn device_steps_are_on_time()
 
 /// A write that begins with the FIFO on, threshold 8, DRQ let out and no request left from before is on time.
 pub fn a_write_begins_on_time()
-    ensures { (scene : Scene) (deleted : Bool) (byte : ℕ) (old new : Board) → Outputs 0x3F5 byte old new → CanBegin scene deleted byte old
+    ensures { (scene : Scene) (deleted : Bool) (byte : ℕ) (old new : Board) → Outputs 0x3F5 byte old new → CanBegin (Write (Window deleted)) scene byte old
         → (controller_of old).fifo.on ≡ true → (controller_of old).fifo.threshold ≡ 8 → is_gated (controller_of old) ≡ true
         → (holds_of old).request ≡ Low → IsOnTime new ⊎ Stalled old new }
 {}

@@ -1,0 +1,62 @@
+-- A command that writes begins on time.
+use Rattle.std.proofs.Common.{◌≡◌, ◌⊎◌, inl, inr, ℕ, ◌%◌, [], Bool, true, false, refl, sym, ◌∙◌, ap, subst, arith}
+use Rattle.flop_base.specs.Counts.{Rose}
+use Rattle.fdc_fifo.specs.Fifo.{emptied}
+use Rattle.fdc_core.specs.State.{dor_of, is_gated}
+use Rattle.fdc_core.specs.declared.controller.Fdc.{Fdc}
+use Rattle.fdc_core.specs.declared.phases.Task.{Task}
+use Rattle.fdc_core.specs.declared.phases.Task.TheVariants.{Write, Format}
+use Rattle.machine_pace.specs.Entries.{next_entry}
+use Rattle.machine_pace.specs.Holds.{Holds, shown}
+use Rattle.machine_pace.specs.declared.holding.Request.TheVariants.{Low}
+use Rattle.machine_laws.specs.OnReads.Timely.{Stalled}
+use Rattle.pc_bus.specs.Boards.{Board, controller_of, holds_of, selected_of}
+use Rattle.pc_bus.specs.Ports.{Outputs}
+use Rattle.pc_bus.specs.Transfers.{shown_again}
+use Rattle.machine_laws.specs.OnReads.Scenes.{Scene}
+use Rattle.machine_laws.proofs.OnReads.Accesses.{gapped}
+use Rattle.machine_laws.specs.OnWrites.Timely.{fills_task, IsOnTime, IsPunctual}
+use Rattle.machine_laws.proofs.OnWrites.OnTime.{begun_punctual, on_time}
+use Rattle.machine_laws.specs.OnOrders.Orders.{Laid, Window, Track, MayLayIn, IsSetFor, CanBegin}
+use Rattle.machine_laws.specs.OnOrders.Orders as order
+use Rattle.machine_laws.proofs.OnOrders.Beginning.{begun_at}
+use Rattle.dma_8237.specs.Channel.{Channel, grants}
+use Rattle.fdc_fifo.specs.Fifo.{Fifo}
+use Rattle.fdc_stages.specs.History.{Past, begun as new_past}
+use Rattle.fdc_core.specs.declared.phases.Phase.TheVariants.{Execute}
+use Rattle.machine_laws.proofs.OnSteps.Stalls.{runs_until}
+
+-- it fills its FIFO from memory
+filling_task : (laid : Laid) (scene : Scene) (past : Past) (head_drive : ℕ) (task : Task) (asking : Bool) (fifo : Fifo)
+    → MayLayIn laid scene past (Execute (record { head_drive = head_drive; steps = 0; task = task })) asking fifo → fills_task task ≡ true
+filling_task (Window deleted) scene past head_drive (Write writing) asking fifo may = refl
+filling_task (Window deleted) scene past head_drive _ asking fifo may = absurd may
+filling_task (Track numbers) scene past head_drive (Format formatting) asking fifo may = refl
+filling_task (Track numbers) scene past head_drive _ asking fifo may = absurd may
+
+granting : (laid : Laid) (scene : Scene) (channel : Channel) → IsSetFor (order.Write laid) scene channel → grants channel ≡ true
+granting laid scene channel (left, size, set) = set.granting
+
+same_stalls : (line : Bool) (holding : Holds) → (shown line holding).stalls ≡ holding.stalls
+same_stalls true holding = refl
+same_stalls false holding = refl
+
+pub begins_on_time : (laid : Laid) (scene : Scene) (byte : ℕ) (old new : Board) → Outputs 0x3F5 byte old new → CanBegin (order.Write laid) scene byte old
+    → (controller_of old).fifo.on ≡ true → (controller_of old).fifo.threshold ≡ 8 → is_gated (controller_of old) ≡ true
+    → (holds_of old).request ≡ Low → IsOnTime new ⊎ Stalled old new
+begins_on_time laid scene byte old new access can on threshold gated low =
+    let (has, at) = begun_at (order.Write laid) scene byte old access.between access.writes can in
+    let from : Fdc = record (controller_of old) { command = [] } in
+    let may = subst (order.May (order.Write laid) scene new_past) has.after has.may in
+    let fills = filling_task laid scene new_past scene.sent.head_drive has.task _ (emptied from.fifo.on from.fifo.threshold) may in
+    let punctual : IsPunctual access.between.bus.chips = subst IsPunctual (sym at)
+    (subst (λ c. IsPunctual (shown_again (record old.bus.chips { controller = c }))) (sym has.after)
+    (begun_punctual old.bus.chips scene.sent.head_drive has.task from fills has.waits on threshold gated (granting laid scene old.bus.chips.channel can.channel) low)) in
+    let same : (holds_of access.between).stalls ≡ (holds_of old).stalls = ap (λ chips. chips.holding.stalls) at ∙ same_stalls _ old.bus.chips.holding in
+    let dor : dor_of (controller_of access.between) ≡ scene.dor = ap dor_of has.after ∙ can.dor in
+    let selected : selected_of access.between ≡ scene.bay = ap (λ byte. byte % 4) dor ∙ can.scene_is.selects in
+    let small = can.scene_is.bay in
+    elim (runs_until IsOnTime on_time (next_entry access.between.bus.gaps) (gapped access.between) new access.gap.runs (record { selects = omega arith; punctual = punctual })) [
+      | inl still ↦ inl still
+      | inr rose ↦ inr (subst (λ stalls. Rose stalls (holds_of new).stalls) same rose)
+    ]

@@ -1,0 +1,43 @@
+// What follows of the machine's steps. The bodies are empty.
+ghost use Rattle.std.specs.Prelude.{◌≡◌, ◌⊎◌, ◌≤◌, ◌+◌, ℕ, length};
+ghost use Rattle.fdc_core.specs.declared.phases.Phase.TheVariants.{Command};
+ghost use Rattle.machine_laws.specs.OnOrders.Orders.{CanBegin, Leaves, Order, Underway};
+ghost use Rattle.machine_laws.specs.OnOrders.Outside.{CanFetch, IsFetching};
+ghost use Rattle.machine_laws.specs.OnQuiet.Quiet.{StandsStill};
+ghost use Rattle.machine_laws.specs.OnReads.Results.{StaysOutside};
+ghost use Rattle.machine_laws.specs.OnReads.Scenes.{Scene};
+ghost use Rattle.machine_laws.specs.OnSteps.Steady.{Steady};
+ghost use Rattle.machine_laws.specs.OnWrites.Guards.{LeavesOthers};
+ghost use Rattle.machine_laws.specs.OnWrites.Heads.{StaysStill};
+ghost use Rattle.pc_bus.specs.Boards.{Board, controller_of, memory_of};
+ghost use Rattle.pc_bus.specs.Ports.{Inputs, Outputs};
+ghost use Rattle.pc_bus.specs.Steps.{Runs};
+
+/// Each device step keeps what is known of a READ ID, a READ DATA, a write or a FORMAT TRACK, whatever holds, strays, gaps and
+/// faults of the drive there are; and so does each call that leaves the chips and the drives, as one that takes the latch. The port
+/// write that completes its bytes begins it, and moves no heads. A read of a port keeps what is known of it until the last result
+/// byte was read; and so does a write that leaves DOR, the rate and the channel, as a byte to the data port, or one that clears the
+/// channel's flip-flop.
+pub fn a_data_command_goes_on()
+    ensures steady { (order : Order) (scene : Scene) → Steady (Underway order scene) }
+    ensures stands { (order : Order) (scene : Scene) (old new : Board) → StandsStill old new → Underway order scene old → Underway order scene new }
+    ensures begins { (order : Order) (scene : Scene) (byte : ℕ) (old new : Board) → Outputs 0x3F5 byte old new → CanBegin order scene byte old → Underway order scene new }
+    ensures still { (order : Order) (scene : Scene) (byte : ℕ) (old new : Board) → Outputs 0x3F5 byte old new → CanBegin order scene byte old → StaysStill old new }
+    ensures leaves { (order : Order) (scene : Scene) (byte : ℕ) (old new : Board) → Outputs 0x3F5 byte old new → CanBegin order scene byte old → LeavesOthers old new }
+    ensures reads { (order : Order) (scene : Scene) (port value : ℕ) (old new : Board) → Inputs port old value new → Underway order scene old
+        → Underway order scene new ⊎ ((controller_of new).phase ≡ Command) }
+    ensures writes { (order : Order) (scene : Scene) (port value : ℕ) (old new : Board) → Outputs port value old new → Leaves port value old → Underway order scene old
+        → Underway order scene new }
+    ensures ignores { (value : ℕ) (board : Board) → Leaves 0x3F5 value board }
+    ensures flips { (value : ℕ) (board : Board) → Leaves 0x0C value board }
+{}
+
+/// Whatever the drive is, absent, empty, spinning up, or another one selected: from the write that begins a READ DATA on no device
+/// step changes a byte outside the range that the channel was set to.
+pub fn a_read_moves_bytes_of_its_range_alone()
+    ensures outside { (scene : Scene) (byte n : ℕ) (old between new : Board) → CanFetch scene byte old → Outputs 0x3F5 byte old between → Runs n between new
+        → StaysOutside scene (memory_of new) }
+    ensures begins { (scene : Scene) (byte : ℕ) (old new : Board) → Outputs 0x3F5 byte old new → CanFetch scene byte old → IsFetching scene new }
+    ensures steady { (scene : Scene) → scene.address + scene.size ≤ length scene.memory → Steady (IsFetching scene) }
+    ensures ranges { (scene : Scene) (board : Board) → IsFetching scene board → StaysOutside scene (memory_of board) }
+{}
