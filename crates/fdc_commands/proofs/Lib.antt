@@ -1,3 +1,3 @@
-mod ReadSpellings
-mod WriteSpellings
+pub mod ReadSpellings
+pub mod WriteSpellings
 pub mod Answering

@@ -15,9 +15,12 @@ use Rattle.fdc_core.specs.declared.answers.Answer.TheVariants.{Short, Long}
 use Rattle.fdc_core.specs.declared.controller.Fdc.{Fdc}
 use Rattle.fdc_core.specs.declared.phases.Phase.{Phase}
 use Rattle.fdc_core.specs.declared.phases.Phase.TheVariants.{Command, Execute, Result}
-use Rattle.machine_pace.specs.Holds.{counted}
 use Rattle.machine_laws.specs.OnAwaits.Awaits.{is_unread}
-use Rattle.pc_bus.specs.Boards.{Board, controller_of}
+use Rattle.machine_laws.specs.OnAwaits.Goes.{GoesOn, with_one}
+use Rattle.machine_laws.specs.OnOrders.Orders.{Order}
+use Rattle.machine_laws.specs.OnReads.Scenes.{Scene}
+use Rattle.machine_pace.specs.declared.holding.Request.TheVariants.{Low}
+use Rattle.pc_bus.specs.Boards.{Board, controller_of, holds_of}
 use Rattle.pc_bus.specs.Ports.{Inputs}
 use Rattle.machine_commands.specs.Awaited.{TakesResults, Finishes, outcome_of}
 use Rattle.machine_commands.proofs.Idling.{IsResting, KeepsSpeed, KeepsAll, Idles}
@@ -26,7 +29,7 @@ use Rattle.machine_commands.specs.Sending.{latch_taken}
 use Rattle.machine_commands.specs.declared.motors.Motors.{Motors}
 use Rattle.machine_commands.specs.declared.results.Done.{Done}
 use Rattle.machine_commands.proofs.Accesses.{input_idles}
-use Rattle.machine_commands.proofs.Courses.{CourseLaws, IsKept, Goes, resting, awaits_end}
+use Rattle.machine_commands.proofs.Courses.{resting, awaits_end}
 use Rattle.machine_commands.proofs.Settling.{settles_to}
 use Rattle.machine_commands.proofs.Steps.{idles_then, idles_as, keeps_then, speed_then, unpolled, low_line}
 
@@ -120,9 +123,9 @@ has_taken outcome ending results old new fdc at phase rest takes =
 
 -- ---- all of the end
 
-pub record HasFinished (Task : Board → Type 0) (start : Board) (outcome : result Done Code) (new : Board) : Type 0 where
+pub record HasFinished (order : Order) (scene : Scene) (start : Board) (outcome : result Done Code) (new : Board) : Type 0 where
   pub at : Board
-  pub goes : Goes Task start at
+  pub goes : GoesOn order scene start at
   pub idle : is_executing (controller_of at).phase ≡ false
   pub results : HasResults (controller_of at).phase
   pub outcome_is : outcome ≡ outcome_in results.results
@@ -132,14 +135,13 @@ pub record HasFinished (Task : Board → Type 0) (start : Board) (outcome : resu
   pub controller_is : controller_of new ≡ done_at (controller_of at)
   pub low : is_up new ≡ false
 
-pub has_finished : (laws : CourseLaws) (Task : Board → Type 0) → IsKept Task → (start : Board) → is_held (controller_of start) ≡ false → (outcome : result Done Code) (sent new : Board)
-    → Goes Task start sent → Finishes sent outcome new → HasFinished Task start outcome new
-has_finished laws Task kept start free outcome sent new was finishes =
-    let told = awaits_end laws Task kept start free sent finishes.awaited finishes.awaits was in
-    let begun = counted (controller_of start).data_commands in
+pub has_finished : (order : Order) (scene : Scene) (start : Board) → is_held (controller_of start) ≡ false → (outcome : result Done Code) (sent new : Board)
+    → GoesOn order scene start sent → Finishes sent outcome new → HasFinished order scene start outcome new
+has_finished order scene start free outcome sent new was finishes =
+    let told = awaits_end order scene start free sent finishes.awaited finishes.awaits was in
     let at = told.at in
     let fdc = controller_of at in
-    let rest = resting begun start at told.goes.awaited told.idle in
+    let rest = resting (with_one start) start at told.goes.awaited told.idle in
     let results = unread_results fdc.phase (told.goes.awaited.ended told.idle).unread in
     let status = input_idles 0x3F4 told.value (latch_taken at) finishes.awaited told.reads refl rest in
     let taken = has_taken outcome results.ending results.results finishes.awaited finishes.taken fdc status.controller_is results.is rest finishes.takes in
@@ -176,10 +178,11 @@ pub record IsSending (motors : Motors) (bay : ℕ) (board : Board) : Type 0 wher
   pub first : board.first.motor ≡ motors.first
   pub second : board.second.motor ≡ motors.second
   pub low : is_up board ≡ false
+  pub request : (holds_of board).request ≡ Low
 
-pub finished_idle : (motors : Motors) (bay : ℕ) (Task : Board → Type 0) (start : Board) (outcome : result Done Code) (new : Board) → IsSending motors bay start
-    → HasFinished Task start outcome new → InRange new.first → InRange new.second → IsIdle motors new
-finished_idle motors bay Task start outcome new sending over first second =
+pub finished_idle : (motors : Motors) (bay : ℕ) (order : Order) (scene : Scene) (start : Board) (outcome : result Done Code) (new : Board) → IsSending motors bay start
+    → HasFinished order scene start outcome new → InRange new.first → InRange new.second → IsIdle motors new
+finished_idle motors bay order scene start outcome new sending over first second =
     let awaited = over.goes.awaited in
     let holds = awaited.holds in
     let ready : IsReady (done_at (controller_of over.at)) = record {

@@ -36,7 +36,7 @@ use Rattle.machine_commands.specs.Shown.{is_spun, page_part, rig_of, stalls_left
 use Rattle.machine_commands.specs.WriteSent.{SendsFormatBytes, told_of}
 use Rattle.machine_commands.specs.declared.motors.Motors.{Motors}
 use Rattle.machine_commands.specs.declared.results.Done.{Done}
-use Rattle.machine_commands.proofs.FormatDone.{FormatLaws, HasKeys, format_done}
+use Rattle.machine_commands.proofs.FormatDone.{HasKeys, IsFormatted, format_done}
 
 -- ---- one byte
 
@@ -284,21 +284,15 @@ other_page r page bay asked laying told new formats = record {
 
 -- ---- the whole of it
 
--- what is shown of a format
-pub record HasFormatted (motors : Motors) (bay : ℕ) (asked : Format) (outcome : Result Done Code) (old new : Board) : Type 0 where
-  pub idle : IsIdle motors new
-  pub laying : Option Laying
-  pub formats : FormatsTrack bay asked laying (rig_of old) (told_of outcome) (rig_of new)
-
-pub format_whole : FormatLaws → (motors : Motors) (bay : ℕ) (asked : Format) (outcome : Result Done Code) (old put new : Board) → IsIdle motors old → bay ≤ 1 → asked.h ≤ 1
+pub format_whole : (motors : Motors) (bay : ℕ) (asked : Format) (outcome : Result Done Code) (old put new : Board) → IsIdle motors old → bay ≤ 1 → asked.h ≤ 1
     → in_bay (rig_of old).spun bay ≡ true → option_map_or (λ disk. disk.protected) (in_bay (rig_of old).media bay) false ≡ false → length (memory_of old) ≡ 1048576
     → sectors_at asked.rate ≤ 18 → PutsKeys asked.c asked.h (sectors_at asked.rate) old put → SendsFormatBytes motors bay asked put outcome new → InRange new.first → InRange new.second
-    → HasFormatted motors bay asked outcome old new
-format_whole laws motors bay asked outcome old put new idle small low spun free bytes few puts sends first second =
+    → IsFormatted motors bay asked outcome old new
+format_whole motors bay asked outcome old put new idle small low spun free bytes few puts sends first second =
     let same = user_same (memory_of old) (memory_of put) puts.size (λ k below. puts.below k (omega arith)) in
     let rig = rig_kept old put puts.only same in
-    let is = format_done laws motors bay asked outcome put new (idle_kept motors old put puts.only idle) small low (ap (λ r. in_bay r.spun bay) rig ∙ spun)
-    (ap (λ r. option_map_or (λ disk. disk.protected) (in_bay r.media bay) false) rig ∙ free) (puts.size ∙ bytes) (keys_stand asked old put bytes few puts) sends first second in
+    let is = format_done motors bay asked outcome put new (idle_kept motors old put puts.only idle) small low (ap (λ r. in_bay r.spun bay) rig ∙ spun)
+    (ap (λ r. option_map_or (λ disk. disk.protected) (in_bay r.media bay) false) rig ∙ free) (keys_stand asked old put bytes few puts) sends first second in
     record {
       idle = is.idle;
       laying = is.laying;

@@ -13,28 +13,30 @@ use Rattle.raw_image.specs.Disk.{Disk, HasTrack}
 use Rattle.sector_map.specs.Layings.{Format, IsLaying, Laying, format_keys}
 use Rattle.sector_map.proofs.MetTracks.{same_rates}
 use Rattle.track_model.specs.Layouts.{Fits}
-use Rattle.machine_laws.specs.OnWritten.Written.{IsCalm}
 use Rattle.fdc_core.specs.Rates.{rate_fits}
 use Rattle.fdc_stages.specs.declared.ending.Ending.{Ending}
 use Rattle.fdc_stages.specs.declared.ending.Ending.TheVariants as ending
 use Rattle.fdc_writing.specs.Formats.{Numbers}
 use Rattle.machine_laws.specs.OnFormats.Results.{EndsAs, FitsOn, HasLaying, LaysTo, LaysTurn}
 use Rattle.machine_laws.specs.OnFormats.Underway.{IsThere}
-use Rattle.machine_laws.specs.OnReads.Timely.{Stalled}
-use Rattle.machine_laws.specs.OnReads.Begins.{IsDriveOf}
-use Rattle.machine_laws.specs.OnReads.Scenes.{Scene, data_rate, head_sent}
+use Rattle.machine_laws.specs.OnOrders.Orders.{Track, Write}
+use Rattle.machine_laws.specs.OnSteps.Stalls.{Stalled}
+use Rattle.machine_laws.specs.OnReads.Scenes.{Scene, head_sent}
 use Rattle.machine_laws.specs.OnWrites.Results.{IsUnchanged}
 use Rattle.pc_bus.specs.Boards.{Board, drive_in, memory_of}
 use Rattle.single_commands.specs.Writing.{FormatsTrack, HasTrackUnder, IsFormatMiss, LaysMedium}
 use Rattle.machine_commands.specs.Shown.{counters_of, rig_of}
-use Rattle.machine_commands.proofs.WriteCourses.{IsCourse, course_calm, course_faultless, course_sends, course_stalled, course_unstalled, cylinder_before, medium_after, medium_before}
-use Rattle.machine_commands.proofs.WriteRigs.{ending_answer, fits_same, rate_is, two_bays}
+use Rattle.machine_commands.specs.WriteSent.{told_of}
+use Rattle.machine_commands.specs.declared.motors.Motors.{Motors}
+use Rattle.machine_commands.specs.declared.results.Done.{Done}
+use Rattle.machine_commands.proofs.Beginning.{HasRun}
+use Rattle.machine_commands.proofs.Outcomes.{told_as}
+use Rattle.machine_commands.proofs.Seeing.{calm_drive, cylinder_before, faultless, medium_after, medium_before, stall_counts, unstalled, write_sends}
+use Rattle.machine_commands.proofs.WriteRigs.{fits_same, rate_is, two_bays}
 
--- a FORMAT in a scene that stands on a board
-pub record IsFormatOn (scene : Scene) (numbers : Numbers) (keys : List Chrn) (format : Format) (start : Board) : Type 0 where
-  pub drive : IsDriveOf scene (drive_in start scene.bay)
+-- a FORMAT of these numbers and keys, on a medium that isn't protected
+pub record IsFormatOn (scene : Scene) (numbers : Numbers) (keys : List Chrn) (format : Format) : Type 0 where
   pub head : head_sent scene.sent ≡ format.h
-  pub rate_at : scene.rate ≡ data_rate format.rate
   pub keys_are : keys ≡ format_keys format
   pub code_is : numbers.n ≡ standard_code
   pub gap_is : numbers.gap3 ≡ format.gap3
@@ -56,41 +58,35 @@ is_there scene = elim (cases_lt scene.cylinder scene.disk.cylinders) [
 some_same : (a b : Disk) (medium : Option Disk) → medium ≡ Some a → medium ≡ Some b → b ≡ a
 some_same a b medium one two = cc
 
-module _ (scene : Scene) (numbers : Numbers) (keys : List Chrn) (format : Format) (old start now new : Board) (course : IsCourse scene.bay old start now new)
-    (on : IsFormatOn scene numbers keys format start) (same : memory_of now ≡ memory_of start)
+module _ {numbers : Numbers} {scene : Scene} {motors : Motors} {format : Format} {start old : Board} {outcome : Result Done Code} {new : Board}
+    (run : HasRun (Write (Track numbers)) scene motors format.rate start old outcome new) (keys : List Chrn) (on : IsFormatOn scene numbers keys format) (same : memory_of run.over.at ≡ memory_of start)
     (lays : (laying : Laying) (after : Disk) → LaysTo scene numbers keys laying after → IsLaying format scene.disk laying after) where
-  calm : IsFaultless scene.bay (counters_of old) (counters_of new) → IsCalm scene.faults (drive_in now scene.bay).faults
-  calm none = subst (λ n. IsCalm n (drive_in now scene.bay).faults) on.drive.faults (course_calm scene.bay old start now new course none)
-
-  was : in_bay (rig_of old).media scene.bay ≡ Some scene.disk
-  was = medium_before scene.bay old start now new course ∙ on.drive.medium
-
-  at_cylinder : in_bay (rig_of old).cylinders scene.bay ≡ scene.cylinder
-  at_cylinder = cylinder_before scene.bay old start now new course ∙ on.drive.cylinder
+  abbrev now : Board
+  now = run.over.at
 
   unchanged : IsUnchanged scene (drive_in now scene.bay) → (rig_of new).media ≡ (rig_of old).media
-  unchanged is = two_bays scene.bay (rig_of new).media (rig_of old).media course.small (medium_after scene.bay old start now new course ∙ (is ∙ sym was))
-      (course_sends scene.bay old start now new course same).other_medium
+  unchanged is = two_bays scene.bay (rig_of new).media (rig_of old).media run.scene_is.bay (medium_after run ∙ (is ∙ sym (medium_before run)))
+      (write_sends run same).other_medium
 
   laid : (has : HasLaying scene numbers keys (drive_in now scene.bay)) → LaysMedium scene.bay format has.laying (rig_of old) (rig_of new)
   laid has = record {
     before = scene.disk;
     after = has.after;
-    was = was;
-    is = medium_after scene.bay old start now new course ∙ has.medium;
-    same_rate = rate_is scene format.rate on.rate_at has.lays.rate;
-    here = has.lays.cylinder ∙ sym at_cylinder;
+    was = medium_before run;
+    is = medium_after run ∙ has.medium;
+    same_rate = rate_is scene format.rate run.rate_is has.lays.rate;
+    here = has.lays.cylinder ∙ sym (cylinder_before run);
     makes = lays has.laying has.after has.lays;
   }
 
   -- the disk that a driver sees under the head is the scene's, and has the track
   the_disk : (disk : Disk) → HasTrackUnder (rig_of old) scene.bay format disk → disk ≡ scene.disk
-  the_disk disk under = some_same scene.disk disk (in_bay (rig_of old).media scene.bay) was under.medium
+  the_disk disk under = some_same scene.disk disk (in_bay (rig_of old).media scene.bay) (medium_before run) under.medium
 
   there_under : (disk : Disk) → HasTrackUnder (rig_of old) scene.bay format disk → IsThere scene
   there_under disk under =
       subst (λ d. HasTrack d scene.cylinder (head_sent scene.sent)) (the_disk disk under)
-      (subst (λ h. HasTrack disk scene.cylinder h) (sym on.head) (subst (λ c. HasTrack disk c format.h) at_cylinder under.track))
+      (subst (λ h. HasTrack disk scene.cylinder h) (sym on.head) (subst (λ c. HasTrack disk c format.h) (cylinder_before run) under.track))
 
   fits_under : (disk : Disk) → HasTrackUnder (rig_of old) scene.bay format disk → FitsOn scene numbers keys → Fits (format_keys format) standard_code format.gap3 disk.words_per_track
   fits_under disk under fits =
@@ -108,7 +104,7 @@ module _ (scene : Scene) (numbers : Numbers) (keys : List Chrn) (format : Format
   -- it has the rate of the format
   rate_under : (disk : Disk) → HasTrackUnder (rig_of old) scene.bay format disk → rate_fits scene.rate scene.disk.rate ≡ true
   rate_under disk under =
-      ap (λ r. rate_fits r scene.disk.rate) on.rate_at
+      ap (λ r. rate_fits r scene.disk.rate) run.rate_is
       ∙ (fits_same format.rate scene.disk.rate ∙ same_rates scene.disk.rate format.rate (sym (ap (λ d. d.rate) (the_disk disk under)) ∙ under.same_rate))
 
   -- what is shown of the media with the answer
@@ -122,7 +118,7 @@ module _ (scene : Scene) (numbers : Numbers) (keys : List Chrn) (format : Format
 
   either_faultless : {P : Type 0} → (IsUndisturbed scene.bay (counters_of old) (counters_of new) ⊎ (P × IsFaultless scene.bay (counters_of old) (counters_of new)))
       → IsFaultless scene.bay (counters_of old) (counters_of new)
-  either_faultless (inl none) = course_faultless scene.bay old start now new course none
+  either_faultless (inl none) = faultless run none
   either_faultless (inr (ok, none)) = none
 
   -- behind a whole turn, whatever the answer
@@ -134,7 +130,7 @@ module _ (scene : Scene) (numbers : Numbers) (keys : List Chrn) (format : Format
       Some whole.has.laying,
       record {
         does = laid whole.has;
-        turn = λ none disk under. whole.whole (calm (either_faultless none)) ∙ sym (ap (λ d. d.words_per_track) (the_disk disk under));
+        turn = λ none disk under. whole.whole (calm_drive run (either_faultless none)) ∙ sym (ap (λ d. d.words_per_track) (the_disk disk under));
         fits = λ ok none disk under. fits_under disk under (fits ok);
         refused = refused;
       },
@@ -158,14 +154,14 @@ module _ (scene : Scene) (numbers : Numbers) (keys : List Chrn) (format : Format
   none_overrun reason other is = absurd (other is)
 
   -- the ways it ends
-  shows_as : (over : Ending) → EndsAs scene numbers keys (drive_in now scene.bay) over → (over ≡ ending.Overrun → Stalled start now) → (laying : Option Laying) × ShowsFormat laying (ending_answer over)
-  shows_as (ending.Done marked) (turn, fits) stalls = turned (Ok tt) turn (λ ok. fits) tt
-  shows_as ending.NoField (turn, out) stalls = turned (Err code.NoMark) turn (λ ok. absurd (false≢true ok)) (record {
+  shows_as : (key : Chrn) (over : Ending) → EndsAs scene numbers keys (drive_in now scene.bay) over → (over ≡ ending.Overrun → Stalled start now) → (laying : Option Laying) × ShowsFormat laying (told_of (told_as over key))
+  shows_as key (ending.Done marked) (turn, fits) stalls = turned (Ok tt) turn (λ ok. fits) tt
+  shows_as key ending.NoField (turn, out) stalls = turned (Err code.NoMark) turn (λ ok. absurd (false≢true ok)) (record {
     coded = tt;
     reason = λ none. (refl, λ (disk, under, fits). out (fits_back disk under fits));
     overrun = none_overrun code.NoMark (λ e. absurd cc);
   })
-  shows_as ending.NoMark (is, other) stalls = (
+  shows_as key ending.NoMark (is, other) stalls = (
     None,
     record {
       does = unchanged is;
@@ -178,7 +174,7 @@ module _ (scene : Scene) (numbers : Numbers) (keys : List Chrn) (format : Format
       };
     },
   )
-  shows_as ending.Overrun wrote stalls = by_way wrote
+  shows_as key ending.Overrun wrote stalls = by_way wrote
     where
       stalled : Stalled start now
       stalled = stalls refl
@@ -186,26 +182,26 @@ module _ (scene : Scene) (numbers : Numbers) (keys : List Chrn) (format : Format
       missed : IsFormatMiss scene.bay format (rig_of old) code.Overrun (rig_of new)
       missed = record {
         coded = tt;
-        reason = λ undisturbed. absurd (course_unstalled scene.bay old start now new course undisturbed stalled);
-        overrun = λ same_code. course_stalled scene.bay old start now new course stalled;
+        reason = λ undisturbed. absurd (unstalled run undisturbed stalled);
+        overrun = λ same_code. stall_counts run stalled;
       }
 
       not_calm : {T : Type 0} → (IsUndisturbed scene.bay (counters_of old) (counters_of new) ⊎ ((false ≡ true) × IsFaultless scene.bay (counters_of old) (counters_of new))) → T
-      not_calm (inl none) = absurd (course_unstalled scene.bay old start now new course none stalled)
+      not_calm (inl none) = absurd (unstalled run none stalled)
       not_calm (inr (ok, none)) = absurd (false≢true ok)
 
       by_way : (IsUnchanged scene (drive_in now scene.bay) ⊎ HasLaying scene numbers keys (drive_in now scene.bay)) → (laying : Option Laying) × ShowsFormat laying (Err code.Overrun)
       by_way (inl is) = (None, record { does = unchanged is; turn = λ none disk under. not_calm none; fits = λ ok none disk under. absurd (false≢true ok); refused = missed })
       by_way (inr has) = (Some has.laying, record { does = laid has; turn = λ none disk under. not_calm none; fits = λ ok none disk under. absurd (false≢true ok); refused = missed })
-  shows_as ending.Protected (is, protected) stalls = absurd (false≢true (sym on.unprotected ∙ protected))
-  shows_as ending.NoSector none stalls = absurd none
-  shows_as ending.BadCheck none stalls = absurd none
-  shows_as ending.NoCount none stalls = absurd none
-  shows_as ending.Late none stalls = absurd none
+  shows_as key ending.Protected (is, protected) stalls = absurd (false≢true (sym on.unprotected ∙ protected))
+  shows_as key ending.NoSector none stalls = absurd none
+  shows_as key ending.BadCheck none stalls = absurd none
+  shows_as key ending.NoCount none stalls = absurd none
+  shows_as key ending.Late none stalls = absurd none
 
   -- what the driver is told, and what was laid
-  pub format_shown : (over : Ending) → EndsAs scene numbers keys (drive_in now scene.bay) over → (over ≡ ending.Overrun → Stalled start now)
-      → (laying : Option Laying) × FormatsTrack scene.bay format laying (rig_of old) (ending_answer over) (rig_of new)
-  format_shown over ends stalls =
-      let (laying, shows) = shows_as over ends stalls in
-      (laying, record { sends = course_sends scene.bay old start now new course same; does = shows.does; turn = shows.turn; fits = shows.fits; refused = shows.refused })
+  pub format_shown : (key : Chrn) (over : Ending) → EndsAs scene numbers keys (drive_in now scene.bay) over → (over ≡ ending.Overrun → Stalled start now)
+      → (laying : Option Laying) × FormatsTrack scene.bay format laying (rig_of old) (told_of (told_as over key)) (rig_of new)
+  format_shown key over ends stalls =
+      let (laying, shows) = shows_as key over ends stalls in
+      (laying, record { sends = write_sends run same; does = shows.does; turn = shows.turn; fits = shows.fits; refused = shows.refused })

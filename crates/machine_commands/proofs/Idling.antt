@@ -1,7 +1,7 @@
 -- Device steps in which no command and no seek goes on.
-use Rattle.std.specs.Prelude.{◌≡◌, ◌≤◌, ◌&&◌, true, false, not}
+use Rattle.std.specs.Prelude.{◌≡◌, ◌<◌, ◌≤◌, ◌&&◌, true, false, not}
 use Rattle.flop_base.specs.Counts.{Spends}
-use Rattle.drive_model.specs.Drive.{DriveState}
+use Rattle.drive_model.specs.Drive.{DriveState, track_words}
 use Rattle.fdc_seek.specs.Seeking.{is_seeking}
 use Rattle.fdc_core.specs.Listening.{is_executing}
 use Rattle.fdc_core.specs.State.{is_held}
@@ -21,6 +21,7 @@ pub record KeepsDrive (old new : DriveState) : Type 0 where
   pub medium : new.medium ≡ old.medium
   pub cylinder : new.cylinder ≡ old.cylinder
   pub change : new.change ≡ old.change
+  pub place : old.place < track_words old.medium → new.place < track_words old.medium
   pub never_falls : old.faults ≤ new.faults
   pub spends : Spends old.faults old.left new.faults new.left
 

@@ -1,6 +1,7 @@
 pub mod Idling
 pub mod Accesses
 pub mod Awaiting
+pub mod Beginning
 pub mod Bytes
 pub mod Courses
 pub mod Endings
@@ -10,14 +11,14 @@ pub mod FormatRigs
 pub mod Identifying
 pub mod Landing
 pub mod Moving
+pub mod Outcomes
 pub mod PastDriver
 pub mod Preparing
 pub mod Questions
-pub mod ReadCourses
 pub mod ReadEndings
-pub mod ReadRigs
 pub mod Resets
 pub mod Runs
+pub mod Seeing
 pub mod SeekEnds
 pub mod SeekRigs
 pub mod Seeking
@@ -28,10 +29,5 @@ pub mod Showing
 pub mod Spinning
 pub mod Statuses
 pub mod Steps
-pub mod WriteBegins
-pub mod WriteCourses
 pub mod WriteDone
-pub mod WriteEnds
 pub mod WriteRigs
-pub mod WriteSetUp
-pub mod WriteTurns

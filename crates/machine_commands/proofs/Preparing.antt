@@ -1,41 +1,100 @@
--- A data command of an idle machine, up to its last byte.
-use Rattle.std.proofs.Common.{◌≡◌, ℕ, ◌-◌, ◌%◌, ◌<◌, ◌≤◌, ◌==◌, nat_le, Bool, true, false, List, [], Option, Some, None, is_some, IfSome, if◌then◌else◌, refl, sym, ◌∙◌, ap, subst, arith}
-use Rattle.std.specs.Prelude.{bit_and}
+-- What is set up before a data command, on an idle machine: all stays but what was set.
+use Rattle.std.proofs.Common.{◌≡◌, ℕ, ◌-◌, ◌/◌, ◌%◌, ◌<◌, ◌≤◌, ◌==◌, nat_le, Bool, true, false, Option, Some, None, is_some, IfSome, if◌then◌else◌, refl, sym, ◌∙◌, ap, subst, arith}
 use Rattle.std.proofs.lemmas.Bool.{false≢true}
 use Rattle.std.proofs.lemmas.Bool.Decides.{nat_tests}
+use Rattle.dma_8237.specs.Channel.{Channel, after_write}
+use Rattle.dma_8237.specs.SetUp.{set_up}
 use Rattle.flop_base.specs.declared.answers.Rate.{Rate}
 use Rattle.bay_model.specs.Bays.{in_bay}
 use Rattle.raw_image.specs.Disk.{Disk, IsDisk}
 use Rattle.drive_model.specs.Drive.{DriveState, InRange, turns, track_words}
-use Rattle.fdc_core.specs.Ports.{Writes, ccr_written}
-use Rattle.fdc_core.specs.State.{is_held, is_gated, dor_of, data_commands_of}
+use Rattle.fdc_core.specs.Ports.{ccr_written}
 use Rattle.fdc_core.specs.declared.controller.Fdc.{Fdc}
-use Rattle.machine_laws.specs.OnAwaits.Awaits.{IsLetOut}
-use Rattle.machine_laws.specs.OnQuiet.Quiet.{IsQuiet, IsHushed, only_listens}
-use Rattle.machine_laws.specs.OnQuiet.Settings.{Stands, setting_of, with_rate}
-use Rattle.machine_laws.proofs.OnQuiet.Standing.{starts_standing}
-use Rattle.machine_laws.proofs.OnQuiet.Accesses.{rate_stands}
-use Rattle.machine_laws.specs.OnReads.Begins.{IsReadyIn}
-use Rattle.pc_bus.specs.Boards.{Board, controller_of, drive_in, lines_of}
-use Rattle.machine_commands.specs.Awaited.{Prepares}
+use Rattle.pc_bus.specs.Boards.{Board, channel_of, controller_of, drive_in}
+use Rattle.pc_bus.specs.Ports.{Outputs, is_controllers, sets_lines}
+use Rattle.pc_bus.specs.declared.bus.Bus.{Bus}
+use Rattle.pc_bus.proofs.Lines.{drive_stays}
+use Rattle.machine_commands.specs.Awaited.{Prepares, SetsChannel}
 use Rattle.machine_commands.specs.Codes.{rate_byte}
-use Rattle.machine_commands.proofs.Idling.{KeepsSpeed, StaysIdle}
-use Rattle.machine_commands.specs.Ready.{dor_with, IsReady, AreSeeksOver, IsIdle}
+use Rattle.machine_commands.specs.Ready.{dor_with, IsIdle, IsReady}
 use Rattle.machine_commands.specs.Shown.{is_spun, rig_of}
 use Rattle.machine_commands.specs.declared.motors.Motors.{Motors}
-use Rattle.machine_commands.proofs.Accesses.{output_idles}
-use Rattle.machine_commands.proofs.Bytes.{IsListening, with_bytes}
-use Rattle.machine_commands.proofs.Endings.{IsSending}
-use Rattle.machine_commands.proofs.Questions.{ready_rests, ready_with, ready_listens, not_held, idle_again, drive_kept}
-use Rattle.machine_commands.proofs.ReadRigs.{HasSent}
-use Rattle.machine_commands.proofs.Selecting.{is_dor, with_dor, selects_idle}
+use Rattle.machine_commands.proofs.Idling.{IsResting, KeepsSpeed, StaysIdle}
+use Rattle.machine_commands.proofs.Accesses.{gap_idles, output_idles, same_drive, same_speed}
+use Rattle.machine_commands.proofs.Questions.{drive_kept, ready_rests, ready_with}
+use Rattle.machine_commands.proofs.Selecting.{selects_idle, with_dor}
 use Rattle.machine_commands.proofs.Showing.{both_true, speed_stays}
-use Rattle.machine_commands.proofs.Steps.{stays_then}
+use Rattle.machine_commands.proofs.Steps.{stays_none, stays_then}
 
--- ---- the controller
+-- ---- the medium in a bay
 
-pub ready_rated : (byte : ℕ) (fdc : Fdc) → IsReady fdc → IsReady (ccr_written byte fdc)
-ready_rated byte fdc ready = record {
+pub speed_kept : (bay : ℕ) (old new : Board) → StaysIdle old new → KeepsSpeed (drive_in old bay) (drive_in new bay)
+speed_kept bay old new stays = by_bay (bay == 0)
+  where
+    by_bay : (b : Bool) → KeepsSpeed (if b then old.first else old.second) (if b then new.first else new.second)
+    by_bay true = stays.first
+    by_bay false = stays.second
+
+range_in : (bay : ℕ) (board : Board) → InRange board.first → InRange board.second → InRange (drive_in board bay)
+range_in bay board first second = by_bay (bay == 0)
+  where
+    by_bay : (b : Bool) → InRange (if b then board.first else board.second)
+    by_bay true = first
+    by_bay false = second
+
+spun_in : (bay : ℕ) (board : Board) → is_spun (drive_in board bay) ≡ in_bay (rig_of board).spun bay
+spun_in bay board = by_bay (bay == 0)
+  where
+    by_bay : (b : Bool) → is_spun (if b then board.first else board.second) ≡ (if b then is_spun board.first else is_spun board.second)
+    by_bay true = refl
+    by_bay false = refl
+
+some_of : (medium : Option Disk) → is_some medium ≡ true → (disk : Disk) × (medium ≡ Some disk)
+some_of None none = absurd (false≢true none)
+some_of (Some disk) some = (disk, refl)
+
+-- a medium at speed is in
+pub record HasDisk (disk : Disk) (drive : DriveState) : Type 0 where
+  pub medium : drive.medium ≡ Some disk
+  pub disk_is : IsDisk disk
+  pub motor : drive.motor ≡ true
+  pub speed : 6250 ≤ drive.spin
+  pub inside : drive.place < disk.words_per_track
+
+has_disk : (drive : DriveState) → is_spun drive ≡ true → InRange drive → (disk : Disk) × HasDisk disk drive
+has_disk drive spun range =
+    let (turning, fast) = both_true (turns drive) (nat_le 6250 drive.spin) spun in
+    let (motor, there) = both_true drive.motor (is_some drive.medium) turning in
+    let (disk, medium) = some_of drive.medium there in
+    let is : IsDisk disk = subst (λ m. IfSome m IsDisk) medium range.medium in
+    let place = subst (λ m. drive.place ≤ track_words m - 1) medium range.place in
+    let words = is.words_per_track.0 in
+    (disk, record { medium = medium; disk_is = is; motor = motor; speed = quick drive.spin fast; inside = omega arith })
+  where
+    quick : (n : ℕ) → nat_le 6250 n ≡ true → 6250 ≤ n
+    quick n fast = grind (arith, nat_tests)
+
+pub disk_stays : (bay : ℕ) (disk : Disk) (old new : Board) → StaysIdle old new → HasDisk disk (drive_in old bay) → HasDisk disk (drive_in new bay)
+disk_stays bay disk old new stays has =
+    let keeps = drive_kept old new bay stays.keeps in
+    let speed = speed_kept bay old new stays in
+    let words : track_words (drive_in old bay).medium ≡ disk.words_per_track = ap track_words has.medium in
+    record {
+      medium = keeps.medium ∙ has.medium;
+      disk_is = has.disk_is;
+      motor = speed.motor ∙ has.motor;
+      speed = let before = has.speed in let more = speed.spin has.motor in omega arith;
+      inside = subst (λ n. (drive_in new bay).place < n) words (keeps.place (subst (λ n. (drive_in old bay).place < n) (sym words) has.inside));
+    }
+
+-- ---- the bay and the rate
+
+-- the controller then
+abbrev pub prepared : Motors → ℕ → Rate → Fdc → Fdc
+prepared motors bay rate fdc = ccr_written (rate_byte rate) (with_dor (dor_with motors bay) fdc)
+
+pub ready_prepared : (motors : Motors) (bay : ℕ) (rate : Rate) (fdc : Fdc) → IsReady fdc → IsReady (prepared motors bay rate fdc)
+ready_prepared motors bay rate fdc ready = record {
   phase = ready.phase;
   no_bytes = ready.no_bytes;
   seeks = ready.seeks;
@@ -47,167 +106,96 @@ ready_rated byte fdc ready = record {
   threshold = ready.threshold;
 }
 
--- the controller with a bay selected, and a rate set
-abbrev pub prepared : Motors → ℕ → Rate → Fdc → Fdc
-prepared motors bay rate fdc = ccr_written (rate_byte rate) (with_dor (dor_with motors bay) fdc)
-
-pub ready_prepared : (motors : Motors) (bay : ℕ) (rate : Rate) (fdc : Fdc) → IsReady fdc → IsReady (prepared motors bay rate fdc)
-ready_prepared motors bay rate fdc ready = ready_rated (rate_byte rate) (with_dor (dor_with motors bay) fdc) (ready_with (dor_with motors bay) fdc ready)
-
--- ---- the drive
-
-speed_kept : (old new : Board) (bay : ℕ) → StaysIdle old new → KeepsSpeed (drive_in old bay) (drive_in new bay)
-speed_kept old new bay stays = by_bay (bay == 0)
-  where
-    by_bay : (b : Bool) → KeepsSpeed (if b then old.first else old.second) (if b then new.first else new.second)
-    by_bay true = stays.first
-    by_bay false = stays.second
-
-spun_in : (board : Board) (bay : ℕ) → is_spun (drive_in board bay) ≡ in_bay (rig_of board).spun bay
-spun_in board bay = by_bay (bay == 0)
-  where
-    by_bay : (b : Bool) → is_spun (if b then board.first else board.second) ≡ (if b then is_spun board.first else is_spun board.second)
-    by_bay true = refl
-    by_bay false = refl
-
-range_in : (board : Board) (bay : ℕ) → InRange board.first → InRange board.second → InRange (drive_in board bay)
-range_in board bay first second = by_bay (bay == 0)
-  where
-    by_bay : (b : Bool) → InRange (if b then board.first else board.second)
-    by_bay true = first
-    by_bay false = second
-
-some_of : (medium : Option Disk) → is_some medium ≡ true → (disk : Disk) × (medium ≡ Some disk)
-some_of None none = absurd (false≢true none)
-some_of (Some disk) some = (disk, refl)
-
--- a medium at speed is in
-pub record HasDisk (drive : DriveState) : Type 0 where
+-- a machine with a bay selected, in which a medium turns at speed, and a rate set
+pub record IsPrepared (motors : Motors) (bay : ℕ) (rate : Rate) (old ready : Board) : Type 0 where
   pub disk : Disk
-  pub medium : drive.medium ≡ Some disk
-  pub disk_is : IsDisk disk
-  pub motor : drive.motor ≡ true
-  pub speed : 6250 ≤ drive.spin
-  pub inside : drive.place < disk.words_per_track
-
-has_disk : (drive : DriveState) → is_spun drive ≡ true → InRange drive → HasDisk drive
-has_disk drive spun range =
-    let (turning, fast) = both_true (turns drive) (nat_le 6250 drive.spin) spun in
-    let (motor, there) = both_true drive.motor (is_some drive.medium) turning in
-    let (disk, medium) = some_of drive.medium there in
-    let is : IsDisk disk = subst (λ m. IfSome m IsDisk) medium range.medium in
-    let place = subst (λ m. drive.place ≤ track_words m - 1) medium range.place in
-    let words = is.words_per_track.0 in
-    record { disk = disk; medium = medium; disk_is = is; motor = motor; speed = quick drive.spin fast; inside = omega arith }
-  where
-    quick : (n : ℕ) → nat_le 6250 n ≡ true → 6250 ≤ n
-    quick n fast = grind (arith, nat_tests)
-
--- ---- a bay is selected, and the rate set
-
-pub record HasPrepared (motors : Motors) (bay : ℕ) (rate : Rate) (old selected ready : Board) : Type 0 where
-  pub idle : IsIdle motors selected
-  pub dor : dor_of (controller_of selected) ≡ dor_with motors bay
-  pub free : is_held (controller_of selected) ≡ false
-  pub disk : HasDisk (drive_in selected bay)
-  pub selecting : StaysIdle old selected
+  pub has : HasDisk disk (drive_in ready bay)
   pub stays : StaysIdle old ready
   pub controller_is : controller_of ready ≡ prepared motors bay rate (controller_of old)
-  pub listens : IsListening (controller_of ready)
-  pub none : (controller_of ready).command ≡ []
-  pub stands : Stands (with_rate (rate_byte rate) (setting_of selected)) selected ready
+  pub channel : channel_of ready ≡ channel_of old
 
-pub has_prepared : (motors : Motors) (bay : ℕ) (rate : Rate) (old ready : Board) → IsIdle motors old → bay ≤ 1 → in_bay (rig_of old).spun bay ≡ true
-    → (prepares : Prepares motors bay rate old ready) → HasPrepared motors bay rate old prepares.selected ready
-has_prepared motors bay rate old ready idle small spun prepares =
+pub is_prepared : (motors : Motors) (bay : ℕ) (rate : Rate) (old ready : Board) → IsIdle motors old → bay ≤ 1 → in_bay (rig_of old).spun bay ≡ true → Prepares motors bay rate old ready
+    → IsPrepared motors bay rate old ready
+is_prepared motors bay rate old ready idle small spun prepares =
+    let fdc = controller_of old in
     let byte = dor_with motors bay in
-    let fdc = with_dor byte (controller_of old) in
     let selected = prepares.selected in
-    let rests = ready_rests fdc (ready_with byte (controller_of old) idle.ready) in
-    let one = selects_idle motors bay old selected small idle.motors_are (ready_rests (controller_of old) idle.ready) rests prepares.selects in
-    let now = idle_again motors bay old selected fdc idle small refl (ready_with byte (controller_of old) idle.ready) one prepares.first prepares.second in
-    let target = prepared motors bay rate (controller_of old) in
-    let done = ready_prepared motors bay rate (controller_of old) idle.ready in
-    let only : (controller : Fdc) → Writes 0x3F7 (rate_byte rate) (lines_of selected) (controller_of selected) controller → controller ≡ target =
-    λ controller writes. writes.control refl ∙ ap (ccr_written (rate_byte rate)) one.controller_is in
-    let two = output_idles 0x3F7 (rate_byte rate) selected ready prepares.rates refl refl target only (λ low. idle.ready.no_interrupt) (ready_rests target done) in
-    let dor : dor_of (controller_of selected) ≡ byte = ap dor_of one.controller_is in
-    let fast : is_spun (drive_in selected bay) ≡ true =
-    speed_stays (drive_in old bay) (drive_in selected bay) (drive_kept old selected bay one.stays.keeps).medium (speed_kept old selected bay one.stays) (spun_in old bay ∙ spun) in
+    let one = selects_idle motors bay old selected small idle.motors_are (ready_rests fdc idle.ready) (ready_rests (with_dor byte fdc) (ready_with byte fdc idle.ready)) prepares.selects in
+    let target = prepared motors bay rate fdc in
+    let two = output_idles 0x3F7 (rate_byte rate) selected ready prepares.rates refl refl target
+    (λ controller writes. writes.control refl ∙ ap (ccr_written (rate_byte rate)) one.controller_is) (λ low. idle.ready.no_interrupt)
+    (ready_rests target (ready_prepared motors bay rate fdc idle.ready)) in
+    let fast = speed_stays (drive_in old bay) (drive_in selected bay) (drive_kept old selected bay one.stays.keeps).medium (speed_kept bay old selected one.stays) (spun_in bay old ∙ spun) in
+    let (disk, has) = has_disk (drive_in selected bay) fast (range_in bay selected prepares.first prepares.second) in
     record {
-      idle = now;
-      dor = dor;
-      free = not_held motors bay (controller_of selected) small dor;
-      disk = has_disk (drive_in selected bay) fast (range_in selected bay prepares.first prepares.second);
-      selecting = one.stays;
+      disk = disk;
+      has = disk_stays bay disk selected ready two.stays has;
       stays = stays_then old selected ready one.stays two.stays;
       controller_is = two.controller_is;
-      listens = subst IsListening (sym two.controller_is) (ready_listens motors bay target small refl done);
-      none = ap (λ f. f.command) two.controller_is ∙ idle.ready.no_bytes;
-      stands = rate_stands selected (setting_of selected) (rate_byte rate) selected ready prepares.rates
-          (starts_standing selected (is_quiet motors selected now) (ready_rests (controller_of selected) now.ready).no_command now.ready.not_asking);
+      channel = two.channel ∙ one.channel;
     }
-  where
-    is_quiet : (motors : Motors) (board : Board) → IsIdle motors board → IsQuiet (controller_of board)
-    is_quiet motors board idle = record { no_seek = idle.ready.seeks.no_seek; listens = ap only_listens idle.ready.phase }
 
-pub ready_in : (motors : Motors) (bay : ℕ) (rate : Rate) (old selected ready : Board) → bay ≤ 1 → (has : HasPrepared motors bay rate old selected ready) → IsReadyIn bay has.disk.disk selected
-ready_in motors bay rate old selected ready small has = record {
-  bay_is = small;
-  selects = ap (λ n. n % 4) has.dor ∙ (is_dor motors bay small).selects;
-  free = has.free;
-  dma = has.idle.ready.by_dma;
-  disk_is = has.disk.disk_is;
-  medium = has.disk.medium;
-  motor = has.disk.motor;
-  speed = has.disk.speed;
-  inside = has.disk.inside;
-}
+-- ---- DMA channel 2
 
--- ---- all bytes but the last
+-- the channel is set so, and all else stays
+pub record IsSetTo (old : Board) (channel : Channel) (new : Board) : Type 0 where
+  pub stays : StaysIdle old new
+  pub controller_is : controller_of new ≡ controller_of old
+  pub channel_is : channel_of new ≡ channel
 
-pub has_sent : (motors : Motors) (bay : ℕ) (rate : Rate) (bytes : List ℕ) (old start : Board) → IsIdle motors old → bay ≤ 1 → StaysIdle old start
-    → controller_of start ≡ with_bytes bytes (prepared motors bay rate (controller_of old)) → HasSent motors bay old start
-has_sent motors bay rate bytes old start idle small stays is = record {
-  keeps = stays.keeps;
-  first = stays.first;
-  second = stays.second;
-  sending = record {
-    bay_in = small;
-    phase = ap (λ f. f.phase) is ∙ idle.ready.phase;
-    seeks = subst (λ f. AreSeeksOver f.seeks) (sym is) idle.ready.seeks;
-    by_dma = ap (λ f. f.non_dma) is ∙ idle.ready.by_dma;
-    polled = ap (λ f. f.poll_due) is ∙ idle.ready.polled;
-    no_interrupt = ap (λ f. f.interrupt) is ∙ idle.ready.no_interrupt;
-    not_asking = ap (λ f. f.asking) is ∙ idle.ready.not_asking;
-    fifo_on = ap (λ f. f.fifo.on) is ∙ idle.ready.fifo_on;
-    threshold = ap (λ f. f.fifo.threshold) is ∙ idle.ready.threshold;
-    dor = ap dor_of is;
-    first = stays.first.motor ∙ idle.motors_are.first;
-    second = stays.second.motor ∙ idle.motors_are.second;
-    low = stays.low idle.ready.no_interrupt idle.low;
-  };
-  numbers = ap (λ f. f.seeks.cylinders) is;
-  commands = ap data_commands_of is;
-}
+-- before the gap
+written_to : (port value : ℕ) (old new : Board) → is_controllers port ≡ false → sets_lines port value ≡ false → (access : Outputs port value old new)
+    → IsSetTo old (after_write port value (channel_of old)) access.between
+written_to port value old new beside other access =
+    let bus : access.between.bus ≡ record old.bus { chips = record old.bus.chips { channel = after_write port value (channel_of old) }; fresh = false } =
+    access.writes.bus ∙ ap (λ c. let b : Bus = record old.bus { chips = c; fresh = false } in b) (access.writes.writes.channels beside) in
+    let first = drive_stays access.writes.lines.first other in
+    let second = drive_stays access.writes.lines.second other in
+    record {
+      stays = record {
+        keeps = record {
+          memory = ap (λ b. b.chips.memory) bus;
+          entries = ap (λ b. b.chips.holding.entries) bus;
+          stalls = ap (λ b. b.chips.holding.stalls) bus;
+          first = same_drive old.first access.between.first first;
+          second = same_drive old.second access.between.second second;
+          direct = ap (λ b. b.direct) bus;
+          taken = let same : access.between.bus.taken ≡ old.bus.taken = ap (λ b. b.taken) bus in omega arith;
+        };
+        first = same_speed old.first access.between.first first;
+        second = same_speed old.second access.between.second second;
+        quiet = λ low. ap (λ b. b.chips.controller.interrupt) bus ∙ low;
+        low = λ _ low. ap (λ b. b.latch.level) bus ∙ low;
+      };
+      controller_is = ap (λ b. b.chips.controller) bus;
+      channel_is = ap (λ b. b.chips.channel) bus;
+    }
 
--- what a command that begins then needs
-pub sending_quiet : (motors : Motors) (bay : ℕ) (board : Board) → IsSending motors bay board → IsQuiet (controller_of board)
-sending_quiet motors bay board sending = record { no_seek = sending.seeks.no_seek; listens = ap only_listens sending.phase }
+set_next : (port value : ℕ) (start old new : Board) (channel : Channel) → is_controllers port ≡ false → sets_lines port value ≡ false → IsResting (controller_of start) → IsSetTo start channel old
+    → Outputs port value old new → IsSetTo start (after_write port value channel) new
+set_next port value start old new channel beside other rests was access =
+    let one = written_to port value old new beside other access in
+    let between = access.between in
+    let two = gap_idles between new access.gap (subst IsResting (sym (one.controller_is ∙ was.controller_is)) rests) in
+    record {
+      stays = stays_then start old new was.stays (stays_then old between new one.stays two.stays);
+      controller_is = two.controller_is ∙ (one.controller_is ∙ was.controller_is);
+      channel_is = two.channel ∙ (one.channel_is ∙ ap (after_write port value) was.channel_is);
+    }
 
-pub sending_hushed : (motors : Motors) (bay : ℕ) (board : Board) → IsSending motors bay board → IsHushed board
-sending_hushed motors bay board sending = record { low = sending.no_interrupt; polled = sending.polled; level = sending.low }
+pub none_set : (board : Board) → IsSetTo board (channel_of board) board
+none_set board = record { stays = stays_none board; controller_is = refl; channel_is = refl }
 
-pub sending_gated : (motors : Motors) (bay : ℕ) (board : Board) → IsSending motors bay board → is_gated (controller_of board) ≡ true
-sending_gated motors bay board sending = ap (λ byte. bit_and byte 8 == 8) sending.dor ∙ (is_dor motors bay sending.bay_in).gated
-
-pub sending_free : (motors : Motors) (bay : ℕ) (board : Board) → IsSending motors bay board → is_held (controller_of board) ≡ false
-sending_free motors bay board sending = not_held motors bay (controller_of board) sending.bay_in sending.dor
-
-pub sending_out : (motors : Motors) (bay : ℕ) (board : Board) → IsSending motors bay board → IsLetOut (controller_of board)
-sending_out motors bay board sending = record {
-  selects = subst (λ n. n ≤ 1) (sym (ap (λ n. n % 4) sending.dor ∙ (is_dor motors bay sending.bay_in).selects)) sending.bay_in;
-  gated = sending_gated motors bay board sending;
-  no_seek = sending.seeks.no_seek;
-  polled = sending.polled;
-}
+pub channel_sets : (mode address last : ℕ) (old new : Board) → IsResting (controller_of old) → SetsChannel mode address last old new
+    → IsSetTo old (set_up mode address last (after_write 0x08 0 (channel_of old))) new
+channel_sets mode address last old new rests sets =
+    let enabled = set_next 0x08 0 old old sets.enabled (channel_of old) refl refl rests (none_set old) sets.enables in
+    let masked = set_next 0x0A 0x06 old sets.enabled sets.masked _ refl refl rests enabled sets.masks in
+    let cleared = set_next 0x0C 0 old sets.masked sets.cleared _ refl refl rests masked sets.clears in
+    let moded = set_next 0x0B mode old sets.cleared sets.moded _ refl refl rests cleared sets.modes in
+    let low = set_next 0x04 (address % 256) old sets.moded sets.places.low _ refl refl rests moded sets.places.lows in
+    let high = set_next 0x04 (address / 256 % 256) old sets.places.low sets.places.high _ refl refl rests low sets.places.highs in
+    let placed = set_next 0x81 (address / 65536) old sets.places.high sets.placed _ refl refl rests high sets.places.pages in
+    let count_low = set_next 0x05 (last % 256) old sets.placed sets.counts.low _ refl refl rests placed sets.counts.lows in
+    let counted = set_next 0x05 (last / 256) old sets.counts.low sets.counted _ refl refl rests count_low sets.counts.highs in
+    set_next 0x0A 0x02 old sets.counted new _ refl refl rests counted sets.unmasks

@@ -1,9 +1,9 @@
 -- Writes of DOR: a bay is selected, and motors go on.
-use Rattle.std.proofs.Common.{◌≡◌, ◌≢◌, ◌↔◌, ℕ, zero, suc, ◌%◌, ◌^◌, ◌≤◌, ◌==◌, not, Bool, true, false, if◌then◌else◌, IsTrue, refl, sym, ◌∙◌, ap, subst, arith}
+use Rattle.std.proofs.Common.{◌≡◌, ◌≢◌, ◌↔◌, ℕ, zero, suc, ◌%◌, ◌^◌, ◌<◌, ◌≤◌, ◌==◌, not, Bool, true, false, if◌then◌else◌, IsTrue, refl, sym, ◌∙◌, ap, subst, arith}
 use Rattle.std.specs.Int.{IsBitSet}
 use Rattle.std.specs.Prelude.{bit_and}
 use Rattle.std.proofs.lemmas.Bool.{false≢true}
-use Rattle.drive_model.specs.Drive.{DriveState, Becomes, with_motor}
+use Rattle.drive_model.specs.Drive.{DriveState, Becomes, with_motor, track_words}
 use Rattle.fdc_core.specs.Ports.{dor_written, resets}
 use Rattle.fdc_core.specs.State.{dor_of, reset}
 use Rattle.fdc_core.specs.Times.{Closes}
@@ -82,6 +82,7 @@ switched_by on before after becomes = record {
     medium = ap (λ d. d.medium) becomes.becomes;
     cylinder = ap (λ d. d.cylinder) becomes.becomes;
     change = ap (λ d. d.change) becomes.becomes;
+    place = λ inside. subst (λ n. n < track_words before.medium) (sym (ap (λ d. d.place) becomes.becomes)) inside;
     never_falls = becomes.never_falls;
     spends = becomes.spends;
   };
@@ -101,6 +102,7 @@ switched_closed want true a b c is becomes = record {
     medium = ap (λ d. d.medium) becomes.becomes;
     cylinder = ap (λ d. d.cylinder) becomes.becomes;
     change = ap (λ d. d.change) becomes.becomes;
+    place = λ inside. subst (λ n. n < track_words b.medium) (sym (ap (λ d. d.place) becomes.becomes)) inside;
     never_falls = becomes.never_falls;
     spends = becomes.spends;
   });

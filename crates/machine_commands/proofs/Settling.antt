@@ -1,13 +1,11 @@
 -- One device step behind results, and polls.
-use Rattle.std.proofs.Common.{◌≡◌, ◌⊎◌, inl, inr, ℕ, zero, suc, sym, ◌∙◌, ap, subst, arith}
+use Rattle.std.proofs.Common.{◌≡◌, ◌⊎◌, inl, inr, ℕ, zero, suc, sym, ◌∙◌, ap, subst}
 use Rattle.fdc_core.specs.State.{interrupts}
 use Rattle.fdc_core.specs.Steps.{polled}
 use Rattle.fdc_core.specs.declared.controller.Fdc.{Fdc}
 use Rattle.pc_bus.specs.Boards.{Board, controller_of}
 use Rattle.pc_bus.specs.Steps.{Step, Runs, stirred}
-use Rattle.flop_base.specs.Counts.{Spends}
-use Rattle.drive_model.specs.Drive.{DriveState}
-use Rattle.machine_commands.proofs.Idling.{IsResting, KeepsSpeed, KeepsAll}
+use Rattle.machine_commands.proofs.Idling.{IsResting, KeepsDrive, KeepsSpeed, KeepsAll}
 use Rattle.machine_commands.specs.Ready.{is_up}
 use Rattle.machine_commands.specs.Sending.{Settles}
 use Rattle.machine_commands.proofs.Steps.{step_to, unpolled, keeps_none, keeps_then, speed_none, speed_then}
@@ -33,31 +31,13 @@ settles_to old new fdc settles poll rest =
         memory = ap (λ b. b.bus.chips.memory) is ∙ to.keeps.memory;
         entries = ap (λ b. b.bus.chips.holding.entries) is ∙ to.keeps.entries;
         stalls = ap (λ b. b.bus.chips.holding.stalls) is ∙ to.keeps.stalls;
-        first = record {
-          medium = ap (λ b. b.first.medium) is ∙ to.keeps.first.medium;
-          cylinder = ap (λ b. b.first.cylinder) is ∙ to.keeps.first.cylinder;
-          change = ap (λ b. b.first.change) is ∙ to.keeps.first.change;
-          never_falls = let same : new.first.faults ≡ settles.between.first.faults = ap (λ b. b.first.faults) is in let more = to.keeps.first.never_falls in omega arith;
-          spends = subst (λ (d : DriveState). Spends old.first.faults old.first.left d.faults d.left) (sym (ap (λ b. b.first) is)) to.keeps.first.spends;
-        };
-        second = record {
-          medium = ap (λ b. b.second.medium) is ∙ to.keeps.second.medium;
-          cylinder = ap (λ b. b.second.cylinder) is ∙ to.keeps.second.cylinder;
-          change = ap (λ b. b.second.change) is ∙ to.keeps.second.change;
-          never_falls = let same : new.second.faults ≡ settles.between.second.faults = ap (λ b. b.second.faults) is in let more = to.keeps.second.never_falls in omega arith;
-          spends = subst (λ (d : DriveState). Spends old.second.faults old.second.left d.faults d.left) (sym (ap (λ b. b.second) is)) to.keeps.second.spends;
-        };
+        first = subst (λ d. KeepsDrive old.first d) (sym (ap (λ b. b.first) is)) to.keeps.first;
+        second = subst (λ d. KeepsDrive old.second d) (sym (ap (λ b. b.second) is)) to.keeps.second;
         direct = ap (λ b. b.bus.direct) is ∙ to.keeps.direct;
         taken = settles.counts;
       };
-      first = record {
-        motor = ap (λ b. b.first.motor) is ∙ to.first.speed.motor;
-        spin = λ on. let same : new.first.spin ≡ settles.between.first.spin = ap (λ b. b.first.spin) is in let more = to.first.speed.spin on in omega arith;
-      };
-      second = record {
-        motor = ap (λ b. b.second.motor) is ∙ to.second.speed.motor;
-        spin = λ on. let same : new.second.spin ≡ settles.between.second.spin = ap (λ b. b.second.spin) is in let more = to.second.speed.spin on in omega arith;
-      };
+      first = subst (λ d. KeepsSpeed old.first d) (sym (ap (λ b. b.first) is)) to.first.speed;
+      second = subst (λ d. KeepsSpeed old.second d) (sym (ap (λ b. b.second) is)) to.second.speed;
       controller_is = ap (λ b. b.bus.chips.controller) is ∙ to.controller_is;
       level = ap (λ b. b.bus.latch.level) is ∙ to.level;
     }

@@ -49,15 +49,15 @@ all_true a b c one two three = rw (one, two, three) refl
 faster : (old new : ℕ) → nat_le 6250 old ≡ true → old ≤ new → nat_le 6250 new ≡ true
 faster old new fast more = grind (arith, nat_tests)
 
-pub at_speed_on : (old new : DriveState) → new.medium ≡ old.medium → (old.motor ≡ true → (new.motor ≡ true) × (old.spin ≤ new.spin)) → is_spun old ≡ true → is_spun new ≡ true
+pub at_speed_on : (old new : DriveState) → is_some new.medium ≡ is_some old.medium → (old.motor ≡ true → (new.motor ≡ true) × (old.spin ≤ new.spin)) → is_spun old ≡ true → is_spun new ≡ true
 at_speed_on old new same on was =
     let (turning, fast) = both_true (turns old) (nat_le 6250 old.spin) was in
     let (motor, there) = both_true old.motor (is_some old.medium) turning in
     let (still_on, more) = on motor in
-    all_true new.motor (is_some new.medium) (nat_le 6250 new.spin) still_on (ap is_some same ∙ there) (faster old.spin new.spin fast more)
+    all_true new.motor (is_some new.medium) (nat_le 6250 new.spin) still_on (same ∙ there) (faster old.spin new.spin fast more)
 
 pub speed_stays : (old new : DriveState) → new.medium ≡ old.medium → KeepsSpeed old new → is_spun old ≡ true → is_spun new ≡ true
-speed_stays old new same speed was = at_speed_on old new same (λ on. (speed.motor ∙ on, speed.spin on)) was
+speed_stays old new same speed was = at_speed_on old new (ap is_some same) (λ on. (speed.motor ∙ on, speed.spin on)) was
 
 -- ---- the rig
 

@@ -108,7 +108,7 @@ or_that false = refl
 
 -- a motor that was on is on still
 stays_on : (want : Bool) (was b : Bool) (old on new : DriveState) → new.medium ≡ old.medium → old.motor ≡ was → want ≡ (was || b) → IsSwitched want old on → KeepsSpeed on new → is_spun old ≡ true → is_spun new ≡ true
-stays_on want was b old on new medium is wants switched speed spun = at_speed_on old new medium up spun
+stays_on want was b old on new medium is wants switched speed spun = at_speed_on old new (ap is_some medium) up spun
   where
     up : old.motor ≡ true → (new.motor ≡ true) × (old.spin ≤ new.spin)
     up turned =

@@ -1,9 +1,9 @@
 -- Device steps of a controller that rests.
-use Rattle.std.proofs.Common.{◌≡◌, ◌⊎◌, inl, inr, ℕ, zero, suc, ◌+◌, ◌≤◌, ◌==◌, ◌&&◌, ◌||◌, not, Bool, true, false, Option, Some, None, if◌then◌else◌, nat_lt, is_some, min, add-one, refl, sym, ◌∙◌, ap, subst, arith}
+use Rattle.std.proofs.Common.{◌≡◌, ◌⊎◌, inl, inr, ℕ, zero, suc, ◌+◌, ◌<◌, ◌≤◌, ◌==◌, ◌&&◌, ◌||◌, not, Bool, true, false, Option, Some, None, if◌then◌else◌, nat_lt, is_some, min, add-one, refl, sym, ◌∙◌, ap, subst, arith}
 use Rattle.std.specs.Option.{option_map_or}
 use Rattle.std.proofs.lemmas.Bool.Decides.{nat_tests}
 use Rattle.bay_model.proofs.Counted.{spends_itself, spends_twice}
-use Rattle.drive_model.specs.Drive.{DriveState, Becomes, passed, with_gate, turns}
+use Rattle.drive_model.specs.Drive.{DriveState, Becomes, turns, track_words}
 use Rattle.fdc_seek.specs.Seeking.{Seeking, with_polls, stepped, stepped_seek, is_seeking, has_ended, pulse_due, pulse_of}
 use Rattle.fdc_seek.specs.declared.motion.Seek.{Seek}
 use Rattle.fdc_seek.specs.declared.motion.Motion.{Motion}
@@ -14,9 +14,10 @@ use Rattle.fdc_core.specs.Steps.{polled, seek_stepped, RestsIn, MovesIn, Moves, 
 use Rattle.fdc_core.specs.declared.controller.Fdc.{Fdc}
 use Rattle.fdc_core.specs.declared.phases.Phase.{Phase}
 use Rattle.fdc_core.specs.declared.phases.Phase.TheVariants.{Command, Execute, Result}
+use Rattle.machine_laws.proofs.OnQuiet.Turning.{turned_let}
 use Rattle.machine_pace.specs.Holds.{looked, is_due}
 use Rattle.machine_pace.specs.declared.holding.Request.TheVariants.{Low}
-use Rattle.pc_bus.specs.Boards.{Board, controller_of, channel_of, selected_of}
+use Rattle.pc_bus.specs.Boards.{Board, controller_of, channel_of, holds_of, selected_of}
 use Rattle.pc_bus.specs.Steps.{PassesWordTime, Step, Runs}
 use Rattle.pc_bus.specs.Transfers.{granted, dma_stepped}
 use Rattle.pc_bus.specs.declared.chips.Chips.{Chips}
@@ -107,10 +108,6 @@ stays_same old polled_to track0 new poll rest is =
 
 -- ---- the drives
 
-spun_up : (b : Bool) (spin : ℕ) → spin ≤ (if b then spin + 1 else spin)
-spun_up true spin = omega arith
-spun_up false spin = omega arith
-
 -- a drive that only turns
 pub record OnlyTurns (old new : DriveState) : Type 0 where
   pub keeps : KeepsDrive old new
@@ -122,28 +119,21 @@ spun_more : (spin : ℕ) → min (spin + 1) 6250 ≤ (if nat_lt spin 6250 then s
 spun_more spin = grind (arith, nat_tests)
 
 -- what one word time leaves
-pub turned_by : (before target after : DriveState) → Becomes (passed target) before after → target.medium ≡ before.medium → target.cylinder ≡ before.cylinder
-    → target.change ≡ before.change → target.motor ≡ before.motor → target.spin ≡ before.spin → OnlyTurns before after
-turned_by before target after becomes medium cylinder change motor spin =
-    let spun : after.spin ≡ (if turns target && nat_lt target.spin 6250 then target.spin + 1 else target.spin) = ap (λ d. d.spin) becomes.becomes in
-    let same : turns target ≡ turns before = ap (λ m. target.motor && is_some m) medium ∙ ap (λ m. m && is_some before.medium) motor in record {
-      keeps = record {
-        medium = ap (λ d. d.medium) becomes.becomes ∙ medium;
-        cylinder = ap (λ d. d.cylinder) becomes.becomes ∙ cylinder;
-        change = ap (λ d. d.change) becomes.becomes ∙ change;
-        never_falls = becomes.never_falls;
-        spends = becomes.spends;
-      };
-      speed = record {
-        motor = ap (λ d. d.motor) becomes.becomes ∙ motor;
-        spin = λ _. subst (λ n. n ≤ after.spin) spin (subst (λ n. target.spin ≤ n) (sym spun) (spun_up (turns target && nat_lt target.spin 6250) target.spin));
-      };
-      spins = λ on. subst (λ n. min (n + 1) 6250 ≤ after.spin) spin
-          (subst (λ n. min (target.spin + 1) 6250 ≤ n) (sym (spun ∙ ap (λ b. if b && nat_lt target.spin 6250 then target.spin + 1 else target.spin) (same ∙ on))) (spun_more target.spin));
-    }
-
 pub gate_turns : (before after : DriveState) → Becomes (let_pass before) before after → OnlyTurns before after
-gate_turns before after becomes = turned_by before (with_gate false before) after becomes refl refl refl refl refl
+gate_turns before after becomes =
+    let turned = turned_let before after becomes in
+    let spun : after.spin ≡ (if turns before && nat_lt before.spin 6250 then before.spin + 1 else before.spin) = ap (λ d. d.spin) becomes.becomes in record {
+      keeps = record {
+        medium = turned.medium;
+        cylinder = turned.cylinder;
+        change = turned.change;
+        place = turned.place;
+        never_falls = turned.faults;
+        spends = turned.spends;
+      };
+      speed = record { motor = turned.motor; spin = λ _. turned.spin };
+      spins = λ on. subst (λ n. min (before.spin + 1) 6250 ≤ n) (sym (spun ∙ ap (λ b. if b && nat_lt before.spin 6250 then before.spin + 1 else before.spin) on)) (spun_more before.spin);
+    }
 
 pub moves_in : (phase : Phase) (fdc : Fdc) (before after : DriveState) → is_executing phase ≡ false → MovesIn phase fdc before after
     → Moves (pulse_due fdc.seeks (before.cylinder == 0)) before after
@@ -197,6 +187,7 @@ pub record StepsTo (old : Board) (fdc : Fdc) (new : Board) : Type 0 where
   pub second : OnlyTurns old.second new.second
   pub controller_is : controller_of new ≡ fdc
   pub channel : channel_of new ≡ channel_of old
+  pub request : (holds_of new).request ≡ Low
   -- the level that the latch saw is that of the line
   pub level : is_up new ≡ interrupts fdc
 
@@ -222,6 +213,7 @@ step_to old new fdc step poll rest =
       second = turned.second_turns;
       controller_is = ap (λ c. c.controller) chips ∙ turned.same;
       channel = ap (λ c. c.channel) chips;
+      request = ap (λ c. c.holding.request) chips;
       level = ap (λ bus. bus.latch.level) step.bus ∙ (ap (λ c. interrupts c.controller) moved ∙ ap interrupts turned.same);
     }
 
@@ -244,7 +236,7 @@ step_idles old new step rest =
 -- ---- several
 
 pub drive_none : (drive : DriveState) → KeepsDrive drive drive
-drive_none drive = record { medium = refl; cylinder = refl; change = refl; never_falls = omega arith; spends = spends_itself drive.faults drive.left }
+drive_none drive = record { medium = refl; cylinder = refl; change = refl; place = λ inside. inside; never_falls = omega arith; spends = spends_itself drive.faults drive.left }
 
 pub speed_none : (drive : DriveState) → KeepsSpeed drive drive
 speed_none drive = record { motor = refl; spin = λ _. omega arith }
@@ -254,6 +246,7 @@ drive_then a b c one two = record {
   medium = two.medium ∙ one.medium;
   cylinder = two.cylinder ∙ one.cylinder;
   change = two.change ∙ one.change;
+  place = λ inside. subst (λ m. c.place < track_words m) one.medium (two.place (subst (λ m. b.place < track_words m) (sym one.medium) (one.place inside)));
   never_falls = let first = one.never_falls in let second = two.never_falls in omega arith;
   spends = spends_twice a.faults b.faults c.faults a.left b.left c.left one.spends two.spends;
 }

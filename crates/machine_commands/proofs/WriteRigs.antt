@@ -1,7 +1,6 @@
 -- A WRITE DATA or WRITE DELETED DATA as its driver sees it.
-use Rattle.std.proofs.Common.{◌≡◌, ◌⊎◌, inl, inr, ℕ, zero, suc, ◌+◌, ◌-◌, ◌≤◌, ◌&&◌, Bool, true, false, List, length, take, drop, nat_lt, Option, Some, None, if◌then◌else◌, Result, Ok, Err, refl, sym, ◌∙◌, ap, subst, arith}
-use Rattle.std.specs.Prelude.{IsOk, IfErr, MatchOption, bit_and}
-use Rattle.std.specs.Int.RustNames.{bit_or}
+use Rattle.std.proofs.Common.{◌≡◌, ◌⊎◌, inl, inr, ℕ, zero, suc, ◌+◌, ◌-◌, ◌≤◌, Bool, true, false, List, length, take, drop, Option, Some, None, Result, Err, refl, sym, ◌∙◌, ap, subst, arith}
+use Rattle.std.specs.Prelude.{IsOk, IfErr, MatchOption}
 use Rattle.std.proofs.lemmas.Bool.{false≢true}
 use Rattle.std.proofs.lemmas.List.{take-take, drop-take}
 use Rattle.flop_base.specs.Counts.{RoseBy}
@@ -14,61 +13,37 @@ use Rattle.bay_model.specs.Counters.{IsFaultless, IsUndisturbed}
 use Rattle.bay_model.specs.Memory.{user_bytes, bytes_from}
 use Rattle.raw_image.specs.Disk.{HasTrack, track_of}
 use Rattle.sector_map.specs.Changes.{Change, Written, window_of}
-use Rattle.sector_map.specs.Met.{HasNoClearMark, HasClearAddress, met_in, same_rate, unrecorded}
+use Rattle.sector_map.specs.Met.{HasNoClearMark, HasClearAddress, met_in, same_rate}
 use Rattle.sector_map.specs.MetTracks.{MeetsTrack}
 use Rattle.sector_map.proofs.MetTracks.{length-met_track, met_track, nothing_from, rates_same}
 use Rattle.track_model.specs.Fields.{IsAddressAt, content_size}
 use Rattle.track_model.specs.Looks.{HasAddressMark}
-use Rattle.machine_laws.specs.OnWritten.Written.{IsCalm}
-use Rattle.fdc_core.specs.Answers.{st0_of, st1_of}
+use Rattle.fdc_core.specs.Phases.{is_overrun}
 use Rattle.fdc_core.specs.Rates.{rate_fits}
+use Rattle.fdc_core.specs.declared.answers.Answer.TheVariants.{Long}
+use Rattle.fdc_core.specs.declared.phases.Phase.TheVariants as phase
 use Rattle.fdc_stages.specs.Searches.{HasNoClear}
 use Rattle.fdc_stages.specs.declared.ending.Ending.{Ending}
 use Rattle.fdc_stages.specs.declared.ending.Ending.TheVariants as ending
-use Rattle.machine_laws.specs.OnReads.Timely.{Stalled}
-use Rattle.machine_laws.specs.OnReads.Begins.{IsDriveOf}
-use Rattle.machine_laws.specs.OnReads.Scenes.{Scene, IsScene, data_rate, head_sent, track_met}
+use Rattle.machine_laws.specs.OnOrders.Orders.{Laid, Window, Write}
+use Rattle.machine_laws.specs.OnSteps.Stalls.{Stalled}
+use Rattle.machine_laws.proofs.OnReads.TrackMet.{met_is}
+use Rattle.machine_laws.specs.OnReads.Scenes.{Scene, data_rate, head_sent, track_met}
 use Rattle.machine_laws.specs.OnWrites.Results.{EndsAs, HasChanged, IsInsideTrack, IsUnchanged, IsWholeWindow, written_in}
 use Rattle.machine_laws.specs.OnWrites.Results as write
 use Rattle.machine_laws.proofs.OnWrites.Results.{changes_disk}
 use Rattle.pc_bus.specs.Boards.{Board, drive_in, memory_of}
 use Rattle.single_commands.specs.Rigs.{track_under}
 use Rattle.single_commands.specs.Writing.{ChangesMedium, HasWindowOut, IsWriteMiss, WritesData}
-use Rattle.machine_commands.specs.Codes.{has_set, refusal_of}
 use Rattle.machine_commands.specs.Shown.{counters_of, rig_of, user_part}
+use Rattle.machine_commands.specs.WriteSent.{told_of}
+use Rattle.machine_commands.specs.declared.motors.Motors.{Motors}
+use Rattle.machine_commands.specs.declared.results.Done.{Done}
+use Rattle.flop_base.specs.declared.key.Chrn.{Chrn}
 use Rattle.machine_commands.proofs.Showing.{two_same}
-use Rattle.machine_commands.proofs.WriteCourses.{IsCourse, course_calm, course_faultless, course_page, course_sends, course_stalled, course_unstalled, cylinder_before, medium_after, medium_before}
-
--- ---- what the results come to
-
-abbrev pub written_answer : ℕ → ℕ → Result (Unit {0}) Code
-written_answer st0 st1 = if has_set st0 0xC0 then Err (refusal_of st1) else Ok tt
-
-abbrev pub ending_answer : Ending → Result (Unit {0}) Code
-ending_answer (ending.Done marked) = Ok tt
-ending_answer over = Err (refusal_of (st1_of over).0)
-
-low_bits : (head_drive : ℕ) → head_drive ≤ 7 → (has_set (bit_and head_drive 7) 0xC0 ≡ false) × (has_set (bit_or (bit_and head_drive 7) 0x40) 0xC0 ≡ true)
-low_bits zero small = (refl, refl)
-low_bits (suc zero) small = (refl, refl)
-low_bits (suc (suc zero)) small = (refl, refl)
-low_bits (suc (suc (suc zero))) small = (refl, refl)
-low_bits (suc (suc (suc (suc zero)))) small = (refl, refl)
-low_bits (suc (suc (suc (suc (suc zero))))) small = (refl, refl)
-low_bits (suc (suc (suc (suc (suc (suc zero)))))) small = (refl, refl)
-low_bits (suc (suc (suc (suc (suc (suc (suc zero))))))) small = (refl, refl)
-low_bits (suc (suc (suc (suc (suc (suc (suc (suc more)))))))) small = absurd (omega arith)
-
-pub answer_is : (over : Ending) (head_drive : ℕ) → head_drive ≤ 7 → written_answer (st0_of over head_drive).0 (st1_of over).0 ≡ ending_answer over
-answer_is (ending.Done marked) head_drive small = ap (λ b. if b then Err (refusal_of 0) else Ok tt) (low_bits head_drive small).0
-answer_is ending.NoMark head_drive small = ap (λ b. if b then Err (refusal_of (st1_of ending.NoMark).0) else Ok tt) (low_bits head_drive small).1
-answer_is ending.NoSector head_drive small = ap (λ b. if b then Err (refusal_of (st1_of ending.NoSector).0) else Ok tt) (low_bits head_drive small).1
-answer_is ending.NoField head_drive small = ap (λ b. if b then Err (refusal_of (st1_of ending.NoField).0) else Ok tt) (low_bits head_drive small).1
-answer_is ending.BadCheck head_drive small = ap (λ b. if b then Err (refusal_of (st1_of ending.BadCheck).0) else Ok tt) (low_bits head_drive small).1
-answer_is ending.Overrun head_drive small = ap (λ b. if b then Err (refusal_of (st1_of ending.Overrun).0) else Ok tt) (low_bits head_drive small).1
-answer_is ending.NoCount head_drive small = ap (λ b. if b then Err (refusal_of (st1_of ending.NoCount).0) else Ok tt) (low_bits head_drive small).1
-answer_is ending.Protected head_drive small = ap (λ b. if b then Err (refusal_of (st1_of ending.Protected).0) else Ok tt) (low_bits head_drive small).1
-answer_is ending.Late head_drive small = ap (λ b. if b then Err (refusal_of (st1_of ending.Late).0) else Ok tt) (low_bits head_drive small).1
+use Rattle.machine_commands.proofs.Beginning.{HasRun}
+use Rattle.machine_commands.proofs.Outcomes.{told_as}
+use Rattle.machine_commands.proofs.Seeing.{calm_drive, cylinder_after, cylinder_before, faultless, medium_after, medium_before, memory_before, page_stays, stall_counts, unstalled, write_sends}
 
 -- ---- the bytes
 
@@ -92,11 +67,6 @@ fits_same R250 R250 = refl
 pub rate_is : (scene : Scene) (rate : Rate) → scene.rate ≡ data_rate rate → rate_fits scene.rate scene.disk.rate ≡ true → scene.disk.rate ≡ rate
 rate_is scene rate at fits = rates_same scene.disk.rate rate (sym (ap (λ r. rate_fits r scene.disk.rate) at ∙ fits_same rate scene.disk.rate) ∙ fits)
 
-pub met_is : (scene : Scene) (rate : Rate) → scene.rate ≡ data_rate rate → track_met scene ≡ met_in (Some scene.disk) rate scene.cylinder (head_sent scene.sent)
-met_is scene rate at =
-    ap (λ (fits : Bool). if nat_lt scene.cylinder scene.disk.cylinders && nat_lt (head_sent scene.sent) scene.disk.heads && fits then track_of scene.disk scene.cylinder (head_sent scene.sent) else unrecorded scene.disk.words_per_track)
-    (ap (λ r. rate_fits r scene.disk.rate) at ∙ fits_same rate scene.disk.rate)
-
 -- ---- both bays
 
 pub two_bays : {T : Type 0} (bay : ℕ) (a b : Two T) → bay ≤ 1 → in_bay a bay ≡ in_bay b bay → in_bay a (1 - bay) ≡ in_bay b (1 - bay) → a ≡ b
@@ -106,18 +76,26 @@ two_bays (suc (suc bay)) a b small here there = absurd (omega arith)
 
 -- ---- a write
 
--- a write in a scene that stands on a board
-pub record IsWriteOn (scene : Scene) (rate : Rate) (start : Board) : Type 0 where
-  pub scene_is : IsScene scene
-  pub drive : IsDriveOf scene (drive_in start scene.bay)
-  pub memory : memory_of start ≡ scene.memory
+-- a command that writes tells OR only where a stall was counted
+pub overruns : {laid : Laid} {scene : Scene} {motors : Motors} {rate : Rate} {start old : Board} {outcome : Result Done Code} {new : Board} → (run : HasRun (Write laid) scene motors rate start old outcome new)
+    → run.over.results.ending ≡ ending.Overrun → Stalled start run.over.at
+overruns run is = elim run.over.goes.in_time [
+  | inl time ↦ absurd (false≢true (sym time.punctual.no_overrun ∙ (ap is_overrun run.over.results.is ∙ ap (λ e. is_overrun (phase.Result (Long e run.over.results.results 0))) is)))
+  | inr stalled ↦ stalled
+]
+
+-- a write of a sector from user memory, on a medium that isn't protected
+pub record IsWriteOn (scene : Scene) : Type 0 where
   pub head : head_sent scene.sent ≡ scene.sent.key.h
-  pub rate_at : scene.rate ≡ data_rate rate
   pub size : scene.size ≡ content_size scene.sent.key.n
   pub inside : scene.address + scene.size ≤ user_bytes
   pub unprotected : scene.disk.protected ≡ false
 
-module _ (scene : Scene) (deleted : Bool) (rate : Rate) (old start now new : Board) (course : IsCourse scene.bay old start now new) (on : IsWriteOn scene rate start) (same : memory_of now ≡ memory_of start) where
+module _ {deleted : Bool} {scene : Scene} {motors : Motors} {rate : Rate} {start old : Board} {outcome : Result Done Code} {new : Board}
+    (run : HasRun (Write (Window deleted)) scene motors rate start old outcome new) (on : IsWriteOn scene) (same : memory_of run.over.at ≡ memory_of start) where
+  abbrev now : Board
+  now = run.over.at
+
   -- what is asked of it
   abbrev pub asked : Written
   asked = record { key = scene.sent.key; deleted = deleted; content = bytes_from (rig_of old).memory scene.address (content_size scene.sent.key.n) }
@@ -126,33 +104,21 @@ module _ (scene : Scene) (deleted : Bool) (rate : Rate) (old start now new : Boa
   asked_is =
       let bytes : take scene.size (drop scene.address scene.memory) ≡ bytes_from (rig_of old).memory scene.address (content_size scene.sent.key.n) =
       sym (user_bytes_same scene.memory scene.address scene.size on.inside)
-      ∙ (ap (λ n. bytes_from (user_part scene.memory) scene.address n) on.size ∙ ap (λ m. bytes_from (user_part m) scene.address (content_size scene.sent.key.n)) (sym on.memory ∙ course.before.memory)) in
+      ∙ (ap (λ n. bytes_from (user_part scene.memory) scene.address n) on.size ∙ ap (λ m. bytes_from (user_part m) scene.address (content_size scene.sent.key.n)) (sym run.memory ∙ memory_before run)) in
       ap (λ content. let w : Written = record { key = scene.sent.key; deleted = deleted; content = content } in w) bytes
-
-  calm : IsFaultless scene.bay (counters_of old) (counters_of new) → IsCalm scene.faults (drive_in now scene.bay).faults
-  calm none = subst (λ n. IsCalm n (drive_in now scene.bay).faults) on.drive.faults (course_calm scene.bay old start now new course none)
-
-  was : in_bay (rig_of old).media scene.bay ≡ Some scene.disk
-  was = medium_before scene.bay old start now new course ∙ on.drive.medium
-
-  at_cylinder : in_bay (rig_of old).cylinders scene.bay ≡ scene.cylinder
-  at_cylinder = cylinder_before scene.bay old start now new course ∙ on.drive.cylinder
-
-  cylinder_stays : in_bay (rig_of new).cylinders scene.bay ≡ scene.cylinder
-  cylinder_stays = ap (λ t. in_bay t scene.bay) (course_sends scene.bay old start now new course same).heads.cylinders ∙ at_cylinder
 
   -- ---- nothing was written
 
   unchanged : IsUnchanged scene (drive_in now scene.bay) → (rig_of new).media ≡ (rig_of old).media
-  unchanged is = two_bays scene.bay (rig_of new).media (rig_of old).media course.small (medium_after scene.bay old start now new course ∙ (is ∙ sym was))
-      (course_sends scene.bay old start now new course same).other_medium
+  unchanged is = two_bays scene.bay (rig_of new).media (rig_of old).media run.scene_is.bay (medium_after run ∙ (is ∙ sym (medium_before run)))
+      (write_sends run same).other_medium
 
   met_unchanged : IsUnchanged scene (drive_in now scene.bay) → track_met scene ≡ track_under (rig_of new) scene.bay rate scene.sent.key.h
   met_unchanged is =
-      let medium = medium_after scene.bay old start now new course ∙ is in
-      met_is scene rate on.rate_at
+      let medium = medium_after run ∙ is in
+      met_is scene rate run.rate_is
       ∙ (ap (λ h. met_in (Some scene.disk) rate scene.cylinder h) on.head
-      ∙ (ap (λ c. met_in (Some scene.disk) rate c scene.sent.key.h) (sym cylinder_stays)
+      ∙ (ap (λ c. met_in (Some scene.disk) rate c scene.sent.key.h) (sym (cylinder_after run))
       ∙ ap (λ m. met_in m rate (in_bay (rig_of new).cylinders scene.bay) scene.sent.key.h) (sym medium)))
 
   -- ---- the window was written, or its beginning
@@ -163,17 +129,17 @@ module _ (scene : Scene) (deleted : Bool) (rate : Rate) (old start now new : Boa
       let (low, head) : HasTrack scene.disk scene.cylinder (head_sent scene.sent) = to.track in
       let cylinders = to.cut.cylinders in
       let heads = to.cut.heads in
-      let at = cylinder_stays in
+      let at = cylinder_after run in
       let under = on.head in
       record {
-        is_in = medium_after scene.bay old start now new course ∙ changed.medium;
+        is_in = medium_after run ∙ changed.medium;
         has = (omega arith, omega arith);
-        same_rate = to.cut.rate ∙ rate_is scene rate on.rate_at to.rate;
+        same_rate = to.cut.rate ∙ rate_is scene rate run.rate_is to.rate;
       }
 
   met_changed : (changed : HasChanged scene deleted (drive_in now scene.bay)) → track_of changed.after scene.cylinder (head_sent scene.sent) ≡ track_under (rig_of new) scene.bay rate scene.sent.key.h
   met_changed changed =
-      ap (λ c. track_of changed.after c (head_sent scene.sent)) (sym cylinder_stays)
+      ap (λ c. track_of changed.after c (head_sent scene.sent)) (sym (cylinder_after run))
       ∙ (ap (λ h. track_of changed.after (in_bay (rig_of new).cylinders scene.bay) h) on.head
       ∙ sym (met_track (in_bay (rig_of new).media scene.bay) rate (in_bay (rig_of new).cylinders scene.bay) scene.sent.key.h changed.after (meets_after changed)))
 
@@ -183,10 +149,10 @@ module _ (scene : Scene) (deleted : Bool) (rate : Rate) (old start now new : Boa
   changes changed whole = record {
     before = scene.disk;
     after = changed.after;
-    was = was;
-    is = medium_after scene.bay old start now new course ∙ changed.medium;
-    same_rate = rate_is scene rate on.rate_at changed.changes.rate;
-    here = changed.changes.cylinder ∙ sym at_cylinder;
+    was = medium_before run;
+    is = medium_after run ∙ changed.medium;
+    same_rate = rate_is scene rate run.rate_is changed.changes.rate;
+    here = changed.changes.cylinder ∙ sym (cylinder_before run);
     makes = changes_disk scene deleted changed.change changed.after on.head changed.changes;
     whole = whole;
   }
@@ -213,16 +179,16 @@ module _ (scene : Scene) (deleted : Bool) (rate : Rate) (old start now new : Boa
   none_overrun reason other is = absurd (other is)
 
   -- the ways it ends
-  shows_as : (over : Ending) → EndsAs scene deleted (drive_in now scene.bay) over → (over ≡ ending.Overrun → Stalled start now) → (change : Option Change) × ShowsWrite change (ending_answer over)
-  shows_as (ending.Done marked) whole stalls = (
+  shows_as : (key : Chrn) (over : Ending) → EndsAs scene deleted (drive_in now scene.bay) over → (over ≡ ending.Overrun → Stalled start now) → (change : Option Change) × ShowsWrite change (told_of (told_as over key))
+  shows_as key (ending.Done marked) whole stalls = (
     Some whole.changed.change,
     record {
-      does = changes whole.changed (λ none inside. whole.whole (calm (course_faultless scene.bay old start now new course none)));
-      done = λ ok none. whole.whole (calm none);
+      does = changes whole.changed (λ none inside. whole.whole (calm_drive run (faultless run none)));
+      done = λ ok none. whole.whole (calm_drive run none);
       refused = tt;
     },
   )
-  shows_as ending.NoMark (is, none) stalls = (
+  shows_as key ending.NoMark (is, none) stalls = (
     None,
     record {
       does = unchanged is;
@@ -230,19 +196,19 @@ module _ (scene : Scene) (deleted : Bool) (rate : Rate) (old start now new : Boa
       refused = record {
         coded = tt;
         reason = λ undisturbed. inl (subst HasNoClearMark (met_unchanged is)
-            (nothing_from (track_met scene) (none (calm (course_faultless scene.bay old start now new course undisturbed)))).clear_marks);
+            (nothing_from (track_met scene) (none (calm_drive run (faultless run undisturbed)))).clear_marks);
         overrun = none_overrun code.NoMark (λ e. absurd cc);
       };
     },
   )
-  shows_as ending.NoSector (is, marks, none) stalls = (
+  shows_as key ending.NoSector (is, marks, none) stalls = (
     None,
     record {
       does = unchanged is;
       done = λ ok faultless. absurd (false≢true ok);
       refused = record {
         coded = tt;
-        reason = λ undisturbed. let no_clear = none (calm (course_faultless scene.bay old start now new course undisturbed)) in (
+        reason = λ undisturbed. let no_clear = none (calm_drive run (faultless run undisturbed)) in (
           subst HasAddressMark (met_unchanged is) marks,
           λ has. not_clear no_clear (subst (λ track. HasClearAddress track scene.sent.key) (sym (met_unchanged is)) has),
         );
@@ -253,7 +219,7 @@ module _ (scene : Scene) (deleted : Bool) (rate : Rate) (old start now new : Boa
     where
       not_clear : HasNoClear (Some scene.sent.key) (track_met scene) → HasClearAddress (track_met scene) scene.sent.key → ⊥
       not_clear no_clear (p, has) = no_clear p scene.sent.key refl has.address has.clear.inner
-  shows_as ending.NoField (wrote, out) stalls = by_way wrote
+  shows_as key ending.NoField (wrote, out) stalls = by_way wrote
     where
       missed : IsWriteMiss (track_under (rig_of new) scene.bay rate scene.sent.key.h) scene.sent.key scene.bay (counters_of old) code.NoMark (counters_of new)
       missed = record { coded = tt; reason = λ undisturbed. inr (out_after wrote out); overrun = none_overrun code.NoMark (λ e. absurd cc) }
@@ -261,7 +227,7 @@ module _ (scene : Scene) (deleted : Bool) (rate : Rate) (old start now new : Boa
       by_way : (IsUnchanged scene (drive_in now scene.bay) ⊎ write.ChangesOut scene deleted (drive_in now scene.bay)) → (change : Option Change) × ShowsWrite change (Err code.NoMark)
       by_way (inl is) = (None, record { does = unchanged is; done = λ ok faultless. absurd (false≢true ok); refused = missed })
       by_way (inr it) = (Some it.changed.change, record { does = changes it.changed (λ none inside. absurd (it.out inside)); done = λ ok faultless. absurd (false≢true ok); refused = missed })
-  shows_as ending.Overrun wrote stalls = by_way wrote
+  shows_as key ending.Overrun wrote stalls = by_way wrote
     where
       stalled : Stalled start now
       stalled = stalls refl
@@ -269,8 +235,8 @@ module _ (scene : Scene) (deleted : Bool) (rate : Rate) (old start now new : Boa
       missed : IsWriteMiss (track_under (rig_of new) scene.bay rate scene.sent.key.h) scene.sent.key scene.bay (counters_of old) code.Overrun (counters_of new)
       missed = record {
         coded = tt;
-        reason = λ undisturbed. absurd (course_unstalled scene.bay old start now new course undisturbed stalled);
-        overrun = λ same_code. course_stalled scene.bay old start now new course stalled;
+        reason = λ undisturbed. absurd (unstalled run undisturbed stalled);
+        overrun = λ same_code. stall_counts run stalled;
       }
 
       by_way : (IsUnchanged scene (drive_in now scene.bay) ⊎ HasChanged scene deleted (drive_in now scene.bay)) → (change : Option Change) × ShowsWrite change (Err code.Overrun)
@@ -278,27 +244,27 @@ module _ (scene : Scene) (deleted : Bool) (rate : Rate) (old start now new : Boa
       by_way (inr changed) = (
         Some changed.change,
         record {
-          does = changes changed (λ none inside. absurd (course_unstalled scene.bay old start now new course none stalled));
+          does = changes changed (λ none inside. absurd (unstalled run none stalled));
           done = λ ok faultless. absurd (false≢true ok);
           refused = missed;
         },
       )
-  shows_as ending.Protected (is, protected) stalls = absurd (false≢true (sym on.unprotected ∙ protected))
-  shows_as ending.BadCheck none stalls = absurd none
-  shows_as ending.NoCount none stalls = absurd none
-  shows_as ending.Late none stalls = absurd none
+  shows_as key ending.Protected (is, protected) stalls = absurd (false≢true (sym on.unprotected ∙ protected))
+  shows_as key ending.BadCheck none stalls = absurd none
+  shows_as key ending.NoCount none stalls = absurd none
+  shows_as key ending.Late none stalls = absurd none
 
   -- what the driver is told, and what it wrote
-  pub write_shown : (over : Ending) → EndsAs scene deleted (drive_in now scene.bay) over → (over ≡ ending.Overrun → Stalled start now)
-      → (change : Option Change) × WritesData scene.bay rate asked change (rig_of old) (ending_answer over) (rig_of new)
-  write_shown over ends stalls =
-      let (change, shows) = shows_as over ends stalls in (
+  pub write_shown : (key : Chrn) (over : Ending) → EndsAs scene deleted (drive_in now scene.bay) over → (over ≡ ending.Overrun → Stalled start now)
+      → (change : Option Change) × WritesData scene.bay rate asked change (rig_of old) (told_of (told_as over key)) (rig_of new)
+  write_shown key over ends stalls =
+      let (change, shows) = shows_as key over ends stalls in (
         change,
-        subst (λ written. WritesData scene.bay rate written change (rig_of old) (ending_answer over) (rig_of new)) asked_is (record {
-          sends = course_sends scene.bay old start now new course same;
+        subst (λ written. WritesData scene.bay rate written change (rig_of old) (told_of (told_as over key)) (rig_of new)) asked_is (record {
+          sends = write_sends run same;
           does = shows.does;
           done = shows.done;
           refused = shows.refused;
-          page = course_page scene.bay old start now new course same;
+          page = page_stays run same;
         }),
       )

@@ -3,17 +3,11 @@ ghost use Rattle.machine_commands.specs.Shown.{is_idle, rig_shown};
 
 use crate::asking::{PAGE_START, PROTECTED};
 use crate::heads::EQUIPMENT_CHECK;
-use crate::laws::{a_read_id_is_done, a_read_is_done};
 use crate::machine::CommandedMachine;
 use crate::results::{key_of, mark_of};
 use crate::writing::told;
 use drive_model::Drive;
-use fdc_commands::laws::writes_are_spelled;
 use flop_base::{Chrn, Code, Rate};
-use machine_laws::laws::onawaits::{a_format_goes_on, a_write_goes_on};
-use machine_laws::laws::onformats::a_format_tells_of_the_medium;
-use machine_laws::laws::onreads::a_data_command_ends;
-use machine_laws::laws::onwrites::a_write_tells_of_the_medium;
 use single_commands::Commands;
 
 impl<D: Drive> Commands for CommandedMachine<D> {
@@ -55,21 +49,18 @@ impl<D: Drive> Commands for CommandedMachine<D> {
     }
 
     fn read_id(&mut self, bay: u8, head: u8, rate: Rate) -> Result<Chrn, Code> {
-        a_read_id_is_done();
         let outcome = self.identify(bay, head, rate);
         self.keep_ranges();
         key_of(outcome)
     }
 
     fn read(&mut self, bay: u8, key: Chrn, rate: Rate, address: u32) -> Result<bool, Code> {
-        a_read_is_done();
         let outcome = self.read_to(bay, key, rate, address);
         self.keep_ranges();
         mark_of(outcome)
     }
 
     fn read_back(&mut self, bay: u8, key: Chrn, rate: Rate) -> Result<bool, Code> {
-        a_read_is_done();
         let outcome = self.read_to(bay, key, rate, PAGE_START);
         self.keep_ranges();
         mark_of(outcome)
@@ -83,11 +74,6 @@ impl<D: Drive> Commands for CommandedMachine<D> {
         address: u32,
         deleted: bool,
     ) -> Result<(), Code> {
-        a_write_goes_on();
-        a_data_command_ends();
-        a_write_tells_of_the_medium();
-        writes_are_spelled();
-        self.keep_memory();
         let outcome = self.write_sector(bay, key, rate, address, deleted);
         self.keep_ranges();
         told(outcome)
@@ -102,10 +88,6 @@ impl<D: Drive> Commands for CommandedMachine<D> {
         gap3: u8,
         fill: u8,
     ) -> Result<(), Code> {
-        a_format_goes_on();
-        a_data_command_ends();
-        a_format_tells_of_the_medium();
-        writes_are_spelled();
         self.keep_memory();
         self.put_keys(c, h, rate);
         let outcome = self.format_track(bay, h, rate, gap3, fill);

@@ -11,7 +11,6 @@ mod commands;
 mod formatting;
 mod handling;
 mod heads;
-mod laws;
 mod machine;
 mod motors;
 mod ports;

@@ -1,13 +1,13 @@
 // The end of a data command.
-ghost use Rattle.std.specs.Prelude.{◌≡◌, ◌≤◌, ◌<◌};
-ghost use Rattle.machine_commands.specs.Awaited.{AreCounts, AwaitsResults, Finishes, Prepares, Watch, TakesKey, TakesResults, key_told, mark_told};
+ghost use Rattle.std.specs.Prelude.{◌≡◌};
+ghost use Rattle.machine_commands.specs.Awaited.{AreCounts, AwaitsResults, Finishes, Watch, TakesKey, TakesResults, key_told, mark_told};
 ghost use Rattle.machine_commands.specs.Shown.{board_of};
 
-use crate::codes::{rate_bits, refusal};
+use crate::codes::refusal;
 use crate::machine::CommandedMachine;
-use crate::ports::{CCR, MSR, RESULTS_READY};
+use crate::ports::{MSR, RESULTS_READY};
 use drive_model::Drive;
-use flop_base::{Chrn, Code, Rate};
+use flop_base::{Chrn, Code};
 
 /// A data command ends within so many device steps.
 const LONGEST_COMMAND: u32 = 65_536;
@@ -50,19 +50,6 @@ pub(crate) fn mark_of(outcome: Result<Done, Code>) -> Result<bool, Code>
 }
 
 impl<D: Drive> CommandedMachine<D> {
-    /// Selects a bay and sets the data rate.
-    pub(crate) fn prepare(&mut self, bay: u8, rate: Rate)
-        requires { bay ≤ 1 }
-        ensures prepares { Prepares self.old.motors bay rate (board_of D.state self.old) (board_of D.state self.new) }
-        ensures motors { self.new.motors ≡ self.old.motors }
-    {
-        self.keep_counts();
-        self.keep_memory();
-        self.select(bay);
-        self.keep_ranges();
-        self.machine.outb(CCR, rate_bits(rate));
-    }
-
     /// Waits for the end of a data command, and takes its results.
     pub(crate) fn finish(&mut self) -> Result<Done, Code>
         ensures finishes { Finishes (board_of D.state self.old) result (board_of D.state self.new) }

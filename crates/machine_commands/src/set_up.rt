@@ -1,12 +1,15 @@
-// Reset and set-up.
-ghost use Rattle.std.specs.Prelude.{◌≡◌};
+// Reset, and what is set up before a data command.
+ghost use Rattle.std.specs.Prelude.{◌≡◌, ◌≤◌};
 ghost use Rattle.machine_commands.specs.Asked.{TakesPolls, Resets, none_on};
+ghost use Rattle.machine_commands.specs.Awaited.{Prepares};
 ghost use Rattle.machine_commands.specs.Shown.{board_of};
 
+use crate::codes::rate_bits;
 use crate::machine::CommandedMachine;
 use crate::motors::Motors;
 use crate::ports::{CCR, DOR};
 use drive_model::Drive;
+use flop_base::Rate;
 
 /// SPECIFY: step rate and head times, and DMA on.
 const SPECIFY: [u8; 3] = [0x03, 0xAF, 0x02];
@@ -46,5 +49,18 @@ impl<D: Drive> CommandedMachine<D> {
         let _ = self.sense_interrupt();
         let _ = self.sense_interrupt();
         let _ = self.sense_interrupt();
+    }
+
+    /// Selects a bay and sets the data rate.
+    pub(crate) fn prepare(&mut self, bay: u8, rate: Rate)
+        requires { bay ≤ 1 }
+        ensures prepares { Prepares self.old.motors bay rate (board_of D.state self.old) (board_of D.state self.new) }
+        ensures motors { self.new.motors ≡ self.old.motors }
+    {
+        self.keep_counts();
+        self.keep_memory();
+        self.select(bay);
+        self.keep_ranges();
+        self.machine.outb(CCR, rate_bits(rate));
     }
 }

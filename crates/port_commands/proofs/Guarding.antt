@@ -12,11 +12,14 @@ use Rattle.floppy_jobs.specs.Texts.{ports_of}
 use Rattle.floppy_jobs.specs.declared.ports.PortLine.{PortLine}
 use Rattle.floppy_jobs.specs.declared.ports.PortLine.TheVariants as line
 use Rattle.machine_pace.specs.Entries.{next_entry}
-use Rattle.machine_laws.proofs.OnWrites.Guards.{step_guards, runs_guard}
+use Rattle.machine_laws.specs.OnSteps.Steady.{regapped, Marching, Steady}
+use Rattle.machine_laws.specs.OnSteps.Moves.{read_from}
+use Rattle.machine_laws.proofs.OnSteps.Runs.{inputs, march_gap, march_wait, march_waits, outputs, wait}
+use Rattle.machine_laws.proofs.OnWrites.Guards.{guarding, step_guards}
 use Rattle.pc_bus.specs.Boards.{Board, drive_in}
 use Rattle.pc_bus.specs.Handling.{Touches}
-use Rattle.pc_bus.specs.Ports.{Inputs, Outputs}
-use Rattle.pc_bus.specs.Steps.{Runs, RunsUnset, Waits, stirred}
+use Rattle.pc_bus.specs.Ports.{Inputs, Outputs, RunsGap}
+use Rattle.pc_bus.specs.Steps.{Runs, Step, Waits, stirred}
 use Rattle.pc_bus.specs.declared.bus.Bus.{Bus}
 use Rattle.sector_model.specs.declared.reply.Reason.{Reason}
 use Rattle.sector_model.specs.declared.reply.Stop.{Stop}
@@ -27,24 +30,31 @@ use Rattle.port_commands.specs.Courses.{Taken, PortRun, waits_of, EndsBay, Store
 use Rattle.port_commands.specs.Guards.{SameMedia, ChangesWords, GuardsBay, GuardsLine, GuardsCourse, RunsPorts}
 use Rattle.port_commands.specs.Lines.{DoesLine, StopsAt, LoadsMedium, StoresMedium, IsRefused, insert_refusal, eject_refusal, waits_in}
 use Rattle.port_commands.specs.Plays.{World, PlaysLines, Played, Stopped, BrokenOff, EndStopped, IsIdle, PlaysParsed, Plays, There, Missing, TooLong, Faulty, Starved}
-use Rattle.port_commands.proofs.Named.{gapped, read_board, write_same}
+use Rattle.port_commands.proofs.Named.{write_same}
 use Rattle.port_commands.proofs.InRounds.{run_more, world_with}
 
 -- ---- words that change
 
-runs_change : (n : ℕ) (start old new : Board) → SameMedia start old → Runs n old new → ChangesWords n start new
-unfolding Runs ChangesWords
-runs_change zero start old new same runs = subst (SameMedia start) (sym runs) same
-runs_change (suc n) start old new same (between, runs, step) = (between, runs_change n start old between same runs, step_guards between new step)
+none_changed : (start now : Board) → SameMedia start now → ChangesWords 0 start now
+unfolding ChangesWords
+none_changed start now same = same
 
-unset_change : (n : ℕ) (start old new : Board) → SameMedia start old → RunsUnset n old new → ChangesWords n start new
-unfolding RunsUnset ChangesWords
-unset_change zero start old new same runs = subst (SameMedia start) (sym runs) same
-unset_change (suc n) start old new same (between, runs, unset, step) = (between, unset_change n start old between same runs, step_guards between new step)
+changed_step : (n : ℕ) (start old new : Board) → Step old new → ChangesWords n start old → ChangesWords (suc n) start new
+unfolding ChangesWords
+changed_step n start old new step was = (old, was, step_guards old new step)
+
+changed_idle : (n : ℕ) (start old : Board) (gaps : List ℕ) (fresh : Bool) → ChangesWords n start old → ChangesWords n start (regapped gaps fresh old)
+unfolding ChangesWords
+changed_idle zero start old gaps fresh same = record { first = same.first; second = same.second }
+changed_idle (suc n) start old gaps fresh (between, changes, guards) = (between, changes, record { first = guards.first; second = guards.second })
+
+changing : (start : Board) → Marching (λ n. ChangesWords n start)
+changing start = record { step = λ n. changed_step n start; idle = λ n. changed_idle n start }
 
 pub read_changes : (port value : ℕ) (old new : Board) → Inputs port old value new → ChangesWords (next_entry old.bus.gaps) old new
 read_changes port value old new inputs =
-    runs_change (next_entry old.bus.gaps) old (gapped (read_board port old)) new (record { first = refl; second = refl }) inputs.gap.runs
+    march_gap (λ n. ChangesWords n old) (changing old) (read_from port old) new inputs.gap
+    (none_changed old (read_from port old) (record { first = refl; second = refl }))
 
 gaps_same : (port value : ℕ) (old new : Board) (outputs : Outputs port value old new) → outputs.between.bus.gaps ≡ old.bus.gaps
 gaps_same port value old new outputs = ap (λ (bus : Bus). bus.gaps) outputs.writes.bus
@@ -52,16 +62,19 @@ gaps_same port value old new outputs = ap (λ (bus : Bus). bus.gaps) outputs.wri
 pub write_changes : (port value : ℕ) (old new : Board) → Outputs port value old new → ChangesWords (next_entry old.bus.gaps) old new
 write_changes port value old new outputs =
     let between = outputs.between in
-    let same = write_same port value old between outputs.writes in
     subst (λ gaps. ChangesWords (next_entry gaps) old new) (gaps_same port value old new outputs)
-    (runs_change (next_entry between.bus.gaps) old (gapped between) new (record { first = same.first; second = same.second }) outputs.gap.runs)
+    (march_gap (λ n. ChangesWords n old) (changing old) between new outputs.gap (none_changed old between (write_same port value old between outputs.writes)))
 
 pub wait_changes : (n : ℕ) (old new : Board) → Runs n (stirred old) new → ChangesWords n old new
-wait_changes n old new runs = runs_change n old (stirred old) new (record { first = refl; second = refl }) runs
+wait_changes n old new runs = march_wait (λ n. ChangesWords n old) (changing old) n old new runs (none_changed old old (record { first = refl; second = refl }))
 
 pub wait_irq_changes : (most : ℕ) (old new : Board) (set : Bool) → Waits most old set new → (n : ℕ) × (n ≤ most) × ChangesWords n old new
-wait_irq_changes most old new set waits =
-    (waits.steps, waits.within, unset_change waits.steps old (stirred old) new (record { first = refl; second = refl }) waits.runs)
+wait_irq_changes most old new set waits = (
+  waits.steps,
+  waits.within,
+  march_waits (λ n. ChangesWords n old) (changing old) most set old new waits
+      (none_changed old old (record { first = refl; second = refl })),
+)
 
 -- ---- a protected medium over a line
 
@@ -72,14 +85,23 @@ bay_same old new same bay = by_bay (bay == 0)
     by_bay true = same.first
     by_bay false = same.second
 
+-- device steps leave it
+abbrev KeepsBay : ℕ → Board → Board → Type 0
+KeepsBay bay old new = (drive_in new bay).medium ≡ (drive_in old bay).medium
+
+kept : (bay : ℕ) (old : Board) → is_protected (drive_in old bay).medium ≡ true → Steady (KeepsBay bay old)
+kept bay old covered = guarding bay (drive_in old bay).medium covered
+
 read_guards : (port value : ℕ) (old new : Board) → Inputs port old value new → (bay : ℕ) → GuardsBay bay old new
-read_guards port value old new inputs bay = runs_guard (next_entry old.bus.gaps) (gapped (read_board port old)) new inputs.gap.runs bay
+read_guards port value old new access bay covered = inputs (KeepsBay bay old) (kept bay old covered) port value old new refl access
 
 write_guards : (port value : ℕ) (old new : Board) → Outputs port value old new → (bay : ℕ) → GuardsBay bay old new
-write_guards port value old new outputs bay covered =
-    let between = outputs.between in
-    let same = bay_same old between (write_same port value old between outputs.writes) bay in
-    runs_guard (next_entry between.bus.gaps) (gapped between) new outputs.gap.runs bay (ap is_protected same ∙ covered) ∙ same
+write_guards port value old new access bay covered =
+    outputs (KeepsBay bay old) (kept bay old covered) port value old new
+    (λ between writes. bay_same old between (write_same port value old between writes) bay) access
+
+wait_guards : (n : ℕ) (old new : Board) → Runs n (stirred old) new → (bay : ℕ) → GuardsBay bay old new
+wait_guards n old new runs bay covered = wait (KeepsBay bay old) (kept bay old covered) n old new runs refl
 
 -- the other bay is the one that isn't touched
 other_same : (touched bay : ℕ) (old new : Board) → touched ≤ 1 → bay ≤ 1 → not (touched == bay) ≡ true → drive_in new (1 - touched) ≡ drive_in old (1 - touched) → drive_in new bay ≡ drive_in old bay
@@ -119,7 +141,7 @@ eject_guards old new touched said does = by_refusal (eject_refusal old.names tou
 line_guards : (old new : Bench) (asked : PortLine) (said : Answer) → DoesLine asked old said new → GuardsLine asked old new
 line_guards old new (line.In port) said (reads, keeps) = λ bay within leaves. read_guards port reads.value old.board new.board reads.inputs bay
 line_guards old new (line.Out port value) said (nothing, writes, keeps) = λ bay within leaves. write_guards port value old.board new.board writes bay
-line_guards old new (line.Wait steps) said (nothing, runs, keeps) = λ bay within leaves. runs_guard steps (stirred old.board) new.board runs bay
+line_guards old new (line.Wait steps) said (nothing, runs, keeps) = λ bay within leaves. wait_guards steps old.board new.board runs bay
 line_guards old new line.Irq said (latch, is, keeps) = λ bay within leaves covered. ap (λ (board : Board). (drive_in board bay).medium) is
 line_guards old new (line.Insert touched name) said does = insert_guards old new touched name said does
 line_guards old new (line.Eject touched) said does = eject_guards old new touched said does
@@ -139,24 +161,23 @@ rose_least n before after rose = omega (arith, rose)
 rose_twice : (n m a b c : ℕ) → RoseBy n a b → RoseBy m b c → RoseBy (n + m) a c
 rose_twice n m a b c one two = omega (arith, one, two)
 
-runs_rise : (n : ℕ) (old new : Board) → Runs n old new → RoseBy n old.bus.steps new.bus.steps
-unfolding Runs
-runs_rise zero old new same = rose_same old.bus.steps new.bus.steps (ap (λ (board : Board). board.bus.steps) same)
-runs_rise (suc n) old new (between, runs, step) =
-    let before = runs_rise n old between runs in
-    let one : new.bus.steps ≡ min (between.bus.steps + 1) last_count = ap (λ (bus : Bus). bus.steps) step.bus in
-    omega (arith, before, one)
+rising : (start : Board) → Marching (λ n board. RoseBy n start.bus.steps board.bus.steps)
+rising start = record {
+  step = λ n old new step before.
+      let one : new.bus.steps ≡ min (old.bus.steps + 1) last_count = ap (λ (bus : Bus). bus.steps) step.bus in
+      omega (arith, before, one);
+  idle = λ n old gaps fresh before. before;
+}
 
-read_rises : (port value : ℕ) (old new : Board) → Inputs port old value new → RoseBy 0 old.bus.steps new.bus.steps
-read_rises port value old new inputs =
-    rose_least (next_entry old.bus.gaps) old.bus.steps new.bus.steps (runs_rise (next_entry old.bus.gaps) (gapped (read_board port old)) new inputs.gap.runs)
+gap_rises : (between new : Board) → RunsGap between new → RoseBy 0 between.bus.steps new.bus.steps
+gap_rises between new gap =
+    rose_least (next_entry between.bus.gaps) between.bus.steps new.bus.steps
+    (march_gap (λ n board. RoseBy n between.bus.steps board.bus.steps) (rising between) between new gap (rose_same between.bus.steps between.bus.steps refl))
 
 write_rises : (port value : ℕ) (old new : Board) → Outputs port value old new → RoseBy 0 old.bus.steps new.bus.steps
 write_rises port value old new outputs =
-    let between = outputs.between in
-    let at : between.bus.steps ≡ old.bus.steps = ap (λ (bus : Bus). bus.steps) outputs.writes.bus in
-    let rose = runs_rise (next_entry between.bus.gaps) (gapped between) new outputs.gap.runs in
-    subst (λ n. RoseBy 0 n new.bus.steps) at (rose_least (next_entry between.bus.gaps) between.bus.steps new.bus.steps rose)
+    let at : outputs.between.bus.steps ≡ old.bus.steps = ap (λ (bus : Bus). bus.steps) outputs.writes.bus in
+    subst (λ n. RoseBy 0 n new.bus.steps) at (gap_rises outputs.between new outputs.gap)
 
 touched_steps : (bay : ℕ) (old new : Board) → Touches bay old new → new.bus.steps ≡ old.bus.steps
 touched_steps bay old new touches = ap (λ (bus : Bus). bus.steps) touches.bus
@@ -173,9 +194,10 @@ eject_rises old new bay said None (done, stores) = touched_steps bay old.board n
 eject_rises old new bay said (Some cause) refused = same_steps old new refused.same
 
 line_rises : (old new : Bench) (asked : PortLine) (said : Answer) → DoesLine asked old said new → RoseBy (waits_in asked) old.board.bus.steps new.board.bus.steps
-line_rises old new (line.In port) said (reads, keeps) = read_rises port reads.value old.board new.board reads.inputs
+line_rises old new (line.In port) said (reads, keeps) = gap_rises (read_from port old.board) new.board reads.inputs.gap
 line_rises old new (line.Out port value) said (nothing, writes, keeps) = write_rises port value old.board new.board writes
-line_rises old new (line.Wait steps) said (nothing, runs, keeps) = runs_rise steps (stirred old.board) new.board runs
+line_rises old new (line.Wait steps) said (nothing, runs, keeps) = march_wait (λ n board. RoseBy n old.board.bus.steps board.bus.steps)
+    (rising old.board) steps old.board new.board runs (rose_same old.board.bus.steps old.board.bus.steps refl)
 line_rises old new line.Irq said (latch, is, keeps) = rose_same old.board.bus.steps new.board.bus.steps (ap (λ (board : Board). board.bus.steps) is)
 line_rises old new (line.Insert bay name) said does = rose_same old.board.bus.steps new.board.bus.steps (insert_rises old new bay name said (insert_refusal old.names bay) does)
 line_rises old new (line.Eject bay) said does = rose_same old.board.bus.steps new.board.bus.steps (eject_rises old new bay said (eject_refusal old.names bay) does)

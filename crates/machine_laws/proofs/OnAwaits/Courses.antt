@@ -1,28 +1,44 @@
--- A command that writes, through device steps, waits, strays that are taken and reads of MSR.
+-- A data command, from its beginning until its end is told: through device steps, waits, strays that are taken and reads of MSR.
 use Rattle.std.proofs.Common.{◌≡◌, ◌⊎◌, inl, inr, ℕ, ◌+◌, ◌≤◌, Bool, true, false, min, if◌then◌else◌, refl, sym, ◌∙◌, ap, subst, arith}
 use Rattle.std.proofs.lemmas.Bool.{false≢true}
 use Rattle.flop_base.specs.Counts.{last_count, Rose}
 use Rattle.fdc_core.specs.Listening.{is_executing}
-use Rattle.fdc_core.specs.State.{asks, data_commands_of}
-use Rattle.fdc_core.specs.Waiting.{CanWait, Feeds}
-use Rattle.fdc_core.specs.declared.controller.Fdc.{Fdc}
-use Rattle.fdc_core.specs.declared.phases.Phase.TheVariants.{Command}
+use Rattle.fdc_core.specs.Ports.{takes_in}
+use Rattle.fdc_core.specs.State.{asks, data_commands_of, is_held}
+use Rattle.fdc_core.specs.declared.phases.Phase.{Phase}
+use Rattle.fdc_core.specs.declared.phases.Phase.TheVariants.{Command, Execute, Result}
+use Rattle.fdc_core.proofs.Feeding.{low_waits}
 use Rattle.machine_laws.specs.OnCounts.Counts.{CountsGoOn}
-use Rattle.machine_laws.specs.OnReads.Timely.{Stalled}
-use Rattle.machine_pace.specs.Entries.{next_entry}
+use Rattle.machine_laws.proofs.OnCounts.Counting.{counting, input_counts, output_counts}
+use Rattle.machine_laws.specs.OnQuiet.Quiet.{GoesQuietly, HoldsOn, Turned, only_listens}
+use Rattle.machine_laws.proofs.OnQuiet.Steps.{quietly, starts_quietly}
+use Rattle.machine_laws.proofs.OnReads.Beginnings.{begins_quietly}
+use Rattle.machine_laws.specs.OnReads.Scenes.{Scene}
+use Rattle.machine_laws.proofs.OnReads.EndCalls.{begins_prompt, inputs_prompt}
 use Rattle.machine_pace.specs.Holds.{Holds, counted, shown}
-use Rattle.machine_laws.proofs.OnReads.Accesses.{read_board}
 use Rattle.machine_laws.specs.OnWrites.Guards.{LeavesOthers}
 use Rattle.machine_laws.specs.OnWrites.Timely.{IsTimely, IsOnTime}
-use Rattle.machine_laws.proofs.OnWrites.Guards.{leaves_on, runs_leave, unset_leaves}
+use Rattle.machine_laws.proofs.OnReads.EndSteps.{prompting}
+use Rattle.machine_laws.proofs.OnWrites.Guards.{leaving}
+use Rattle.machine_laws.proofs.OnWrites.OnTime.{on_time}
+use Rattle.machine_laws.proofs.OnOrders.Heads.{begin_leaves}
+use Rattle.machine_laws.proofs.OnOrders.Punctual.{begins_on_time}
+use Rattle.machine_laws.specs.OnSteps.Moves.{read_from}
+use Rattle.machine_laws.specs.OnSteps.Stalls.{Stalled, Keeping}
+use Rattle.machine_laws.specs.OnSteps.Steady.{regapped, Steady}
+use Rattle.machine_laws.proofs.OnSteps.Runs.{from_start, inputs, wait, waits}
+use Rattle.machine_laws.proofs.OnSteps.Stalls.{gap_until, until_stalled}
+use Rattle.machine_laws.specs.OnOrders.Orders.{Order, Identify, Read, Write, CanBegin}
+use Rattle.machine_laws.proofs.OnOrders.Accesses.{begins, inputs_keep}
+use Rattle.machine_laws.proofs.OnOrders.Steps.{underway}
 use Rattle.machine_laws.specs.OnAwaits.Awaits.{IsAwaited, is_unread}
-use Rattle.machine_laws.specs.OnAwaits.Goes.{CountsOn, GoesOn}
-use Rattle.machine_laws.proofs.OnAwaits.Awaiting.{runs_await, waits_await, same_await}
-use Rattle.machine_laws.proofs.OnAwaits.Accesses.{input_awaits, stray_awaits}
+use Rattle.machine_laws.specs.OnAwaits.Goes.{CountsOn, GoesOn, InTime, Listens, StandsReady, with_one}
+use Rattle.machine_laws.proofs.OnAwaits.Awaiting.{awaiting}
+use Rattle.machine_laws.proofs.OnAwaits.Accesses.{begins_awaited, input_awaits, stray_awaits}
 use Rattle.pc_bus.specs.Boards.{Board, controller_of, holds_of}
 use Rattle.pc_bus.specs.Handling.{irq_taken}
-use Rattle.pc_bus.specs.Ports.{Inputs}
-use Rattle.pc_bus.specs.Steps.{Runs, RunsUnset, Waits, stirred}
+use Rattle.pc_bus.specs.Ports.{Inputs, Outputs}
+use Rattle.pc_bus.specs.Steps.{Runs, Waits, stirred}
 use Rattle.pc_bus.specs.declared.chips.Chips.{Chips}
 
 -- ---- the counts
@@ -41,18 +57,27 @@ counts_then a b c one two = record {
   direct = two.direct ∙ one.direct;
 }
 
+counted_if : (b : Bool) (before count : ℕ) → min before last_count ≤ count → min before last_count ≤ (if b then counted count else count)
+counted_if true before count is = omega arith
+counted_if false before count is = is
+
+-- ---- in time
+
+-- what each order is in its time
+timing : (order : Order) (scene : Scene) → Keeping (InTime order scene)
+timing Identify scene = record { step = λ old new step was. inl tt; idle = λ old gaps fresh was. tt }
+timing Read scene = prompting scene
+timing (Write laid) scene = on_time
+
 later : (a b c most : ℕ) → min a most ≤ b → min (b + 1) most ≤ c → min (a + 1) most ≤ c
 later a b c most one two = omega arith
 
 kept_up : (a b c most : ℕ) → min (a + 1) most ≤ b → min b most ≤ c → min (a + 1) most ≤ c
 kept_up a b c most one two = omega arith
 
--- ---- on time
-
 -- while MSR is read
-shown_ready : ((slack : ℕ) (fdc : Fdc) → Feeds fdc → CanWait slack fdc → asks fdc ≡ false → CanWait 9 fdc) → (chips : Chips) → IsTimely chips → (line : Bool) → asks chips.controller ≡ line
-    → IsTimely (record chips { holding = shown line chips.holding })
-shown_ready nine chips was true is = record {
+shown_ready : (chips : Chips) → IsTimely chips → (line : Bool) → asks chips.controller ≡ line → IsTimely (record chips { holding = shown line chips.holding })
+shown_ready chips was true is = record {
   slack = was.slack;
   filling = record {
     on = was.filling.on;
@@ -66,7 +91,7 @@ shown_ready nine chips was true is = record {
   };
   ready = was.ready;
 }
-shown_ready nine chips was false is = record {
+shown_ready chips was false is = record {
   slack = 9;
   filling = record {
     on = was.filling.on;
@@ -76,119 +101,163 @@ shown_ready nine chips was false is = record {
     rule = was.filling.rule;
     room = was.filling.room;
     granting = was.filling.granting;
-    waits = nine was.slack chips.controller
+    waits = low_waits was.slack chips.controller
         (record { before = chips.controller.asking; asks = was.filling.rule; gated = was.filling.gated; on = was.filling.on; threshold = was.filling.threshold }) was.filling.waits is;
   };
   ready = λ _. omega arith;
 }
 
--- the laws that this stands on
-pub record HasLaws : Type 0 where
-  pub nine : (slack : ℕ) (fdc : Fdc) → Feeds fdc → CanWait slack fdc → asks fdc ≡ false → CanWait 9 fdc
-  pub runs_time : (n : ℕ) (old new : Board) → Runs n old new → IsOnTime old → IsOnTime new ⊎ Stalled old new
-  pub unset_time : (n : ℕ) (old new : Board) → RunsUnset n old new → IsOnTime old → IsOnTime new ⊎ Stalled old new
-  pub wait_counts : (n : ℕ) (old new : Board) → Runs n (stirred old) new → CountsGoOn old new
-  pub waits_count : (most : ℕ) (set : Bool) (old new : Board) → Waits most old set new → CountsGoOn old new
-  pub read_counts : (port value : ℕ) (old new : Board) → Inputs port old value new → CountsGoOn old new
-
-status_time : HasLaws → (old : Board) → IsOnTime old → IsOnTime (read_board 0x3F4 old)
-status_time laws old was = record {
-  selects = was.selects;
-  punctual = record {
-    timely = λ busy. shown_ready laws.nine old.bus.chips (was.punctual.timely busy) (asks (controller_of old)) refl;
-    no_overrun = was.punctual.no_overrun;
-  };
-}
-
-stirred_time : (old : Board) → IsOnTime old → IsOnTime (stirred old)
-stirred_time old was = record { selects = was.selects; punctual = was.punctual }
-
 shown_stalls : (line : Bool) (holding : Holds) → (shown line holding).stalls ≡ holding.stalls
 shown_stalls true holding = refl
 shown_stalls false holding = refl
 
--- ---- a command
+status_in_time : (order : Order) (scene : Scene) (value : ℕ) (old new : Board) → Inputs 0x3F4 old value new → ((controller_of new).phase ≡ Command → ⊥) → InTime order scene old
+    → InTime order scene new ⊎ Stalled old new
+status_in_time Identify scene value old new access other was = inl tt
+status_in_time Read scene value old new access other was = elim (inputs_prompt 0x3F4 value old new access scene was) [
+  | inl on ↦ inl on
+  | inr (inl over) ↦ absurd (other over)
+  | inr (inr rose) ↦ inr rose
+]
+status_in_time (Write laid) scene value old new access other was = elim (gap_until IsOnTime on_time (read_from 0x3F4 old) new access.gap between) [
+  | inl on ↦ inl on
+  | inr rose ↦ inr (subst (λ stalls. Rose stalls (holds_of new).stalls) (shown_stalls (asks (controller_of old)) (holds_of old)) rose)
+]
+  where
+    between : IsOnTime (read_from 0x3F4 old)
+    between = record {
+      selects = was.selects;
+      punctual = record {
+        timely = λ busy. shown_ready old.bus.chips (was.punctual.timely busy) (asks (controller_of old)) refl;
+        no_overrun = was.punctual.no_overrun;
+      };
+    }
 
--- what is known of it goes on so: through device steps, and where chips and drives are the same
-pub record IsKept (Underway : Board → Type 0) : Type 0 where
-  pub runs : (n : ℕ) (old new : Board) → Runs n old new → Underway old → Underway new
-  pub unset : (n : ℕ) (old new : Board) → RunsUnset n old new → Underway old → Underway new
-  pub read : (port value : ℕ) (old new : Board) → Inputs port old value new → Underway old → Underway new ⊎ ((controller_of new).phase ≡ Command)
-  pub stirs : (old : Board) → Underway old → Underway (stirred old)
-  pub takes : (old : Board) → Underway old → Underway (record old { bus = irq_taken old.bus })
+taken_in_time : (order : Order) (scene : Scene) (old : Board) → InTime order scene old → InTime order scene (record old { bus = irq_taken old.bus })
+taken_in_time Identify scene old was = tt
+taken_in_time Read scene old (((past, is), punctual), soon) = (((past, record { scene_is = is.scene_is; chips = is.chips; drive = is.drive }), punctual), soon)
+taken_in_time (Write laid) scene old was = record { selects = was.selects; punctual = was.punctual }
 
-module _ (laws : HasLaws) (Underway : Board → Type 0) (kept : IsKept Underway) where
-  goes_then : (start old new : Board) → GoesOn Underway start old → Underway new → IsAwaited (counted (data_commands_of (controller_of start))) start new → LeavesOthers old new → CountsGoOn old new
-      → (IsOnTime old → IsOnTime new ⊎ Stalled old new) → GoesOn Underway start new
-  goes_then start old new was under awaited others counts on_time = record {
-    underway = under;
-    awaited = awaited;
-    others = leaves_on start old new was.others others;
-    counts = counts_then start old new was.counts counts;
-    in_time = elim was.in_time [
-      | inl time ↦ elim (on_time time) [
-        | inl now ↦ inl now
-        | inr rose ↦ inr (later _ _ _ last_count was.counts.stalls rose)
-      ]
-      | inr rose ↦ inr (kept_up _ _ _ last_count rose counts.stalls)
-    ];
-  }
+begins_in_time : (order : Order) (scene : Scene) (byte : ℕ) (old new : Board) → Outputs 0x3F5 byte old new → CanBegin order scene byte old → StandsReady old → InTime order scene new ⊎ Stalled old new
+begins_in_time Identify scene byte old new access can ready = inl tt
+begins_in_time Read scene byte old new access can ready = begins_prompt scene byte old new access can ready.on ready.threshold ready.out.gated
+begins_in_time (Write laid) scene byte old new access can ready = begins_on_time laid scene byte old new access can ready.on ready.threshold ready.out.gated ready.low
 
-  pub goes_runs : (n : ℕ) (start old new : Board) → Runs n (stirred old) new → GoesOn Underway start old → GoesOn Underway start new
-  goes_runs n start old new runs was =
-      let begun = counted (data_commands_of (controller_of start)) in
-      let others = runs_leave n (stirred old) new runs in
-      goes_then start old new was (kept.runs n (stirred old) new runs (kept.stirs old was.underway))
-      (runs_await n begun start (stirred old) new runs (same_await begun start old (stirred old) refl refl refl refl was.awaited))
-      (record { dor = others.dor; first = others.first; second = others.second }) (laws.wait_counts n old new runs)
-      (λ time. laws.runs_time n (stirred old) new runs (stirred_time old time))
+-- ---- the drives under a command that reads
 
-  pub goes_waits : (most : ℕ) (set : Bool) (start old new : Board) → Waits most old set new → GoesOn Underway start old → GoesOn Underway start new
-  goes_waits most set start old new waits was =
-      let begun = counted (data_commands_of (controller_of start)) in
-      let others = unset_leaves waits.steps (stirred old) new waits.runs in
-      goes_then start old new was (kept.unset waits.steps (stirred old) new waits.runs (kept.stirs old was.underway)) (waits_await most begun set start old new waits was.awaited)
-      (record { dor = others.dor; first = others.first; second = others.second }) (laws.waits_count most set old new waits)
-      (λ time. laws.unset_time waits.steps (stirred old) new waits.runs (stirred_time old time))
+listening : (order : Order) (begun : ℕ) (start : Board) → Steady (Listens order begun start)
+listening Identify begun start = quietly begun start
+listening Read begun start = quietly begun start
+listening (Write laid) begun start = record { step = λ old new step was. tt; idle = λ old gaps fresh was. tt }
 
-  -- an awaited command gives its results, or is in execution
-  not_over : (begun : ℕ) (start now : Board) → IsAwaited begun start now → (controller_of now).phase ≡ Command → ⊥
-  not_over begun start now awaited over = false≢true (sym (ap is_unread over) ∙ (awaited.ended (ap is_executing over)).unread)
+same_quietly : (begun : ℕ) (start old new : Board) → controller_of new ≡ controller_of old → new.first ≡ old.first → new.second ≡ old.second → new.bus.direct ≡ old.bus.direct
+    → GoesQuietly begun start old → GoesQuietly begun start new
+same_quietly begun start old new controller first second direct was = record {
+  controller = subst (HoldsOn begun (controller_of start)) (sym controller) was.controller;
+  drives = record {
+    first = subst (Turned start.first) (sym first) was.drives.first;
+    second = subst (Turned start.second) (sym second) was.drives.second;
+    direct = direct ∙ was.drives.direct;
+  };
+}
 
-  pub goes_status : (value : ℕ) (start old new : Board) → Inputs 0x3F4 old value new → GoesOn Underway start old → GoesOn Underway start new
-  goes_status value start old new access was =
-      let begun = counted (data_commands_of (controller_of start)) in
-      let between = read_board 0x3F4 old in
-      let n = next_entry old.bus.gaps in
-      let awaited = input_awaits begun 0x3F4 value start old new refl access was.awaited in
-      let under : Underway new = elim (kept.read 0x3F4 value old new access was.underway) [
+-- the same controller and drives
+listens_same : (order : Order) (begun : ℕ) (start old new : Board) → controller_of new ≡ controller_of old → new.first ≡ old.first → new.second ≡ old.second → new.bus.direct ≡ old.bus.direct
+    → Listens order begun start old → Listens order begun start new
+listens_same Identify begun start old new controller first second direct was = same_quietly begun start old new controller first second direct was
+listens_same Read begun start old new controller first second direct was = same_quietly begun start old new controller first second direct was
+listens_same (Write laid) begun start old new controller first second direct was = tt
+
+taking_listens : (phase : Phase) (held : Bool) → takes_in phase held ≡ true → only_listens phase ≡ true
+taking_listens Command held taking = refl
+taking_listens (Result answer) held taking = refl
+taking_listens (Execute execution) held taking = absurd (false≢true taking)
+
+begins_listening : (order : Order) (scene : Scene) (byte : ℕ) (old new : Board) → Outputs 0x3F5 byte old new → CanBegin order scene byte old → StandsReady old → Listens order (with_one old) old new
+begins_listening Identify scene byte old new access can ready =
+    begins_quietly Identify tt (data_commands_of (controller_of old)) old scene byte old new access can
+    (starts_quietly old (record { no_seek = ready.out.no_seek; listens = taking_listens (controller_of old).phase (is_held (controller_of old)) can.last.taking }))
+begins_listening Read scene byte old new access can ready =
+    begins_quietly Read tt (data_commands_of (controller_of old)) old scene byte old new access can
+    (starts_quietly old (record { no_seek = ready.out.no_seek; listens = taking_listens (controller_of old).phase (is_held (controller_of old)) can.last.taking }))
+begins_listening (Write laid) scene byte old new access can ready = tt
+
+-- ---- all of it
+
+pub goes_begins : (order : Order) (scene : Scene) (byte : ℕ) (old new : Board) → Outputs 0x3F5 byte old new → CanBegin order scene byte old → StandsReady old → GoesOn order scene old new
+goes_begins order scene byte old new access can ready = record {
+  underway = begins order scene byte old new access can;
+  awaited = begins_awaited order scene byte old new access can ready.out ready.hushed;
+  listens = begins_listening order scene byte old new access can ready;
+  others = begin_leaves order scene byte old new access can;
+  counts = counts_then old old new (counts_none old) (output_counts 0x3F5 byte old new access);
+  in_time = begins_in_time order scene byte old new access can ready;
+}
+
+pub going : (order : Order) (scene : Scene) (start : Board) → Steady (GoesOn order scene start)
+going order scene start = record {
+  step = λ old new step was. record {
+    underway = (underway order scene).step old new step was.underway;
+    awaited = (awaiting (with_one start) start).step old new step was.awaited;
+    listens = (listening order (with_one start) start).step old new step was.listens;
+    others = (from_start LeavesOthers leaving start).step old new step was.others;
+    counts = counts_then start old new was.counts (counting.step old new step);
+    in_time = ((until_stalled (InTime order scene) (timing order scene) start).step old new step (record { grows = was.counts.stalls; holds = was.in_time })).holds;
+  };
+  idle = λ old gaps fresh was. record {
+    underway = (underway order scene).idle old gaps fresh was.underway;
+    awaited = (awaiting (with_one start) start).idle old gaps fresh was.awaited;
+    listens = (listening order (with_one start) start).idle old gaps fresh was.listens;
+    others = (from_start LeavesOthers leaving start).idle old gaps fresh was.others;
+    counts = counts_then start old (regapped gaps fresh old) was.counts (counting.idle old gaps fresh);
+    in_time = ((until_stalled (InTime order scene) (timing order scene) start).idle old gaps fresh (record { grows = was.counts.stalls; holds = was.in_time })).holds;
+  };
+}
+
+pub goes_wait : (order : Order) (scene : Scene) (start : Board) (n : ℕ) (old new : Board) → Runs n (stirred old) new → GoesOn order scene start old → GoesOn order scene start new
+goes_wait order scene start = wait (GoesOn order scene start) (going order scene start)
+
+pub goes_waits : (order : Order) (scene : Scene) (start : Board) (most : ℕ) (set : Bool) (old new : Board) → Waits most old set new → GoesOn order scene start old → GoesOn order scene start new
+goes_waits order scene start = waits (GoesOn order scene start) (going order scene start)
+
+-- an awaited command gives its results, or is in execution
+not_over : (begun : ℕ) (start now : Board) → IsAwaited begun start now → (controller_of now).phase ≡ Command → ⊥
+not_over begun start now awaited over = false≢true (sym (ap is_unread over) ∙ (awaited.ended (ap is_executing over)).unread)
+
+pub goes_status : (order : Order) (scene : Scene) (start : Board) (value : ℕ) (old new : Board) → Inputs 0x3F4 old value new → GoesOn order scene start old → GoesOn order scene start new
+goes_status order scene start value old new access was =
+    let awaited = input_awaits (with_one start) 0x3F4 value start old new refl access was.awaited in
+    let counts = input_counts 0x3F4 value old new access in
+    record {
+      underway = elim (inputs_keep order scene 0x3F4 value old new access was.underway) [
         | inl now ↦ now
-        | inr over ↦ absurd (not_over begun start new awaited over)
-      ] in
-      goes_then start old new was under awaited
-      (leaves_on old between new (record { dor = refl; first = λ _. refl; second = λ _. refl }) (runs_leave n between new access.gap.runs)) (laws.read_counts 0x3F4 value old new access)
-      (λ time. elim (laws.runs_time n between new access.gap.runs (status_time laws old time)) [
-        | inl now ↦ inl now
-        | inr rose ↦ inr (subst (λ stalls. Rose stalls (holds_of new).stalls) (shown_stalls (asks (controller_of old)) (holds_of old)) rose)
-      ])
+        | inr over ↦ absurd (not_over (with_one start) start new awaited over)
+      ];
+      awaited = awaited;
+      listens = inputs (Listens order (with_one start) start) (listening order (with_one start) start) 0x3F4 value old new
+          (listens_same order (with_one start) start old (read_from 0x3F4 old) refl refl refl refl was.listens) access;
+      others = inputs (LeavesOthers start) (from_start LeavesOthers leaving start) 0x3F4 value old new
+          (record { dor = was.others.dor; first = was.others.first; second = was.others.second }) access;
+      counts = counts_then start old new was.counts counts;
+      in_time = elim was.in_time [
+        | inl time ↦ elim (status_in_time order scene value old new access (not_over (with_one start) start new awaited) time) [
+          | inl now ↦ inl now
+          | inr rose ↦ inr (later _ _ _ last_count was.counts.stalls rose)
+        ]
+        | inr rose ↦ inr (kept_up _ _ _ last_count rose counts.stalls)
+      ];
+    }
 
-  counted_if : (b : Bool) (before count : ℕ) → min before last_count ≤ count → min before last_count ≤ (if b then counted count else count)
-  counted_if true before count is = omega arith
-  counted_if false before count is = is
-
-  pub goes_stray : (start old : Board) → is_executing (controller_of old).phase ≡ true → GoesOn Underway start old → GoesOn Underway start (record old { bus = irq_taken old.bus })
-  goes_stray start old busy was = record {
-    underway = kept.takes old was.underway;
-    awaited = stray_awaits (counted (data_commands_of (controller_of start))) start old busy was.awaited;
-    others = record { dor = was.others.dor; first = was.others.first; second = was.others.second };
-    counts = record { stalls = was.counts.stalls; spent = was.counts.spent; taken = counted_if old.bus.latch.is_set start.bus.taken old.bus.taken was.counts.taken; direct = was.counts.direct };
-    in_time = elim was.in_time [
-      | inl time ↦ inl (record { selects = time.selects; punctual = time.punctual })
-      | inr rose ↦ inr rose
-    ];
-  }
-
-  pub goes_begins : (old new : Board) → Underway new → IsAwaited (counted (data_commands_of (controller_of old))) old new → LeavesOthers old new → CountsGoOn old new
-      → IsOnTime new ⊎ Stalled old new → GoesOn Underway old new
-  goes_begins old new under awaited others counts in_time =
-      record { underway = under; awaited = awaited; others = others; counts = counts_then old old new (counts_none old) counts; in_time = in_time }
+pub goes_stray : (order : Order) (scene : Scene) (start old : Board) → is_executing (controller_of old).phase ≡ true → GoesOn order scene start old
+    → GoesOn order scene start (record old { bus = irq_taken old.bus })
+goes_stray order scene start old busy was = record {
+  underway = let (past, is) = was.underway in (past, record { scene_is = is.scene_is; chips = is.chips; drive = is.drive });
+  awaited = stray_awaits (with_one start) start old busy was.awaited;
+  listens = listens_same order (with_one start) start old (record old { bus = irq_taken old.bus }) refl refl refl refl was.listens;
+  others = record { dor = was.others.dor; first = was.others.first; second = was.others.second };
+  counts = record { stalls = was.counts.stalls; spent = was.counts.spent; taken = counted_if old.bus.latch.is_set start.bus.taken old.bus.taken was.counts.taken; direct = was.counts.direct };
+  in_time = elim was.in_time [
+    | inl time ↦ inl (taken_in_time order scene old time)
+    | inr rose ↦ inr rose
+  ];
+}

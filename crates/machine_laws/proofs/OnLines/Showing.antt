@@ -1,29 +1,23 @@
 -- Change lines of empty drives, call by call.
-use Rattle.std.proofs.Common.{◌≡◌, inl, inr, ℕ, zero, suc, ◌≤◌, ◌/◌, ◌%◌, Bool, true, false, Option, Some, None, is_some, if◌then◌else◌, refl, sym, ◌∙◌, ap, subst, arith}
+use Rattle.std.proofs.Common.{◌≡◌, inl, inr, ℕ, zero, suc, ◌≤◌, Bool, true, false, Option, Some, None, is_some, if◌then◌else◌, refl, sym, ◌∙◌, ap, subst, arith}
 use Rattle.raw_image.specs.Disk.{Disk}
 use Rattle.drive_model.specs.Drive.{DriveState, Becomes, Pulses, loaded, unloaded}
-use Rattle.fdc_fifo.specs.Fifo.{Fifo}
-use Rattle.fdc_core.specs.Phases.{is_listening}
-use Rattle.fdc_core.specs.Steps.{polled, Moves, MovesIn, MovesTask}
-use Rattle.fdc_core.specs.Writes.{WritesIn, WritesTask}
+use Rattle.fdc_core.specs.Steps.{Moves}
 use Rattle.fdc_core.specs.declared.controller.Fdc.{Fdc}
-use Rattle.fdc_core.specs.declared.phases.Phase.{Phase}
-use Rattle.fdc_core.specs.declared.phases.Phase.TheVariants.{Command, Execute, Result as Answered}
-use Rattle.fdc_core.specs.declared.phases.Task.{Task}
-use Rattle.fdc_core.specs.declared.phases.Task.TheVariants.{ReadId, Read, Write, Format}
 use Rattle.irq_events.specs.declared.pace.Pace.{Pace}
-use Rattle.machine_pace.specs.Entries.{next_entry, rest_of}
-use Rattle.pc_bus.specs.Boards.{AreSetIfEmpty, Board, IsEmpty, IsNew, IsSetIfEmpty, controller_of, drive_in, selected_of}
+use Rattle.pc_bus.specs.Boards.{AreSetIfEmpty, Board, IsEmpty, IsNew, IsSetIfEmpty, controller_of, drive_in}
 use Rattle.pc_bus.specs.Calls.{AreCalled, IsCalled, ByEject, ByExchange, ByInb, ByInsert, ByOutb, ByRamSet, ByRefusal, ByTakeIrq, ByWait, ByWaitIrq}
 use Rattle.pc_bus.specs.Handling.{Touches, byte_set, irq_taken}
-use Rattle.pc_bus.specs.Ports.{FollowsMotor, FollowsWrite, Inputs, Outputs, WritesPort, port_read}
-use Rattle.pc_bus.specs.Steps.{Works, Step, Runs, RunsUnset, Waits, stirred}
+use Rattle.pc_bus.specs.Ports.{FollowsMotor, FollowsWrite, Inputs, Outputs, WritesPort}
+use Rattle.pc_bus.specs.Steps.{Step}
 use Rattle.pc_bus.specs.declared.bus.Bus.{Bus}
 use Rattle.pc_bus.proofs.Lines.{write_leaves}
 use Rattle.machine_laws.specs.OnAwaits.Awaits.{TurnsOn}
 use Rattle.machine_laws.proofs.OnAwaits.Turning.{on_let, on_time}
-use Rattle.machine_laws.proofs.OnReads.Steps.{polled_phase}
-use Rattle.machine_laws.proofs.OnWrites.Guards.{first_second_or_none}
+use Rattle.machine_laws.specs.OnSteps.Steady.{regapped, Steady}
+use Rattle.machine_laws.proofs.OnSteps.Runs.{inputs, outputs, wait, waits}
+use Rattle.machine_laws.proofs.OnSteps.Drives.{both}
+use Rattle.machine_laws.specs.OnSteps.Moves.{read_from}
 
 -- ---- a drive
 
@@ -63,72 +57,27 @@ leaves_moved None old new becomes = leaves_turned old new (on_let old new become
 leaves_moved (Some inward) old new (between, pulses, becomes) =
     leaves_on old between new (leaves_pulsed inward old between pulses) (leaves_turned between new (on_let between new becomes))
 
-by_task : (task : Task) (head_drive steps : ℕ) (asking : Bool) (fifo : Fifo) (polls : Fdc) (before after : DriveState) (new : Fdc) → MovesTask (is_listening task) before after
-    → WritesTask task head_drive steps asking fifo polls before after new → LeavesEmpty before after
-by_task (ReadId search) head_drive steps asking fifo polls before after new moves writes = leaves_moved None before after moves
-by_task (Read reading) head_drive steps asking fifo polls before after new moves writes = leaves_moved None before after moves
-by_task (Write writing) head_drive steps asking fifo polls before after new moves writes =
-    leaves_turned before after (on_time writes.step.does.time polls.rate (head_drive / 4 % 2) before after writes.step.does.is)
-by_task (Format formatting) head_drive steps asking fifo polls before after new moves writes =
-    leaves_turned before after (on_time writes.step.does.time polls.rate (head_drive / 4 % 2) before after writes.step.does.is)
-
-by_phase : (phase : Phase) (asking : Bool) (fifo : Fifo) (polls : Fdc) (before after : DriveState) (new : Fdc) → MovesIn phase polls before after
-    → WritesIn phase asking fifo polls before after new → LeavesEmpty before after
-by_phase Command asking fifo polls before after new moves writes = leaves_moved _ before after moves
-by_phase (Answered answer) asking fifo polls before after new moves writes = leaves_moved _ before after moves
-by_phase (Execute execution) asking fifo polls before after new moves writes =
-    by_task execution.task execution.head_drive execution.steps asking fifo polls before after new moves writes
-
-leaves_worked : (old : Fdc) (before : DriveState) (new : Fdc) (after : DriveState) → Works old before new after → LeavesEmpty before after
-leaves_worked old before new after works =
-    by_phase old.phase old.asking old.fifo (polled old) before after new
-    (subst (λ phase. MovesIn phase (polled old) before after) (polled_phase old) works.drive) works.writes
-
 -- ---- device steps
 
 lines_on : (old new : Board) → LeavesEmpty old.first new.first → LeavesEmpty old.second new.second → AreSetIfEmpty old → AreSetIfEmpty new
 lines_on old new first second was = record { first = set_on old.first new.first first was.first; second = set_on old.second new.second second was.second }
 
 pub step_lines : (old new : Board) → Step old new → AreSetIfEmpty old → AreSetIfEmpty new
-step_lines old new step = elim (first_second_or_none (selected_of old)) [
-  | inl at ↦ let (works, passes) = step.word_time.at_first at in
-      lines_on old new (leaves_worked (controller_of old) old.first step.between new.first works) (leaves_moved None old.second new.second passes)
-  | inr (inl at) ↦ let (works, passes) = step.word_time.at_second at in
-      lines_on old new (leaves_moved None old.first new.first passes) (leaves_worked (controller_of old) old.second step.between new.second works)
-  | inr (inr at) ↦ let (works, first, second) = step.word_time.at_none at in
-      lines_on old new (leaves_moved None old.first new.first first) (leaves_moved None old.second new.second second)
-]
+step_lines old new step =
+    let (first, second) = both LeavesEmpty leaves_moved
+    (λ time rate head before after is. leaves_turned before after (on_time time rate head before after is)) old new step in
+    lines_on old new first second
 
 lines_beside : (bus : Bus) (old : Board) → AreSetIfEmpty old → AreSetIfEmpty (record old { bus = bus })
 lines_beside bus old was = record { first = was.first; second = was.second }
 
-runs_lines : (n : ℕ) (old new : Board) → Runs n old new → AreSetIfEmpty old → AreSetIfEmpty new
-unfolding Runs
-runs_lines zero old new same was = subst AreSetIfEmpty (sym same) was
-runs_lines (suc n) old new (between, runs, step) was = step_lines between new step (runs_lines n old between runs was)
-
-unset_lines : (n : ℕ) (old new : Board) → RunsUnset n old new → AreSetIfEmpty old → AreSetIfEmpty new
-unfolding RunsUnset
-unset_lines zero old new same was = subst AreSetIfEmpty (sym same) was
-unset_lines (suc n) old new (between, runs, unset, step) was = step_lines between new step (unset_lines n old between runs was)
-
-wait_lines : (n : ℕ) (old new : Board) → Runs n (stirred old) new → AreSetIfEmpty old → AreSetIfEmpty new
-wait_lines n old new runs was = runs_lines n (stirred old) new runs (lines_beside (stirred old).bus old was)
-
-waits_lines : (most : ℕ) (set : Bool) (old new : Board) → Waits most old set new → AreSetIfEmpty old → AreSetIfEmpty new
-waits_lines most set old new waits was = unset_lines waits.steps (stirred old) new waits.runs (lines_beside (stirred old).bus old was)
+pub showing : Steady AreSetIfEmpty
+showing = record { step = step_lines; idle = λ old gaps fresh. lines_beside (regapped gaps fresh old).bus old }
 
 -- ---- port accesses
 
-abbrev gapped : Board → Board
-gapped old = record old { bus = record old.bus { gaps = rest_of old.bus.gaps } }
-
-abbrev read_board : ℕ → Board → Board
-read_board port old = record old { bus = record old.bus { chips = port_read port old.bus.chips; fresh = false } }
-
 input_lines : (port value : ℕ) (old new : Board) → Inputs port old value new → AreSetIfEmpty old → AreSetIfEmpty new
-input_lines port value old new access was =
-    runs_lines (next_entry old.bus.gaps) (gapped (read_board port old)) new access.gap.runs (lines_beside (gapped (read_board port old)).bus old was)
+input_lines port value old new access was = inputs AreSetIfEmpty showing port value old new (lines_beside (read_from port old).bus old was) access
 
 leaves_followed : (port value bay : ℕ) (controller : Fdc) (before after : DriveState) → FollowsWrite port value bay controller before after → LeavesEmpty before after
 leaves_followed port value bay controller before after follows = let (medium, change) = write_leaves follows in leaves_same before after medium change
@@ -140,9 +89,7 @@ written_lines port value old between writes =
 
 output_lines : (port value : ℕ) (old new : Board) → Outputs port value old new → AreSetIfEmpty old → AreSetIfEmpty new
 output_lines port value old new access was =
-    let between = access.between in
-    runs_lines (next_entry between.bus.gaps) (gapped between) new access.gap.runs
-    (lines_beside (gapped between).bus between (written_lines port value old between access.writes was))
+    outputs AreSetIfEmpty showing port value old new (λ between writes. written_lines port value old between writes was) access
 
 -- ---- media and drives
 
@@ -176,8 +123,8 @@ bus_lines bus old new is was = subst AreSetIfEmpty (sym is) (lines_beside bus ol
 pub call_lines : (old new : Board) → IsCalled old new → AreSetIfEmpty old → AreSetIfEmpty new
 call_lines old new (ByInb port value access) was = input_lines port value old new access was
 call_lines old new (ByOutb port value access) was = output_lines port value old new access was
-call_lines old new (ByWait steps runs) was = wait_lines steps old new runs was
-call_lines old new (ByWaitIrq most set waits) was = waits_lines most set old new waits was
+call_lines old new (ByWait steps runs) was = wait AreSetIfEmpty showing steps old new runs was
+call_lines old new (ByWaitIrq most set taken) was = waits AreSetIfEmpty showing most set old new taken was
 call_lines old new (ByTakeIrq is) was = bus_lines (irq_taken old.bus) old new is was
 call_lines old new (ByRamSet address value is) was = bus_lines (byte_set address value old.bus) old new is was
 call_lines old new (ByInsert bay medium small touches becomes) was = handled_lines bay old new small touches (put_set medium (drive_in old bay) (drive_in new bay) becomes) was

@@ -12,8 +12,9 @@ use Rattle.machine_laws.specs.OnWrites.Guards.{LeavesOthers}
 use Rattle.machine_laws.specs.OnWrites.Heads.{HasNoSeek, StaysStill}
 use Rattle.machine_laws.specs.OnOrders.Orders.{Window, Track, Order, Identify, Read, Write, IsLast, CanBegin}
 use Rattle.machine_laws.proofs.OnOrders.Beginning.{begun_at}
-use Rattle.machine_laws.proofs.OnWrites.Guards.{leaves_on, runs_leave}
-use Rattle.machine_laws.proofs.OnWrites.Stillness.{no_bits, runs_still, stays_further, still_same}
+use Rattle.machine_laws.proofs.OnWrites.Guards.{leaves_on, leaving}
+use Rattle.machine_laws.proofs.OnWrites.Stillness.{no_bits, stilling, still_same}
+use Rattle.machine_laws.proofs.OnSteps.Runs.{goes_runs, runs}
 
 -- the controller's seeks and its output register are as they were
 record KeepsSeeks (old new : Fdc) : Type 0 where
@@ -37,7 +38,7 @@ between_still byte old new access same was =
 begins_still : (byte : ℕ) (old new : Board) (access : Outputs 0x3F5 byte old new) → KeepsSeeks (controller_of old) (controller_of access.between) → HasNoSeek old → StaysStill old new
 begins_still byte old new access same was =
     let between = between_still byte old new access same was in
-    stays_further old (gapped access.between) new between (runs_still (next_entry access.between.bus.gaps) (gapped access.between) new access.gap.runs between.no_seek)
+    runs (StaysStill old) (stilling old) (next_entry access.between.bus.gaps) (gapped access.between) new access.gap.runs between
 
 begins_leaving : (byte : ℕ) (old new : Board) (access : Outputs 0x3F5 byte old new) → KeepsSeeks (controller_of old) (controller_of access.between) → LeavesOthers old new
 begins_leaving byte old new access same =
@@ -46,7 +47,7 @@ begins_leaving byte old new access same =
       first = λ _. ap (λ s. s.medium) (drive_stays access.writes.lines.first refl);
       second = λ _. ap (λ s. s.medium) (drive_stays access.writes.lines.second refl);
     } in
-    leaves_on old (gapped access.between) new between (runs_leave (next_entry access.between.bus.gaps) (gapped access.between) new access.gap.runs)
+    leaves_on old (gapped access.between) new between (goes_runs LeavesOthers leaving (next_entry access.between.bus.gaps) (gapped access.between) new access.gap.runs)
 
 -- so it is where a data command begins
 begin_keeps : (order : Order) (scene : Scene) (byte : ℕ) (old new : Board) (access : Outputs 0x3F5 byte old new) → CanBegin order scene byte old → KeepsSeeks (controller_of old) (controller_of access.between)

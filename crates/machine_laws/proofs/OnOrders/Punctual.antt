@@ -16,8 +16,7 @@ use Rattle.pc_bus.specs.Transfers.{shown_again}
 use Rattle.machine_laws.specs.OnReads.Scenes.{Scene}
 use Rattle.machine_laws.proofs.OnReads.Accesses.{gapped}
 use Rattle.machine_laws.specs.OnWrites.Timely.{fills_task, IsOnTime, IsPunctual}
-use Rattle.machine_laws.proofs.OnWrites.OnTime.{begun_punctual, runs_on_time}
-use Rattle.machine_laws.proofs.OnReads.Served.{served}
+use Rattle.machine_laws.proofs.OnWrites.OnTime.{begun_punctual, on_time}
 use Rattle.machine_laws.specs.OnOrders.Orders.{Laid, Window, Track, MayLayIn, IsSetFor, CanBegin}
 use Rattle.machine_laws.specs.OnOrders.Orders as order
 use Rattle.machine_laws.proofs.OnOrders.Beginning.{begun_at}
@@ -25,6 +24,7 @@ use Rattle.dma_8237.specs.Channel.{Channel, grants}
 use Rattle.fdc_fifo.specs.Fifo.{Fifo}
 use Rattle.fdc_stages.specs.History.{Past, begun as new_past}
 use Rattle.fdc_core.specs.declared.phases.Phase.TheVariants.{Execute}
+use Rattle.machine_laws.proofs.OnSteps.Stalls.{runs_until}
 
 -- it fills its FIFO from memory
 filling_task : (laid : Laid) (scene : Scene) (past : Past) (head_drive : ℕ) (task : Task) (asking : Bool) (fifo : Fifo)
@@ -56,7 +56,7 @@ begins_on_time laid scene byte old new access can on threshold gated low =
     let dor : dor_of (controller_of access.between) ≡ scene.dor = ap dor_of has.after ∙ can.dor in
     let selected : selected_of access.between ≡ scene.bay = ap (λ byte. byte % 4) dor ∙ can.scene_is.selects in
     let small = can.scene_is.bay in
-    elim (runs_on_time (λ most chips ruled few. (served most chips ruled few).falls) (next_entry access.between.bus.gaps) (gapped access.between) new access.gap.runs (record { selects = omega arith; punctual = punctual })) [
-      | inl on_time ↦ inl on_time
+    elim (runs_until IsOnTime on_time (next_entry access.between.bus.gaps) (gapped access.between) new access.gap.runs (record { selects = omega arith; punctual = punctual })) [
+      | inl still ↦ inl still
       | inr rose ↦ inr (subst (λ stalls. Rose stalls (holds_of new).stalls) same rose)
     ]

@@ -1,5 +1,5 @@
 -- A data command ends in time, whatever is done meanwhile.
-use Rattle.std.proofs.Common.{◌≡◌, ◌⊎◌, inl, inr, ℕ, suc, ◌+◌, ◌-◌, ◌<◌, ◌≤◌, ◌==◌, nat_le, min, Bool, true, false, Option, Some, None, List, [], ◌∷◌, ◌++◌, if◌then◌else◌, refl, sym, ◌∙◌, ap, subst, arith}
+use Rattle.std.proofs.Common.{◌≡◌, ◌⊎◌, inl, inr, ℕ, suc, ◌+◌, ◌-◌, ◌<◌, ◌≤◌, ◌==◌, nat_le, min, not, Bool, true, false, Option, Some, None, List, [], ◌∷◌, ◌++◌, if◌then◌else◌, bit_and, refl, sym, ◌∙◌, ap, subst, arith}
 use Rattle.std.proofs.lemmas.Bool.{false≢true}
 use Rattle.std.proofs.lemmas.Bool.Decides.{nat_tests}
 use Rattle.flop_base.specs.Counts.{last_count, Rose}
@@ -13,7 +13,7 @@ use Rattle.fdc_core.specs.Answers.{after_byte}
 use Rattle.fdc_core.specs.Commands.{BeginsData, Begins, Obeys, ObeysAtRest, TakesAs, sensing_by, answered}
 use Rattle.fdc_core.specs.Dma.{phase_told, taken_out, taken_in, to_memory_of}
 use Rattle.fdc_core.specs.Listening.{is_executing}
-use Rattle.fdc_core.specs.Ports.{dsr_resets, Writes, phase_after, takes_in, is_taking}
+use Rattle.fdc_core.specs.Ports.{Writes, phase_after, takes_in, is_taking}
 use Rattle.fdc_core.specs.Rates.{rate_chosen}
 use Rattle.fdc_core.specs.State.{data_commands_of, is_held, reset}
 use Rattle.fdc_core.specs.Steps.{polled, steps_left, EndsIn, RestsIn}
@@ -33,6 +33,7 @@ use Rattle.machine_laws.proofs.OnSteps.Acts.{Touches, at_controller}
 use Rattle.machine_laws.proofs.OnSteps.Moves.{lasts}
 use Rattle.machine_laws.proofs.OnSteps.Transfers.{after_step}
 use Rattle.machine_laws.proofs.OnSteps.Words.{controller}
+use Rattle.machine_laws.specs.OnSteps.Steady.{Marching}
 
 -- what is counted of a controller
 record Shows (left begun : ℕ) (fdc : Fdc) : Type 0 where
@@ -96,6 +97,22 @@ step_ticks old new step =
     (record { steps = refl; count = refl }) in
     let fewer = word.steps in let same = shows.steps in
     record { steps = omega arith; count = shows.count ∙ word.count }
+
+left_of : (p : Phase) → steps_left p ≡ turns_left p - 1
+left_of phase.Command = refl
+left_of (phase.Result answer) = refl
+left_of (phase.Execute execution) = omega arith
+
+-- a data command has fewer device steps left with each of them
+pub step_ends : (old new : Board) → Step old new → steps_left (controller_of new).phase ≤ steps_left (controller_of old).phase - 1
+step_ends old new step =
+    let fewer = (step_ticks old new step).steps in
+    let before = left_of (controller_of old).phase in
+    let after = left_of (controller_of new).phase in
+    omega arith
+
+pub ending : (start : Board) → Marching (λ n board. steps_left (controller_of board).phase ≤ steps_left (controller_of start).phase - n)
+ending start = record { step = λ n old new step was. let fewer = step_ends old new step in omega arith; idle = λ n old gaps fresh was. was }
 
 -- ---- the acts
 
@@ -197,9 +214,9 @@ writes_hold port value lines old new writes = by_port (port == 0x3F2) (port == 0
   where
     by_port : (a b c d : Bool) → (port == 0x3F2) ≡ a → (port == 0x3F4) ≡ b → (port == 0x3F5) ≡ c → (port == 0x3F7) ≡ d → Holds old new
     by_port true b c d p q r s = subst (Holds old) (sym (writes.output (port_is port 0x3F2 p))) (resets _ (record old { dor = record { 0 = value } }) old refl refl)
-    by_port false true c d p q r s = subst (Holds old) (sym (writes.select (port_is port 0x3F4 q))) (dsr (dsr_resets value))
+    by_port false true c d p q r s = subst (Holds old) (sym (writes.select (port_is port 0x3F4 q))) (dsr (bit_and value 0x80 == 0))
       where
-        dsr : (b : Bool) → Holds old (if b then reset (record old { rate = rate_chosen value }) else record old { rate = rate_chosen value })
+        dsr : (b : Bool) → Holds old (if not b then reset (record old { rate = rate_chosen value }) else record old { rate = rate_chosen value })
         dsr true = Holds.Same refl (omega arith)
         dsr false = Holds.Same refl (omega arith)
     by_port false false true d p q r s = sent value lines old new port (port_is port 0x3F5 r) writes

@@ -2,8 +2,9 @@
 use Rattle.std.proofs.Common.{ℕ, zero, suc, Bool, false, sym, subst}
 use Rattle.machine_pace.specs.Entries.{next_entry, rest_of}
 use Rattle.pc_bus.specs.Boards.{Board}
-use Rattle.pc_bus.specs.Ports.{port_read, WritesPort, RunsGap, Inputs, Outputs}
+use Rattle.pc_bus.specs.Ports.{WritesPort, RunsGap, Inputs, Outputs}
 use Rattle.pc_bus.specs.Steps.{Runs, RunsUnset, Waits, stirred}
+pub use Rattle.machine_laws.specs.OnSteps.Moves.{read_from}
 use Rattle.machine_laws.specs.OnSteps.Steady.{regapped, Marching, Steady, Progress}
 
 -- ---- the two inductions
@@ -53,10 +54,6 @@ waits P steady = march_waits (λ n. P) (marching P steady)
 
 pub gap : (P : Board → Type 0) → Steady P → (between new : Board) → RunsGap between new → P between → P new
 gap P steady = march_gap (λ n. P) (marching P steady)
-
--- a read of a port, before its gap
-abbrev pub read_from : ℕ → Board → Board
-read_from port old = record old { bus = record old.bus { chips = port_read port old.bus.chips; fresh = false } }
 
 pub inputs : (P : Board → Type 0) → Steady P → (port value : ℕ) (old new : Board) → P (read_from port old) → Inputs port old value new → P new
 inputs P steady port value old new was access = gap P steady (read_from port old) new access.gap was

@@ -1,5 +1,5 @@
 -- A seek ends in time, whatever is done meanwhile.
-use Rattle.std.proofs.Common.{◌≡◌, ℕ, zero, suc, ◌+◌, ◌-◌, ◌^◌, ◌≤◌, ◌==◌, ◌&&◌, nat_lt, nat_le, not, Bool, true, false, Option, Some, None, List, [], ◌∷◌, ◌++◌, if◌then◌else◌, refl, sym, ◌∙◌, ap, subst, arith}
+use Rattle.std.proofs.Common.{◌≡◌, ℕ, zero, suc, ◌+◌, ◌-◌, ◌^◌, ◌≤◌, ◌==◌, ◌&&◌, nat_lt, nat_le, not, Bool, true, false, Option, Some, None, List, [], ◌∷◌, ◌++◌, if◌then◌else◌, bit_and, refl, sym, ◌∙◌, ap, subst, arith}
 use Rattle.std.specs.Option.{option_map_or}
 use Rattle.std.proofs.lemmas.Bool.{false≢true}
 use Rattle.std.proofs.lemmas.Bool.Decides.{nat_tests}
@@ -16,7 +16,7 @@ use Rattle.fdc_core.specs.Answers.{after_byte}
 use Rattle.fdc_core.specs.Commands.{Obeys, TakesAs, sensing_by, answered}
 use Rattle.fdc_core.specs.Dma.{phase_told, taken_out, taken_in, to_memory_of}
 use Rattle.fdc_core.specs.Listening.{is_executing}
-use Rattle.fdc_core.specs.Ports.{dsr_resets, Writes, phase_after, is_taking}
+use Rattle.fdc_core.specs.Ports.{Writes, phase_after, is_taking}
 use Rattle.fdc_core.specs.Rates.{rate_chosen}
 use Rattle.fdc_core.specs.State.{reset}
 use Rattle.fdc_core.specs.Steps.{polled, RestsIn, seek_stepped}
@@ -220,13 +220,13 @@ resets false set old seeks idle = Goes_on.Same (ap (λ s. s.seek) seeks) idle
 writes_go : (port value : ℕ) (lines : Lines) (old new : Fdc) → is_executing old.phase ≡ false → is_seeking old.seeks ≡ true → Writes port value lines old new → Goes_on old new
 writes_go port value lines old new idle runs writes = by_port (port == 0x3F2) (port == 0x3F4) (port == 0x3F5) (port == 0x3F7) refl refl refl refl
   where
-    dsr : (b : Bool) → Goes_on old (if b then reset (record old { rate = rate_chosen value }) else record old { rate = rate_chosen value })
-    dsr true = Goes_on.Forgets refl
-    dsr false = Goes_on.Same refl idle
+    dsr : (b : Bool) → Goes_on old (if not b then reset (record old { rate = rate_chosen value }) else record old { rate = rate_chosen value })
+    dsr true = Goes_on.Same refl idle
+    dsr false = Goes_on.Forgets refl
 
     by_port : (a b c d : Bool) → (port == 0x3F2) ≡ a → (port == 0x3F4) ≡ b → (port == 0x3F5) ≡ c → (port == 0x3F7) ≡ d → Goes_on old new
     by_port true b c d p q r s = subst (Goes_on old) (sym (writes.output (port_is port 0x3F2 p))) (resets _ (record old { dor = record { 0 = value } }) old refl idle)
-    by_port false true c d p q r s = subst (Goes_on old) (sym (writes.select (port_is port 0x3F4 q))) (dsr (dsr_resets value))
+    by_port false true c d p q r s = subst (Goes_on old) (sym (writes.select (port_is port 0x3F4 q))) (dsr (bit_and value 0x80 == 0))
     by_port false false true d p q r s = sent value lines old new idle runs port (port_is port 0x3F5 r) writes
     by_port false false false true p q r s = subst (Goes_on old) (sym (writes.control (port_is port 0x3F7 s))) (Goes_on.Same refl idle)
     by_port false false false false p q r s = same_fdc old new idle (writes.others p q r s)

@@ -1,20 +1,19 @@
 -- What holds until a stall is counted.
 use Rattle.std.proofs.Common.{◌≡◌, ◌⊎◌, inl, inr, ℕ, nat_lt, Bool, true, false, if◌then◌else◌, refl, sym, ◌∙◌, ap, subst, arith}
-use Rattle.dma_8237.specs.Channel.{grants}
 use Rattle.fdc_core.specs.Dma.{to_memory_of}
 use Rattle.machine_pace.specs.Entries.{next_entry}
-use Rattle.machine_pace.specs.Holds.{Holds, is_due, looked, waited, shown, counted}
+use Rattle.machine_pace.specs.Holds.{Holds, looked, waited, shown, counted}
 use Rattle.machine_pace.specs.declared.holding.Request.{Request}
 use Rattle.machine_pace.specs.declared.holding.Request.TheVariants.{Low, High}
 use Rattle.pc_bus.specs.Boards.{Board, holds_of}
 use Rattle.pc_bus.specs.Ports.{RunsGap}
 use Rattle.pc_bus.specs.Steps.{Step, Runs, Waits}
-use Rattle.pc_bus.specs.Transfers.{moved, moved_to_memory, moved_from_memory, moved_up_to, looked_at, shown_again, granted, dma_stepped}
+use Rattle.pc_bus.specs.Transfers.{moved, moved_to_memory, moved_from_memory, moved_up_to, looked_at, dma_stepped}
 use Rattle.pc_bus.specs.declared.chips.Chips.{Chips}
 use Rattle.machine_laws.specs.OnSteps.Steady.{Steady}
 use Rattle.machine_laws.specs.OnSteps.Stalls.{Stalled, Grows, UntilStalled, Keeping}
 use Rattle.machine_laws.proofs.OnSteps.Runs.{runs, waits, gap}
-use Rattle.machine_laws.proofs.OnSteps.Transfers.{up_to}
+use Rattle.machine_laws.proofs.OnSteps.Transfers.{by_request, up_to}
 
 -- no transfer changes the holds
 holding_moved : (holding : Holds) (chips : Chips) → chips.holding ≡ holding → (moved chips).holding ≡ holding
@@ -28,18 +27,18 @@ holding_moved holding chips is = by_way (to_memory_of chips.controller)
 pub up_to_holding : (n : ℕ) (chips : Chips) → (moved_up_to n chips).holding ≡ chips.holding
 up_to_holding n chips = up_to (λ c. c.holding ≡ chips.holding) (holding_moved chips.holding) n chips refl
 
-shown_stalls : (line : Bool) (holding : Holds) → (shown line holding).stalls ≡ holding.stalls
+pub shown_stalls : (line : Bool) (holding : Holds) → (shown line holding).stalls ≡ holding.stalls
 shown_stalls true holding = refl
 shown_stalls false holding = refl
 
+-- a request that is low stays so
+pub shown_low : (line : Bool) (holding : Holds) → holding.request ≡ Low → (shown line holding).request ≡ Low
+shown_low true holding is = is
+shown_low false holding is = refl
+
 pub dma_stalls : (chips : Chips) → (dma_stepped chips).holding.stalls ≡ (looked_at chips).holding.stalls
-unfolding dma_stepped granted
-dma_stalls chips = by_due (is_due (looked_at chips).holding.request) (grants chips.channel)
-  where
-    by_due : (due granting : Bool) → (if due then (if granting then shown_again (moved_up_to 16 (looked_at chips)) else looked_at chips) else looked_at chips).holding.stalls ≡ (looked_at chips).holding.stalls
-    by_due true true = shown_stalls _ (moved_up_to 16 (looked_at chips)).holding ∙ ap (λ (h : Holds). h.stalls) (up_to_holding 16 (looked_at chips))
-    by_due true false = refl
-    by_due false granting = refl
+dma_stalls chips = by_request (λ c. c.holding.stalls ≡ (looked_at chips).holding.stalls) chips (λ _. refl) (λ _. refl)
+    (λ _. shown_stalls _ (moved_up_to 16 (looked_at chips)).holding ∙ ap (λ (h : Holds). h.stalls) (up_to_holding 16 (looked_at chips)))
 
 taken_grows : (b : Bool) (stalls : ℕ) → Grows stalls (if b then counted stalls else stalls)
 taken_grows true stalls = omega arith

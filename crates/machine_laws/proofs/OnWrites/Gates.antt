@@ -1,6 +1,6 @@
 -- The write gates, step by step.
-use Rattle.std.proofs.Common.{◌≡◌, ◌⊎◌, inl, inr, ℕ, zero, suc, ◌+◌, ◌<◌, ◌/◌, ◌%◌, ◌&&◌, not, Bool, true, false, Option, Some, None, if◌then◌else◌, refl, sym, ◌∙◌, ap, subst, arith}
-use Rattle.std.proofs.lemmas.Bool.{false≢true}
+use Rattle.std.proofs.Common.{◌≡◌, ◌⊎◌, inl, inr, ℕ, ◌+◌, ◌<◌, ◌/◌, ◌%◌, ◌&&◌, not, Bool, true, false, Option, Some, None, if◌then◌else◌, refl, sym, ◌∙◌, ap, subst}
+use Rattle.std.proofs.lemmas.Bool.{and_parts, false≢true}
 use Rattle.drive_model.specs.Drive.{DriveState, Writes, at_speed, can_write, rewritten}
 use Rattle.fdc_fifo.specs.Fifo.{Fifo}
 use Rattle.fdc_writing.specs.declared.formatting.FormatNext.{FormatNext}
@@ -23,12 +23,14 @@ use Rattle.fdc_core.specs.declared.rates.DataRate.{DataRate}
 use Rattle.fdc_core.specs.declared.transfers.Formatting.{Formatting}
 use Rattle.fdc_core.specs.declared.transfers.Writing.{Writing}
 use Rattle.pc_bus.specs.Boards.{Board, controller_of, selected_of}
-use Rattle.pc_bus.specs.Steps.{Passes, Works, Step, Runs, RunsUnset}
+use Rattle.pc_bus.specs.Steps.{Works, Step}
 use Rattle.machine_laws.specs.OnWrites.Guards.{GatesDrives, HoldsGates, IsGated, IsGateOf, IsGivenWord, MakesTask, MakesTime, PassesClosed, is_recording}
 use Rattle.machine_laws.proofs.OnQuiet.Steps.{listens_told}
-use Rattle.machine_laws.proofs.OnReads.Steps.{polled_phase}
-use Rattle.machine_laws.proofs.OnWrites.Guards.{closes_same, first_second_or_none, moves_same, opens_same, step_leaves}
+use Rattle.machine_laws.proofs.OnWrites.Guards.{closes_same, moves_same, opens_same, step_leaves}
 use Rattle.machine_laws.proofs.OnWrites.Kept.{dma_controller}
+use Rattle.machine_laws.specs.OnSteps.Steady.{Marching}
+use Rattle.machine_laws.proofs.OnSteps.Controllers.{polled_phase}
+use Rattle.machine_laws.proofs.OnSteps.Words.{bays}
 
 -- ---- a drive
 
@@ -45,18 +47,10 @@ moves_closed (Some inward) before after (between, pulses, becomes) = record {
 not_closed : (drive : DriveState) → drive.gate ≡ false → drive.gate ≡ true → ⊥
 not_closed drive closed on = false≢true (sym closed ∙ on)
 
-second_true : (a b : Bool) → (a && b) ≡ true → b ≡ true
-second_true true b h = h
-second_true false b h = absurd cc
-
-first_true : (a b : Bool) → (a && b) ≡ true → a ≡ true
-first_true true b h = refl
-first_true false b h = absurd cc
-
 -- a word is recorded through an open gate
 recorded : (from : DriveState) (head word : ℕ) (can : Bool) → can_write from ≡ can
     → ((if can then rewritten from.medium from.cylinder head from.place word else from.medium) ≡ from.medium) ⊎ (from.gate ≡ true)
-recorded from head word true can = inr (first_true from.gate (not from.cut) (second_true (at_speed from) (from.gate && not from.cut) can))
+recorded from head word true can = inr ((and_parts from.gate (not from.cut) (and_parts (at_speed from) (from.gate && not from.cut) can).1).0)
 recorded from head word false can = inl refl
 
 writes_gated : (from mid : DriveState) (head word : ℕ) → Writes head word from mid → (mid.medium ≡ from.medium) ⊎ (from.gate ≡ true)
@@ -197,30 +191,18 @@ given_word old new before after given = record {
   gate = given.gate;
 }
 
-selected_gated : (old : Board) (bay : ℕ) (before : DriveState) (new : Fdc) (after : DriveState) → selected_of old ≡ bay → Works (controller_of old) before new after → IsGated old bay before after
-selected_gated old bay before new after at works = elim (works_gate (controller_of old) before new after works).time [
+selected_gated : (old : Board) (new : Fdc) (bay : ℕ) (before after : DriveState) → selected_of old ≡ bay → Works (controller_of old) before new after
+    → IsGated old bay before after
+selected_gated old new bay before after at works = elim (works_gate (controller_of old) before new after works).time [
   | inl closed ↦ inl closed
   | inr (records, given) ↦ inr (at, records, given_word (controller_of old) new before after given)
 ]
 
-passes_closed : (before after : DriveState) → Passes before after → PassesClosed before after
-passes_closed before after passes = moves_closed None before after passes
-
 pub step_gates : (old new : Board) → Step old new → GatesDrives old new
-step_gates old new step = elim (first_second_or_none (selected_of old)) [
-  | inl at ↦ let (works, passes) = step.word_time.at_first at in record {
-    first = selected_gated old 0 old.first step.between new.first at works;
-    second = inl (passes_closed old.second new.second passes);
-  }
-  | inr (inl at) ↦ let (works, passes) = step.word_time.at_second at in record {
-    first = inl (passes_closed old.first new.first passes);
-    second = selected_gated old 1 old.second step.between new.second at works;
-  }
-  | inr (inr at) ↦ let (works, first, second) = step.word_time.at_none at in record {
-    first = inl (passes_closed old.first new.first first);
-    second = inl (passes_closed old.second new.second second);
-  }
-]
+step_gates old new step =
+    let (first, second) = bays (IsGated old) old new step (selected_gated old step.between)
+    (λ bay before after passes. inl (moves_closed None before after passes)) in
+    record { first = first; second = second }
 
 -- ---- behind a device step
 
@@ -230,33 +212,17 @@ recording_after old new step is =
     ap (λ bus. is_recording bus.chips.controller.phase) step.bus
     ∙ dma_controller (λ fdc. is_recording fdc.phase) (λ fdc. ap not (listens_told fdc.phase)) (λ fdc. refl) (λ byte fdc. refl) true (record old.bus.chips { controller = step.between }) is
 
-gate_of_none : (board : Board) (bay : ℕ) (before after : DriveState) → Passes before after → IsGateOf board bay after
-gate_of_none board bay before after passes on = absurd (not_closed after (passes_closed before after passes).gate on)
-
 step_holds : (old new : Board) → Step old new → HoldsGates new
 step_holds old new step =
     let same : selected_of new ≡ selected_of old = ap (λ byte. byte % 4) (step_leaves old new step).dor in
-    elim (first_second_or_none (selected_of old)) [
-      | inl at ↦ let (works, passes) = step.word_time.at_first at in record {
-        first = λ on. (same ∙ at, recording_after old new step ((works_gate (controller_of old) old.first step.between new.first works).goes_on on));
-        second = gate_of_none new 1 old.second new.second passes;
-      }
-      | inr (inl at) ↦ let (works, passes) = step.word_time.at_second at in record {
-        first = gate_of_none new 0 old.first new.first passes;
-        second = λ on. (same ∙ at, recording_after old new step ((works_gate (controller_of old) old.second step.between new.second works).goes_on on));
-      }
-      | inr (inr at) ↦ let (works, first, second) = step.word_time.at_none at in record {
-        first = gate_of_none new 0 old.first new.first first;
-        second = gate_of_none new 1 old.second new.second second;
-      }
-    ]
+    let (first, second) = bays (λ bay before. IsGateOf new bay) old new step
+    (λ bay before after at works on. (same ∙ at, recording_after old new step ((works_gate (controller_of old) before step.between after works).goes_on on)))
+    (λ bay before after passes on. absurd (not_closed after (moves_closed None before after passes).gate on)) in
+    record { first = first; second = second }
 
-pub runs_gate : (n : ℕ) (old new : Board) → 0 < n → Runs n old new → HoldsGates new
-unfolding Runs
-runs_gate zero old new wrong same = absurd (omega arith)
-runs_gate (suc n) old new some (between, runs, step) = step_holds between new step
-
-pub unset_gates : (n : ℕ) (old new : Board) → 0 < n → RunsUnset n old new → HoldsGates new
-unfolding RunsUnset
-unset_gates zero old new wrong same = absurd (omega arith)
-unset_gates (suc n) old new some (between, runs, unset, step) = step_holds between new step
+-- and behind each further one
+pub gating : Marching (λ n board. 0 < n → HoldsGates board)
+gating = record {
+  step = λ n old new step was some. step_holds old new step;
+  idle = λ n old gaps fresh was some. let held = was some in record { first = held.first; second = held.second };
+}

@@ -1,26 +1,22 @@
 -- A command that takes bytes from memory, on time through device steps.
-use Rattle.std.proofs.Common.{◌≡◌, ◌⊎◌, inl, inr, ℕ, zero, suc, ◌+◌, ◌-◌, ◌%◌, ◌≤◌, min, ◌==◌, ◌&&◌, not, nat_lt, Bool, true, false, length, if◌then◌else◌, refl, sym, ◌∙◌, ap, subst, arith, bit_and}
+use Rattle.std.proofs.Common.{◌≡◌, ◌⊎◌, inl, inr, ℕ, ◌+◌, ◌-◌, ◌%◌, ◌≤◌, ◌==◌, Bool, true, false, length, if◌then◌else◌, refl, sym, ◌∙◌, ap, subst, arith}
 use Rattle.std.proofs.lemmas.Bool.{false≢true}
-use Rattle.std.proofs.lemmas.Bool.Decides.{nat_tests}
 use Rattle.std.proofs.lemmas.List.{length-drop}
-use Rattle.flop_base.specs.Counts.{last_count, Rose}
+use Rattle.flop_base.specs.Counts.{Rose}
 use Rattle.drive_model.specs.Drive.{DriveState}
 use Rattle.dma_8237.specs.Channel.{grants}
 use Rattle.fdc_fifo.specs.Fifo.{Fifo, emptied, room_of}
-use Rattle.fdc_registers.specs.Dor.{gate}
-use Rattle.fdc_registers.specs.declared.drive_lines.Dor.{Dor}
-use Rattle.fdc_seek.specs.Seeking.{with_polls}
 use Rattle.fdc_writing.specs.declared.formatting.FormatNext.{FormatNext}
 use Rattle.fdc_writing.specs.declared.formatting.FormatNext.TheVariants as format_next
 use Rattle.fdc_writing.specs.declared.writing.WriteNext.{WriteNext}
 use Rattle.fdc_writing.specs.declared.writing.WriteNext.TheVariants as write_next
 use Rattle.fdc_core.specs.Commands.{WaitsAtFirst, begun}
-use Rattle.fdc_core.specs.Dma.{asked, phase_asks, phase_told}
+use Rattle.fdc_core.specs.Dma.{asked}
 use Rattle.fdc_core.specs.Formatting.{FormatDoes, after_laid}
 use Rattle.fdc_core.specs.Listening.{is_executing}
 use Rattle.fdc_core.specs.Phases.{is_overrun, is_reading}
-use Rattle.fdc_core.specs.State.{asks, is_gated, is_held}
-use Rattle.fdc_core.specs.Steps.{polled, RestsIn, FlowsIn}
+use Rattle.fdc_core.specs.State.{asks, is_gated}
+use Rattle.fdc_core.specs.Steps.{polled}
 use Rattle.fdc_core.specs.Times.{WordTime, Saw, KeptOut, Wrote, Stopped}
 use Rattle.fdc_core.specs.Waiting.{Lasts, LastsIn, PhaseWaits, phase_counted}
 use Rattle.fdc_core.specs.Writes.{WritesIn, WritesTask}
@@ -32,31 +28,29 @@ use Rattle.fdc_core.specs.declared.phases.Task.{Task}
 use Rattle.fdc_core.specs.declared.phases.Task.TheVariants.{ReadId, Read, Write, Format}
 use Rattle.fdc_core.specs.declared.transfers.Formatting.{Formatting}
 use Rattle.fdc_core.specs.declared.transfers.Writing.{Writing}
-use Rattle.machine_pace.specs.Entries.{next_entry}
-use Rattle.machine_pace.specs.Holds.{Holds, IsInTime, IsReady, counted, is_due, looked, shown, waited}
+use Rattle.machine_pace.specs.Holds.{IsInTime, IsReady, looked}
 use Rattle.machine_pace.specs.declared.holding.Request.{Request}
-use Rattle.machine_pace.specs.declared.holding.Request.TheVariants.{Low, High}
+use Rattle.machine_pace.specs.declared.holding.Request.TheVariants.{Low}
 use Rattle.machine_pace.proofs.InTime.{in_time}
-use Rattle.machine_laws.specs.OnReads.Served.{IsRuled, moves_left}
-use Rattle.machine_laws.specs.OnReads.Timely.{Stalled}
-use Rattle.pc_bus.specs.Boards.{Board, holds_of, selected_of}
-use Rattle.pc_bus.specs.Steps.{Works, Step, Runs, RunsUnset}
-use Rattle.pc_bus.specs.Transfers.{can_move, moved, moved_from_memory, moved_to_memory, moved_up_to, looked_at, shown_again, granted, dma_stepped}
+use Rattle.machine_laws.specs.OnReads.Served.{IsRuled}
+use Rattle.machine_laws.specs.OnSteps.Stalls.{Stalled}
+use Rattle.pc_bus.specs.Boards.{drive_in, Board, selected_of}
+use Rattle.pc_bus.specs.Steps.{Works, Step}
+use Rattle.pc_bus.specs.Transfers.{can_move, moved_up_to, looked_at, shown_again, dma_stepped}
 use Rattle.pc_bus.specs.declared.chips.Chips.{Chips}
-use Rattle.machine_laws.proofs.OnReads.Steps.{polled_phase}
 use Rattle.machine_laws.specs.OnWrites.Timely.{fills, fills_task, IsFilling, IsTimely, IsPunctual, IsOnTime}
 use Rattle.machine_laws.proofs.OnWrites.Filling.{counted_waits, filling_held, filling_low, filling_moved, not_reading, rule_again, ruled_by}
-use Rattle.machine_laws.proofs.OnWrites.Guards.{first_second_or_none, step_leaves}
-use Rattle.machine_laws.proofs.OnWrites.Kept.{dma_controller, up_to_keeps}
+use Rattle.machine_laws.proofs.OnWrites.Guards.{step_leaves}
+use Rattle.machine_laws.specs.OnSteps.Stalls.{Keeping, Stalled}
+use Rattle.machine_laws.proofs.OnSteps.Words.{some_drive}
+use Rattle.machine_laws.proofs.OnSteps.Transfers.{by_request, up_to}
+use Rattle.machine_laws.proofs.OnSteps.Controllers.{dma_executing, dma_overrun, gated_same, polled_fifo}
+use Rattle.machine_laws.proofs.OnSteps.Stalls.{dma_stalls, shown_low}
+use Rattle.machine_laws.proofs.OnQuiet.Standing.{rested}
+use Rattle.machine_laws.proofs.OnReads.Served.{served}
+use Rattle.machine_laws.proofs.OnReads.Timely.{first_low, flows_in, not_due, ready_low, ready_one}
 
 -- ---- the word time
-
-polled_fifo : (old : Fdc) → (polled old).fifo ≡ old.fifo
-polled_fifo old = by_poll (old.poll_due && not (is_held old))
-  where
-    by_poll : (b : Bool) → (if b then record old { poll_due = false; interrupt = true; seeks = with_polls old.seeks } else old).fifo ≡ old.fifo
-    by_poll true = refl
-    by_poll false = refl
 
 -- behind it the command goes on with no more bytes in the FIFO, or it is over
 pub record GoesOnFilling (fifo : Fifo) (new : Fdc) : Type 0 where
@@ -110,75 +104,28 @@ phase_fills (Execute execution) asking fifo polls before after new is writes = t
 
 -- ---- the request
 
-positive : (n : ℕ) → (n == 0) ≡ false → 1 ≤ n
-positive n h = grind (arith, nat_tests)
-
-ready_one : (request : Request) (slack : ℕ) → IsReady request slack → 1 ≤ slack
-ready_one Low slack enough = omega arith
-ready_one (High left) slack enough = let some = enough.0 in let all = enough.1 in omega arith
-
-not_due : (request : Request) (slack : ℕ) → IsInTime request slack → is_due request ≡ false → IsReady request slack
-not_due Low slack enough due = enough
-not_due (High left) slack enough due = (positive left due, enough)
-
-ready_low : (line : Bool) (holding : Holds) → line ≡ false → IsReady (shown line holding).request 9
-ready_low true holding low = absurd (false≢true (sym low))
-ready_low false holding low = omega arith
-
-shown_stalls : (line : Bool) (holding : Holds) → (shown line holding).stalls ≡ holding.stalls
-shown_stalls true holding = refl
-shown_stalls false holding = refl
-
-holding_moved : (holding : Holds) (chips : Chips) → chips.holding ≡ holding → (moved chips).holding ≡ holding
-unfolding moved
-holding_moved holding chips was = by_way (is_reading chips.controller.phase)
-  where
-    by_way : (b : Bool) → (if b then moved_to_memory chips else moved_from_memory chips).holding ≡ holding
-    by_way true = was
-    by_way false = was
-
-up_to_holding : (n : ℕ) (chips : Chips) → (moved_up_to n chips).holding ≡ chips.holding
-up_to_holding n chips = up_to_keeps (λ c. c.holding ≡ chips.holding) (holding_moved chips.holding) n chips refl
-
--- the stalls are those that the look left
-dma_stalls : (chips : Chips) → (dma_stepped chips).holding.stalls ≡ (looked_at chips).holding.stalls
-unfolding dma_stepped granted
-dma_stalls chips = by_due (is_due (looked_at chips).holding.request) (grants chips.channel)
-  where
-    by_due : (due granting : Bool) → (if due then (if granting then shown_again (moved_up_to 16 (looked_at chips)) else looked_at chips) else looked_at chips).holding.stalls ≡ (looked_at chips).holding.stalls
-    by_due true true = shown_stalls _ (moved_up_to 16 (looked_at chips)).holding ∙ ap (λ h. h.stalls) (up_to_holding 16 (looked_at chips))
-    by_due true false = refl
-    by_due false granting = refl
-
 -- ---- the transfers
-
--- a request that is served falls
-abbrev pub Falls : Type 0
-Falls = (most : ℕ) (chips : Chips) → IsRuled chips.controller → moves_left chips.controller.phase chips.controller.fifo ≤ most → can_move (moved_up_to most chips) ≡ false
 
 left_filling : (reading : Bool) (bytes room : ℕ) → reading ≡ false → room ≡ 16 → (if reading then bytes else room - bytes) ≤ 16
 left_filling true bytes room is wide = absurd (false≢true (sym is))
 left_filling false bytes room is wide = omega arith
 
-first_low : (a b : Bool) → (a && b) ≡ false → b ≡ true → a ≡ false
-first_low true b h is = absurd (false≢true (sym h ∙ is))
-first_low false b h is = refl
-
 -- a request that was granted is low, or the terminal count came
-served_timely : Falls → (slack : ℕ) (chips : Chips) → IsFilling slack chips → IsTimely (shown_again (moved_up_to 16 chips))
-served_timely falls slack chips was = by_counted (phase_counted then_chips.controller.phase) refl
+served_timely : (slack : ℕ) (chips : Chips) → IsFilling slack chips → IsTimely (shown_again (moved_up_to 16 chips))
+served_timely slack chips was = by_counted (phase_counted then_chips.controller.phase) refl
   where
     then_chips : Chips
     then_chips = moved_up_to 16 chips
 
     then_is : IsFilling slack (moved_up_to 16 chips)
-    then_is = up_to_keeps (IsFilling slack) (filling_moved slack) 16 chips was
+    then_is = up_to (IsFilling slack) (filling_moved slack) 16 chips was
 
     ruled : IsRuled chips.controller
     ruled = record { rule = was.rule; room = let wide : room_of chips.controller.fifo.on ≡ 16 = ap room_of was.on in let few = was.room in omega arith }
 
     quiet : can_move (moved_up_to 16 chips) ≡ false
-    quiet = falls 16 chips ruled (left_filling (is_reading chips.controller.phase) (length chips.controller.fifo.bytes) (room_of chips.controller.fifo.on) (not_reading chips.controller.phase was.fills_it) (ap room_of was.on))
+    quiet = (served 16 chips ruled (left_filling (is_reading chips.controller.phase) (length chips.controller.fifo.bytes) (room_of chips.controller.fifo.on)
+        (not_reading chips.controller.phase was.fills_it) (ap room_of was.on))).falls
 
     by_counted : (counted : Bool) → phase_counted (moved_up_to 16 chips).controller.phase ≡ counted → IsTimely (shown_again (moved_up_to 16 chips))
     by_counted true is = record {
@@ -191,72 +138,44 @@ served_timely falls slack chips was = by_counted (phase_counted then_chips.contr
         record {
           slack = 9;
           filling = filling_held 9 (moved_up_to 16 chips) (shown_again (moved_up_to 16 chips)).holding (filling_low slack (moved_up_to 16 chips) then_is low);
-          ready = λ _. ready_low (asks (moved_up_to 16 chips).controller) (moved_up_to 16 chips).holding low;
+          ready = λ _. ready_low (asks (moved_up_to 16 chips).controller) (moved_up_to 16 chips).holding 9 low (omega arith);
         }
 
 -- behind a look at the request
-dma_timely : Falls → (slack : ℕ) (chips : Chips) → IsFilling slack chips → (phase_counted chips.controller.phase ≡ false → IsInTime (looked_at chips).holding.request slack) → IsTimely (dma_stepped chips)
-unfolding dma_stepped granted
-dma_timely falls slack chips was enough = by_due (is_due (looked_at chips).holding.request) (grants chips.channel) refl refl
-  where
-    look : IsFilling slack (looked_at chips)
-    look = filling_held slack chips (looked_at chips).holding was
-
-    by_due : (due granting : Bool) → is_due (looked_at chips).holding.request ≡ due → grants chips.channel ≡ granting
-        → IsTimely (if due then (if granting then shown_again (moved_up_to 16 (looked_at chips)) else looked_at chips) else looked_at chips)
-    by_due true true is grant = served_timely falls slack (looked_at chips) look
-    by_due true false is grant = record { slack = slack; filling = look; ready = λ uncounted. absurd (false≢true (sym grant ∙ was.granting uncounted)) }
-    by_due false granting is grant = record { slack = slack; filling = look; ready = λ uncounted. not_due (looked_at chips).holding.request slack (enough uncounted) is }
+dma_timely : (slack : ℕ) (chips : Chips) → IsFilling slack chips
+    → (phase_counted chips.controller.phase ≡ false → IsInTime (looked_at chips).holding.request slack) → IsTimely (dma_stepped chips)
+dma_timely slack chips was enough =
+    let look = filling_held slack chips (looked_at chips).holding was in
+    by_request IsTimely chips (λ is. record {
+      slack = slack;
+      filling = look;
+      ready = λ uncounted. not_due (looked_at chips).holding.request slack
+          (enough uncounted) is;
+    })
+    (λ masked. record { slack = slack; filling = look; ready = λ uncounted. absurd (false≢true (sym masked ∙ was.granting uncounted)) })
+    (λ _. served_timely slack (looked_at chips) look)
 
 -- the line is looked at
-behind : Falls → (before slack : ℕ) (chips : Chips) → IsFilling slack chips → before ≤ slack + 1 → (phase_counted chips.controller.phase ≡ false → IsReady chips.holding.request before)
+behind : (before slack : ℕ) (chips : Chips) → IsFilling slack chips → before ≤ slack + 1
+    → (phase_counted chips.controller.phase ≡ false → IsReady chips.holding.request before)
     → (counted : Bool) → phase_counted chips.controller.phase ≡ counted → (line : Bool) → asks chips.controller ≡ line
     → IsTimely (dma_stepped chips) ⊎ Rose chips.holding.stalls (looked_at chips).holding.stalls
-behind falls before slack chips was less ready true is line line_is = inl (dma_timely falls slack chips was (λ uncounted. absurd (false≢true (sym uncounted ∙ is))))
-behind falls before slack chips was less ready false is false line_is =
+behind before slack chips was less ready true is line line_is = inl (dma_timely slack chips was (λ uncounted. absurd (false≢true (sym uncounted ∙ is))))
+behind before slack chips was less ready false is false line_is =
     let request : (looked_at chips).holding.request ≡ Low = ap (λ b. (looked b chips.holding).request) line_is in
-    inl (dma_timely falls 9 chips (filling_low slack chips was line_is) (λ _. subst (λ r. IsInTime r 9) (sym request) (omega arith)))
-behind falls before slack chips was less ready false is true line_is =
+    inl (dma_timely 9 chips (filling_low slack chips was line_is) (λ _. subst (λ r. IsInTime r 9) (sym request) (omega arith)))
+behind before slack chips was less ready false is true line_is =
     elim (in_time true chips.holding before slack (ready is) less (λ low. absurd (false≢true (sym low)))) [
-      | inl enough ↦ inl (dma_timely falls slack chips was (λ _. subst (λ b. IsInTime (looked b chips.holding).request slack) (sym line_is) enough))
+      | inl enough ↦ inl (dma_timely slack chips was (λ _. subst (λ b. IsInTime (looked b chips.holding).request slack) (sym line_is) enough))
       | inr rose ↦ inr (subst (λ b. Rose chips.holding.stalls (looked b chips.holding).stalls) (sym line_is) rose)
     ]
 
 -- ---- the device step
 
-gated_same : (a b : Fdc) → a.dor ≡ b.dor → is_gated b ≡ true → is_gated a ≡ true
-gated_same a b same is = ap (λ (dor : Dor). (bit_and dor.0 gate == gate)) same ∙ is
-
-told_overrun : (phase : Phase) → is_overrun (phase_told phase) ≡ is_overrun phase
-told_overrun Command = refl
-told_overrun (Result answer) = refl
-told_overrun (Execute execution) = refl
-
-told_executing : (phase : Phase) → is_executing (phase_told phase) ≡ is_executing phase
-told_executing Command = refl
-told_executing (Result answer) = refl
-told_executing (Execute execution) = refl
-
-dma_overrun : (value : Bool) (chips : Chips) → is_overrun chips.controller.phase ≡ value → is_overrun (dma_stepped chips).controller.phase ≡ value
-dma_overrun value chips was = dma_controller (λ fdc. is_overrun fdc.phase) (λ fdc. told_overrun fdc.phase) (λ fdc. refl) (λ byte fdc. refl) value chips was
-
-dma_executing : (value : Bool) (chips : Chips) → is_executing chips.controller.phase ≡ value → is_executing (dma_stepped chips).controller.phase ≡ value
-dma_executing value chips was = dma_controller (λ fdc. is_executing fdc.phase) (λ fdc. told_executing fdc.phase) (λ fdc. refl) (λ byte fdc. refl) value chips was
-
-flows_in : (phase : Phase) (asking : Bool) (new : Fdc) → is_executing phase ≡ true → FlowsIn phase asking new → new.asking ≡ phase_asks new.phase asking new.fifo
-flows_in Command asking new busy flows = absurd (false≢true busy)
-flows_in (Result answer) asking new busy flows = absurd (false≢true busy)
-flows_in (Execute execution) asking new busy flows = flows
-
 lasts_in : (phase : Phase) (old new : Fdc) (slack : ℕ) → is_executing phase ≡ true → LastsIn phase old new → PhaseWaits (slack + 1) phase old.fifo → Lasts slack old new
 lasts_in Command old new slack busy lasts waits = absurd (false≢true busy)
 lasts_in (Result answer) old new slack busy lasts waits = absurd (false≢true busy)
 lasts_in (Execute execution) old new slack busy lasts waits = lasts slack waits
-
-over_rests : (phase : Phase) (polls between : Fdc) (track0 : Bool) → RestsIn phase track0 polls between → polls.phase ≡ phase → is_executing phase ≡ false → between.phase ≡ phase
-over_rests Command polls between track0 rests same idle = ap (λ fdc. fdc.phase) rests ∙ same
-over_rests (Result answer) polls between track0 rests same idle = ap (λ fdc. fdc.phase) rests ∙ same
-over_rests (Execute execution) polls between track0 rests same idle = absurd (false≢true (sym idle))
 
 -- the slack of the step
 pub record HasSlack (request : Request) (old : Fdc) : Type 0 where
@@ -286,10 +205,8 @@ slack_of chips was false is =
       ready = λ _. ready;
     }
 
-module _ (falls : Falls) (chips : Chips) (drive : DriveState) (between : Fdc) (after : DriveState) (works : Works chips.controller drive between after) (was : IsPunctual chips) where
-  fdc : Fdc
-  fdc = chips.controller
-
+module _ (chips : Chips) (drive : DriveState) (between : Fdc) (after : DriveState) (works : Works chips.controller drive between after)
+    (was : IsPunctual chips) where
   -- the command was in execution
   busy_step : is_executing chips.controller.phase ≡ true → (busy : Bool) → is_executing between.phase ≡ busy
       → IsPunctual (dma_stepped (record chips { controller = between })) ⊎ Rose chips.holding.stalls (dma_stepped (record chips { controller = between })).holding.stalls
@@ -323,7 +240,8 @@ module _ (falls : Falls) (chips : Chips) (drive : DriveState) (between : Fdc) (a
             granting = λ uncounted. filling.granting (lasts.uncounted uncounted);
             waits = lasts.waits;
           } in
-          elim (behind falls slack.before slack.after (record chips { controller = between }) then_is slack.less (λ uncounted. slack.ready (lasts.uncounted uncounted))
+          elim (behind slack.before slack.after (record chips { controller = between }) then_is slack.less
+          (λ uncounted. slack.ready (lasts.uncounted uncounted))
           (phase_counted between.phase) refl (asks between) refl) [
             | inl on_time ↦ inl (record { timely = λ _. on_time; no_overrun = over })
             | inr rose ↦ inr (subst (λ stalls. Rose chips.holding.stalls stalls) (sym (dma_stalls (record chips { controller = between }))) rose)
@@ -333,8 +251,7 @@ module _ (falls : Falls) (chips : Chips) (drive : DriveState) (between : Fdc) (a
   idle_step : is_executing chips.controller.phase ≡ false → IsPunctual (dma_stepped (record chips { controller = between }))
   idle_step idle =
       let same : between.phase ≡ chips.controller.phase =
-      over_rests chips.controller.phase (polled chips.controller) between (drive.cylinder == 0) (subst (λ phase. RestsIn phase (drive.cylinder == 0) (polled chips.controller) between) (polled_phase chips.controller) works.rests)
-      (polled_phase chips.controller) idle in
+      (rested chips.controller between (drive.cylinder == 0) idle works.rests).phase in
       record {
         timely = λ busy. absurd (false≢true (sym (dma_executing false (record chips { controller = between }) (ap is_executing same ∙ idle)) ∙ busy));
         no_overrun = dma_overrun false (record chips { controller = between }) (ap is_overrun same ∙ was.no_overrun);
@@ -345,93 +262,27 @@ module _ (falls : Falls) (chips : Chips) (drive : DriveState) (between : Fdc) (a
   in_step true busy = busy_step busy (is_executing between.phase) refl
   in_step false idle = inl (idle_step idle)
 
-pub step_on_time : Falls → (old new : Board) → Step old new → IsOnTime old → IsOnTime new ⊎ Stalled old new
-step_on_time falls old new step was =
+pub step_on_time : (old new : Board) → Step old new → IsOnTime old → IsOnTime new ⊎ Stalled old new
+step_on_time old new step was =
     let chips = old.bus.chips in
     let leaves = step_leaves old new step in
     let same : selected_of new ≡ selected_of old = ap (λ byte. byte % 4) leaves.dor in
     let selects = was.selects in
     let chips_are : new.bus.chips ≡ dma_stepped (record chips { controller = step.between }) = ap (λ bus. bus.chips) step.bus in
-    let result : IsPunctual (dma_stepped (record chips { controller = step.between })) ⊎ Rose chips.holding.stalls (dma_stepped (record chips { controller = step.between })).holding.stalls =
-    elim (first_second_or_none (selected_of old)) [
-      | inl at ↦ in_step falls chips old.first step.between new.first (step.word_time.at_first at).0 was.punctual (is_executing chips.controller.phase) refl
-      | inr (inl at) ↦ in_step falls chips old.second step.between new.second (step.word_time.at_second at).0 was.punctual (is_executing chips.controller.phase) refl
-      | inr (inr at) ↦ absurd (omega arith)
-    ] in
+    let result = some_drive (IsPunctual (dma_stepped (record chips { controller = step.between })) ⊎ Rose chips.holding.stalls
+    (dma_stepped (record chips { controller = step.between })).holding.stalls) old new was.selects step
+    (λ bay works. in_step chips (drive_in old bay) step.between (drive_in new bay) works was.punctual (is_executing chips.controller.phase) refl) in
     elim result [
       | inl on_time ↦ inl (record { selects = omega arith; punctual = subst IsPunctual (sym chips_are) on_time })
       | inr rose ↦ inr (subst (λ now. Rose chips.holding.stalls now.holding.stalls) (sym chips_are) rose)
     ]
 
--- ---- the count of stalls
-
--- it doesn't fall, but to its last value
-abbrev Grows : ℕ → ℕ → Type 0
-Grows before now = min before last_count ≤ now
-
-grows_on : (a b c : ℕ) → Grows a b → Grows b c → Grows a c
-grows_on a b c first second = omega arith
-
-rose_behind : (a b c : ℕ) → Grows a b → Rose b c → Rose a c
-rose_behind a b c grows rose = omega arith
-
-rose_before : (a b c : ℕ) → Rose a b → Grows b c → Rose a c
-rose_before a b c rose grows = omega arith
-
-taken_grows : (b : Bool) (stalls : ℕ) → Grows stalls (if b then counted stalls else stalls)
-taken_grows true stalls = omega arith
-taken_grows false stalls = omega arith
-
-waited_grows : (request : Request) (old : Holds) → Grows old.stalls (waited request old).stalls
-waited_grows Low old = taken_grows (nat_lt 8 (next_entry old.entries)) old.stalls
-waited_grows (High left) old = omega arith
-
-looked_grows : (line : Bool) (old : Holds) → Grows old.stalls (looked line old).stalls
-looked_grows true old = waited_grows old.request old
-looked_grows false old = omega arith
-
-step_grows : (old new : Board) → Step old new → Grows (holds_of old).stalls (holds_of new).stalls
-step_grows old new step =
-    let chips : Chips = record old.bus.chips { controller = step.between } in
-    let is : new.bus.chips.holding.stalls ≡ (looked_at chips).holding.stalls = ap (λ bus. bus.chips.holding.stalls) step.bus ∙ dma_stalls chips in
-    subst (Grows (holds_of old).stalls) (sym is) (looked_grows _ old.bus.chips.holding)
-
-runs_grow : (n : ℕ) (old new : Board) → Runs n old new → Grows (holds_of old).stalls (holds_of new).stalls
-unfolding Runs
-runs_grow zero old new same = let is = ap (λ board. board.bus.chips.holding.stalls) same in omega arith
-runs_grow (suc n) old new (between, runs, step) = grows_on _ (holds_of between).stalls _ (runs_grow n old between runs) (step_grows between new step)
-
-unset_grow : (n : ℕ) (old new : Board) → RunsUnset n old new → Grows (holds_of old).stalls (holds_of new).stalls
-unfolding RunsUnset
-unset_grow zero old new same = let is = ap (λ board. board.bus.chips.holding.stalls) same in omega arith
-unset_grow (suc n) old new (between, runs, unset, step) = grows_on _ (holds_of between).stalls _ (unset_grow n old between runs) (step_grows between new step)
-
 -- ---- many
 
-next_on_time : Falls → (old between new : Board) → Grows (holds_of old).stalls (holds_of between).stalls → Step between new → IsOnTime between ⊎ Stalled old between → IsOnTime new ⊎ Stalled old new
-next_on_time falls old between new grows step so_far = elim so_far [
-  | inl on ↦ elim (step_on_time falls between new step on) [
-    | inl still ↦ inl still
-    | inr stalled ↦ inr (rose_behind (holds_of old).stalls (holds_of between).stalls (holds_of new).stalls grows stalled)
-  ]
-  | inr stalled ↦ inr (rose_before (holds_of old).stalls (holds_of between).stalls (holds_of new).stalls stalled (step_grows between new step))
-]
-
-pub runs_on_time : Falls → (n : ℕ) (old new : Board) → Runs n old new → IsOnTime old → IsOnTime new ⊎ Stalled old new
-unfolding Runs
-runs_on_time falls zero old new same was = inl (subst IsOnTime (sym same) was)
-runs_on_time falls (suc n) old new (between, runs, step) was = next_on_time falls old between new (runs_grow n old between runs) step (runs_on_time falls n old between runs was)
-
-pub unset_on_time : Falls → (n : ℕ) (old new : Board) → RunsUnset n old new → IsOnTime old → IsOnTime new ⊎ Stalled old new
-unfolding RunsUnset
-unset_on_time falls zero old new same was = inl (subst IsOnTime (sym same) was)
-unset_on_time falls (suc n) old new (between, runs, unset, step) was = next_on_time falls old between new (unset_grow n old between runs) step (unset_on_time falls n old between runs was)
+pub on_time : Keeping IsOnTime
+on_time = record { step = step_on_time; idle = λ old gaps fresh was. record { selects = was.selects; punctual = was.punctual } }
 
 -- ---- the beginning
-
-shown_low : (line : Bool) (holding : Holds) → holding.request ≡ Low → (shown line holding).request ≡ Low
-shown_low true holding is = is
-shown_low false holding is = refl
 
 -- a command that begins asks for bytes, and can wait nine device steps for them
 pub begun_punctual : (chips : Chips) (head_drive : ℕ) (task : Task) (old : Fdc) → fills_task task ≡ true → WaitsAtFirst task → old.fifo.on ≡ true → old.fifo.threshold ≡ 8 → is_gated old ≡ true

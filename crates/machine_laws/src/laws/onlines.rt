@@ -4,12 +4,12 @@ ghost use Rattle.drive_model.specs.Drive.{DriveState};
 ghost use Rattle.irq_events.specs.declared.pace.Pace.{Pace};
 ghost use Rattle.pc_bus.specs.Boards.{AreSetIfEmpty, Board, IsEmpty, IsNew};
 ghost use Rattle.pc_bus.specs.Calls.{AreCalled, IsCalled};
-ghost use Rattle.pc_bus.specs.Steps.{Step};
+ghost use Rattle.machine_laws.specs.OnSteps.Steady.{Steady};
 
 /// On a new machine each empty drive has its change line set, and every call of a machine keeps that, in each device step.
 pub fn empty_drives_keep_their_lines()
     ensures made { (pace : Pace) (bay0 bay1 : DriveState) (new : Board) → IsEmpty bay0 → IsEmpty bay1 → IsNew pace bay0 bay1 new → AreSetIfEmpty new }
-    ensures step { (old new : Board) → Step old new → AreSetIfEmpty old → AreSetIfEmpty new }
+    ensures steady { Steady AreSetIfEmpty }
     ensures call { (old new : Board) → IsCalled old new → AreSetIfEmpty old → AreSetIfEmpty new }
     ensures calls { (calls : ℕ) (old new : Board) → AreCalled calls old new → AreSetIfEmpty old → AreSetIfEmpty new }
 {}

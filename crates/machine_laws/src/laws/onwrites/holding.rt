@@ -1,26 +1,19 @@
 // What follows of requests that are granted in time. The bodies are empty.
 ghost use Rattle.std.specs.Prelude.{◌≡◌, ◌⊎◌, Bool, ℕ, true};
 ghost use Rattle.fdc_core.specs.State.{is_gated};
-ghost use Rattle.machine_laws.specs.OnReads.Timely.{Stalled};
+ghost use Rattle.machine_laws.specs.OnSteps.Stalls.{Keeping, Stalled};
 ghost use Rattle.machine_pace.specs.declared.holding.Request.TheVariants.{Low};
 ghost use Rattle.machine_laws.specs.OnReads.Scenes.{Scene};
 ghost use Rattle.machine_laws.specs.OnOrders.Orders.{CanBegin, Window, Write};
 ghost use Rattle.machine_laws.specs.OnWrites.Timely.{IsOnTime};
 ghost use Rattle.pc_bus.specs.Boards.{Board, controller_of, holds_of};
 ghost use Rattle.pc_bus.specs.Ports.{Outputs};
-ghost use Rattle.pc_bus.specs.Steps.{Runs, RunsUnset, Step};
-
-use crate::laws::onreads::a_served_request_falls;
 
 /// A WRITE DATA, WRITE DELETED or FORMAT TRACK on time stays so, and doesn't end with OR, or a stall is counted: in each device
 /// step one or the other.
 pub fn device_steps_are_on_time()
-    ensures step { (old new : Board) → Step old new → IsOnTime old → IsOnTime new ⊎ Stalled old new }
-    ensures runs { (n : ℕ) (old new : Board) → Runs n old new → IsOnTime old → IsOnTime new ⊎ Stalled old new }
-    ensures unset { (n : ℕ) (old new : Board) → RunsUnset n old new → IsOnTime old → IsOnTime new ⊎ Stalled old new }
-{
-    a_served_request_falls();
-}
+    ensures { Keeping IsOnTime }
+{}
 
 /// A write that begins with the FIFO on, threshold 8, DRQ let out and no request left from before is on time.
 pub fn a_write_begins_on_time()

@@ -5,19 +5,7 @@ use Rattle.machine_commands.proofs.commands.CommandedMachineCommands.format.Goal
 
 pub returns-clause-step : goal.returns-clause-step
 returns-clause-step g c =
-    let is = format_whole (record {
-      begins = c.a_format_goes_on.ensures.begins;
-      runs = c.a_format_goes_on.ensures.runs;
-      waits = c.a_format_goes_on.ensures.waits;
-      status = c.a_format_goes_on.ensures.status;
-      strays = c.a_format_goes_on.ensures.strays;
-      runs_left = c.a_data_command_ends.ensures.runs;
-      unset_left = c.a_data_command_ends.ensures.unset;
-      only = c.a_format_tells_of_the_medium.ensures.only;
-      ended = c.a_format_tells_of_the_medium.ensures.ended;
-      laying = c.a_format_tells_of_the_medium.ensures.laying;
-      spelled = c.writes_are_spelled.ensures.format;
-    }) c.args.self.now.motors c.args.bay (record { c = c.args.c; h = c.args.h; rate = c.args.rate; gap3 = c.args.gap3; fill = c.args.fill }) c.format_track-outcome.result
+    let is = format_whole c.args.self.now.motors c.args.bay (record { c = c.args.c; h = c.args.h; rate = c.args.rate; gap3 = c.args.gap3; fill = c.args.fill }) c.format_track-outcome.result
     (board_of g.D.Drive.state c.args.self.now) (board_of g.D.Drive.state c.put_keys.new.self) (board_of g.D.Drive.state c.format_track-outcome.new.self)
     c.requires.idle c.requires.bay c.requires.head c.requires.spun c.requires.unprotected c.keep_memory.ensures.length c.put_keys.ensures.few c.put_keys.ensures.keys
     (track_as _ _ c.args.bay (record { c = c.args.c; h = c.args.h; rate = c.args.rate; gap3 = c.args.gap3; fill = c.args.fill }) c.format_track-outcome.result (board_of g.D.Drive.state c.put_keys.new.self)
@@ -26,19 +14,7 @@ returns-clause-step g c =
 
 pub returns-clause-idle : goal.returns-clause-idle
 returns-clause-idle g c =
-    let is = format_whole (record {
-      begins = c.a_format_goes_on.ensures.begins;
-      runs = c.a_format_goes_on.ensures.runs;
-      waits = c.a_format_goes_on.ensures.waits;
-      status = c.a_format_goes_on.ensures.status;
-      strays = c.a_format_goes_on.ensures.strays;
-      runs_left = c.a_data_command_ends.ensures.runs;
-      unset_left = c.a_data_command_ends.ensures.unset;
-      only = c.a_format_tells_of_the_medium.ensures.only;
-      ended = c.a_format_tells_of_the_medium.ensures.ended;
-      laying = c.a_format_tells_of_the_medium.ensures.laying;
-      spelled = c.writes_are_spelled.ensures.format;
-    }) c.args.self.now.motors c.args.bay (record { c = c.args.c; h = c.args.h; rate = c.args.rate; gap3 = c.args.gap3; fill = c.args.fill }) c.format_track-outcome.result
+    let is = format_whole c.args.self.now.motors c.args.bay (record { c = c.args.c; h = c.args.h; rate = c.args.rate; gap3 = c.args.gap3; fill = c.args.fill }) c.format_track-outcome.result
     (board_of g.D.Drive.state c.args.self.now) (board_of g.D.Drive.state c.put_keys.new.self) (board_of g.D.Drive.state c.format_track-outcome.new.self)
     c.requires.idle c.requires.bay c.requires.head c.requires.spun c.requires.unprotected c.keep_memory.ensures.length c.put_keys.ensures.few c.put_keys.ensures.keys
     (track_as _ _ c.args.bay (record { c = c.args.c; h = c.args.h; rate = c.args.rate; gap3 = c.args.gap3; fill = c.args.fill }) c.format_track-outcome.result (board_of g.D.Drive.state c.put_keys.new.self)

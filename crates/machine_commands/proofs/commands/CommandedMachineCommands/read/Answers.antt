@@ -1,24 +1,23 @@
-use Rattle.std.proofs.Common.{sym, subst, arith}
-use Rattle.single_commands.specs.Reading.{ReadsData}
+use Rattle.std.proofs.Common.{arith}
 use Rattle.track_model.specs.Fields.{content_size}
-use Rattle.machine_commands.specs.Shown.{board_of, rig_shown}
-use Rattle.machine_commands.proofs.ReadEndings.{size_range, in_page}
+use Rattle.machine_commands.specs.Shown.{board_of}
+use Rattle.machine_commands.proofs.ReadEndings.{in_page, read_idle, reads_data, size_range}
 use Rattle.machine_commands.proofs.commands.CommandedMachineCommands.read.Goals as goal
 
 pub returns-clause-step : goal.returns-clause-step
 returns-clause-step g c =
     let range = size_range c.args.key.n c.requires.coded in
-    subst (λ told. ReadsData c.args.bay c.args.key c.args.rate c.args.address (rig_shown g.D.Drive.state c.args.self.now) told (rig_shown g.D.Drive.state c.read_to-outcome.new.self)) (sym c.mark_of.ensures)
-    (c.a_read_is_done.ensures.user c.args.self.now.motors c.args.bay c.args.key c.args.rate c.args.address c.read_to-outcome.result (board_of g.D.Drive.state c.args.self.now)
-    (board_of g.D.Drive.state c.read_to-outcome.new.self) c.requires.idle c.requires.bay c.requires.head c.requires.coded c.requires.spun c.requires.range
-    (in_page c.args.address (content_size c.args.key.n) range.0 c.requires.page) c.read_to-outcome.ensures.sends)
+    let below = c.requires.range in
+    rw c.mark_of.ensures
+    (reads_data c.args.self.now.motors c.args.bay c.args.key c.args.rate c.args.address c.read_to-outcome.result (board_of g.D.Drive.state c.args.self.now) (board_of g.D.Drive.state c.read_to-outcome.new.self)
+    c.requires.idle c.requires.bay c.requires.head c.requires.coded c.requires.spun (omega arith) (in_page c.args.address (content_size c.args.key.n) range.0 c.requires.page)
+    c.read_to-outcome.ensures.sends c.requires.range)
 
 pub returns-clause-idle : goal.returns-clause-idle
 returns-clause-idle g c =
     let range = size_range c.args.key.n c.requires.coded in
     let below = c.requires.range in
     rw c.read_to-outcome.ensures.motors
-    (c.a_read_is_done.ensures.idle c.args.self.now.motors c.args.bay c.args.key c.args.rate c.args.address c.read_to-outcome.result (board_of g.D.Drive.state c.args.self.now)
-    (board_of g.D.Drive.state c.read_to-outcome.new.self) c.requires.idle c.requires.bay c.requires.head c.requires.coded c.requires.spun (omega arith)
-    (in_page c.args.address (content_size c.args.key.n) range.0 c.requires.page) c.read_to-outcome.ensures.sends
-    c.keep_ranges.ensures.first c.keep_ranges.ensures.second)
+    (read_idle c.args.self.now.motors c.args.bay c.args.key c.args.rate c.args.address c.read_to-outcome.result (board_of g.D.Drive.state c.args.self.now) (board_of g.D.Drive.state c.read_to-outcome.new.self)
+    c.requires.idle c.requires.bay c.requires.head c.requires.coded c.requires.spun (omega arith) (in_page c.args.address (content_size c.args.key.n) range.0 c.requires.page)
+    c.read_to-outcome.ensures.sends c.keep_ranges.ensures.first c.keep_ranges.ensures.second)

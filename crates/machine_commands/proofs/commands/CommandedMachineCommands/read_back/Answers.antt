@@ -1,20 +1,20 @@
-use Rattle.std.proofs.Common.{sym, subst, arith}
-use Rattle.single_commands.specs.Reading.{ReadsBack}
+use Rattle.std.proofs.Common.{refl, arith}
 use Rattle.bay_model.specs.Memory.{user_bytes}
-use Rattle.machine_commands.specs.Shown.{board_of, rig_shown}
-use Rattle.machine_commands.proofs.ReadEndings.{size_range}
+use Rattle.machine_commands.specs.Shown.{board_of}
+use Rattle.machine_commands.proofs.ReadEndings.{read_idle, reads_back, size_range}
 use Rattle.machine_commands.proofs.commands.CommandedMachineCommands.read_back.Goals as goal
 
 pub returns-clause-step : goal.returns-clause-step
 returns-clause-step g c =
-    subst (λ told. ReadsBack c.args.bay c.args.key c.args.rate (rig_shown g.D.Drive.state c.args.self.now) told (rig_shown g.D.Drive.state c.read_to-outcome.new.self)) (sym c.mark_of.ensures)
-    (c.a_read_is_done.ensures.page c.args.self.now.motors c.args.bay c.args.key c.args.rate c.read_to-outcome.result (board_of g.D.Drive.state c.args.self.now)
-    (board_of g.D.Drive.state c.read_to-outcome.new.self) c.requires.idle c.requires.bay c.requires.head c.requires.coded c.requires.spun c.read_to-outcome.ensures.sends)
+    let range = size_range c.args.key.n c.requires.coded in
+    rw c.mark_of.ensures
+    (reads_back c.args.self.now.motors c.args.bay c.args.key c.args.rate user_bytes c.read_to-outcome.result (board_of g.D.Drive.state c.args.self.now) (board_of g.D.Drive.state c.read_to-outcome.new.self)
+    c.requires.idle c.requires.bay c.requires.head c.requires.coded c.requires.spun (omega arith) (omega arith) c.read_to-outcome.ensures.sends refl)
 
 pub returns-clause-idle : goal.returns-clause-idle
 returns-clause-idle g c =
     let range = size_range c.args.key.n c.requires.coded in
     rw c.read_to-outcome.ensures.motors
-    (c.a_read_is_done.ensures.idle c.args.self.now.motors c.args.bay c.args.key c.args.rate user_bytes c.read_to-outcome.result (board_of g.D.Drive.state c.args.self.now)
-    (board_of g.D.Drive.state c.read_to-outcome.new.self) c.requires.idle c.requires.bay c.requires.head c.requires.coded c.requires.spun (omega arith) (omega arith) c.read_to-outcome.ensures.sends
+    (read_idle c.args.self.now.motors c.args.bay c.args.key c.args.rate user_bytes c.read_to-outcome.result (board_of g.D.Drive.state c.args.self.now) (board_of g.D.Drive.state c.read_to-outcome.new.self)
+    c.requires.idle c.requires.bay c.requires.head c.requires.coded c.requires.spun (omega arith) (omega arith) c.read_to-outcome.ensures.sends
     c.keep_ranges.ensures.first c.keep_ranges.ensures.second)

@@ -1,11 +1,11 @@
-use Rattle.machine_laws.proofs.OnLines.Showing.{call_lines, calls_lines, new_lines, step_lines}
+use Rattle.machine_laws.proofs.OnLines.Showing.{call_lines, calls_lines, new_lines, showing}
 use Rattle.machine_laws.proofs.laws.onlines.empty_drives_keep_their_lines.Goals as goal
 
 pub returns-clause-made : goal.returns-clause-made
 returns-clause-made c = new_lines
 
-pub returns-clause-step : goal.returns-clause-step
-returns-clause-step c = step_lines
+pub returns-clause-steady : goal.returns-clause-steady
+returns-clause-steady c = showing
 
 pub returns-clause-call : goal.returns-clause-call
 returns-clause-call c = call_lines

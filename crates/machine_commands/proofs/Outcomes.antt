@@ -1,0 +1,44 @@
+-- What an ending is told as.
+use Rattle.std.proofs.Common.{◌≡◌, ℕ, zero, suc, ◌≤◌, Bool, true, false, Result, Ok, Err, if◌then◌else◌, refl, ap, arith}
+use Rattle.std.specs.Prelude.{bit_and}
+use Rattle.std.specs.Int.RustNames.{bit_or}
+use Rattle.flop_base.specs.declared.answers.Code.{Code}
+use Rattle.flop_base.specs.declared.key.Chrn.{Chrn}
+use Rattle.fdc_core.specs.Answers.{results_of, st1_of, st2_of}
+use Rattle.fdc_stages.specs.declared.ending.Ending.{Ending}
+use Rattle.fdc_stages.specs.declared.ending.Ending.TheVariants.{Done as Finished, NoMark, NoSector, NoField, BadCheck, Overrun, NoCount, Protected, Late}
+use Rattle.machine_commands.specs.Codes.{has_set, refusal_of}
+use Rattle.machine_commands.specs.declared.results.Done.{Done}
+use Rattle.machine_commands.proofs.Endings.{outcome_in}
+
+abbrev pub told_as : Ending → Chrn → Result Done Code
+told_as (Finished deleted) key = Ok (record { deleted = deleted; key = key })
+told_as over key = Err (refusal_of (st1_of over).0)
+
+-- the head and the drive leave the interrupt code as it is
+low_bits : (head_drive : ℕ) → head_drive ≤ 7 → (has_set (bit_and head_drive 7) 0xC0 ≡ false) × (has_set (bit_or (bit_and head_drive 7) 0x40) 0xC0 ≡ true)
+low_bits zero small = (refl, refl)
+low_bits (suc zero) small = (refl, refl)
+low_bits (suc (suc zero)) small = (refl, refl)
+low_bits (suc (suc (suc zero))) small = (refl, refl)
+low_bits (suc (suc (suc (suc zero)))) small = (refl, refl)
+low_bits (suc (suc (suc (suc (suc zero))))) small = (refl, refl)
+low_bits (suc (suc (suc (suc (suc (suc zero)))))) small = (refl, refl)
+low_bits (suc (suc (suc (suc (suc (suc (suc zero))))))) small = (refl, refl)
+low_bits (suc (suc (suc (suc (suc (suc (suc (suc more)))))))) small = absurd (omega arith)
+
+by_bits : (failed : Bool) (over : Ending) (key : Chrn) → Result Done Code
+by_bits failed over key = if failed then Err (refusal_of (st1_of over).0) else Ok (record { deleted = has_set (st2_of over).0 0x40; key = key })
+
+pub outcome_as : (over : Ending) (head_drive : ℕ) (key : Chrn) → head_drive ≤ 7 → outcome_in (results_of over head_drive key) ≡ told_as over key
+unfolding by_bits
+outcome_as (Finished true) head_drive key small = ap (λ b. by_bits b (Finished true) key) (low_bits head_drive small).0
+outcome_as (Finished false) head_drive key small = ap (λ b. by_bits b (Finished false) key) (low_bits head_drive small).0
+outcome_as NoMark head_drive key small = ap (λ b. by_bits b NoMark key) (low_bits head_drive small).1
+outcome_as NoSector head_drive key small = ap (λ b. by_bits b NoSector key) (low_bits head_drive small).1
+outcome_as NoField head_drive key small = ap (λ b. by_bits b NoField key) (low_bits head_drive small).1
+outcome_as BadCheck head_drive key small = ap (λ b. by_bits b BadCheck key) (low_bits head_drive small).1
+outcome_as Overrun head_drive key small = ap (λ b. by_bits b Overrun key) (low_bits head_drive small).1
+outcome_as NoCount head_drive key small = ap (λ b. by_bits b NoCount key) (low_bits head_drive small).1
+outcome_as Protected head_drive key small = ap (λ b. by_bits b Protected key) (low_bits head_drive small).1
+outcome_as Late head_drive key small = ap (λ b. by_bits b Late key) (low_bits head_drive small).1
