@@ -8,7 +8,7 @@ use Rattle.fdc_core.specs.State.{asks}
 use Rattle.fdc_core.specs.declared.controller.Fdc.{Fdc}
 use Rattle.fdc_core.specs.declared.phases.Phase.{Phase}
 use Rattle.fdc_core.specs.declared.phases.Phase.TheVariants.{Command, Execute, Result}
-use Rattle.machine_pace.specs.Entries.{next_entry, rest_of}
+use Rattle.machine_laws.proofs.OnSteps.Runs.{gap}
 use Rattle.machine_pace.specs.Holds.{Holds, shown}
 use Rattle.pc_bus.specs.Boards.{Board, controller_of, lines_of}
 use Rattle.pc_bus.specs.Ports.{is_controllers, port_read, Inputs, Outputs, RunsGap, sets_lines}
@@ -17,37 +17,12 @@ use Rattle.pc_bus.specs.declared.bus.Bus.{Bus}
 use Rattle.pc_bus.specs.declared.chips.Chips.{Chips}
 use Rattle.pc_bus.proofs.Lines.{drive_stays}
 use Rattle.machine_commands.proofs.Idling.{IsResting, KeepsDrive, KeepsSpeed, KeepsAll, Idles}
-use Rattle.machine_commands.proofs.Steps.{drive_none, speed_none, runs_idle, idles_then}
+use Rattle.machine_commands.proofs.Steps.{drive_none, speed_none, idles_none, idles_then, idling}
 
 -- ---- the gap
 
-abbrev pub gapped : Board → Board
-gapped board = record board { bus = record board.bus { gaps = rest_of board.bus.gaps } }
-
-pub gap_taken : (board : Board) → Idles (controller_of board) board (gapped board)
-gap_taken board = record {
-  stays = record {
-    keeps = record {
-      memory = refl;
-      entries = refl;
-      stalls = refl;
-      first = drive_none board.first;
-      second = drive_none board.second;
-      direct = refl;
-      taken = omega arith;
-    };
-    first = speed_none board.first;
-    second = speed_none board.second;
-    quiet = λ low. low;
-    low = λ _ low. low;
-  };
-  controller_is = refl;
-  channel = refl;
-}
-
 pub gap_idles : (old new : Board) → RunsGap old new → IsResting (controller_of old) → Idles (controller_of old) old new
-gap_idles old new gap rest =
-    idles_then old (gapped old) new (controller_of old) (controller_of old) (gap_taken old) (runs_idle (next_entry old.bus.gaps) (gapped old) new gap.runs rest)
+gap_idles old new ran rest = gap (Idles (controller_of old) old) (idling old rest) old new ran (idles_none old)
 
 -- ---- the access
 

@@ -20,16 +20,16 @@ use Rattle.machine_laws.specs.OnReads.Scenes.{Scene}
 use Rattle.machine_laws.proofs.OnAwaits.Courses.{goes_status, goes_stray, goes_wait, goes_waits}
 use Rattle.machine_laws.proofs.OnAwaits.Kept.{fewer}
 use Rattle.machine_laws.proofs.OnSteps.DataEnds.{step_ends}
-use Rattle.machine_laws.proofs.OnSteps.Runs.{inputs, unset_runs, waits}
+use Rattle.machine_laws.proofs.OnSteps.Runs.{inputs, wait, waits}
 use Rattle.machine_laws.proofs.OnSteps.Words.{controller}
 use Rattle.pc_bus.specs.Boards.{Board, controller_of}
 use Rattle.pc_bus.specs.Ports.{Inputs}
 use Rattle.pc_bus.specs.Steps.{Step, stirred}
 use Rattle.machine_commands.specs.Awaited.{Watch, Watches, AwaitsResults}
 use Rattle.machine_commands.specs.Sending.{latch_taken}
-use Rattle.machine_commands.proofs.Idling.{IsResting}
+use Rattle.machine_commands.proofs.Idling.{Idles, IsResting}
 use Rattle.machine_commands.proofs.Settling.{runs_one}
-use Rattle.machine_commands.proofs.Steps.{runs_idle}
+use Rattle.machine_commands.proofs.Steps.{idles_none, idling}
 
 -- ---- MSR
 
@@ -125,10 +125,9 @@ module _ (order : Order) (scene : Scene) (start : Board) (free : is_held (contro
     ended_stays : is_executing (controller_of old).phase ≡ false → is_executing fdc.phase ≡ false
     ended_stays idle =
         let rest = resting (with_one start) start old was.awaited idle in
-        let one = runs_idle 1 (stirred old) watch.stepped watch.steps rest in
-        let rest_on = subst IsResting (sym one.controller_is) rest in
-        let two = runs_idle watch.waits.steps (stirred watch.stepped) watch.waited (unset_runs watch.waits.steps (stirred watch.stepped) watch.waited watch.waits.runs) rest_on in
-        ap (λ f. is_executing f.phase) (two.controller_is ∙ one.controller_is) ∙ idle
+        let idles = Idles (controller_of old) old in
+        let one = wait idles (idling old rest) 1 old watch.stepped watch.steps (idles_none old) in
+        ap (λ f. is_executing f.phase) (waits idles (idling old rest) 65536 watch.set watch.stepped watch.waited watch.waits one).controller_is ∙ idle
 
     busy_before : ready ≡ false → is_executing (controller_of old).phase ≡ true
     busy_before no_results = by_busy (is_executing (controller_of old).phase) refl

@@ -18,7 +18,7 @@ use Rattle.fdc_stages.specs.declared.ending.Ending.{Ending}
 use Rattle.fdc_stages.specs.declared.ending.Ending.TheVariants as ending
 use Rattle.fdc_writing.specs.Formats.{Numbers}
 use Rattle.machine_laws.specs.OnFormats.Results.{EndsAs, FitsOn, HasLaying, LaysTo, LaysTurn}
-use Rattle.machine_laws.specs.OnFormats.Underway.{IsThere}
+use Rattle.machine_laws.specs.OnWrites.Drives.{IsThere}
 use Rattle.machine_laws.specs.OnOrders.Orders.{Track, Write}
 use Rattle.machine_laws.specs.OnSteps.Stalls.{Stalled}
 use Rattle.machine_laws.specs.OnReads.Scenes.{Scene, head_sent}

@@ -1,6 +1,7 @@
 pub mod Idling
 pub mod Accesses
 pub mod Awaiting
+pub mod Bays
 pub mod Beginning
 pub mod Bytes
 pub mod Courses

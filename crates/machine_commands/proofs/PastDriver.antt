@@ -25,6 +25,7 @@ use Rattle.machine_laws.specs.OnCounts.Counts.{counts_of}
 use Rattle.machine_commands.specs.Shown.{counters_of, is_spun, page_part, rig_of, stalls_left, user_part}
 use Rattle.machine_commands.specs.declared.motors.Motors.{Motors}
 use Rattle.machine_commands.proofs.Selecting.{is_dor, switched}
+use Rattle.machine_commands.proofs.Bays.{medium_in}
 use Rattle.machine_commands.proofs.Showing.{two_same}
 
 -- ---- counts
@@ -180,13 +181,6 @@ exchanged old new (suc zero) medium small few touches swapped =
     }
 exchanged old new (suc (suc bay)) medium small few touches swapped = absurd (omega arith)
 
-media_in : (board : Board) (bay : ℕ) → (drive_in board bay).medium ≡ in_bay (rig_of board).media bay
-media_in board bay = by_bay (bay == 0)
-  where
-    by_bay : (b : Bool) → (if b then board.first else board.second).medium ≡ (if b then board.first.medium else board.second.medium)
-    by_bay true = refl
-    by_bay false = refl
-
 -- ---- media
 
 none_in : (m : Option Disk) → (IsSome m → ⊥) → m ≡ None
@@ -197,16 +191,16 @@ pub puts_in : (old new : Board) (bay : ℕ) (medium : Disk) (answer : Result (Un
     → (IsErr answer ↔ IsSome (drive_in old bay).medium) → OnOk answer (Becomes (loaded medium (drive_in old bay)) (drive_in old bay) (drive_in new bay))
     → IfErr answer (λ back. (back ≡ medium) × Becomes (drive_in old bay) (drive_in old bay) (drive_in new bay)) → PutsIn bay medium (rig_of old) answer (rig_of new)
 puts_in old new bay medium (Ok _) small few touches refused ok err = (
-  sym (media_in old bay) ∙ none_in (drive_in old bay).medium (λ some. false≢true (refused.1 some)),
+  sym (medium_in bay old) ∙ none_in (drive_in old bay).medium (λ some. false≢true (refused.1 some)),
   exchanged old new bay (Some medium) small few touches (becomes_loaded medium (drive_in old bay) (drive_in new bay) ok),
 )
 puts_in old new bay medium (Err back) small few touches refused ok (same, becomes) =
-    (ap is_some (sym (media_in old bay)) ∙ refused.0 refl, same, untouched old new bay small few touches becomes)
+    (ap is_some (sym (medium_in bay old)) ∙ refused.0 refl, same, untouched old new bay small few touches becomes)
 
 pub takes_out : (old new : Board) (bay : ℕ) (answer : Option Disk) → bay ≤ 1 → old.bus.direct ≤ last_count → Touches bay old new
     → answer ≡ (drive_in old bay).medium → Becomes (unloaded (drive_in old bay)) (drive_in old bay) (drive_in new bay) → TakesOut bay (rig_of old) answer (rig_of new)
 takes_out old new bay answer small few touches is becomes = record {
-  medium = is ∙ media_in old bay;
+  medium = is ∙ medium_in bay old;
   taken_out = λ some. exchanged old new bay None small few touches (becomes_unloaded (drive_in old bay) (drive_in new bay) (ap is_some (sym is) ∙ some) becomes);
   empty = λ none. untouched old new bay small few touches
       (subst (λ d. Becomes d (drive_in old bay) (drive_in new bay)) (unloaded_empty (drive_in old bay) (sym is ∙ none)) becomes);

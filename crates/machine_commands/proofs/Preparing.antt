@@ -1,5 +1,5 @@
 -- What is set up before a data command, on an idle machine: all stays but what was set.
-use Rattle.std.proofs.Common.{◌≡◌, ℕ, ◌-◌, ◌/◌, ◌%◌, ◌<◌, ◌≤◌, ◌==◌, nat_le, Bool, true, false, Option, Some, None, is_some, IfSome, if◌then◌else◌, refl, sym, ◌∙◌, ap, subst, arith}
+use Rattle.std.proofs.Common.{◌≡◌, ℕ, ◌-◌, ◌/◌, ◌%◌, ◌<◌, ◌≤◌, nat_le, true, false, Option, Some, None, is_some, IfSome, refl, sym, ◌∙◌, ap, subst, arith}
 use Rattle.std.proofs.lemmas.Bool.{false≢true}
 use Rattle.std.proofs.lemmas.Bool.Decides.{nat_tests}
 use Rattle.dma_8237.specs.Channel.{Channel, after_write}
@@ -19,35 +19,15 @@ use Rattle.machine_commands.specs.Codes.{rate_byte}
 use Rattle.machine_commands.specs.Ready.{dor_with, IsIdle, IsReady}
 use Rattle.machine_commands.specs.Shown.{is_spun, rig_of}
 use Rattle.machine_commands.specs.declared.motors.Motors.{Motors}
-use Rattle.machine_commands.proofs.Idling.{IsResting, KeepsSpeed, StaysIdle}
+use Rattle.machine_commands.proofs.Idling.{IsResting, StaysIdle}
 use Rattle.machine_commands.proofs.Accesses.{gap_idles, output_idles, same_drive, same_speed}
-use Rattle.machine_commands.proofs.Questions.{drive_kept, ready_rests, ready_with}
+use Rattle.machine_commands.proofs.Questions.{ready_rests, ready_with}
 use Rattle.machine_commands.proofs.Selecting.{selects_idle, with_dor}
 use Rattle.machine_commands.proofs.Showing.{both_true, speed_stays}
+use Rattle.machine_commands.proofs.Bays.{drive_kept, kept_in, speed_kept, spun_in}
 use Rattle.machine_commands.proofs.Steps.{stays_none, stays_then}
 
 -- ---- the medium in a bay
-
-pub speed_kept : (bay : ℕ) (old new : Board) → StaysIdle old new → KeepsSpeed (drive_in old bay) (drive_in new bay)
-speed_kept bay old new stays = by_bay (bay == 0)
-  where
-    by_bay : (b : Bool) → KeepsSpeed (if b then old.first else old.second) (if b then new.first else new.second)
-    by_bay true = stays.first
-    by_bay false = stays.second
-
-range_in : (bay : ℕ) (board : Board) → InRange board.first → InRange board.second → InRange (drive_in board bay)
-range_in bay board first second = by_bay (bay == 0)
-  where
-    by_bay : (b : Bool) → InRange (if b then board.first else board.second)
-    by_bay true = first
-    by_bay false = second
-
-spun_in : (bay : ℕ) (board : Board) → is_spun (drive_in board bay) ≡ in_bay (rig_of board).spun bay
-spun_in bay board = by_bay (bay == 0)
-  where
-    by_bay : (b : Bool) → is_spun (if b then board.first else board.second) ≡ (if b then is_spun board.first else is_spun board.second)
-    by_bay true = refl
-    by_bay false = refl
 
 some_of : (medium : Option Disk) → is_some medium ≡ true → (disk : Disk) × (medium ≡ Some disk)
 some_of None none = absurd (false≢true none)
@@ -77,7 +57,7 @@ has_disk drive spun range =
 pub disk_stays : (bay : ℕ) (disk : Disk) (old new : Board) → StaysIdle old new → HasDisk disk (drive_in old bay) → HasDisk disk (drive_in new bay)
 disk_stays bay disk old new stays has =
     let keeps = drive_kept old new bay stays.keeps in
-    let speed = speed_kept bay old new stays in
+    let speed = speed_kept old new bay stays in
     let words : track_words (drive_in old bay).medium ≡ disk.words_per_track = ap track_words has.medium in
     record {
       medium = keeps.medium ∙ has.medium;
@@ -125,8 +105,8 @@ is_prepared motors bay rate old ready idle small spun prepares =
     let two = output_idles 0x3F7 (rate_byte rate) selected ready prepares.rates refl refl target
     (λ controller writes. writes.control refl ∙ ap (ccr_written (rate_byte rate)) one.controller_is) (λ low. idle.ready.no_interrupt)
     (ready_rests target (ready_prepared motors bay rate fdc idle.ready)) in
-    let fast = speed_stays (drive_in old bay) (drive_in selected bay) (drive_kept old selected bay one.stays.keeps).medium (speed_kept bay old selected one.stays) (spun_in bay old ∙ spun) in
-    let (disk, has) = has_disk (drive_in selected bay) fast (range_in bay selected prepares.first prepares.second) in
+    let fast = speed_stays (drive_in old bay) (drive_in selected bay) (drive_kept old selected bay one.stays.keeps).medium (speed_kept old selected bay one.stays) (spun_in bay old ∙ spun) in
+    let (disk, has) = has_disk (drive_in selected bay) fast (kept_in (λ before now. InRange now) bay selected selected prepares.first prepares.second) in
     record {
       disk = disk;
       has = disk_stays bay disk selected ready two.stays has;

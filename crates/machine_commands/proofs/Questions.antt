@@ -12,7 +12,7 @@ use Rattle.fdc_core.specs.declared.controller.Fdc.{Fdc}
 use Rattle.pc_bus.specs.Boards.{Board, controller_of, drive_in, lines_of, lines_of_drive, absent_lines}
 use Rattle.single_commands.specs.Rigs.{OnlyAsks}
 use Rattle.machine_commands.specs.Asked.{ReadsLine}
-use Rattle.machine_commands.proofs.Idling.{IsResting, KeepsDrive, KeepsAll, Idles}
+use Rattle.machine_commands.proofs.Idling.{IsResting, Idles}
 use Rattle.machine_commands.specs.Ready.{dor_with, IsReady, IsIdle}
 use Rattle.machine_commands.specs.Shown.{rig_of}
 use Rattle.machine_commands.specs.declared.motors.Motors.{Motors}
@@ -20,6 +20,7 @@ use Rattle.machine_commands.proofs.Accesses.{input_idles}
 use Rattle.machine_commands.proofs.Bytes.{IsListening}
 use Rattle.machine_commands.proofs.Selecting.{is_dor, with_dor, selects_idle}
 use Rattle.machine_commands.proofs.Showing.{keeps_asking, speed_stays}
+use Rattle.machine_commands.proofs.Bays.{change_in, drive_kept}
 use Rattle.machine_commands.proofs.Steps.{idles_then}
 
 -- ---- a controller that is ready
@@ -88,25 +89,11 @@ selected_lines motors bay board small dor =
     let selects : dor_of (controller_of board) % 4 ≡ bay = ap (λ n. n % 4) dor ∙ (is_dor motors bay small).selects in
     ap (λ n. if n == 0 then lines_of_drive board.first else (if n == 1 then lines_of_drive board.second else absent_lines)) selects ∙ lines_at board bay small
 
-pub drive_kept : (old new : Board) (bay : ℕ) → KeepsAll old new → KeepsDrive (drive_in old bay) (drive_in new bay)
-drive_kept old new bay keeps = by_bay (bay == 0)
-  where
-    by_bay : (b : Bool) → KeepsDrive (if b then old.first else old.second) (if b then new.first else new.second)
-    by_bay true = keeps.first
-    by_bay false = keeps.second
-
 -- ---- the change line
 
 line_told : (b : Bool) → ((if b then 0x80 else 0) == 0x80) ≡ b
 line_told true = refl
 line_told false = refl
-
-change_in : (board : Board) (bay : ℕ) → (drive_in board bay).change ≡ in_bay (rig_of board).changes bay
-change_in board bay = by_bay (bay == 0)
-  where
-    by_bay : (b : Bool) → (if b then board.first else board.second).change ≡ (if b then board.first.change else board.second.change)
-    by_bay true = refl
-    by_bay false = refl
 
 pub record ReadsLineIdle (motors : Motors) (bay : ℕ) (changed : Bool) (old new : Board) : Type 0 where
   pub idles : Idles (with_dor (dor_with motors bay) (controller_of old)) old new
@@ -123,7 +110,7 @@ reads_line motors bay changed old new idle small reads =
     let lines = selected_lines motors bay reads.selected small (ap dor_of one.controller_is) in
     let kept = drive_kept old reads.selected bay one.stays.keeps in record {
       idles = idles_then old reads.selected new fdc fdc one (subst (λ c. Idles c reads.selected new) one.controller_is two);
-      line = reads.answer ∙ (ap (λ v. v == 0x80) (reads.reads.value_is ∙ ap line_bits lines) ∙ (line_told (drive_in reads.selected bay).change ∙ (kept.change ∙ change_in old bay)));
+      line = reads.answer ∙ (ap (λ v. v == 0x80) (reads.reads.value_is ∙ ap line_bits lines) ∙ (line_told (drive_in reads.selected bay).change ∙ (kept.change ∙ change_in bay old)));
     }
 
 pub line_idle : (motors : Motors) (bay : ℕ) (changed : Bool) (old new : Board) → IsIdle motors old → bay ≤ 1 → ReadsLine motors bay old changed new

@@ -10,18 +10,17 @@ use Rattle.fdc_core.specs.Ports.{dor_written, ccr_written, Writes}
 use Rattle.fdc_core.specs.State.{dor_of, reset, data_commands_of}
 use Rattle.fdc_core.specs.Steps.{polled}
 use Rattle.fdc_core.specs.declared.controller.Fdc.{Fdc}
-use Rattle.machine_pace.specs.Entries.{next_entry}
 use Rattle.pc_bus.specs.Boards.{Board, controller_of, lines_of}
 use Rattle.single_commands.specs.Rigs.{IsReset}
 use Rattle.machine_commands.specs.Asked.{Resets, none_on}
 use Rattle.machine_commands.proofs.Idling.{IsResting, KeepsSpeed, KeepsAll, Idles}
 use Rattle.machine_commands.specs.Ready.{IsReady, IsIdle, is_up}
 use Rattle.machine_commands.specs.Shown.{rig_of}
-use Rattle.machine_commands.proofs.Accesses.{accessed_keeps, gap_idles, gapped, gap_taken, output_idles}
+use Rattle.machine_commands.proofs.Accesses.{accessed_keeps, gap_idles, output_idles}
 use Rattle.machine_commands.proofs.Bytes.{IsListening, AreMore, with_bytes, whole_at}
 use Rattle.machine_commands.proofs.Selecting.{with_dor, clear_bit, dor_access}
 use Rattle.machine_commands.proofs.Senses.{sensed_to, senses_pending}
-use Rattle.machine_commands.proofs.Settling.{settles_to, polls_next, runs_polled}
+use Rattle.machine_commands.proofs.Settling.{settles_to, polls_next, gap_polled}
 use Rattle.machine_commands.proofs.Showing.{keeps_reset}
 use Rattle.machine_commands.proofs.Steps.{keeps_then, speed_then}
 
@@ -140,10 +139,9 @@ releases old new resets =
     let written = dor_access 0x0C fdc false false resets.held resets.released access (ap (dor_written 0x0C) at) refl (clear_bit false 0x0C 4 refl refl) (clear_bit false 0x0C 5 refl refl) in
     let between = access.between in
     let here : controller_of between ≡ fdc = ap (λ b. b.chips.controller) written.bus in
-    let runs = runs_polled (next_entry between.bus.gaps) fdc (polled_at (controller_of old)) (gapped between) resets.released access.gap.runs here refl (listens_polled (controller_of old)).rests in
-    let kept = keeps_then between (gapped between) resets.released (gap_taken between).stays.keeps runs.keeps in
+    let runs = gap_polled fdc (polled_at (controller_of old)) between resets.released access.gap here refl (listens_polled (controller_of old)).rests in
     record {
-      keeps = keeps_then resets.held between resets.released (accessed_keeps fdc resets.held between written.bus written.first_is.keeps written.second_is.keeps) kept;
+      keeps = keeps_then resets.held between resets.released (accessed_keeps fdc resets.held between written.bus written.first_is.keeps written.second_is.keeps) runs.keeps;
       first_off = runs.first.motor ∙ written.first_is.motor;
       second_off = runs.second.motor ∙ written.second_is.motor;
       controller = runs.controller;

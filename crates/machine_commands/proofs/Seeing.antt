@@ -1,5 +1,5 @@
 -- What a driver sees of a data command, from an idle machine to the next.
-use Rattle.std.proofs.Common.{◌≡◌, ℕ, zero, suc, ◌+◌, ◌-◌, ◌≤◌, ◌==◌, Bool, true, false, List, [], ◌∷◌, Some, is_some, min, nat_lt, if◌then◌else◌, slice_index, Result as result, refl, sym, ◌∙◌, ap, arith}
+use Rattle.std.proofs.Common.{◌≡◌, ℕ, zero, suc, ◌+◌, ◌-◌, ◌≤◌, ◌==◌, true, List, [], ◌∷◌, Some, is_some, min, nat_lt, if◌then◌else◌, slice_index, Result as result, refl, sym, ◌∙◌, ap, arith}
 use Rattle.std.proofs.lemmas.List.Sums.{sum_by-cons}
 use Rattle.flop_base.specs.Counts.{last_count, RoseBy, Spends}
 use Rattle.flop_base.specs.declared.answers.Code.{Code}
@@ -31,7 +31,7 @@ use Rattle.machine_commands.specs.declared.results.Done.{Done}
 use Rattle.machine_commands.proofs.Beginning.{HasRun}
 use Rattle.machine_commands.proofs.Endings.{finished_idle}
 use Rattle.machine_commands.proofs.Idling.{KeepsDrive, KeepsSpeed}
-use Rattle.machine_commands.proofs.Questions.{drive_kept}
+use Rattle.machine_commands.proofs.Bays.{cylinder_in, drive_kept, faults_in, kept_in, medium_in}
 use Rattle.machine_commands.proofs.Showing.{at_speed_on, two_same}
 
 -- ---- the drives
@@ -59,34 +59,6 @@ stays_drive old start now new before before_speed turns after after_speed = reco
   spends = spends_twice old.faults start.faults new.faults old.left start.left new.left before.spends
       (spends_twice start.faults now.faults new.faults start.left now.left new.left turns.spends after.spends);
 }
-
-pub medium_in : (bay : ℕ) (board : Board) → (drive_in board bay).medium ≡ in_bay (rig_of board).media bay
-medium_in bay board = by_bay (bay == 0)
-  where
-    by_bay : (b : Bool) → (if b then board.first else board.second).medium ≡ (if b then board.first.medium else board.second.medium)
-    by_bay true = refl
-    by_bay false = refl
-
-cylinder_in : (bay : ℕ) (board : Board) → (drive_in board bay).cylinder ≡ in_bay (rig_of board).cylinders bay
-cylinder_in bay board = by_bay (bay == 0)
-  where
-    by_bay : (b : Bool) → (if b then board.first else board.second).cylinder ≡ (if b then board.first.cylinder else board.second.cylinder)
-    by_bay true = refl
-    by_bay false = refl
-
-faults_in : (bay : ℕ) (board : Board) → (drive_in board bay).faults ≡ faults_of (counters_of board) bay
-faults_in bay board = by_bay (bay == 0)
-  where
-    by_bay : (b : Bool) → (if b then board.first else board.second).faults ≡ (if b then (counters_of board).drives.first else (counters_of board).drives.second).faults
-    by_bay true = refl
-    by_bay false = refl
-
-turns_in : (bay : ℕ) (old new : Board) → TurnsOn old.first new.first → TurnsOn old.second new.second → TurnsOn (drive_in old bay) (drive_in new bay)
-turns_in bay old new first second = by_bay (bay == 0)
-  where
-    by_bay : (b : Bool) → TurnsOn (if b then old.first else old.second) (if b then new.first else new.second)
-    by_bay true = first
-    by_bay false = second
 
 -- ---- the counts
 
@@ -236,7 +208,7 @@ module _ {order : Order} {scene : Scene} {motors : Motors} {rate : Rate} {start 
   faults_before = let same = faults_in scene.bay old in let is = run.drive.faults in let more = (drive_kept old start scene.bay run.sent.stays.keeps).never_falls in omega arith
 
   faults_during : scene.faults ≤ (drive_in at scene.bay).faults
-  faults_during = let is = run.drive.faults in let more = (turns_in scene.bay start at run.over.goes.awaited.first run.over.goes.awaited.second).never_falls in omega arith
+  faults_during = let is = run.drive.faults in let more = (kept_in TurnsOn scene.bay start at run.over.goes.awaited.first run.over.goes.awaited.second).never_falls in omega arith
 
   faults_after : (drive_in at scene.bay).faults ≤ faults_of (counters_of new) scene.bay
   faults_after = let same = faults_in scene.bay new in let more = (drive_kept (latch_taken at) new scene.bay run.over.keeps).never_falls in omega arith

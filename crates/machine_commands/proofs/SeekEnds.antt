@@ -1,5 +1,5 @@
 -- A seek from its first byte to the end of its result.
-use Rattle.std.proofs.Common.{◌≡◌, inl, inr, ℕ, zero, suc, ◌+◌, ◌-◌, ◌≤◌, ◌==◌, Bool, true, false, List, [], ◌∷◌, ◌++◌, Some, None, slice_index, slice_set, if◌then◌else◌, refl, sym, ◌∙◌, ap, subst, arith}
+use Rattle.std.proofs.Common.{◌≡◌, inl, inr, ℕ, zero, suc, ◌+◌, ◌-◌, ◌≤◌, ◌==◌, false, List, [], ◌∷◌, ◌++◌, Some, None, slice_index, slice_set, refl, sym, ◌∙◌, ap, subst, arith}
 use Rattle.drive_model.specs.Drive.{DriveState}
 use Rattle.fdc_commands.specs.Table.{answer}
 use Rattle.fdc_commands.specs.declared.bytes.Accepted.TheVariants.{Ready}
@@ -14,7 +14,6 @@ use Rattle.fdc_core.specs.declared.controller.Lines.{Lines}
 use Rattle.machine_pace.specs.Entries.{next_entry}
 use Rattle.pc_bus.specs.Boards.{Board, controller_of, memory_of, holds_of, drive_in, lines_of}
 use Rattle.pc_bus.specs.Ports.{Outputs, RunsGap}
-use Rattle.pc_bus.specs.Steps.{stirred}
 use Rattle.pc_bus.specs.declared.bus.Bus.{Bus}
 use Rattle.pc_bus.proofs.Lines.{drive_stays}
 use Rattle.machine_commands.specs.Asked.{EndsSeek}
@@ -22,13 +21,14 @@ use Rattle.machine_commands.proofs.Idling.{IsResting, KeepsDrive, KeepsSpeed, Ke
 use Rattle.machine_commands.specs.Ready.{dor_with, none_pending, IsIdle, is_up}
 use Rattle.machine_commands.specs.Sending.{Sends}
 use Rattle.machine_commands.specs.declared.motors.Motors.{Motors}
-use Rattle.machine_commands.proofs.Accesses.{accessed, accessed_keeps, gapped, same_drive, same_speed}
+use Rattle.machine_commands.proofs.Accesses.{accessed, accessed_keeps, same_drive, same_speed}
 use Rattle.machine_commands.proofs.Bytes.{IsListening, AreMore, with_bytes, listens_with, first_bytes, sends_parts, last_written}
-use Rattle.machine_commands.proofs.Questions.{ready_rests, ready_with, not_held, drive_kept}
-use Rattle.machine_commands.proofs.Seeking.{CanSeek, IsRule, IsOnWay, IsOver, Beside, Sought, on_way, at_end, runs_seek}
+use Rattle.machine_commands.proofs.Questions.{ready_rests, ready_with, not_held}
+use Rattle.machine_commands.proofs.Seeking.{CanSeek, IsRule, IsOnWay, IsOver, Beside, Sought, on_way, at_end, gap_seeks, wait_seeks}
 use Rattle.machine_commands.proofs.Selecting.{with_dor, is_dor, selects_idle}
 use Rattle.machine_commands.proofs.Senses.{sensed_to, senses_pending}
 use Rattle.machine_commands.proofs.Settling.{settles_to}
+use Rattle.machine_commands.proofs.Bays.{drive_kept, kept_in}
 use Rattle.machine_commands.proofs.Steps.{keeps_then, speed_then, drive_then, idles_then, unpolled, low_line}
 
 -- ---- what a seek leaves, but for its drive
@@ -53,13 +53,6 @@ leaves_then bay a b c one two = record {
   speed = speed_then (drive_in a (1 - bay)) (drive_in b (1 - bay)) (drive_in c (1 - bay)) one.speed two.speed;
 }
 
-speed_kept : (old new : Board) (bay : ℕ) → KeepsSpeed old.first new.first → KeepsSpeed old.second new.second → KeepsSpeed (drive_in old bay) (drive_in new bay)
-speed_kept old new bay first second = by_bay (bay == 0)
-  where
-    by_bay : (b : Bool) → KeepsSpeed (if b then old.first else old.second) (if b then new.first else new.second)
-    by_bay true = first
-    by_bay false = second
-
 all_leave : (bay : ℕ) (old new : Board) → KeepsAll old new → KeepsSpeed old.first new.first → KeepsSpeed old.second new.second → Leaves bay old new
 all_leave bay old new keeps first second = record {
   memory = keeps.memory;
@@ -68,7 +61,7 @@ all_leave bay old new keeps first second = record {
   direct = keeps.direct;
   taken = keeps.taken;
   keeps = drive_kept old new (1 - bay) keeps;
-  speed = speed_kept old new (1 - bay) first second;
+  speed = kept_in KeepsSpeed (1 - bay) old new first second;
 }
 
 beside_leaves : (bay : ℕ) (old new : Board) → Beside bay old new → Leaves bay old new
@@ -104,13 +97,6 @@ after_sense_of (suc (suc bay)) number status seeks small none = absurd (omega ar
 
 -- ---- the way
 
-stirred_sought : (fdc : Fdc) (bay n : ℕ) (Way : ℕ → Motion → DriveState → Type 0) (Over : ℕ → ℕ → DriveState → Type 0) (board : Board)
-    → Sought fdc bay Way Over n board → Sought fdc bay Way Over n (stirred board)
-stirred_sought fdc bay n Way Over board sought = elim sought [
-  | inl way ↦ inl (record { motion = way.motion; runs = way.runs; controller_is = way.controller_is; way = way.way })
-  | inr over ↦ inr (record { number = over.number; status = over.status; controller_is = over.controller_is; over = over.over })
-]
-
 -- a command of a seek
 pub record SeekCommand (bay : ℕ) (fdc : Fdc) (drive : DriveState) (Way : ℕ → Motion → DriveState → Type 0) (Over : ℕ → ℕ → DriveState → Type 0) : Type 0 where
   pub first : List ℕ
@@ -144,7 +130,7 @@ record Begun (bay : ℕ) (fdc : Fdc) (Way : ℕ → Motion → DriveState → Ty
 
 begins : (bay : ℕ) (fdc : Fdc) (Way : ℕ → Motion → DriveState → Type 0) (Over : ℕ → ℕ → DriveState → Type 0) (old mid sent : Board)
     → (does : SeekCommand bay fdc (drive_in old bay) Way Over) → Idles (with_bytes does.first fdc) old mid → IsListening fdc → fdc.command ≡ []
-    → (access : Outputs 0x3F5 does.last mid sent) → Begun bay fdc Way old (gapped access.between)
+    → (access : Outputs 0x3F5 does.last mid sent) → Begun bay fdc Way old access.between
 begins bay fdc Way Over old mid sent does idles listens none access =
     let (controller, writes, chips) = access.writes.writes.controllers refl in
     let at = idles.controller_is in
@@ -169,34 +155,15 @@ begins bay fdc Way Over old mid sent does idles listens none access =
         motion = does.motion;
         runs = does.runs;
         controller_is = ap (λ b. b.chips.controller) bus;
-        way = does.begins (drive_in between bay) (drive_kept old between bay all) (speed_kept old between bay speed_first speed_second);
+        way = does.begins (drive_in between bay) (drive_kept old between bay all) (kept_in KeepsSpeed bay old between speed_first speed_second);
       };
-      leaves = record {
-        memory = left.memory;
-        entries = left.entries;
-        stalls = left.stalls;
-        direct = left.direct;
-        taken = left.taken;
-        keeps = left.keeps;
-        speed = left.speed;
-      };
+      leaves = left;
     }
 
 -- it is over behind the wait
 record Waited (bay : ℕ) (fdc : Fdc) (Over : ℕ → ℕ → DriveState → Type 0) (old waited : Board) : Type 0 where
   pub over : IsOver fdc bay Over waited
   pub leaves : Leaves bay old waited
-
-stirred_leaves : (bay : ℕ) (old new : Board) → Leaves bay old new → Leaves bay old (stirred new)
-stirred_leaves bay old new left = record {
-  memory = left.memory;
-  entries = left.entries;
-  stalls = left.stalls;
-  direct = left.direct;
-  taken = left.taken;
-  keeps = left.keeps;
-  speed = left.speed;
-}
 
 never_on : (fdc : Fdc) (bay n : ℕ) (Way : ℕ → Motion → DriveState → Type 0) (Over : ℕ → ℕ → DriveState → Type 0) (board : Board)
     → ((m : Motion) (now : DriveState) → Way n m now → ⊥) → Sought fdc bay Way Over n board → IsOver fdc bay Over board
@@ -206,16 +173,16 @@ never_on fdc bay n Way Over board never sought = elim sought [
 ]
 
 waits : (bay : ℕ) (fdc : Fdc) (Way : ℕ → Motion → DriveState → Type 0) (Over : ℕ → ℕ → DriveState → Type 0) (status : ℕ) (old between sent new : Board) → bay ≤ 1 → CanSeek bay fdc
-    → (does : SeekCommand bay fdc (drive_in old bay) Way Over) → Begun bay fdc Way old (gapped between) → RunsGap between sent → (ends : EndsSeek sent status new)
+    → (does : SeekCommand bay fdc (drive_in old bay) Way Over) → Begun bay fdc Way old between → RunsGap between sent → (ends : EndsSeek sent status new)
     → Waited bay fdc Over old ends.waited
 waits bay fdc Way Over status old between sent new small can does begun gap ends =
     let n = next_entry between.bus.gaps in
-    let one = runs_seek n 0 fdc bay Way Over (gapped between) sent small can does.rule gap.runs (inl begun.on_its_way) in
-    let two = runs_seek 80 (0 + n) fdc bay Way Over (stirred sent) ends.waited small can does.rule ends.runs (stirred_sought fdc bay (0 + n) Way Over sent one.sought) in
-    let left = leaves_then bay old (gapped between) sent begun.leaves (beside_leaves bay (gapped between) sent one.beside) in
+    let one = gap_seeks 0 fdc bay Way Over between small can does.rule (inl begun.on_its_way) sent gap in
+    let two = wait_seeks (0 + n) fdc bay Way Over sent small can does.rule one.sought 80 ends.waited ends.runs in
+    let left = leaves_then bay old between sent begun.leaves (beside_leaves bay between sent one.beside) in
     record {
       over = never_on fdc bay ((0 + n) + 80) Way Over ends.waited (λ m now. does.ends ((0 + n) + 80) m now (omega arith)) two.sought;
-      leaves = leaves_then bay old (stirred sent) ends.waited (stirred_leaves bay old sent left) (beside_leaves bay (stirred sent) ends.waited two.beside);
+      leaves = leaves_then bay old sent ends.waited left (beside_leaves bay sent ends.waited two.beside);
     }
 
 -- ---- its result
@@ -244,13 +211,13 @@ takes_result bay fdc Way Over status old sent new small can listens none pending
     was.over.controller_is listening none (sensed_of bay number code fdc.seeks small pending) told idle_after ends.senses in
     let settled = settles_to ends.sensed new after ends.settles (ap polled idles.controller_is ∙ unpolled after resting.no_poll) resting in
     let one = does.rule.stays number code (drive_in ends.waited bay) (drive_in ends.sensed bay) (drive_kept ends.waited ends.sensed bay idles.stays.keeps)
-    (speed_kept ends.waited ends.sensed bay idles.stays.first idles.stays.second) was.over.over in
+    (kept_in KeepsSpeed bay ends.waited ends.sensed idles.stays.first idles.stays.second) was.over.over in
     record {
       number = number;
       code = code;
       status_is = status_is;
       over = does.rule.stays number code (drive_in ends.sensed bay) (drive_in new bay) (drive_kept ends.sensed new bay settled.keeps)
-          (speed_kept ends.sensed new bay settled.first settled.second) one;
+          (kept_in KeepsSpeed bay ends.sensed new settled.first settled.second) one;
       leaves = leaves_then bay old ends.waited new was.leaves
           (leaves_then bay ends.waited ends.sensed new (idles_leave bay ends.waited ends.sensed after idles) (all_leave bay ends.sensed new settled.keeps settled.first settled.second));
       controller_is = settled.controller_is;

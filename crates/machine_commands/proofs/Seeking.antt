@@ -1,5 +1,5 @@
 -- Device steps of a seek, whatever it does.
-use Rattle.std.proofs.Common.{◌≡◌, ◌⊎◌, inl, inr, ℕ, zero, suc, ◌+◌, ◌-◌, ◌%◌, ◌≤◌, ◌==◌, ◌&&◌, ◌||◌, not, Bool, true, false, Some, None, refl, sym, ◌∙◌, ap, subst, arith}
+use Rattle.std.proofs.Common.{◌≡◌, ◌⊎◌, inl, inr, ℕ, zero, suc, ◌+◌, ◌-◌, ◌%◌, ◌≤◌, ◌==◌, ◌&&◌, ◌||◌, not, List, Bool, true, false, Some, None, refl, sym, ◌∙◌, ap, subst, arith}
 use Rattle.drive_model.specs.Drive.{DriveState}
 use Rattle.fdc_seek.specs.Seeking.{Seeking, with_motion, ended, stepped_seek, is_seeking, has_ended, pulse_due, pulse_of}
 use Rattle.fdc_seek.specs.declared.motion.Motion.{Motion}
@@ -9,7 +9,11 @@ use Rattle.fdc_core.specs.Steps.{polled, seek_stepped, RestsIn, MovesIn, Moves}
 use Rattle.fdc_core.specs.declared.controller.Fdc.{Fdc}
 use Rattle.machine_pace.specs.declared.holding.Request.TheVariants.{Low}
 use Rattle.pc_bus.specs.Boards.{Board, controller_of, memory_of, holds_of, drive_in, selected_of}
-use Rattle.pc_bus.specs.Steps.{PassesWordTime, Step, Runs}
+use Rattle.machine_laws.specs.OnSteps.Steady.{regapped, Marching}
+use Rattle.machine_laws.proofs.OnSteps.Runs.{march_gap, march_wait}
+use Rattle.machine_pace.specs.Entries.{next_entry}
+use Rattle.pc_bus.specs.Ports.{RunsGap}
+use Rattle.pc_bus.specs.Steps.{PassesWordTime, Step, Runs, stirred}
 use Rattle.pc_bus.specs.declared.chips.Chips.{Chips}
 use Rattle.machine_commands.proofs.Idling.{IsResting, KeepsDrive, KeepsSpeed}
 use Rattle.machine_commands.proofs.Steps.{OnlyTurns, calm_asks, calm_dma, unpolled, rests_in, moves_in, or_false, still_seeks, gate_turns, drive_none, drive_then, speed_none, speed_then}
@@ -255,18 +259,41 @@ pub record RunsSeek (fdc : Fdc) (bay n : ℕ) (Way : ℕ → Motion → DriveSta
   pub sought : Sought fdc bay Way Over n new
   pub beside : Beside bay old new
 
-pub runs_seek : (n from : ℕ) (fdc : Fdc) (bay : ℕ) (Way : ℕ → Motion → DriveState → Type 0) (Over : ℕ → ℕ → DriveState → Type 0) (old new : Board) → bay ≤ 1 → CanSeek bay fdc
-    → IsRule bay Way Over → Runs n old new → Sought fdc bay Way Over from old → RunsSeek fdc bay (from + n) Way Over old new
-unfolding Runs
-runs_seek zero from fdc bay Way Over old new small can rule same sought =
-    let here : from ≡ from + 0 = omega arith in
-    subst (λ board. RunsSeek fdc bay (from + 0) Way Over old board) (sym same)
-    (record { sought = subst (λ k. Sought fdc bay Way Over k old) here sought; beside = beside_none bay old })
-runs_seek (suc n) from fdc bay Way Over old new small can rule (between, runs, step) sought =
-    let so_far = runs_seek n from fdc bay Way Over old between small can rule runs sought in
-    let stepped = seek_step bay between new small (can_seek_now fdc bay (from + n) Way Over between can so_far.sought) step in
-    let here : (from + n) + 1 ≡ from + suc n = omega arith in
-    record {
-      sought = subst (λ k. Sought fdc bay Way Over k new) here (one_more fdc bay (from + n) Way Over between new rule stepped so_far.sought);
-      beside = beside_then bay old between new so_far.beside (step_beside bay between new stepped);
-    }
+-- gaps play no part
+regapped_sought : (fdc : Fdc) (bay n : ℕ) (Way : ℕ → Motion → DriveState → Type 0) (Over : ℕ → ℕ → DriveState → Type 0) (board : Board) (gaps : List ℕ) (fresh : Bool)
+    → Sought fdc bay Way Over n board → Sought fdc bay Way Over n (regapped gaps fresh board)
+regapped_sought fdc bay n Way Over board gaps fresh sought = elim sought [
+  | inl way ↦ inl (record { motion = way.motion; runs = way.runs; controller_is = way.controller_is; way = way.way })
+  | inr over ↦ inr (record { number = over.number; status = over.status; controller_is = over.controller_is; over = over.over })
+]
+
+seeking : (from : ℕ) (fdc : Fdc) (bay : ℕ) (Way : ℕ → Motion → DriveState → Type 0) (Over : ℕ → ℕ → DriveState → Type 0) (start : Board) → bay ≤ 1 → CanSeek bay fdc → IsRule bay Way Over
+    → Marching (λ n now. RunsSeek fdc bay (from + n) Way Over start now)
+seeking from fdc bay Way Over start small can rule = record {
+  step = λ n now new step was. (
+      let stepped = seek_step bay now new small (can_seek_now fdc bay (from + n) Way Over now can was.sought) step in
+      let here : (from + n) + 1 ≡ from + suc n = omega arith in
+      record {
+        sought = subst (λ k. Sought fdc bay Way Over k new) here (one_more fdc bay (from + n) Way Over now new rule stepped was.sought);
+        beside = beside_then bay start now new was.beside (step_beside bay now new stepped);
+      });
+  idle = λ n now gaps fresh was. (let beside = was.beside in record {
+    sought = regapped_sought fdc bay (from + n) Way Over now gaps fresh was.sought;
+    beside = record {
+      carries = record { memory = beside.carries.memory; entries = beside.carries.entries; stalls = beside.carries.stalls; direct = beside.carries.direct; taken = beside.carries.taken };
+      keeps = beside.keeps;
+      speed = beside.speed;
+    };
+  });
+}
+
+module _ (from : ℕ) (fdc : Fdc) (bay : ℕ) (Way : ℕ → Motion → DriveState → Type 0) (Over : ℕ → ℕ → DriveState → Type 0) (start : Board) (small : bay ≤ 1) (can : CanSeek bay fdc)
+    (rule : IsRule bay Way Over) (sought : Sought fdc bay Way Over from start) where
+  begins : RunsSeek fdc bay (from + 0) Way Over start start
+  begins = let here : from ≡ from + 0 = omega arith in record { sought = subst (λ k. Sought fdc bay Way Over k start) here sought; beside = beside_none bay start }
+
+  pub gap_seeks : (new : Board) → RunsGap start new → RunsSeek fdc bay (from + next_entry start.bus.gaps) Way Over start new
+  gap_seeks new ran = march_gap (λ n now. RunsSeek fdc bay (from + n) Way Over start now) (seeking from fdc bay Way Over start small can rule) start new ran begins
+
+  pub wait_seeks : (n : ℕ) (new : Board) → Runs n (stirred start) new → RunsSeek fdc bay (from + n) Way Over start new
+  wait_seeks n new ran = march_wait (λ n now. RunsSeek fdc bay (from + n) Way Over start now) (seeking from fdc bay Way Over start small can rule) n start new ran begins

@@ -1,14 +1,17 @@
 -- One device step behind results, and polls.
-use Rattle.std.proofs.Common.{◌≡◌, ◌⊎◌, inl, inr, ℕ, zero, suc, sym, ◌∙◌, ap, subst}
+use Rattle.std.proofs.Common.{◌≡◌, ◌⊎◌, inl, inr, sym, ◌∙◌, ap, subst}
 use Rattle.fdc_core.specs.State.{interrupts}
 use Rattle.fdc_core.specs.Steps.{polled}
 use Rattle.fdc_core.specs.declared.controller.Fdc.{Fdc}
 use Rattle.pc_bus.specs.Boards.{Board, controller_of}
+use Rattle.machine_laws.specs.OnSteps.Steady.{regapped, Steady}
+use Rattle.machine_laws.proofs.OnSteps.Runs.{gap}
+use Rattle.pc_bus.specs.Ports.{RunsGap}
 use Rattle.pc_bus.specs.Steps.{Step, Runs, stirred}
 use Rattle.machine_commands.proofs.Idling.{IsResting, KeepsDrive, KeepsSpeed, KeepsAll}
 use Rattle.machine_commands.specs.Ready.{is_up}
 use Rattle.machine_commands.specs.Sending.{Settles}
-use Rattle.machine_commands.proofs.Steps.{step_to, unpolled, keeps_none, keeps_then, speed_none, speed_then}
+use Rattle.machine_commands.proofs.Steps.{step_to, unpolled, keeps_none, keeps_then, regapped_idles, speed_none, speed_then}
 
 pub runs_one : (old new : Board) → Runs 1 old new → Step old new
 unfolding Runs
@@ -58,17 +61,22 @@ polls_next before after board poll rest is = elim is [
   | inr at ↦ ap polled at ∙ unpolled after rest.no_poll
 ]
 
-pub runs_polled : (n : ℕ) (before after : Fdc) (old new : Board) → Runs n old new → controller_of old ≡ before → polled before ≡ after → IsResting after
-    → RunsPolled before after old new
-unfolding Runs
-runs_polled zero before after old new same at poll rest =
-    subst (λ board. RunsPolled before after old board) (sym same) (record { keeps = keeps_none old; first = speed_none old.first; second = speed_none old.second; controller = inl at })
-runs_polled (suc n) before after old new (between, runs, step) at poll rest =
-    let so_far = runs_polled n before after old between runs at poll rest in
-    let to = step_to between new after step (polls_next before after between poll rest so_far.controller) rest in
-    record {
-      keeps = keeps_then old between new so_far.keeps to.keeps;
-      first = speed_then old.first between.first new.first so_far.first to.first.speed;
-      second = speed_then old.second between.second new.second so_far.second to.second.speed;
-      controller = inr to.controller_is;
-    }
+polling : (before after : Fdc) (old : Board) → polled before ≡ after → IsResting after → Steady (RunsPolled before after old)
+polling before after old poll rest = record {
+  step = λ now new step was. (let to = step_to now new after step (polls_next before after now poll rest was.controller) rest in record {
+    keeps = keeps_then old now new was.keeps to.keeps;
+    first = speed_then old.first now.first new.first was.first to.first.speed;
+    second = speed_then old.second now.second new.second was.second to.second.speed;
+    controller = inr to.controller_is;
+  });
+  idle = λ now gaps fresh was. (let same = (regapped_idles now gaps fresh).stays in record {
+    keeps = keeps_then old now (regapped gaps fresh now) was.keeps same.keeps;
+    first = was.first;
+    second = was.second;
+    controller = was.controller;
+  });
+}
+
+pub gap_polled : (before after : Fdc) (old new : Board) → RunsGap old new → controller_of old ≡ before → polled before ≡ after → IsResting after → RunsPolled before after old new
+gap_polled before after old new ran at poll rest = gap (RunsPolled before after old) (polling before after old poll rest) old new ran
+    (record { keeps = keeps_none old; first = speed_none old.first; second = speed_none old.second; controller = inl at })

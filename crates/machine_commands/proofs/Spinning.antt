@@ -7,7 +7,6 @@ use Rattle.drive_model.specs.Drive.{DriveState, InRange, turns}
 use Rattle.fdc_core.specs.State.{dor_of, data_commands_of}
 use Rattle.fdc_core.specs.declared.controller.Fdc.{Fdc}
 use Rattle.pc_bus.specs.Boards.{Board, controller_of}
-use Rattle.pc_bus.specs.Steps.{stirred}
 use Rattle.single_commands.specs.Rigs.{OnlyAsks}
 use Rattle.machine_commands.specs.Asked.{StartsMotor}
 use Rattle.machine_commands.proofs.Idling.{IsResting, KeepsDrive, KeepsSpeed, KeepsAll, Idles}
@@ -19,22 +18,9 @@ use Rattle.machine_commands.proofs.Accesses.{accessed_keeps, gap_idles}
 use Rattle.machine_commands.proofs.Questions.{ready_rests, ready_with}
 use Rattle.machine_commands.proofs.Selecting.{IsSwitched, IsDorWritten, is_dor, with_dor, dor_access, dor_is_written}
 use Rattle.machine_commands.proofs.Showing.{keeps_asking, at_speed_on}
-use Rattle.machine_commands.proofs.Steps.{keeps_then, idles_then, runs_idle, runs_spin, drive_none, speed_none}
+use Rattle.machine_commands.proofs.Steps.{keeps_then, idles_then, waits_spinning}
 
 -- a call came
-pub stirred_idles : (board : Board) → Idles (controller_of board) board (stirred board)
-stirred_idles board = record {
-  stays = record {
-    keeps = record { memory = refl; entries = refl; stalls = refl; first = drive_none board.first; second = drive_none board.second; direct = refl; taken = omega arith };
-    first = speed_none board.first;
-    second = speed_none board.second;
-    quiet = λ low. low;
-    low = λ _ low. low;
-  };
-  controller_is = refl;
-  channel = refl;
-}
-
 -- the motor is on, behind the write of DOR and behind all
 pub record IsStarted (motors : Motors) (old on new : Board) (fdc : Fdc) : Type 0 where
   pub written : IsDorWritten fdc motors.first motors.second old on
@@ -63,16 +49,14 @@ starts motors bay old new idle small start =
     let gap = gap_idles access.between start.between access.gap (subst IsResting (sym here) rests) in
     let there : controller_of start.between ≡ fdc = gap.controller_is ∙ here in
     let waiting = subst IsResting (sym there) rests in
-    let runs = runs_idle 6250 (stirred start.between) new start.runs waiting in
-    let (first, second) = runs_spin 6250 (stirred start.between) new start.runs waiting in
-    let last = idles_then start.between (stirred start.between) new (controller_of start.between) (controller_of start.between) (stirred_idles start.between) runs in
+    let spun = waits_spinning 6250 start.between new start.runs waiting in
     record {
       written = written;
-      idles = idles_then access.between start.between new fdc fdc (subst (λ c. Idles c access.between start.between) here gap) (subst (λ c. Idles c start.between new) there last);
+      idles = idles_then access.between start.between new fdc fdc (subst (λ c. Idles c access.between start.between) here gap) (subst (λ c. Idles c start.between new) there spun.idles);
       ready = ready;
       spins = (
-        λ up. spun_for start.between.first.spin new.first.spin (first (turning access.between.first start.between.first gap.stays.keeps.first gap.stays.first up)),
-        λ up. spun_for start.between.second.spin new.second.spin (second (turning access.between.second start.between.second gap.stays.keeps.second gap.stays.second up)),
+        λ up. spun_for start.between.first.spin new.first.spin (spun.first (turning access.between.first start.between.first gap.stays.keeps.first gap.stays.first up)),
+        λ up. spun_for start.between.second.spin new.second.spin (spun.second (turning access.between.second start.between.second gap.stays.keeps.second gap.stays.second up)),
       );
     }
 

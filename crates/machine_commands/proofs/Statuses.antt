@@ -1,5 +1,5 @@
 -- SENSE DRIVE STATUS of a machine that is idle.
-use Rattle.std.proofs.Common.{◌≡◌, ℕ, zero, suc, ◌^◌, ◌≤◌, ◌==◌, not, Bool, true, false, [], ◌∷◌, ◌++◌, Option, Some, None, if◌then◌else◌, refl, sym, ◌∙◌, ap, subst, arith}
+use Rattle.std.proofs.Common.{◌≡◌, ℕ, zero, suc, ◌^◌, ◌≤◌, ◌==◌, not, Bool, true, false, [], ◌∷◌, ◌++◌, Option, Some, None, refl, sym, ◌∙◌, ap, subst, arith}
 use Rattle.std.specs.Prelude.{bit_and}
 use Rattle.std.specs.Int.RustNames.{bit_or}
 use Rattle.std.specs.Option.{option_map_or}
@@ -23,8 +23,10 @@ use Rattle.machine_commands.specs.Shown.{rig_of}
 use Rattle.machine_commands.specs.declared.motors.Motors.{Motors}
 use Rattle.machine_commands.proofs.Accesses.{input_idles}
 use Rattle.machine_commands.proofs.Bytes.{AreMore, with_bytes, whole_command, lines_kept}
-use Rattle.machine_commands.proofs.Questions.{ready_rests, ready_with, ready_listens, idle_again, idle_asks, selected_lines, drive_kept}
+use Rattle.machine_commands.proofs.Questions.{ready_rests, ready_with, ready_listens, idle_again, idle_asks, selected_lines}
+use Rattle.machine_commands.proofs.Bays.{drive_kept}
 use Rattle.machine_commands.proofs.Selecting.{with_dor, selects_idle}
+use Rattle.machine_commands.proofs.Bays.{medium_in}
 use Rattle.machine_commands.proofs.Steps.{idles_then}
 
 first_more : AreMore [] (0x04 ∷ [])
@@ -108,13 +110,6 @@ same_protected : (medium : Option Disk) → is_protected medium ≡ option_map_o
 same_protected None = refl
 same_protected (Some disk) = refl
 
-medium_in : (board : Board) (bay : ℕ) → (drive_in board bay).medium ≡ in_bay (rig_of board).media bay
-medium_in board bay = by_bay (bay == 0)
-  where
-    by_bay : (b : Bool) → (if b then board.first else board.second).medium ≡ (if b then board.first.medium else board.second.medium)
-    by_bay true = refl
-    by_bay false = refl
-
 pub status_tells : (motors : Motors) (bay status : ℕ) (old new : Board) → IsIdle motors old → bay ≤ 1 → SensesDrive motors bay old status new
     → not (bit_and status 0x40 == 0) ≡ option_map_or (λ disk. disk.protected) (in_bay (rig_of old).media bay) false
 status_tells motors bay status old new idle small senses =
@@ -122,7 +117,7 @@ status_tells motors bay status old new idle small senses =
     ap (λ s. not (bit_and s 0x40 == 0)) (senses_drive motors bay status old new idle small senses).status_is
     ∙ (bit_told lines.protected lines.track0 bay small
     ∙ (same_protected (drive_in old bay).medium
-    ∙ ap (λ m. option_map_or (λ disk. disk.protected) m false) (medium_in old bay)))
+    ∙ ap (λ m. option_map_or (λ disk. disk.protected) m false) (medium_in bay old)))
 
 pub status_idle : (motors : Motors) (bay status : ℕ) (old new : Board) → IsIdle motors old → bay ≤ 1 → SensesDrive motors bay old status new
     → InRange new.first → InRange new.second → IsIdle motors new

@@ -1,5 +1,5 @@
 -- Device steps of a controller that rests.
-use Rattle.std.proofs.Common.{◌≡◌, ◌⊎◌, inl, inr, ℕ, zero, suc, ◌+◌, ◌<◌, ◌≤◌, ◌==◌, ◌&&◌, ◌||◌, not, Bool, true, false, Option, Some, None, if◌then◌else◌, nat_lt, is_some, min, add-one, refl, sym, ◌∙◌, ap, subst, arith}
+use Rattle.std.proofs.Common.{◌≡◌, ℕ, ◌+◌, ◌<◌, ◌≤◌, ◌==◌, ◌&&◌, ◌||◌, not, Bool, true, false, List, Option, Some, None, if◌then◌else◌, nat_lt, is_some, min, add-one, refl, sym, ◌∙◌, ap, subst, arith}
 use Rattle.std.specs.Option.{option_map_or}
 use Rattle.std.proofs.lemmas.Bool.Decides.{nat_tests}
 use Rattle.bay_model.proofs.Counted.{spends_itself, spends_twice}
@@ -17,8 +17,11 @@ use Rattle.fdc_core.specs.declared.phases.Phase.TheVariants.{Command, Execute, R
 use Rattle.machine_laws.proofs.OnQuiet.Turning.{turned_let}
 use Rattle.machine_pace.specs.Holds.{looked, is_due}
 use Rattle.machine_pace.specs.declared.holding.Request.TheVariants.{Low}
-use Rattle.pc_bus.specs.Boards.{Board, controller_of, channel_of, holds_of, selected_of}
-use Rattle.pc_bus.specs.Steps.{PassesWordTime, Step, Runs}
+use Rattle.pc_bus.specs.Boards.{Board, controller_of, channel_of, holds_of}
+use Rattle.machine_laws.specs.OnSteps.Steady.{regapped, Marching, Steady}
+use Rattle.machine_laws.proofs.OnSteps.Runs.{march_wait}
+use Rattle.machine_laws.proofs.OnSteps.Words.{controller, drives}
+use Rattle.pc_bus.specs.Steps.{Step, Runs, stirred}
 use Rattle.pc_bus.specs.Transfers.{granted, dma_stepped}
 use Rattle.pc_bus.specs.declared.chips.Chips.{Chips}
 use Rattle.machine_commands.proofs.Idling.{IsResting, KeepsDrive, KeepsSpeed, KeepsAll, StaysIdle, Idles}
@@ -149,37 +152,6 @@ moves_turn old polled_to before after poll rest is =
 
 -- ---- a device step
 
--- the word time of a step
-record TurnsIdle (old : Board) (fdc between : Fdc) (first second : DriveState) : Type 0 where
-  pub same : between ≡ fdc
-  pub first_turns : OnlyTurns old.first first
-  pub second_turns : OnlyTurns old.second second
-
-pub first_second_or_none : (n : ℕ) → (n ≡ 0) ⊎ ((n ≡ 1) ⊎ (2 ≤ n))
-first_second_or_none zero = inl refl
-first_second_or_none (suc zero) = inr (inl refl)
-first_second_or_none (suc (suc n)) = inr (inr (omega arith))
-
-word_time_idle : (old new : Board) (fdc between : Fdc) → PassesWordTime (selected_of old) (controller_of old) old.first old.second between new.first new.second
-    → polled (controller_of old) ≡ fdc → IsResting fdc → TurnsIdle old fdc between new.first new.second
-word_time_idle old new fdc between turn poll rest = elim (first_second_or_none (selected_of old)) [
-  | inl at ↦ (let (works, passes) = turn.at_first at in record {
-    same = stays_same (controller_of old) fdc (old.first.cylinder == 0) between poll rest works.rests;
-    first_turns = moves_turn (controller_of old) fdc old.first new.first poll rest works.drive;
-    second_turns = gate_turns old.second new.second passes;
-  })
-  | inr (inl at) ↦ (let (works, passes) = turn.at_second at in record {
-    same = stays_same (controller_of old) fdc (old.second.cylinder == 0) between poll rest works.rests;
-    first_turns = gate_turns old.first new.first passes;
-    second_turns = moves_turn (controller_of old) fdc old.second new.second poll rest works.drive;
-  })
-  | inr (inr at) ↦ (let (works, first, second) = turn.at_none at in record {
-    same = stays_same (controller_of old) fdc false between poll rest works.rests;
-    first_turns = gate_turns old.first new.first first;
-    second_turns = gate_turns old.second new.second second;
-  })
-]
-
 -- a device step behind whose poll the controller rests
 pub record StepsTo (old : Board) (fdc : Fdc) (new : Board) : Type 0 where
   pub keeps : KeepsAll old new
@@ -193,8 +165,11 @@ pub record StepsTo (old : Board) (fdc : Fdc) (new : Board) : Type 0 where
 
 pub step_to : (old new : Board) (fdc : Fdc) → Step old new → polled (controller_of old) ≡ fdc → IsResting fdc → StepsTo old fdc new
 step_to old new fdc step poll rest =
-    let turned = word_time_idle old new fdc step.between step.word_time poll rest in
-    let calm = subst (λ c. asks c ≡ false) (sym turned.same) (calm_asks fdc rest.not_asking) in
+    let was = controller_of old in
+    let same : step.between ≡ fdc = controller (step.between ≡ fdc) old new step (λ before after works. stays_same was fdc (before.cylinder == 0) step.between poll rest works.rests)
+    (λ works. stays_same was fdc false step.between poll rest works.rests) in
+    let (first, second) = drives OnlyTurns old new step (λ before after works. moves_turn was fdc before after poll rest works.drive) gate_turns in
+    let calm = subst (λ c. asks c ≡ false) (sym same) (calm_asks fdc rest.not_asking) in
     let worked : Chips = record old.bus.chips { controller = step.between } in
     let rested : Chips = record worked { holding = record worked.holding { request = Low } } in
     let moved : dma_stepped worked ≡ rested = calm_dma worked calm in
@@ -204,17 +179,17 @@ step_to old new fdc step poll rest =
         memory = ap (λ c. c.memory) chips;
         entries = ap (λ c. c.holding.entries) chips;
         stalls = ap (λ c. c.holding.stalls) chips;
-        first = turned.first_turns.keeps;
-        second = turned.second_turns.keeps;
+        first = first.keeps;
+        second = second.keeps;
         direct = ap (λ bus. bus.direct) step.bus;
         taken = let same : new.bus.taken ≡ old.bus.taken = ap (λ bus. bus.taken) step.bus in omega arith;
       };
-      first = turned.first_turns;
-      second = turned.second_turns;
-      controller_is = ap (λ c. c.controller) chips ∙ turned.same;
+      first = first;
+      second = second;
+      controller_is = ap (λ c. c.controller) chips ∙ same;
       channel = ap (λ c. c.channel) chips;
       request = ap (λ c. c.holding.request) chips;
-      level = ap (λ bus. bus.latch.level) step.bus ∙ (ap (λ c. interrupts c.controller) moved ∙ ap interrupts turned.same);
+      level = ap (λ bus. bus.latch.level) step.bus ∙ (ap (λ c. interrupts c.controller) moved ∙ ap interrupts same);
     }
 
 -- in a device step of a resting controller only the drives turn
@@ -310,14 +285,29 @@ idles_none board = record { stays = stays_none board; controller_is = refl; chan
 pub idles_as : (old new : Board) (one two : Fdc) → one ≡ two → Idles one old new → Idles two old new
 idles_as old new one two same idles = subst (λ fdc. Idles fdc old new) same idles
 
-pub runs_idle : (n : ℕ) (old new : Board) → Runs n old new → IsResting (controller_of old) → Idles (controller_of old) old new
-unfolding Runs
-runs_idle zero old new same rest = subst (λ board. Idles (controller_of old) old board) (sym same) (idles_none old)
-runs_idle (suc n) old new (between, runs, step) rest =
-    let before = runs_idle n old between runs rest in
-    let here = subst IsResting (sym before.controller_is) rest in
-    idles_as old new (controller_of between) (controller_of old) before.controller_is
-    (idles_then old between new (controller_of old) (controller_of between) before (step_idles between new step here))
+-- gaps play no part
+pub regapped_idles : (board : Board) (gaps : List ℕ) (fresh : Bool) → Idles (controller_of board) board (regapped gaps fresh board)
+regapped_idles board gaps fresh = record {
+  stays = record {
+    keeps = record { memory = refl; entries = refl; stalls = refl; first = drive_none board.first; second = drive_none board.second; direct = refl; taken = omega arith };
+    first = speed_none board.first;
+    second = speed_none board.second;
+    quiet = λ low. low;
+    low = λ _ low. low;
+  };
+  controller_is = refl;
+  channel = refl;
+}
+
+-- what holds of a device step holds of all
+idles_on : (old now new : Board) → Idles (controller_of old) old now → Idles (controller_of now) now new → Idles (controller_of old) old new
+idles_on old now new was on = idles_as old new (controller_of now) (controller_of old) was.controller_is (idles_then old now new (controller_of old) (controller_of now) was on)
+
+pub idling : (old : Board) → IsResting (controller_of old) → Steady (Idles (controller_of old) old)
+idling old rest = record {
+  step = λ now new step was. idles_on old now new was (step_idles now new step (subst IsResting (sym was.controller_is) rest));
+  idle = λ now gaps fresh was. idles_on old now (regapped gaps fresh now) was (regapped_idles now gaps fresh);
+}
 
 -- ---- speed
 
@@ -330,18 +320,24 @@ same_turning : (old new : DriveState) → KeepsDrive old new → KeepsSpeed old 
 same_turning old new keeps speed = ap (λ m. new.motor && is_some m) keeps.medium ∙ ap (λ m. m && is_some old.medium) speed.motor
 
 -- each device step brings a medium that turns nearer to its speed
-pub runs_spin : (n : ℕ) (old new : Board) → Runs n old new → IsResting (controller_of old)
-    → (turns old.first ≡ true → min (old.first.spin + n) 6250 ≤ new.first.spin) × (turns old.second ≡ true → min (old.second.spin + n) 6250 ≤ new.second.spin)
-unfolding Runs
-runs_spin zero old new same rest =
-    subst (λ b. (turns old.first ≡ true → min (old.first.spin + 0) 6250 ≤ b.first.spin) × (turns old.second ≡ true → min (old.second.spin + 0) 6250 ≤ b.second.spin))
-    (sym same) (λ _. omega arith, λ _. omega arith)
-runs_spin (suc n) old new (between, runs, step) rest =
-    let before = runs_idle n old between runs rest in
-    let (first, second) = runs_spin n old between runs rest in
-    let (one, two) = step_spins between new step (subst IsResting (sym before.controller_is) rest) in
-    let turning_first = same_turning old.first between.first before.stays.keeps.first before.stays.first in
-    let turning_second = same_turning old.second between.second before.stays.keeps.second before.stays.second in (
-      λ on. (let so_far = first on in let next = one (turning_first ∙ on) in omega (arith, add-one)),
-      λ on. (let so_far = second on in let next = two (turning_second ∙ on) in omega (arith, add-one)),
-    )
+pub record Spins (old : Board) (n : ℕ) (now : Board) : Type 0 where
+  pub idles : Idles (controller_of old) old now
+  pub first : turns old.first ≡ true → min (old.first.spin + n) 6250 ≤ now.first.spin
+  pub second : turns old.second ≡ true → min (old.second.spin + n) 6250 ≤ now.second.spin
+
+spinning : (old : Board) → IsResting (controller_of old) → Marching (Spins old)
+spinning old rest = record {
+  step = λ n now new step was. (
+      let (one, two) = step_spins now new step (subst IsResting (sym was.idles.controller_is) rest) in
+      let first = same_turning old.first now.first was.idles.stays.keeps.first was.idles.stays.first in
+      let second = same_turning old.second now.second was.idles.stays.keeps.second was.idles.stays.second in
+      record {
+        idles = (idling old rest).step now new step was.idles;
+        first = λ on. let so_far = was.first on in let next = one (first ∙ on) in omega (arith, add-one);
+        second = λ on. let so_far = was.second on in let next = two (second ∙ on) in omega (arith, add-one);
+      });
+  idle = λ n now gaps fresh was. record { idles = (idling old rest).idle now gaps fresh was.idles; first = was.first; second = was.second };
+}
+
+pub waits_spinning : (n : ℕ) (old new : Board) → Runs n (stirred old) new → IsResting (controller_of old) → Spins old n new
+waits_spinning n old new runs rest = march_wait (Spins old) (spinning old rest) n old new runs (record { idles = idles_none old; first = λ _. omega arith; second = λ _. omega arith })
