@@ -8,8 +8,6 @@ use Rattle.std.proofs.lemmas.List.Concat.{flat_map-cons}
 use Rattle.std.proofs.lemmas.List.FromFn.{length-map-range_with_len}
 use Rattle.bay_model.specs.Memory.{user_bytes}
 use Rattle.flop_base.specs.Standard.{sectors_at, standard_code}
-use Rattle.flop_base.specs.declared.answers.Rate.{Rate}
-use Rattle.flop_base.specs.declared.answers.Rate.TheVariants.{R500, R250}
 use Rattle.machine_pace.specs.Holds.{counted}
 use Rattle.pc_bus.specs.Boards.{Board, controller_of, memory_of}
 use Rattle.pc_bus.specs.Handling.{byte_set}
@@ -116,16 +114,6 @@ puts_key address c h r old one two three new inside first second third fourth =
     at_start : (k : ℕ) → ((k < address) ⊎ (address + 4 ≤ k)) → k ≢ address
     at_start k (inl below) e = omega (arith, e)
     at_start k (inr above) e = omega (arith, e)
-
--- ---- one key more
-
-key_stays : (memory new : List ℕ) (a b c h r : ℕ) → a + 4 ≤ b → ((k : ℕ) → ((k < b) ⊎ (b + 4 ≤ k)) → slice_index new k ≡ slice_index memory k) → IsKeyAt memory a c h r → IsKeyAt new a c h r
-key_stays memory new a b c h r before same was = record {
-  first = same a (inl (omega arith)) ∙ was.first;
-  second = same (a + 1) (inl (omega arith)) ∙ was.second;
-  third = same (a + 2) (inl (omega arith)) ∙ was.third;
-  fourth = same (a + 3) (inl (omega arith)) ∙ was.fourth;
-}
 
 -- ---- all of them, as a list
 
@@ -301,10 +289,6 @@ format_whole motors bay asked outcome old put new idle small low spun free bytes
     }
 
 -- ---- for the code
-
-pub few_at : (rate : Rate) → sectors_at rate ≤ 18
-few_at R500 = omega arith
-few_at R250 = omega arith
 
 pub format_as : (bay h sectors other gap3 fill : ℕ) (old new : Board) → sectors ≡ other → Sends (0x4D ∷ (h * 4 + bay) ∷ standard_code ∷ sectors ∷ gap3 ∷ fill ∷ []) old new
     → Sends (0x4D ∷ (h * 4 + bay) ∷ standard_code ∷ other ∷ gap3 ∷ fill ∷ []) old new
