@@ -1,9 +1,9 @@
 -- The keys of a format, put into the driver's page.
-use Rattle.std.proofs.Common.{◌≡◌, ◌≢◌, ◌⊎◌, inl, inr, ℕ, zero, suc, ◌+◌, ◌*◌, ◌<◌, ◌≤◌, true, false, List, [], ◌∷◌, length, take, drop, map, get_or, slice_index, nat_lt, min, Option, Some, None, Result, Ok, Err, if◌then◌else◌, refl, sym, ◌∙◌, ap, subst, arith}
+use Rattle.std.proofs.Common.{◌≡◌, ◌≢◌, ◌⊎◌, inl, inr, ℕ, zero, suc, ◌+◌, ◌*◌, ◌<◌, ◌≤◌, true, false, List, [], ◌∷◌, length, take, drop, map, get_or, slice_index, nat_lt, Option, Some, None, Result, Ok, Err, if◌then◌else◌, refl, sym, ◌∙◌, ap, subst, arith}
 use Rattle.std.specs.Prelude.{slice_set, MatchOption, IfErr}
 use Rattle.std.specs.List.{flat_map, range_with_len}
 use Rattle.std.proofs.lemmas.Bool.Decides.{nat_tests}
-use Rattle.std.proofs.lemmas.List.{ext_get_or, get_or-set_other, get_or-set_same, get_or-take, length-set, length-take}
+use Rattle.std.proofs.lemmas.List.{get_or_past, get_or-set_other, get_or-set_same, length-set}
 use Rattle.std.proofs.lemmas.List.Concat.{flat_map-cons}
 use Rattle.std.proofs.lemmas.List.FromFn.{length-map-range_with_len}
 use Rattle.bay_model.specs.Memory.{user_bytes}
@@ -34,6 +34,7 @@ use Rattle.machine_commands.specs.Shown.{is_spun, page_part, rig_of, stalls_left
 use Rattle.machine_commands.specs.WriteSent.{SendsFormatBytes, told_of}
 use Rattle.machine_commands.specs.declared.motors.Motors.{Motors}
 use Rattle.machine_commands.specs.declared.results.Done.{Done}
+use Rattle.machine_commands.proofs.Landing.{user_same}
 use Rattle.machine_commands.proofs.FormatDone.{HasKeys, IsFormatted, format_done}
 
 -- ---- one byte
@@ -221,18 +222,12 @@ rig_kept old new only same =
     ∙ (ap (λ n. rig_from old.first old.second (controller_of old) (holds_of old) old.bus.taken n (user_part (memory_of new)) page) only.direct
     ∙ ap (λ m. rig_from old.first old.second (controller_of old) (holds_of old) old.bus.taken old.bus.direct m page) same)))))
 
-user_same : (old new : List ℕ) → length new ≡ length old → ((k : ℕ) → k < user_bytes → slice_index new k ≡ slice_index old k) → user_part new ≡ user_part old
-unfolding user_part
-user_same old new size below = ext_get_or 0 (take user_bytes new) (take user_bytes old) lengths each
-  where
-    lengths : length (take user_bytes new) ≡ length (take user_bytes old)
-    lengths = length-take user_bytes new ∙ (ap (λ n. min user_bytes n) size ∙ sym (length-take user_bytes old))
-
-    each : (k : ℕ) → k < length (take user_bytes new) → get_or (take user_bytes new) k 0 ≡ get_or (take user_bytes old) k 0
-    each k inside =
-        let few = length-take user_bytes new in
-        let low : k < user_bytes = omega arith in
-        get_or-take user_bytes new k 0 low ∙ (below k low ∙ sym (get_or-take user_bytes old k 0 low))
+-- user memory is below the page
+user_stays : (old new : List ℕ) → length old ≡ 1048576 → length new ≡ length old → ((k : ℕ) → k < user_bytes → slice_index new k ≡ slice_index old k) → user_part new ≡ user_part old
+user_stays old new long size below = user_same old new user_bytes (length old) long (record {
+  lengths = size;
+  others = λ k where_k. elim where_k [ inl low ↦ below k low | inr high ↦ get_or_past new k 0 (omega arith) ∙ sym (get_or_past old k 0 (omega arith)) ];
+}) (omega arith)
 
 -- ---- a format whatever the page was
 
@@ -277,7 +272,7 @@ pub format_whole : (motors : Motors) (bay : ℕ) (asked : Format) (outcome : Res
     → sectors_at asked.rate ≤ 18 → PutsKeys asked.c asked.h (sectors_at asked.rate) old put → SendsFormatBytes motors bay asked put outcome new → InRange new.first → InRange new.second
     → IsFormatted motors bay asked outcome old new
 format_whole motors bay asked outcome old put new idle small low spun free bytes few puts sends first second =
-    let same = user_same (memory_of old) (memory_of put) puts.size (λ k below. puts.below k (omega arith)) in
+    let same = user_stays (memory_of old) (memory_of put) bytes puts.size (λ k below. puts.below k (omega arith)) in
     let rig = rig_kept old put puts.only same in
     let is = format_done motors bay asked outcome put new (idle_kept motors old put puts.only idle) small low (ap (λ r. in_bay r.spun bay) rig ∙ spun)
     (ap (λ r. option_map_or (λ disk. disk.protected) (in_bay r.media bay) false) rig ∙ free) (keys_stand asked old put bytes few puts) sends first second in

@@ -46,9 +46,8 @@ use Rattle.machine_commands.specs.Shown.{rig_of, user_part, page_part}
 use Rattle.machine_commands.specs.declared.motors.Motors.{Motors}
 use Rattle.machine_commands.specs.declared.results.Done.{Done}
 use Rattle.machine_commands.proofs.Beginning.{IsRun, head_of_sent, is_run, set_to_memory, small_drive}
-use Rattle.machine_commands.proofs.Endings.{outcome_in}
 use Rattle.machine_commands.proofs.Landing.{SameBut, user_same, page_same, user_outside, user_with, page_with}
-use Rattle.machine_commands.proofs.Outcomes.{outcome_as, told_as}
+use Rattle.machine_commands.proofs.Outcomes.{outcome_is, told_as}
 use Rattle.machine_commands.proofs.Preparing.{channel_sets}
 use Rattle.machine_commands.proofs.Seeing.{calm_drive, cylinder_before, faultless, idle_after, medium_before, memory_after, memory_before, read_sends, stall_counts, track_before, unstalled}
 
@@ -163,7 +162,7 @@ module _ (motors : Motors) (bay : ℕ) (key : Chrn) (rate : Rate) (address : ℕ
       let over = ran.run.over in
       let (results, ends) = subst (heard.EndedIn scene faults (memory_of at)) over.results.is (read_ended scene at coded size_is over.goes.underway) in
       let after = key_after over.results.ending key key.r in
-      subst (λ told. Tells scene faults (memory_of at) Stall (mark_told told)) (sym (over.outcome_is ∙ (ap outcome_in results ∙ outcome_as over.results.ending head_drive after (small_drive key.h bay low small))))
+      subst (λ told. Tells scene faults (memory_of at) Stall (mark_told told)) (sym (outcome_is outcome over.results.ending over.results.results head_drive after (small_drive key.h bay low small) over.outcome_is results))
       (tells_by scene faults (memory_of at) Stall over.results.ending ends overran late after)
 
   head_is : head_drive / 4 % 2 ≡ key.h
