@@ -32,9 +32,8 @@ use Rattle.machine_commands.specs.WriteSent.{SendsFormatBytes, keys_at, told_of}
 use Rattle.machine_commands.specs.declared.motors.Motors.{Motors}
 use Rattle.machine_commands.specs.declared.results.Done.{Done}
 use Rattle.machine_commands.proofs.Beginning.{IsRun, head_of_sent, is_run, set_from_memory, small_drive}
-use Rattle.machine_commands.proofs.Endings.{outcome_in}
 use Rattle.machine_commands.proofs.FormatRigs.{IsFormatOn, format_shown}
-use Rattle.machine_commands.proofs.Outcomes.{outcome_as, told_as}
+use Rattle.machine_commands.proofs.Outcomes.{outcome_is, told_as}
 use Rattle.machine_commands.proofs.Preparing.{channel_sets}
 use Rattle.machine_commands.proofs.Seeing.{idle_after, medium_before, memory_before}
 use Rattle.machine_commands.proofs.WriteRigs.{overruns}
@@ -98,7 +97,7 @@ format_done motors bay asked outcome old new idle small low spun unprotected key
     let after = over.results.results.key in
     let (laying, shown) = format_shown ran.run the_keys on same (λ laying after. lays_disk scene numbers the_keys laying after asked on.head refl refl refl refl) after over.results.ending is.1 (overruns ran.run) in
     let told : told_of outcome ≡ told_of (told_as over.results.ending after) =
-    ap told_of (over.outcome_is ∙ (ap outcome_in is.0 ∙ outcome_as over.results.ending head_drive after (small_drive asked.h bay low small))) in
+    ap told_of (outcome_is outcome over.results.ending over.results.results head_drive after (small_drive asked.h bay low small) over.outcome_is is.0) in
     record {
       idle = idle_after ran.run first second;
       laying = laying;

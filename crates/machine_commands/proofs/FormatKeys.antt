@@ -1,15 +1,13 @@
 -- The keys of a format, put into the driver's page.
-use Rattle.std.proofs.Common.{◌≡◌, ◌≢◌, ◌⊎◌, inl, inr, ℕ, zero, suc, ◌+◌, ◌*◌, ◌<◌, ◌≤◌, true, false, List, [], ◌∷◌, length, take, drop, map, get_or, slice_index, nat_lt, min, Option, Some, None, Result, Ok, Err, if◌then◌else◌, refl, sym, ◌∙◌, ap, subst, arith}
+use Rattle.std.proofs.Common.{◌≡◌, ◌≢◌, ◌⊎◌, inl, inr, ℕ, zero, suc, ◌+◌, ◌*◌, ◌<◌, ◌≤◌, true, false, List, [], ◌∷◌, length, take, drop, map, get_or, slice_index, nat_lt, Option, Some, None, Result, Ok, Err, if◌then◌else◌, refl, sym, ◌∙◌, ap, subst, arith}
 use Rattle.std.specs.Prelude.{slice_set, MatchOption, IfErr}
 use Rattle.std.specs.List.{flat_map, range_with_len}
 use Rattle.std.proofs.lemmas.Bool.Decides.{nat_tests}
-use Rattle.std.proofs.lemmas.List.{ext_get_or, get_or-set_other, get_or-set_same, get_or-take, length-set, length-take}
+use Rattle.std.proofs.lemmas.List.{get_or_past, get_or-set_other, get_or-set_same, length-set}
 use Rattle.std.proofs.lemmas.List.Concat.{flat_map-cons}
 use Rattle.std.proofs.lemmas.List.FromFn.{length-map-range_with_len}
 use Rattle.bay_model.specs.Memory.{user_bytes}
 use Rattle.flop_base.specs.Standard.{sectors_at, standard_code}
-use Rattle.flop_base.specs.declared.answers.Rate.{Rate}
-use Rattle.flop_base.specs.declared.answers.Rate.TheVariants.{R500, R250}
 use Rattle.machine_pace.specs.Holds.{counted}
 use Rattle.pc_bus.specs.Boards.{Board, controller_of, memory_of}
 use Rattle.pc_bus.specs.Handling.{byte_set}
@@ -36,6 +34,7 @@ use Rattle.machine_commands.specs.Shown.{is_spun, page_part, rig_of, stalls_left
 use Rattle.machine_commands.specs.WriteSent.{SendsFormatBytes, told_of}
 use Rattle.machine_commands.specs.declared.motors.Motors.{Motors}
 use Rattle.machine_commands.specs.declared.results.Done.{Done}
+use Rattle.machine_commands.proofs.Landing.{user_same}
 use Rattle.machine_commands.proofs.FormatDone.{HasKeys, IsFormatted, format_done}
 
 -- ---- one byte
@@ -116,16 +115,6 @@ puts_key address c h r old one two three new inside first second third fourth =
     at_start : (k : ℕ) → ((k < address) ⊎ (address + 4 ≤ k)) → k ≢ address
     at_start k (inl below) e = omega (arith, e)
     at_start k (inr above) e = omega (arith, e)
-
--- ---- one key more
-
-key_stays : (memory new : List ℕ) (a b c h r : ℕ) → a + 4 ≤ b → ((k : ℕ) → ((k < b) ⊎ (b + 4 ≤ k)) → slice_index new k ≡ slice_index memory k) → IsKeyAt memory a c h r → IsKeyAt new a c h r
-key_stays memory new a b c h r before same was = record {
-  first = same a (inl (omega arith)) ∙ was.first;
-  second = same (a + 1) (inl (omega arith)) ∙ was.second;
-  third = same (a + 2) (inl (omega arith)) ∙ was.third;
-  fourth = same (a + 3) (inl (omega arith)) ∙ was.fourth;
-}
 
 -- ---- all of them, as a list
 
@@ -233,18 +222,12 @@ rig_kept old new only same =
     ∙ (ap (λ n. rig_from old.first old.second (controller_of old) (holds_of old) old.bus.taken n (user_part (memory_of new)) page) only.direct
     ∙ ap (λ m. rig_from old.first old.second (controller_of old) (holds_of old) old.bus.taken old.bus.direct m page) same)))))
 
-user_same : (old new : List ℕ) → length new ≡ length old → ((k : ℕ) → k < user_bytes → slice_index new k ≡ slice_index old k) → user_part new ≡ user_part old
-unfolding user_part
-user_same old new size below = ext_get_or 0 (take user_bytes new) (take user_bytes old) lengths each
-  where
-    lengths : length (take user_bytes new) ≡ length (take user_bytes old)
-    lengths = length-take user_bytes new ∙ (ap (λ n. min user_bytes n) size ∙ sym (length-take user_bytes old))
-
-    each : (k : ℕ) → k < length (take user_bytes new) → get_or (take user_bytes new) k 0 ≡ get_or (take user_bytes old) k 0
-    each k inside =
-        let few = length-take user_bytes new in
-        let low : k < user_bytes = omega arith in
-        get_or-take user_bytes new k 0 low ∙ (below k low ∙ sym (get_or-take user_bytes old k 0 low))
+-- user memory is below the page
+user_stays : (old new : List ℕ) → length old ≡ 1048576 → length new ≡ length old → ((k : ℕ) → k < user_bytes → slice_index new k ≡ slice_index old k) → user_part new ≡ user_part old
+user_stays old new long size below = user_same old new user_bytes (length old) long (record {
+  lengths = size;
+  others = λ k where_k. elim where_k [ inl low ↦ below k low | inr high ↦ get_or_past new k 0 (omega arith) ∙ sym (get_or_past old k 0 (omega arith)) ];
+}) (omega arith)
 
 -- ---- a format whatever the page was
 
@@ -289,7 +272,7 @@ pub format_whole : (motors : Motors) (bay : ℕ) (asked : Format) (outcome : Res
     → sectors_at asked.rate ≤ 18 → PutsKeys asked.c asked.h (sectors_at asked.rate) old put → SendsFormatBytes motors bay asked put outcome new → InRange new.first → InRange new.second
     → IsFormatted motors bay asked outcome old new
 format_whole motors bay asked outcome old put new idle small low spun free bytes few puts sends first second =
-    let same = user_same (memory_of old) (memory_of put) puts.size (λ k below. puts.below k (omega arith)) in
+    let same = user_stays (memory_of old) (memory_of put) bytes puts.size (λ k below. puts.below k (omega arith)) in
     let rig = rig_kept old put puts.only same in
     let is = format_done motors bay asked outcome put new (idle_kept motors old put puts.only idle) small low (ap (λ r. in_bay r.spun bay) rig ∙ spun)
     (ap (λ r. option_map_or (λ disk. disk.protected) (in_bay r.media bay) false) rig ∙ free) (keys_stand asked old put bytes few puts) sends first second in
@@ -301,10 +284,6 @@ format_whole motors bay asked outcome old put new idle small low spun free bytes
     }
 
 -- ---- for the code
-
-pub few_at : (rate : Rate) → sectors_at rate ≤ 18
-few_at R500 = omega arith
-few_at R250 = omega arith
 
 pub format_as : (bay h sectors other gap3 fill : ℕ) (old new : Board) → sectors ≡ other → Sends (0x4D ∷ (h * 4 + bay) ∷ standard_code ∷ sectors ∷ gap3 ∷ fill ∷ []) old new
     → Sends (0x4D ∷ (h * 4 + bay) ∷ standard_code ∷ other ∷ gap3 ∷ fill ∷ []) old new

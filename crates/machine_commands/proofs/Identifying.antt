@@ -29,8 +29,7 @@ use Rattle.machine_commands.specs.Shown.{rig_of, user_part, page_part}
 use Rattle.machine_commands.specs.declared.motors.Motors.{Motors}
 use Rattle.machine_commands.specs.declared.results.Done.{Done}
 use Rattle.machine_commands.proofs.Beginning.{IsRun, head_of_sent, is_run, small_drive}
-use Rattle.machine_commands.proofs.Endings.{outcome_in}
-use Rattle.machine_commands.proofs.Outcomes.{outcome_as, told_as}
+use Rattle.machine_commands.proofs.Outcomes.{outcome_is, told_as}
 use Rattle.machine_commands.proofs.Preparing.{none_set}
 use Rattle.machine_commands.proofs.Seeing.{calm_drive, idle_after, memory_after, memory_before, read_sends, track_before}
 
@@ -80,7 +79,7 @@ module _ (motors : Motors) (bay head : ℕ) (rate : Rate) (outcome : result Done
       let (results, ends) = subst (IdEndedIn scene faults) over.results.is (id_ended scene at over.goes.underway) in
       let says : SaysOf scene faults (key_told outcome) =
       subst (λ told. SaysOf scene faults (key_told told))
-      (sym (over.outcome_is ∙ (ap outcome_in results ∙ outcome_as over.results.ending head_drive (key_met over.results.ending over.results.results.key) (small_drive head bay low small))))
+      (sym (outcome_is outcome over.results.ending over.results.results head_drive (key_met over.results.ending over.results.results.key) (small_drive head bay low small) over.outcome_is results))
       (told_by scene faults over.results.ending over.results.results.key ends) in
       let track = track_before ran.run head (head_of_sent head bay low small) in
       let memory_now : memory_of new ≡ memory_of old = memory_after ran.run ∙ (id_memory scene at over.goes.underway ∙ memory_before ran.run) in

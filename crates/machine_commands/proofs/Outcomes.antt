@@ -1,9 +1,10 @@
 -- What an ending is told as.
-use Rattle.std.proofs.Common.{◌≡◌, ℕ, zero, suc, ◌≤◌, Bool, true, false, Result, Ok, Err, if◌then◌else◌, refl, ap, arith}
+use Rattle.std.proofs.Common.{◌≡◌, ℕ, zero, suc, ◌≤◌, Bool, true, false, Result, Ok, Err, if◌then◌else◌, refl, ◌∙◌, ap, arith}
 use Rattle.std.specs.Prelude.{bit_and}
 use Rattle.std.specs.Int.RustNames.{bit_or}
 use Rattle.flop_base.specs.declared.answers.Code.{Code}
 use Rattle.flop_base.specs.declared.key.Chrn.{Chrn}
+use Rattle.fdc_commands.specs.declared.results.Results.{Results}
 use Rattle.fdc_core.specs.Answers.{results_of, st1_of, st2_of}
 use Rattle.fdc_stages.specs.declared.ending.Ending.{Ending}
 use Rattle.fdc_stages.specs.declared.ending.Ending.TheVariants.{Done as Finished, NoMark, NoSector, NoField, BadCheck, Overrun, NoCount, Protected, Late}
@@ -30,7 +31,7 @@ low_bits (suc (suc (suc (suc (suc (suc (suc (suc more)))))))) small = absurd (om
 by_bits : (failed : Bool) (over : Ending) (key : Chrn) → Result Done Code
 by_bits failed over key = if failed then Err (refusal_of (st1_of over).0) else Ok (record { deleted = has_set (st2_of over).0 0x40; key = key })
 
-pub outcome_as : (over : Ending) (head_drive : ℕ) (key : Chrn) → head_drive ≤ 7 → outcome_in (results_of over head_drive key) ≡ told_as over key
+outcome_as : (over : Ending) (head_drive : ℕ) (key : Chrn) → head_drive ≤ 7 → outcome_in (results_of over head_drive key) ≡ told_as over key
 unfolding by_bits
 outcome_as (Finished true) head_drive key small = ap (λ b. by_bits b (Finished true) key) (low_bits head_drive small).0
 outcome_as (Finished false) head_drive key small = ap (λ b. by_bits b (Finished false) key) (low_bits head_drive small).0
@@ -42,3 +43,8 @@ outcome_as Overrun head_drive key small = ap (λ b. by_bits b Overrun key) (low_
 outcome_as NoCount head_drive key small = ap (λ b. by_bits b NoCount key) (low_bits head_drive small).1
 outcome_as Protected head_drive key small = ap (λ b. by_bits b Protected key) (low_bits head_drive small).1
 outcome_as Late head_drive key small = ap (λ b. by_bits b Late key) (low_bits head_drive small).1
+
+-- the outcome of an ending's results
+pub outcome_is : (outcome : Result Done Code) (over : Ending) (results : Results) (head_drive : ℕ) (key : Chrn) → head_drive ≤ 7 → outcome ≡ outcome_in results → results ≡ results_of over head_drive key
+    → outcome ≡ told_as over key
+outcome_is outcome over results head_drive key small is same = is ∙ (ap outcome_in same ∙ outcome_as over head_drive key small)

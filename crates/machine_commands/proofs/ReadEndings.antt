@@ -1,5 +1,6 @@
 -- READ DATA.
-use Rattle.std.proofs.Common.{◌≡◌, ◌⊎◌, inl, inr, ℕ, zero, suc, ◌+◌, ◌-◌, ◌*◌, ◌/◌, ◌%◌, ◌<◌, ◌≤◌, Bool, true, false, List, [], ◌∷◌, length, get_or, Result as result, Ok, Err, IfOk, IfErr, refl, sym, ◌∙◌, ap, subst, arith}
+use Rattle.std.proofs.Common.{◌≡◌, ◌⊎◌, inl, inr, ℕ, zero, suc, ◌+◌, ◌-◌, ◌*◌, ◌/◌, ◌%◌, ◌<◌, ◌≤◌, Bool, true, List, [], ◌∷◌, length, get_or, Result as result, Ok, Err, IfOk, IfErr, refl, sym, ◌∙◌, ap, subst, arith}
+use Rattle.std.proofs.lemmas.Bool.{false≢true}
 use Rattle.std.proofs.lemmas.List.FromFn.{length-map-range_with_len}
 use Rattle.flop_base.specs.Standard.{read_gap_at}
 use Rattle.flop_base.specs.declared.key.Chrn.{Chrn}
@@ -45,9 +46,8 @@ use Rattle.machine_commands.specs.Shown.{rig_of, user_part, page_part}
 use Rattle.machine_commands.specs.declared.motors.Motors.{Motors}
 use Rattle.machine_commands.specs.declared.results.Done.{Done}
 use Rattle.machine_commands.proofs.Beginning.{IsRun, head_of_sent, is_run, set_to_memory, small_drive}
-use Rattle.machine_commands.proofs.Endings.{outcome_in}
 use Rattle.machine_commands.proofs.Landing.{SameBut, user_same, page_same, user_outside, user_with, page_with}
-use Rattle.machine_commands.proofs.Outcomes.{outcome_as, told_as}
+use Rattle.machine_commands.proofs.Outcomes.{outcome_is, told_as}
 use Rattle.machine_commands.proofs.Preparing.{channel_sets}
 use Rattle.machine_commands.proofs.Seeing.{calm_drive, cylinder_before, faultless, idle_after, medium_before, memory_after, memory_before, read_sends, stall_counts, track_before, unstalled}
 
@@ -63,27 +63,21 @@ abbrev Tells : Scene → ℕ → List ℕ → Type 0 → result Bool Code → Ty
 Tells scene faults memory Stall (Ok deleted) = (content : List ℕ) × heard.FindsField scene faults deleted content memory
 Tells scene faults memory Stall (Err refusal) = Refuses scene faults Stall refusal
 
--- endings that come of stalls alone
-abbrev is_forced : Ending → Bool
-is_forced Overrun = true
-is_forced Late = true
-is_forced _ = false
-
-tells_by : (scene : Scene) (faults : ℕ) (memory : List ℕ) (Stall : Type 0) (ending : Ending) → heard.EndsAs scene faults memory ending → (is_forced ending ≡ true → Stall)
+tells_by : (scene : Scene) (faults : ℕ) (memory : List ℕ) (Stall : Type 0) (ending : Ending) → heard.EndsAs scene faults memory ending → (ending ≡ Overrun → Stall) → (ending ≡ Late → Stall)
     → (key : Chrn) → Tells scene faults memory Stall (mark_told (told_as ending key))
-tells_by scene faults memory Stall (Finished deleted) says forced key = says
-tells_by scene faults memory Stall NoMark says forced key = record { coded = tt; reason = λ calm _. inl (λ p clear. says calm (p, clear.mark)); overrun = λ wrong. absurd cc }
-tells_by scene faults memory Stall NoSector says forced key = record {
+tells_by scene faults memory Stall (Finished deleted) says overran late key = says
+tells_by scene faults memory Stall NoMark says overran late key = record { coded = tt; reason = λ calm _. inl (λ p clear. says calm (p, clear.mark)); overrun = λ wrong. absurd cc }
+tells_by scene faults memory Stall NoSector says overran late key = record {
   coded = tt;
   reason = λ calm _. (says.0, λ (p, clear). says.1 calm p scene.sent.key refl clear.address clear.clear.inner);
   overrun = λ wrong. absurd cc;
 }
-tells_by scene faults memory Stall NoField says forced key = record { coded = tt; reason = λ calm _. inr (says calm); overrun = λ wrong. absurd cc }
-tells_by scene faults memory Stall BadCheck says forced key = record { coded = tt; reason = λ calm _. says calm; overrun = λ wrong. absurd cc }
-tells_by scene faults memory Stall Overrun says forced key = record { coded = tt; reason = λ calm none. none (forced refl); overrun = λ _. forced refl }
-tells_by scene faults memory Stall NoCount says forced key = absurd says
-tells_by scene faults memory Stall Protected says forced key = absurd says
-tells_by scene faults memory Stall Late says forced key = record { coded = tt; reason = λ calm none. absurd (none (forced refl)); overrun = λ wrong. absurd cc }
+tells_by scene faults memory Stall NoField says overran late key = record { coded = tt; reason = λ calm _. inr (says calm); overrun = λ wrong. absurd cc }
+tells_by scene faults memory Stall BadCheck says overran late key = record { coded = tt; reason = λ calm _. says calm; overrun = λ wrong. absurd cc }
+tells_by scene faults memory Stall Overrun says overran late key = record { coded = tt; reason = λ calm none. none (overran refl); overrun = λ _. overran refl }
+tells_by scene faults memory Stall NoCount says overran late key = absurd says
+tells_by scene faults memory Stall Protected says overran late key = absurd says
+tells_by scene faults memory Stall Late says overran late key = record { coded = tt; reason = λ calm none. absurd (none (late refl)); overrun = λ wrong. absurd cc }
 
 -- ---- sizes
 
@@ -151,31 +145,25 @@ module _ (motors : Motors) (bay : ℕ) (key : Chrn) (rate : Rate) (address : ℕ
   Stall = Stalled start at
 
   -- what comes of stalls alone
-  forced : is_forced ran.run.over.results.ending ≡ true → Stall
-  forced bad = elim ran.run.over.goes.in_time [
-    | inl ((under, punctual), soon) ↦ absurd (never ran.run.over.results.ending bad (sym (ap is_overrun ran.run.over.results.is) ∙ punctual.no_overrun) (sym (ap is_late ran.run.over.results.is) ∙ soon.no_late))
+  overran : ran.run.over.results.ending ≡ Overrun → Stall
+  overran is = elim ran.run.over.goes.in_time [
+    | inl ((under, punctual), soon) ↦ absurd (false≢true (sym punctual.no_overrun ∙ (ap is_overrun ran.run.over.results.is ∙ ap (λ e. is_overrun (Result (Long e ran.run.over.results.results 0))) is)))
     | inr stalled ↦ stalled
   ]
-    where
-      never : (ending : Ending) → is_forced ending ≡ true → is_overrun (Result (Long ending ran.run.over.results.results 0)) ≡ false
-          → is_late (Result (Long ending ran.run.over.results.results 0)) ≡ false → ⊥
-      never Overrun bad one two = absurd cc
-      never Late bad one two = absurd cc
-      never (Finished deleted) bad one two = absurd cc
-      never NoMark bad one two = absurd cc
-      never NoSector bad one two = absurd cc
-      never NoField bad one two = absurd cc
-      never BadCheck bad one two = absurd cc
-      never NoCount bad one two = absurd cc
-      never Protected bad one two = absurd cc
+
+  late : ran.run.over.results.ending ≡ Late → Stall
+  late is = elim ran.run.over.goes.in_time [
+    | inl (in_time, soon) ↦ absurd (false≢true (sym soon.no_late ∙ (ap is_late ran.run.over.results.is ∙ ap (λ e. is_late (Result (Long e ran.run.over.results.results 0))) is)))
+    | inr stalled ↦ stalled
+  ]
 
   tells : Tells scene faults (memory_of at) Stall (mark_told outcome)
   tells =
       let over = ran.run.over in
       let (results, ends) = subst (heard.EndedIn scene faults (memory_of at)) over.results.is (read_ended scene at coded size_is over.goes.underway) in
       let after = key_after over.results.ending key key.r in
-      subst (λ told. Tells scene faults (memory_of at) Stall (mark_told told)) (sym (over.outcome_is ∙ (ap outcome_in results ∙ outcome_as over.results.ending head_drive after (small_drive key.h bay low small))))
-      (tells_by scene faults (memory_of at) Stall over.results.ending ends forced after)
+      subst (λ told. Tells scene faults (memory_of at) Stall (mark_told told)) (sym (outcome_is outcome over.results.ending over.results.results head_drive after (small_drive key.h bay low small) over.outcome_is results))
+      (tells_by scene faults (memory_of at) Stall over.results.ending ends overran late after)
 
   head_is : head_drive / 4 % 2 ≡ key.h
   head_is = head_of_sent key.h bay low small

@@ -15,7 +15,7 @@ use Rattle.machine_pace.specs.Entries.{next_entry}
 use Rattle.pc_bus.specs.Ports.{RunsGap}
 use Rattle.pc_bus.specs.Steps.{PassesWordTime, Step, Runs, stirred}
 use Rattle.pc_bus.specs.declared.chips.Chips.{Chips}
-use Rattle.machine_commands.proofs.Idling.{IsResting, KeepsDrive, KeepsSpeed}
+use Rattle.machine_commands.proofs.Idling.{KeepsDrive, KeepsSpeed}
 use Rattle.machine_commands.proofs.Steps.{OnlyTurns, calm_asks, calm_dma, unpolled, rests_in, moves_in, or_false, still_seeks, gate_turns, drive_none, drive_then, speed_none, speed_then}
 
 -- ---- one device step
@@ -168,9 +168,6 @@ goes_by fdc seeks bay next true same runs on =
 
 can_seek_on : (bay : ℕ) (fdc : Fdc) (motion : Motion) → CanSeek bay fdc → CanSeek bay (on_way fdc bay motion)
 can_seek_on bay fdc motion can = record { no_command = can.no_command; not_asking = can.not_asking; no_poll = can.no_poll; selects = can.selects }
-
-rests_over : (bay : ℕ) (fdc : Fdc) (number status : ℕ) → CanSeek bay fdc → IsResting (at_end fdc bay number status)
-rests_over bay fdc number status can = record { no_command = can.no_command; no_seek = refl; not_asking = can.not_asking; no_poll = can.no_poll }
 
 pub beside_none : (bay : ℕ) (board : Board) → Beside bay board board
 beside_none bay board = record {

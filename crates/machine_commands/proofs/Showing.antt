@@ -1,11 +1,9 @@
 -- What a driver sees of a board that keeps all.
-use Rattle.std.proofs.Common.{◌≡◌, ℕ, ◌+◌, ◌<◌, ◌≤◌, ◌&&◌, Bool, true, false, List, nat_le, slice_index, is_some, refl, ◌∙◌, ap, arith}
-use Rattle.std.proofs.lemmas.List.{get_or-take, get_or-drop}
+use Rattle.std.proofs.Common.{◌≡◌, ℕ, ◌≤◌, ◌&&◌, Bool, true, false, nat_le, slice_index, is_some, refl, ◌∙◌, ap, arith}
 use Rattle.std.proofs.lemmas.Bool.{false≢true}
 use Rattle.std.proofs.lemmas.Bool.Decides.{nat_tests}
 use Rattle.bay_model.specs.Bays.{Two}
 use Rattle.bay_model.specs.Counters.{GoesOn, IsDriven}
-use Rattle.bay_model.specs.Memory.{user_bytes}
 use Rattle.drive_model.specs.Drive.{DriveState, turns}
 use Rattle.fdc_core.specs.State.{data_commands_of}
 use Rattle.pc_bus.specs.Boards.{Board, controller_of, holds_of}
@@ -88,13 +86,3 @@ keeps_reset old new keeps sent = record {
   counts = keeps_counting old new keeps sent;
   driven = keeps_driven old new keeps sent;
 }
-
--- ---- bytes of memory
-
-pub user_byte : (memory : List ℕ) (address : ℕ) → address < user_bytes → slice_index (user_part memory) address ≡ slice_index memory address
-unfolding user_part
-user_byte memory address below = get_or-take user_bytes memory address 0 below
-
-pub page_byte : (memory : List ℕ) (i : ℕ) → slice_index (page_part memory) i ≡ slice_index memory (user_bytes + i)
-unfolding page_part
-page_byte memory i = get_or-drop user_bytes memory i 0

@@ -1,5 +1,5 @@
 -- Device steps of a controller that rests.
-use Rattle.std.proofs.Common.{◌≡◌, ℕ, ◌+◌, ◌<◌, ◌≤◌, ◌==◌, ◌&&◌, ◌||◌, not, Bool, true, false, List, Option, Some, None, if◌then◌else◌, nat_lt, is_some, min, add-one, refl, sym, ◌∙◌, ap, subst, arith}
+use Rattle.std.proofs.Common.{◌≡◌, ℕ, ◌+◌, ◌<◌, ◌≤◌, ◌==◌, ◌&&◌, ◌||◌, not, Bool, true, false, List, Option, Some, None, if◌then◌else◌, nat_lt, is_some, min, refl, sym, ◌∙◌, ap, subst, arith}
 use Rattle.std.specs.Option.{option_map_or}
 use Rattle.std.proofs.lemmas.Bool.Decides.{nat_tests}
 use Rattle.bay_model.proofs.Counted.{spends_itself, spends_twice}
@@ -333,8 +333,8 @@ spinning old rest = record {
       let second = same_turning old.second now.second was.idles.stays.keeps.second was.idles.stays.second in
       record {
         idles = (idling old rest).step now new step was.idles;
-        first = λ on. let so_far = was.first on in let next = one (first ∙ on) in omega (arith, add-one);
-        second = λ on. let so_far = was.second on in let next = two (second ∙ on) in omega (arith, add-one);
+        first = λ on. let so_far = was.first on in let next = one (first ∙ on) in omega arith;
+        second = λ on. let so_far = was.second on in let next = two (second ∙ on) in omega arith;
       });
   idle = λ n now gaps fresh was. record { idles = (idling old rest).idle now gaps fresh was.idles; first = was.first; second = was.second };
 }

@@ -34,8 +34,7 @@ use Rattle.machine_commands.specs.WriteSent.{SendsWriteBytes, told_of}
 use Rattle.machine_commands.specs.declared.motors.Motors.{Motors}
 use Rattle.machine_commands.specs.declared.results.Done.{Done}
 use Rattle.machine_commands.proofs.Beginning.{IsRun, head_of_sent, is_run, set_from_memory, small_drive}
-use Rattle.machine_commands.proofs.Endings.{outcome_in}
-use Rattle.machine_commands.proofs.Outcomes.{outcome_as, told_as}
+use Rattle.machine_commands.proofs.Outcomes.{outcome_is, told_as}
 use Rattle.machine_commands.proofs.Preparing.{channel_sets}
 use Rattle.machine_commands.proofs.ReadEndings.{size_range}
 use Rattle.machine_commands.proofs.Seeing.{idle_after, medium_before}
@@ -91,7 +90,7 @@ write_done motors bay key rate address deleted outcome old new idle small low co
     let after = key_after over.results.ending key key.r in
     let (change, shown) = write_shown ran.run on same after over.results.ending is.1 (overruns ran.run) in
     let told : told_of outcome ≡ told_of (told_as over.results.ending after) =
-    ap told_of (over.outcome_is ∙ (ap outcome_in is.0 ∙ outcome_as over.results.ending head_drive after (small_drive key.h bay low small))) in
+    ap told_of (outcome_is outcome over.results.ending over.results.results head_drive after (small_drive key.h bay low small) over.outcome_is is.0) in
     record {
       idle = idle_after ran.run first second;
       change = change;

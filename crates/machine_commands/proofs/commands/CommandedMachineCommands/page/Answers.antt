@@ -2,10 +2,10 @@ use Rattle.std.proofs.Common.{sym, ap, ◌+◌, slice_index, ◌∙◌}
 use Rattle.bay_model.specs.Memory.{user_bytes}
 use Rattle.pc_bus.specs.Boards.{memory_of}
 use Rattle.machine_commands.specs.Shown.{board_of}
-use Rattle.machine_commands.proofs.Showing.{page_byte}
+use Rattle.machine_commands.proofs.Landing.{page_at}
 use Rattle.machine_commands.proofs.commands.CommandedMachineCommands.page.Goals as goal
 
 pub returns : goal.returns
 returns g c =
     let memory = memory_of (board_of g.D.Drive.state c.args.self.now) in
-    record { byte = c.ram.ensures.byte ∙ (ap (λ n. slice_index memory (user_bytes + n)) c.from.ensures ∙ sym (page_byte memory c.args.i)) }
+    record { byte = c.ram.ensures.byte ∙ (ap (λ n. slice_index memory (user_bytes + n)) c.from.ensures ∙ sym (page_at memory c.args.i)) }
