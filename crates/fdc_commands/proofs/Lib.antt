@@ -1,3 +1,4 @@
 mod ReadSpellings
 mod WriteSpellings
+mod Spellings
 pub mod Answering

@@ -73,29 +73,29 @@ pub enum Command {
     },
 }
 
-const SPECIFY: u8 = 0x03;
+pub(crate) const SPECIFY: u8 = 0x03;
 
-const SENSE_DRIVE: u8 = 0x04;
+pub(crate) const SENSE_DRIVE: u8 = 0x04;
 
-const RECALIBRATE: u8 = 0x07;
+pub(crate) const RECALIBRATE: u8 = 0x07;
 
-const SENSE_INTERRUPT: u8 = 0x08;
+pub(crate) const SENSE_INTERRUPT: u8 = 0x08;
 
-const SEEK: u8 = 0x0F;
+pub(crate) const SEEK: u8 = 0x0F;
 
-const VERSION: u8 = 0x10;
+pub(crate) const VERSION: u8 = 0x10;
 
-const CONFIGURE: u8 = 0x13;
+pub(crate) const CONFIGURE: u8 = 0x13;
 
-const READ_ID: u8 = 0x4A;
+pub(crate) const READ_ID: u8 = 0x4A;
 
-const READ_DATA: u8 = 0x46;
+pub(crate) const READ_DATA: u8 = 0x46;
 
-const WRITE_DATA: u8 = 0x45;
+pub(crate) const WRITE_DATA: u8 = 0x45;
 
-const WRITE_DELETED: u8 = 0x49;
+pub(crate) const WRITE_DELETED: u8 = 0x49;
 
-const FORMAT_TRACK: u8 = 0x4D;
+pub(crate) const FORMAT_TRACK: u8 = 0x4D;
 
 /// The bytes of the longest command, its code among them.
 pub(crate) const LONGEST: usize = 9;
