@@ -3,10 +3,11 @@ ghost use Rattle.std.specs.Prelude.{◌≡◌, ◌≤◌, length};
 ghost use Rattle.fdc_commands.specs.Spelled.{spelled, spelled_sector};
 
 use crate::Command;
-use crate::command::{
-    CONFIGURE, FORMAT_TRACK, LONGEST, READ_DATA, READ_ID, RECALIBRATE, SEEK, SENSE_DRIVE,
-    SENSE_INTERRUPT, SPECIFY, VERSION, WRITE_DATA, WRITE_DELETED,
+use crate::codes::{
+    CONFIGURE, FORMAT_TRACK, READ_DATA, READ_ID, RECALIBRATE, SEEK, SENSE_DRIVE, SENSE_INTERRUPT,
+    SPECIFY, VERSION, WRITE_DATA, WRITE_DELETED,
 };
+use crate::command::LONGEST;
 use flop_base::Chrn;
 use std::marker::Model;
 
