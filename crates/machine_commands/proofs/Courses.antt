@@ -140,7 +140,7 @@ ready_by false has_begun (Result answer) seeks _ none unread = rw none refl
 positive_in : (phase new : Phase) → is_executing phase ≡ true → EndsIn phase new → 1 ≤ steps_left phase
 positive_in Command new busy ends = absurd (false≢true busy)
 positive_in (Result answer) new busy ends = absurd (false≢true busy)
-positive_in (Execute execution) new busy ends = omega arith
+positive_in (Execute execution) new busy ends = let fewer = ends.0 in omega arith
 
 step_positive : (old new : Board) → Step old new → is_executing (controller_of old).phase ≡ true → 1 ≤ steps_left (controller_of old).phase
 step_positive old new step busy = elim (first_second_or_none (selected_of old)) [

@@ -76,7 +76,7 @@ ends_in phase.Command polls between track0 ends rests same =
     let none : turns_left between.phase ≡ 0 = ap (λ fdc. turns_left fdc.phase) rests ∙ ap turns_left same in omega arith
 ends_in (phase.Result answer) polls between track0 ends rests same =
     let none : turns_left between.phase ≡ 0 = ap (λ fdc. turns_left fdc.phase) rests ∙ ap turns_left same in omega arith
-ends_in (phase.Execute execution) polls between track0 ends rests same = let less = fewer between.phase (steps_left (phase.Execute execution)) ends in omega arith
+ends_in (phase.Execute execution) polls between track0 ends rests same = let less = fewer between.phase (steps_left (phase.Execute execution)) ends.0 in omega arith
 
 word_ends : (old between : Fdc) (track0 : Bool) → EndsIn old.phase between.phase → RestsIn (polled old).phase track0 (polled old) between
     → turns_left between.phase ≤ turns_left old.phase - 1
