@@ -5,7 +5,7 @@ use Rattle.drive_model.specs.Drive.{DriveState, Becomes, InRange, is_protected, 
 use Rattle.dma_8237.specs.Channel.{Channel, power_up}
 use Rattle.irq_events.specs.Latch.{Latch}
 use Rattle.irq_events.specs.declared.pace.Pace.{Pace}
-use Rattle.machine_pace.specs.Holds.{Holds}
+use Rattle.machine_pace.specs.Holds.{AreShort, Holds}
 use Rattle.machine_pace.specs.declared.holding.Request.TheVariants.{Low}
 use Rattle.fdc_core.specs.Ranges.{IsInRange as IsFdcInRange}
 use Rattle.fdc_core.specs.State.{at_power_up, dor_of}
@@ -88,11 +88,12 @@ pub record IsNew (pace : Pace) (bay0 bay1 : DriveState) (new : Board) : Type 0 w
   pub first : Becomes (with_motor false bay0) bay0 new.first
   pub second : Becomes (with_motor false bay1) bay1 new.second
 
--- the numbers of the drives and of the controller are those that they hold
+-- the numbers of the drives, of the controller and of the holds are those that they hold
 pub record IsInRange (board : Board) : Type 0 where
   pub first : InRange board.first
   pub second : InRange board.second
   pub controller : IsFdcInRange (controller_of board)
+  pub holds : AreShort (holds_of board)
 
 -- ---- the lines of the selected drive
 

@@ -108,6 +108,7 @@ impl<D: Drive> MachineOf<D> {
         ensures { IsInRange (board D.state self.now) }
     {
         self.bus.chips.controller.ranges();
+        self.bus.chips.holding.ranges();
         self.first.faults();
         self.second.faults();
     }
