@@ -1,12 +1,12 @@
 -- Every call is a course, and what each step and each act carries on holds at the end of every course.
-use Rattle.std.proofs.Common.{◌≡◌, ℕ, suc, ◌+◌, Bool, subst, arith}
+use Rattle.std.proofs.Common.{◌≡◌, ℕ, suc, ◌+◌, Bool, List, ap, subst, arith}
 use Rattle.machine_pace.specs.Entries.{next_entry}
 use Rattle.pc_bus.specs.Boards.{Board}
 use Rattle.pc_bus.specs.Ports.{Inputs, Outputs}
-use Rattle.pc_bus.specs.Steps.{Runs, Waits, stirred}
+use Rattle.pc_bus.specs.Steps.{Runs, RunsUnset, Waits, stirred}
 use Rattle.machine_laws.specs.OnSteps.Steady.{regapped, Marching}
 use Rattle.machine_laws.specs.OnSteps.Moves.{read_from, Acts, Goes, Lasting}
-use Rattle.machine_laws.proofs.OnSteps.Runs.{march_wait, march_waits, march_gap}
+use Rattle.machine_laws.proofs.OnSteps.Runs.{unset_runs, march_wait, march_gap}
 
 -- the only induction
 pub lasts : (P : ℕ → Board → Type 0) → Lasting P → (old new : Board) (n : ℕ) → Goes old n new → P 0 old → P n new
@@ -25,16 +25,20 @@ going start = record {
 pub wait_goes : (n : ℕ) (old new : Board) → Runs n (stirred old) new → Goes old n new
 wait_goes n old new runs = march_wait (λ n. Goes old n) (going old) n old new runs Goes.Stays
 
+pub unset_goes : (n : ℕ) (old new : Board) → RunsUnset n (stirred old) new → Goes old n new
+unset_goes n old new runs = wait_goes n old new (unset_runs n (stirred old) new runs)
+
 pub waits_goes : (most : ℕ) (set : Bool) (old new : Board) → (waits : Waits most old set new) → Goes old waits.steps new
-waits_goes most set old new waits = march_waits (λ n. Goes old n) (going old) most set old new waits Goes.Stays
+waits_goes most set old new waits = unset_goes waits.steps old new waits.runs
 
 pub input_goes : (port value : ℕ) (old new : Board) → Inputs port old value new → Goes old (next_entry old.bus.gaps) new
 input_goes port value old new access =
     march_gap (λ n. Goes old n) (going old) (read_from port old) new access.gap (Goes.Does 0 old (read_from port old) Goes.Stays (Acts.Reads port))
 
-pub output_goes : (port value : ℕ) (old new : Board) → (access : Outputs port value old new) → Goes old (next_entry access.between.bus.gaps) new
+pub output_goes : (port value : ℕ) (old new : Board) → Outputs port value old new → Goes old (next_entry old.bus.gaps) new
 output_goes port value old new access =
-    march_gap (λ n. Goes old n) (going old) access.between new access.gap (Goes.Does 0 old access.between Goes.Stays (Acts.Writes port value access.between access.writes))
+    subst (λ (gaps : List ℕ). Goes old (next_entry gaps) new) (ap (λ bus. bus.gaps) access.writes.bus)
+    (march_gap (λ n. Goes old n) (going old) access.between new access.gap (Goes.Does 0 old access.between Goes.Stays (Acts.Writes port value access.between access.writes)))
 
 -- one course behind another
 suc_plus : (n m : ℕ) → suc (n + m) ≡ n + suc m

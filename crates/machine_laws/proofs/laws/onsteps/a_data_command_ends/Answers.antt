@@ -1,0 +1,8 @@
+use Rattle.machine_laws.proofs.OnSteps.DataEnds.{data_ends, data_ends_in_time}
+use Rattle.machine_laws.proofs.laws.onsteps.a_data_command_ends.Goals as goal
+
+pub returns-clause-left : goal.returns-clause-left
+returns-clause-left c = data_ends
+
+pub returns-clause-most : goal.returns-clause-most
+returns-clause-most c = data_ends_in_time
