@@ -1,5 +1,5 @@
 -- Protected media over lines, and how far a run came.
-use Rattle.std.proofs.Common.{◌≡◌, ℕ, zero, suc, ◌+◌, ◌-◌, ◌≤◌, ◌==◌, min, nat_le, not, Bool, true, false, List, [], ◌∷◌, Option, Some, None, Result, Ok, Err, inl, inr, if◌then◌else◌, refl, sym, ap, subst, ◌∙◌, arith}
+use Rattle.std.proofs.Common.{◌≡◌, ℕ, zero, suc, ◌-◌, ◌≤◌, ◌==◌, nat_le, not, Bool, true, false, List, [], ◌∷◌, Option, Some, None, Result, Ok, Err, inl, inr, if◌then◌else◌, refl, sym, ap, subst, ◌∙◌, arith}
 use Rattle.std.specs.Option.{MatchOption}
 use Rattle.std.proofs.lemmas.Bool.{false≢true}
 use Rattle.std.proofs.lemmas.Bool.Decides.{nat_tests}
@@ -28,7 +28,7 @@ use Rattle.port_commands.specs.declared.answer.Answer.TheVariants as answer
 use Rattle.port_commands.specs.Benches.{Bench, Names, no_names}
 use Rattle.port_commands.specs.Courses.{Taken, PortRun, waits_of, EndsBay, Stored, Left, EndStopsAt, AtFirst, AtSecond}
 use Rattle.port_commands.specs.Guards.{SameMedia, ChangesWords, GuardsBay, GuardsLine, GuardsCourse, RunsPorts}
-use Rattle.port_commands.specs.Lines.{DoesLine, StopsAt, LoadsMedium, StoresMedium, IsRefused, insert_refusal, eject_refusal, waits_in}
+use Rattle.port_commands.specs.Lines.{DoesLine, StopsAt, LoadsMedium, StoresMedium, IsRefused, insert_refusal, eject_refusal}
 use Rattle.port_commands.specs.Plays.{World, PlaysLines, Played, Stopped, BrokenOff, EndStopped, IsIdle, PlaysParsed, Plays, There, Missing, TooLong, Faulty, Starved}
 use Rattle.port_commands.proofs.Finishing.{Passes, course_passes, ends_in_time, handles, passes_on, passes_rise, stays}
 use Rattle.port_commands.proofs.Named.{write_same}

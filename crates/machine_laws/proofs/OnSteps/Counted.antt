@@ -1,8 +1,7 @@
 -- Device steps are counted.
-use Rattle.std.proofs.Common.{◌≡◌, ℕ, suc, ◌+◌, ◌≤◌, min, refl, ap, arith}
+use Rattle.std.proofs.Common.{◌≡◌, ℕ, ◌+◌, min, refl, ap, arith}
 use Rattle.flop_base.specs.Counts.{last_count}
 use Rattle.pc_bus.specs.Boards.{Board}
-use Rattle.pc_bus.specs.Steps.{Step}
 use Rattle.machine_laws.specs.OnSteps.Ends.{Counts}
 use Rattle.machine_laws.specs.OnSteps.Moves.{Acts, Goes, Lasting}
 use Rattle.machine_laws.proofs.OnSteps.Moves.{lasts}

@@ -1,8 +1,8 @@
 -- A data command ends in time, whatever is done meanwhile.
-use Rattle.std.proofs.Common.{◌≡◌, ◌⊎◌, inl, inr, ℕ, suc, ◌+◌, ◌-◌, ◌<◌, ◌≤◌, ◌==◌, nat_le, min, Bool, true, false, Option, Some, None, List, [], ◌∷◌, ◌++◌, if◌then◌else◌, bit_and, refl, sym, ◌∙◌, ap, subst, arith}
+use Rattle.std.proofs.Common.{◌≡◌, ◌⊎◌, inl, inr, ℕ, suc, ◌+◌, ◌-◌, ◌≤◌, ◌==◌, nat_le, min, Bool, true, false, Option, Some, None, List, [], ◌∷◌, ◌++◌, if◌then◌else◌, refl, sym, ◌∙◌, ap, subst, arith}
 use Rattle.std.proofs.lemmas.Bool.{false≢true}
 use Rattle.std.proofs.lemmas.Bool.Decides.{nat_tests}
-use Rattle.flop_base.specs.Counts.{last_count, Rose}
+use Rattle.flop_base.specs.Counts.{last_count}
 use Rattle.fdc_seek.specs.Seeking.{with_polls, sensed, seek_bits}
 use Rattle.fdc_commands.specs.Table.{answer, kept}
 use Rattle.fdc_commands.specs.declared.bytes.Accepted.{Accepted}
@@ -27,7 +27,7 @@ use Rattle.pc_bus.specs.Boards.{Board, controller_of}
 use Rattle.pc_bus.specs.Steps.{Step}
 use Rattle.pc_bus.specs.Transfers.{moved, moved_to_memory, moved_from_memory, byte_read, told_if}
 use Rattle.pc_bus.specs.declared.chips.Chips.{Chips}
-use Rattle.machine_laws.specs.OnSteps.Ends.{Elapses, IsOver, Lessens}
+use Rattle.machine_laws.specs.OnSteps.Ends.{Elapses, IsOver}
 use Rattle.machine_laws.specs.OnSteps.Moves.{Goes, Lasting}
 use Rattle.machine_laws.proofs.OnSteps.Acts.{Touches, at_controller}
 use Rattle.machine_laws.proofs.OnSteps.Moves.{lasts}

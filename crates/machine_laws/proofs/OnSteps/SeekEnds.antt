@@ -1,5 +1,5 @@
 -- A seek ends in time, whatever is done meanwhile.
-use Rattle.std.proofs.Common.{◌≡◌, ℕ, zero, suc, ◌+◌, ◌-◌, ◌^◌, ◌≤◌, ◌==◌, ◌&&◌, nat_lt, nat_le, not, Bool, true, false, Option, Some, None, IsSomeAnd, List, [], ◌∷◌, ◌++◌, if◌then◌else◌, bit_and, refl, sym, ◌∙◌, ap, subst, arith}
+use Rattle.std.proofs.Common.{◌≡◌, ℕ, zero, suc, ◌+◌, ◌-◌, ◌^◌, ◌≤◌, ◌==◌, ◌&&◌, nat_lt, not, Bool, true, false, Option, Some, None, IsSomeAnd, List, [], ◌∷◌, ◌++◌, if◌then◌else◌, refl, sym, ◌∙◌, ap, subst, arith}
 use Rattle.std.specs.Option.{ForSome, option_map_or}
 use Rattle.std.proofs.lemmas.Bool.{false≢true}
 use Rattle.std.proofs.lemmas.Bool.Decides.{nat_tests}
@@ -12,7 +12,6 @@ use Rattle.fdc_commands.specs.declared.bytes.Accepted.{Accepted}
 use Rattle.fdc_commands.specs.declared.bytes.Accepted.TheVariants.{More, Ready, Invalid}
 use Rattle.fdc_commands.specs.declared.command.Command.{Command}
 use Rattle.fdc_commands.specs.declared.command.Command.TheVariants as command
-use Rattle.fdc_core.specs.Answers.{after_byte}
 use Rattle.fdc_core.specs.Commands.{Obeys, TakesAs, sensing_by, answered}
 use Rattle.fdc_core.specs.Dma.{phase_told, taken_out, taken_in, to_memory_of}
 use Rattle.fdc_core.specs.Listening.{is_executing}
@@ -20,8 +19,6 @@ use Rattle.fdc_core.specs.Ports.{Writes, dsr_resets, phase_after, is_taking}
 use Rattle.fdc_core.specs.Rates.{rate_chosen}
 use Rattle.fdc_core.specs.State.{reset}
 use Rattle.fdc_core.specs.Steps.{polled, RestsIn, seek_stepped}
-use Rattle.fdc_core.specs.declared.answers.Answer.{Answer}
-use Rattle.fdc_core.specs.declared.answers.Answer.TheVariants.{Short, Long}
 use Rattle.fdc_core.specs.declared.controller.Fdc.{Fdc}
 use Rattle.fdc_core.specs.declared.controller.Lines.{Lines}
 use Rattle.fdc_core.specs.declared.phases.Phase.{Phase}
