@@ -27,10 +27,10 @@ use Rattle.pc_bus.specs.Boards.{Board, controller_of}
 use Rattle.pc_bus.specs.Steps.{Step}
 use Rattle.pc_bus.specs.Transfers.{moved, moved_to_memory, moved_from_memory, byte_read, told_if}
 use Rattle.pc_bus.specs.declared.chips.Chips.{Chips}
-use Rattle.machine_laws.specs.OnSteps.Ends.{Elapses, IsOver}
+use Rattle.machine_laws.specs.OnSteps.Ends.{Elapses, IsOver, Meets}
 use Rattle.machine_laws.specs.OnSteps.Moves.{Goes, Lasting}
 use Rattle.machine_laws.proofs.OnSteps.Acts.{Touches, at_controller}
-use Rattle.machine_laws.proofs.OnSteps.Moves.{lasts}
+use Rattle.machine_laws.proofs.OnSteps.Moves.{lasts, meets_behind}
 use Rattle.machine_laws.proofs.OnSteps.Transfers.{after_step}
 use Rattle.machine_laws.proofs.OnSteps.Words.{controller}
 
@@ -286,3 +286,7 @@ data_ends old new n goes counted many = ends_by old new n goes (inl counted) man
 -- behind 65,536 in any case
 pub data_ends_in_time : (old new : Board) (n : ℕ) → Goes old n new → 65536 ≤ n → IsOver old new
 data_ends_in_time old new n goes many = let most = most_left (controller_of old).phase in ends_by old new n goes (inr (omega arith)) (omega arith)
+
+-- so it is on the way, behind 65,536
+pub data_over : (old new : Board) (n : ℕ) → Goes old n new → 65536 ≤ n → Meets (IsOver old) 65536 old n new
+data_over old new n goes many = meets_behind (IsOver old) 65536 n old new (λ mid first. data_ends_in_time old mid 65536 first (omega arith)) goes many

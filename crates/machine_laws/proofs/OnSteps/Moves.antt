@@ -1,10 +1,12 @@
 -- Every call is a course, and what each step and each act carries on holds at the end of every course.
-use Rattle.std.proofs.Common.{◌≡◌, ℕ, suc, ◌+◌, Bool, List, ap, subst, arith}
+use Rattle.std.proofs.Common.{◌≡◌, inl, inr, ℕ, suc, ◌+◌, ◌≤◌, Bool, List, sym, ap, subst, arith}
+use Rattle.std.proofs.lemmas.Bool.{cases_lt}
 use Rattle.machine_pace.specs.Entries.{next_entry}
 use Rattle.pc_bus.specs.Boards.{Board}
 use Rattle.pc_bus.specs.Ports.{Inputs, Outputs}
-use Rattle.pc_bus.specs.Steps.{Runs, RunsUnset, Waits, stirred}
+use Rattle.pc_bus.specs.Steps.{Runs, RunsUnset, Step, Waits, stirred}
 use Rattle.machine_laws.specs.OnSteps.Steady.{regapped, Marching}
+use Rattle.machine_laws.specs.OnSteps.Ends.{Meets}
 use Rattle.machine_laws.specs.OnSteps.Moves.{read_from, Acts, Goes, Lasting}
 use Rattle.machine_laws.proofs.OnSteps.Runs.{unset_runs, march_wait, march_gap}
 
@@ -55,3 +57,63 @@ goes_on a b c n m first second = lasts (λ k d. Goes a (n + k) d) behind b c m s
       step = λ k old new step goes. subst (λ j. Goes a j new) (suc_plus n k) (Goes.Steps (n + k) old new goes step);
       act = λ k old new acts goes. Goes.Does (n + k) old new goes acts;
     }
+
+-- ---- a board on the way
+
+pub meets_act : (P : Board → Type 0) (most n : ℕ) (start old new : Board) → Acts old new → Meets P most start n old → Meets P most start n new
+meets_act P most n start old new acts was = record {
+  mid = was.mid;
+  first = was.first;
+  behind = was.behind;
+  goes = was.goes;
+  goes_on = Goes.Does was.behind old new was.goes_on acts;
+  all = was.all;
+  within = was.within;
+  holds = was.holds;
+}
+
+pub meets_step : (P : Board → Type 0) (most n : ℕ) (start old new : Board) → Step old new → Meets P most start n old → Meets P most start (suc n) new
+meets_step P most n start old new step was = let all = was.all in record {
+  mid = was.mid;
+  first = was.first;
+  behind = suc was.behind;
+  goes = was.goes;
+  goes_on = Goes.Steps was.behind old new was.goes_on step;
+  all = omega arith;
+  within = was.within;
+  holds = was.holds;
+}
+
+-- it is here
+pub meets_here : (P : Board → Type 0) (most n : ℕ) (start now : Board) → Goes start n now → n ≤ most → P now → Meets P most start n now
+meets_here P most n start now goes within holds =
+    record { mid = now; first = n; behind = 0; goes = goes; goes_on = Goes.Stays; all = omega arith; within = within; holds = holds }
+
+-- a greater number
+pub meets_within : (P : Board → Type 0) (few most n : ℕ) (start now : Board) → few ≤ most → Meets P few start n now → Meets P most start n now
+meets_within P few most n start now less was = let within = was.within in
+    record { mid = was.mid; first = was.first; behind = was.behind; goes = was.goes; goes_on = was.goes_on; all = was.all; within = omega arith; holds = was.holds }
+
+-- a course passes the board behind so many of its steps
+record Passed (P : Board → Type 0) (most : ℕ) (start : Board) (n : ℕ) (now : Board) : Type 0 where
+  goes : Goes start n now
+  meets : most ≤ n → Meets P most start n now
+
+now_meets : (P : Board → Type 0) (most n : ℕ) (start now : Board) → ((mid : Board) → Goes start most mid → P mid) → most ≡ n → Goes start n now → Meets P most start n now
+now_meets P most n start now holds is goes = meets_here P most n start now goes (omega arith) (holds now (subst (λ k. Goes start k now) (sym is) goes))
+
+passing : (P : Board → Type 0) (most : ℕ) (start : Board) → ((mid : Board) → Goes start most mid → P mid) → Lasting (Passed P most start)
+passing P most start holds = record {
+  step = λ n old new step was. (let goes = Goes.Steps n old new was.goes step in record {
+    goes = goes;
+    meets = λ many. elim (cases_lt n most) [
+      | inl last ↦ now_meets P most (suc n) start new holds (omega arith) goes
+      | inr before ↦ meets_step P most n start old new step (was.meets before)
+    ];
+  });
+  act = λ n old new acts was. record { goes = Goes.Does n old new was.goes acts; meets = λ many. meets_act P most n start old new acts (was.meets many) };
+}
+
+pub meets_behind : (P : Board → Type 0) (most n : ℕ) (start now : Board) → ((mid : Board) → Goes start most mid → P mid) → Goes start n now → most ≤ n → Meets P most start n now
+meets_behind P most n start now holds goes many =
+    (lasts (Passed P most start) (passing P most start holds) start now n goes (record { goes = Goes.Stays; meets = λ none. now_meets P most 0 start start holds (omega arith) Goes.Stays })).meets many

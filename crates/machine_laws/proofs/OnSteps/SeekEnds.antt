@@ -27,11 +27,11 @@ use Rattle.pc_bus.specs.Boards.{Board, IsInRange, controller_of}
 use Rattle.pc_bus.specs.Steps.{Step}
 use Rattle.pc_bus.specs.Transfers.{moved, moved_to_memory, moved_from_memory, byte_read, told_if}
 use Rattle.pc_bus.specs.declared.chips.Chips.{Chips}
-use Rattle.machine_laws.specs.OnSteps.Ends.{motion_left, seek_left, pulses_left, seeks, Recalibrates, SeekEnds}
+use Rattle.machine_laws.specs.OnSteps.Ends.{motion_left, seek_left, pulses_left, seeks, HasNoSeek, Meets, Recalibrates}
 use Rattle.machine_laws.specs.OnSteps.Moves.{Acts, Goes}
 use Rattle.machine_laws.proofs.OnSteps.Acts.{Touches, at_controller}
 use Rattle.machine_laws.proofs.OnSteps.DataEnds.{idle_answer, port_is, zero_of}
-use Rattle.machine_laws.proofs.OnSteps.Moves.{lasts}
+use Rattle.machine_laws.proofs.OnSteps.Moves.{lasts, meets_act, meets_here, meets_step, meets_within}
 use Rattle.machine_laws.proofs.OnSteps.Transfers.{after_step}
 use Rattle.machine_laws.proofs.OnSteps.Words.{controller}
 
@@ -238,11 +238,11 @@ touches_go old new idle runs (Touches.Takes port value lines last writes) = writ
 
 -- the seek ended on the way, or runs with so many fewer steps left
 data Runs (start : Board) (n : ℕ) (now : Board) : Type 0 where
-  Over : SeekEnds start (pulses_left start) n now → Runs start n now
+  Over : Meets HasNoSeek (pulses_left start) start n now → Runs start n now
   On : Goes start n now → pulses_left now + n ≤ pulses_left start → is_executing (controller_of now).phase ≡ false → seeks now → Runs start n now
 
-over_here : (start : Board) (n : ℕ) (now : Board) → Goes start n now → n ≤ pulses_left start → is_seeking (controller_of now).seeks ≡ false → Runs start n now
-over_here start n now goes within over = Runs.Over (record { mid = now; first = n; behind = 0; goes = goes; goes_on = Goes.Stays; all = omega arith; within = within; over = over })
+over_here : (start : Board) (n : ℕ) (now : Board) → Goes start n now → n ≤ pulses_left start → HasNoSeek now → Runs start n now
+over_here start n now goes within over = Runs.Over (meets_here HasNoSeek (pulses_left start) n start now goes within over)
 
 -- here it may have ended
 here : (start : Board) (n : ℕ) (now : Board) → Goes start n now → pulses_left now + n ≤ pulses_left start → n ≤ pulses_left start → is_executing (controller_of now).phase ≡ false → Runs start n now
@@ -253,42 +253,23 @@ here start n now goes left within idle = by_run (is_seeking (controller_of now).
     by_run false is = over_here start n now goes within is
 
 step_on : (start : Board) (n : ℕ) (old new : Board) → Step old new → Runs start n old → Runs start (suc n) new
-step_on start n old new step (Runs.Over ends) = let all = ends.all in
-    Runs.Over (record {
-      mid = ends.mid;
-      first = ends.first;
-      behind = suc ends.behind;
-      goes = ends.goes;
-      goes_on = Goes.Steps ends.behind old new ends.goes_on step;
-      all = omega arith;
-      within = ends.within;
-      over = ends.over;
-    })
+step_on start n old new step (Runs.Over ends) = Runs.Over (meets_step HasNoSeek (pulses_left start) n start old new step ends)
 step_on start n old new step (Runs.On goes left idle runs) =
     let has = step_has old new step idle runs in let some = some_left (controller_of old).seeks runs in let fewer = has.left_is in
     here start (suc n) new (Goes.Steps n old new goes step) (omega arith) (omega arith) has.idle
 
 act_on : (start : Board) (n : ℕ) (old new : Board) → Acts old new → Runs start n old → Runs start n new
-act_on start n old new acts (Runs.Over ends) = Runs.Over (record {
-  mid = ends.mid;
-  first = ends.first;
-  behind = ends.behind;
-  goes = ends.goes;
-  goes_on = Goes.Does ends.behind old new ends.goes_on acts;
-  all = ends.all;
-  within = ends.within;
-  over = ends.over;
-})
+act_on start n old new acts (Runs.Over ends) = Runs.Over (meets_act HasNoSeek (pulses_left start) n start old new acts ends)
 act_on start n old new acts (Runs.On goes left idle runs) = by_end (touches_go (controller_of old) (controller_of new) idle runs (at_controller old new acts))
   where
     by_end : Goes_on (controller_of old) (controller_of new) → Runs start n new
     by_end (Goes_on.Same seek rest) = let same = ap seek_left seek in here start n new (Goes.Does n old new goes acts) (omega arith) (omega arith) rest
     by_end (Goes_on.Forgets none) = over_here start n new (Goes.Does n old new goes acts) (omega arith) none
 
-pub seek_ends : (old new : Board) (n : ℕ) → Goes old n new → is_executing (controller_of old).phase ≡ false → seeks old → pulses_left old ≤ n → SeekEnds old (pulses_left old) n new
+pub seek_ends : (old new : Board) (n : ℕ) → Goes old n new → is_executing (controller_of old).phase ≡ false → seeks old → pulses_left old ≤ n → Meets HasNoSeek (pulses_left old) old n new
 seek_ends old new n goes idle runs many = by_end (lasts (λ n now. Runs old n now) (record { step = step_on old; act = act_on old }) old new n goes (Runs.On Goes.Stays (omega arith) idle runs))
   where
-    by_end : Runs old n new → SeekEnds old (pulses_left old) n new
+    by_end : Runs old n new → Meets HasNoSeek (pulses_left old) old n new
     by_end (Runs.Over ends) = ends
     by_end (Runs.On goes left rest on) = let some = some_left (controller_of new).seeks on in absurd (omega arith)
 
@@ -318,12 +299,7 @@ outward_left (Some seek) range (pulses, is) = outward_few seek.motion pulses is 
 pub recalibrate_left : (board : Board) → IsInRange board → Recalibrates board → pulses_left board ≤ 80
 recalibrate_left board range is = outward_left (controller_of board).seeks.seek range.controller.seeks.motion is
 
--- a greater number
-pub within_more : (old new : Board) (few many n : ℕ) → few ≤ many → SeekEnds old few n new → SeekEnds old many n new
-within_more old new few many n less ends = let within = ends.within in
-    record { mid = ends.mid; first = ends.first; behind = ends.behind; goes = ends.goes; goes_on = ends.goes_on; all = ends.all; within = omega arith; over = ends.over }
-
 -- a seek that runs has ended in 256
-pub seek_ends_in_time : (old new : Board) (n : ℕ) → Goes old n new → IsInRange old → is_executing (controller_of old).phase ≡ false → seeks old → 256 ≤ n → SeekEnds old 256 n new
+pub seek_ends_in_time : (old new : Board) (n : ℕ) → Goes old n new → IsInRange old → is_executing (controller_of old).phase ≡ false → seeks old → 256 ≤ n → Meets HasNoSeek 256 old n new
 seek_ends_in_time old new n goes range idle runs many = let few = most_left old range in
-    within_more old new (pulses_left old) 256 n few (seek_ends old new n goes idle runs (omega arith))
+    meets_within HasNoSeek (pulses_left old) 256 n old new few (seek_ends old new n goes idle runs (omega arith))

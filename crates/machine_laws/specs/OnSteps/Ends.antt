@@ -11,6 +11,17 @@ use Rattle.fdc_core.specs.Steps.{steps_left, IsCounted}
 use Rattle.pc_bus.specs.Boards.{Board, controller_of}
 use Rattle.machine_laws.specs.OnSteps.Moves.{Goes}
 
+-- on a course of so many device steps there is a board of which this holds, behind no more than `most` of them
+pub record Meets (P : Board → Type 0) (most : ℕ) (start : Board) (n : ℕ) (now : Board) : Type 0 where
+  pub mid : Board
+  pub first : ℕ
+  pub behind : ℕ
+  pub goes : Goes start first mid
+  pub goes_on : Goes mid behind now
+  pub all : first + behind ≡ n
+  pub within : first ≤ most
+  pub holds : P mid
+
 -- ---- data commands
 
 -- so many device steps have passed since: each took one of those that were left of the data command in execution
@@ -50,20 +61,13 @@ pulses_left board = seek_left (controller_of board).seeks.seek
 abbrev pub seeks : Board → Type 0
 seeks board = is_seeking (controller_of board).seeks ≡ true
 
+-- none runs
+abbrev pub HasNoSeek : Board → Type 0
+HasNoSeek board = is_seeking (controller_of board).seeks ≡ false
+
 -- the seek is a RECALIBRATE's
 abbrev pub Recalibrates : Board → Type 0
 Recalibrates board = IsSomeAnd (controller_of board).seeks.seek (λ seek. (pulses : ℕ) × (seek.motion ≡ Outward pulses))
-
--- on a course of so many device steps from a board to another a seek came to its end, in no more than `most` of them
-pub record SeekEnds (start : Board) (most n : ℕ) (now : Board) : Type 0 where
-  pub mid : Board
-  pub first : ℕ
-  pub behind : ℕ
-  pub goes : Goes start first mid
-  pub goes_on : Goes mid behind now
-  pub all : first + behind ≡ n
-  pub within : first ≤ most
-  pub over : is_seeking (controller_of mid).seeks ≡ false
 
 -- ---- the count of device steps
 

@@ -2,7 +2,7 @@
 ghost use Rattle.std.specs.Prelude.{◌≡◌, ◌≤◌, ℕ, Bool, false};
 ghost use Rattle.fdc_core.specs.Listening.{is_executing};
 ghost use Rattle.fdc_core.specs.Steps.{steps_left, IsCounted};
-ghost use Rattle.machine_laws.specs.OnSteps.Ends.{Counts, IsOver, Recalibrates, SeekEnds, pulses_left, seeks};
+ghost use Rattle.machine_laws.specs.OnSteps.Ends.{Counts, HasNoSeek, IsOver, Meets, Recalibrates, pulses_left, seeks};
 ghost use Rattle.machine_laws.specs.OnSteps.Moves.{Goes};
 ghost use Rattle.machine_laws.specs.OnSteps.Steady.{Steady};
 ghost use Rattle.machine_pace.specs.Entries.{next_entry};
@@ -25,18 +25,19 @@ pub fn calls_are_courses()
 {}
 
 /// Behind as many device steps as were left of a data command none is in execution, unless another one began, whatever calls
-/// came between: 65,536 in any case. A reset ends it too.
+/// came between: 65,536 in any case, and so it is on the way of each longer course. A reset ends it too.
 pub fn a_data_command_ends()
     ensures left { (old new : Board) (n : ℕ) → Goes old n new → IsCounted (controller_of old).phase
         → steps_left (controller_of old).phase ≤ n → IsOver old new }
     ensures most { (old new : Board) (n : ℕ) → Goes old n new → 65536 ≤ n → IsOver old new }
+    ensures meets { (old new : Board) (n : ℕ) → Goes old n new → 65536 ≤ n → Meets (IsOver old) 65536 old n new }
 {}
 
 /// A seek that runs comes to its end in no more device steps than are left of it, whatever calls come between: 256 at most, and
 /// 80 for a RECALIBRATE. A reset ends it too.
 pub fn a_seek_ends()
     ensures ends { (old new : Board) (n : ℕ) → Goes old n new → is_executing (controller_of old).phase ≡ false → seeks old
-        → pulses_left old ≤ n → SeekEnds old (pulses_left old) n new }
+        → pulses_left old ≤ n → Meets HasNoSeek (pulses_left old) old n new }
     ensures most { (board : Board) → IsInRange board → pulses_left board ≤ 256 }
     ensures recalibrates { (board : Board) → IsInRange board → Recalibrates board → pulses_left board ≤ 80 }
 {}

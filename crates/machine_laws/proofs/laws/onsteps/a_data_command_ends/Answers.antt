@@ -1,4 +1,4 @@
-use Rattle.machine_laws.proofs.OnSteps.DataEnds.{data_ends, data_ends_in_time}
+use Rattle.machine_laws.proofs.OnSteps.DataEnds.{data_ends, data_ends_in_time, data_over}
 use Rattle.machine_laws.proofs.laws.onsteps.a_data_command_ends.Goals as goal
 
 pub returns-clause-left : goal.returns-clause-left
@@ -6,3 +6,6 @@ returns-clause-left c = data_ends
 
 pub returns-clause-most : goal.returns-clause-most
 returns-clause-most c = data_ends_in_time
+
+pub returns-clause-meets : goal.returns-clause-meets
+returns-clause-meets c = data_over
