@@ -7,7 +7,7 @@ use Rattle.floppy_jobs.specs.declared.ports.PortLine.TheVariants as line
 use Rattle.machine_pace.specs.Entries.{next_entry}
 use Rattle.machine_laws.specs.OnSteps.Moves.{Acts, Goes}
 use Rattle.machine_laws.proofs.OnSteps.Counted.{goes_counted}
-use Rattle.machine_laws.proofs.OnSteps.DataEnds.{data_ends_in_time}
+use Rattle.machine_laws.proofs.OnSteps.DataEnds.{data_over}
 use Rattle.machine_laws.proofs.OnSteps.Moves.{input_goes, output_goes, wait_goes, goes_on}
 use Rattle.machine_laws.proofs.OnSteps.SeekEnds.{seek_ends_in_time}
 use Rattle.pc_bus.specs.Boards.{Board, IsInRange}
@@ -72,11 +72,11 @@ passes_rise n old new passes =
 
 finishes : (old new : Bench) (course : List Taken) → IsInRange old.board → Passes (waits_of course) old.board new.board → FinishesIn old course new
 finishes old new course range passes = let few = passes.least_is in record {
-  command = λ many. data_ends_in_time old.board new.board passes.steps passes.goes (omega arith);
+  command = λ many. record { steps = passes.steps; least = few; meets = data_over old.board new.board passes.steps passes.goes (omega arith) };
   seek = λ many idle runs. record {
     steps = passes.steps;
-    all = few;
-    ends = seek_ends_in_time old.board new.board passes.steps passes.goes range idle runs (omega arith);
+    least = few;
+    meets = seek_ends_in_time old.board new.board passes.steps passes.goes range idle runs (omega arith);
   };
 }
 
