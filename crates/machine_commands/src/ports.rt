@@ -1,9 +1,10 @@
 // The ports of the diskette controller and of DMA channel 2 (PC/AT), and what is written to them.
 
+use fdc_registers::Msr;
 pub(crate) use fdc_registers::ports::{CCR, DATA, DIR, DOR, MSR};
 
 /// A result byte is ready, and a command is in progress; no drive seeks.
-pub(crate) const RESULTS_READY: u8 = 0xD0;
+pub(crate) const RESULTS_READY: u8 = Msr::RQM.0 | Msr::DIO.0 | Msr::BUSY.0;
 
 /// Channel 2's address and count, low byte first.
 pub(crate) const ADDRESS: u16 = 0x04;

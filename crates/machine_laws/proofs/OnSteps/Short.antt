@@ -20,15 +20,15 @@ rest_short : (entries : List ℕ) → All (λ entry. entry ≤ 255) entries → 
 rest_short [] short = short
 rest_short (entry ∷ rest) short = λ k d within. short (suc k) d (omega arith)
 
-waited_short : (request : Request) (old : Holds) → IsShort request → AreShort old → AreShort (waited request old)
+pub waited_short : (request : Request) (old : Holds) → IsShort request → AreShort old → AreShort (waited request old)
 waited_short Low old is short = record { entries = rest_short old.entries short.entries; request = next_short old.entries short.entries }
 waited_short (High left) old is short = record { entries = short.entries; request = omega arith }
 
-looked_short : (line : Bool) (old : Holds) → AreShort old → AreShort (looked line old)
+pub looked_short : (line : Bool) (old : Holds) → AreShort old → AreShort (looked line old)
 looked_short false old short = record { entries = short.entries; request = tt }
 looked_short true old short = waited_short old.request old short.request short
 
-shown_short : (line : Bool) (old : Holds) → AreShort old → AreShort (shown line old)
+pub shown_short : (line : Bool) (old : Holds) → AreShort old → AreShort (shown line old)
 shown_short false old short = record { entries = short.entries; request = tt }
 shown_short true old short = short
 
