@@ -1,3 +1,4 @@
 pub mod ReadSpellings
 pub mod WriteSpellings
+mod Spellings
 pub mod Answering

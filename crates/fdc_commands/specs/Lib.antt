@@ -3,3 +3,4 @@ pub mod Writes
 pub mod Table
 pub mod Results
 pub mod Saving
+pub mod Spelled

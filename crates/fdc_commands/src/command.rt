@@ -2,6 +2,10 @@
 ghost use Rattle.std.specs.Prelude.{◌≡◌, ◌≤◌, IfSome, IsTrue, option_map, slice_index};
 ghost use Rattle.fdc_commands.specs.Table.{row_of, size_code, is_sized as is_sized_command, SizeInRange};
 
+use crate::codes::{
+    CONFIGURE, FORMAT_TRACK, READ_DATA, READ_ID, RECALIBRATE, SEEK, SENSE_DRIVE, SENSE_INTERRUPT,
+    SPECIFY, VERSION, WRITE_DATA, WRITE_DELETED,
+};
 use flop_base::Chrn;
 
 /// A command, each field as it was sent. `head_drive` has the head in bit 2, the drive in bits 1 and 0.
@@ -72,30 +76,6 @@ pub enum Command {
         fill: u8,
     },
 }
-
-const SPECIFY: u8 = 0x03;
-
-const SENSE_DRIVE: u8 = 0x04;
-
-const RECALIBRATE: u8 = 0x07;
-
-const SENSE_INTERRUPT: u8 = 0x08;
-
-const SEEK: u8 = 0x0F;
-
-const VERSION: u8 = 0x10;
-
-const CONFIGURE: u8 = 0x13;
-
-const READ_ID: u8 = 0x4A;
-
-const READ_DATA: u8 = 0x46;
-
-const WRITE_DATA: u8 = 0x45;
-
-const WRITE_DELETED: u8 = 0x49;
-
-const FORMAT_TRACK: u8 = 0x4D;
 
 /// The bytes of the longest command, its code among them.
 pub(crate) const LONGEST: usize = 9;

@@ -1,7 +1,11 @@
 // What follows of the command table. The bodies are empty.
-ghost use Rattle.std.specs.Prelude.{◌≤◌, ℕ, Bool};
+ghost use Rattle.std.specs.Prelude.{◌≡◌, ◌≤◌, ℕ, Bool};
 ghost use Rattle.flop_base.specs.declared.key.Chrn.{Chrn};
 ghost use Rattle.fdc_commands.specs.Reads.{SpellsRead, SpellsReadId};
+ghost use Rattle.fdc_commands.specs.Spelled.{spelled};
+ghost use Rattle.fdc_commands.specs.Table.{answer, SizeInRange};
+ghost use Rattle.fdc_commands.specs.declared.bytes.Accepted.TheVariants.{Ready};
+ghost use Rattle.fdc_commands.specs.declared.command.Command.{Command};
 ghost use Rattle.fdc_commands.specs.Writes.{SpellsWrite, SpellsFormat};
 
 /// The nine bytes of a READ DATA of a size code from 1 to 6, and the two of a READ ID.
@@ -15,4 +19,9 @@ pub fn writes_are_spelled()
     ensures data { (deleted : Bool) (head_drive : ℕ) (key : Chrn) (last_sector gap length_code : ℕ) → 1 ≤ key.n → key.n ≤ 6
         → SpellsWrite deleted head_drive key last_sector gap length_code }
     ensures format { (head_drive n sectors gap3 fill : ℕ) → 1 ≤ n → n ≤ 6 → SpellsFormat head_drive n sectors gap3 fill }
+{}
+
+/// The bytes of a command are read as that command, where its size code is from 1 to 6 or it has none.
+pub fn commands_are_read_back()
+    ensures { (command : Command) → SizeInRange command → answer (spelled command) ≡ Ready command }
 {}

@@ -13,10 +13,11 @@ use Rattle.drive_model.specs.Drive.{DriveState, at_index}
 use Rattle.fdc_core.specs.Answers.{no_key}
 use Rattle.fdc_core.specs.Formatting.{FormatDoes, after_laid}
 use Rattle.fdc_core.specs.Listening.{Hears, StepsOn}
-use Rattle.fdc_core.specs.Steps.{steps_left, Ends, EndsIn}
+use Rattle.fdc_core.specs.Steps.{steps_left, IsCounted, Ends, EndsIn}
 use Rattle.fdc_core.specs.Tasks.{TaskSteps, TaskStepsNowhere}
 use Rattle.fdc_core.specs.Times.{WordTime, Saw, KeptOut, Wrote, Stopped}
 use Rattle.fdc_core.specs.Writing.{WriteDoes, Stops, after_next}
+use Rattle.fdc_core.specs.declared.phases.Phase.{Phase}
 use Rattle.fdc_core.specs.declared.phases.Phase.TheVariants.{Execute}
 use Rattle.fdc_core.specs.declared.transfers.Formatting.{Formatting}
 use Rattle.fdc_core.specs.declared.transfers.Writing.{Writing}
@@ -32,53 +33,62 @@ use Rattle.fdc_core.specs.declared.phases.Reading.{Reading}
 use Rattle.fdc_core.specs.declared.phases.Task.{Task}
 use Rattle.fdc_core.specs.declared.phases.Task.TheVariants.{ReadId, Read, Write, Format}
 
-searched_left : (head_drive steps : ℕ) (old : Fdc) (after : SearchOutcome) → steps_left (after_searched head_drive steps after old).phase ≤ 65536 - steps
-searched_left head_drive steps old (searched.On search) = omega arith
-searched_left head_drive steps old (searched.Met key separator) = omega arith
-searched_left head_drive steps old (searched.Missed ending) = omega arith
+-- so many steps at most are left, and they are counted
+abbrev Leaves : ℕ → Phase → Type 0
+Leaves steps phase = (steps_left phase ≤ 65536 - steps) × IsCounted phase
 
-over_left : (ending : Option Ending) (empty : Bool) (head_drive steps : ℕ) (reading : Reading) (old : Fdc) → steps_left (over_or_on ending empty head_drive steps reading old).phase ≤ 65536 - steps
-over_left None empty head_drive steps reading old = omega arith
-over_left (Some ending) true head_drive steps reading old = omega arith
-over_left (Some ending) false head_drive steps reading old = omega arith
+-- the same with one fewer
+abbrev LeavesFewer : ℕ → Phase → Type 0
+LeavesFewer steps phase = (steps_left phase < 65536 - steps) × IsCounted phase
 
-on_left : (head_drive steps : ℕ) (reading : Reading) (old : Fdc) → steps_left (gone_on_reading head_drive steps reading old).phase ≤ 65536 - steps
-on_left head_drive steps reading old = over_left (ending_of reading) (length old.fifo.bytes == 0) head_drive steps reading old
+searched_left : (head_drive steps : ℕ) (old : Fdc) (after : SearchOutcome) → steps < 65536 → Leaves steps (after_searched head_drive steps after old).phase
+searched_left head_drive steps old (searched.On search) few = (omega arith, few)
+searched_left head_drive steps old (searched.Met key separator) few = (omega arith, tt)
+searched_left head_drive steps old (searched.Missed ending) few = (omega arith, tt)
 
-byte_left : (counted full : Bool) (head_drive steps value : ℕ) (reading : Reading) (old : Fdc)
-    → steps_left (if counted then gone_on_reading head_drive steps reading old else (if full then finished Overrun head_drive reading.wanted.key old else gone_on_reading head_drive steps reading (pushed value old))).phase ≤ 65536 - steps
-byte_left true full head_drive steps value reading old = on_left head_drive steps reading old
-byte_left false true head_drive steps value reading old = omega arith
-byte_left false false head_drive steps value reading old = on_left head_drive steps reading (pushed value old)
+over_left : (ending : Option Ending) (empty : Bool) (head_drive steps : ℕ) (reading : Reading) (old : Fdc) → steps < 65536 → Leaves steps (over_or_on ending empty head_drive steps reading old).phase
+over_left None empty head_drive steps reading old few = (omega arith, few)
+over_left (Some ending) true head_drive steps reading old few = (omega arith, tt)
+over_left (Some ending) false head_drive steps reading old few = (omega arith, few)
 
-heard_left : (head_drive steps : ℕ) (reading : Reading) (old : Fdc) (after : ReadOutcome) → steps_left (after_heard head_drive steps reading after old).phase ≤ 65536 - steps
-heard_left head_drive steps reading old (heard.On stage) = on_left head_drive steps (at_stage reading stage) old
-heard_left head_drive steps reading old (heard.Byte stage value) = byte_left reading.counted (is_full old) head_drive steps value (at_stage reading stage) old
-heard_left head_drive steps reading old (heard.Ended ending) = omega arith
+on_left : (head_drive steps : ℕ) (reading : Reading) (old : Fdc) → steps < 65536 → Leaves steps (gone_on_reading head_drive steps reading old).phase
+on_left head_drive steps reading old few = over_left (ending_of reading) (length old.fifo.bytes == 0) head_drive steps reading old few
+
+byte_left : (counted full : Bool) (head_drive steps value : ℕ) (reading : Reading) (old : Fdc) → steps < 65536
+    → Leaves steps (if counted then gone_on_reading head_drive steps reading old else (if full then finished Overrun head_drive reading.wanted.key old else gone_on_reading head_drive steps reading (pushed value old))).phase
+byte_left true full head_drive steps value reading old few = on_left head_drive steps reading old few
+byte_left false true head_drive steps value reading old few = (omega arith, tt)
+byte_left false false head_drive steps value reading old few = on_left head_drive steps reading (pushed value old) few
+
+heard_left : (head_drive steps : ℕ) (reading : Reading) (old : Fdc) (after : ReadOutcome) → steps < 65536 → Leaves steps (after_heard head_drive steps reading after old).phase
+heard_left head_drive steps reading old (heard.On stage) few = on_left head_drive steps (at_stage reading stage) old few
+heard_left head_drive steps reading old (heard.Byte stage value) few = byte_left reading.counted (is_full old) head_drive steps value (at_stage reading stage) old few
+heard_left head_drive steps reading old (heard.Ended ending) few = (omega arith, tt)
 
 -- a word that is heard
-hears_left : (index : Bool) (word head_drive steps : ℕ) (task : Task) (old new : Fdc) → is_listening task ≡ true → Hears head_drive steps task index word old new → steps_left new.phase ≤ 65536 - steps
-hears_left index word head_drive steps (Write writing) old new listens hears = absurd (false≢true listens)
-hears_left index word head_drive steps (Format formatting) old new listens hears = absurd (false≢true listens)
-hears_left index word head_drive steps (ReadId search) old new listens (after, hears, is) =
-    subst (λ fdc. steps_left fdc.phase ≤ 65536 - steps) (sym is) (searched_left head_drive steps old after)
-hears_left index word head_drive steps (Read reading) old new listens (after, hears, is) =
-    subst (λ fdc. steps_left fdc.phase ≤ 65536 - steps) (sym is) (heard_left head_drive steps reading old after)
+hears_left : (index : Bool) (word head_drive steps : ℕ) (task : Task) (old new : Fdc) → is_listening task ≡ true → steps < 65536 → Hears head_drive steps task index word old new → Leaves steps new.phase
+hears_left index word head_drive steps (Write writing) old new listens few hears = absurd (false≢true listens)
+hears_left index word head_drive steps (Format formatting) old new listens few hears = absurd (false≢true listens)
+hears_left index word head_drive steps (ReadId search) old new listens few (after, hears, is) =
+    subst (λ fdc. Leaves steps fdc.phase) (sym is) (searched_left head_drive steps old after few)
+hears_left index word head_drive steps (Read reading) old new listens few (after, hears, is) =
+    subst (λ fdc. Leaves steps fdc.phase) (sym is) (heard_left head_drive steps reading old after few)
 
 -- a command that listens
-listen_left : (index : Bool) (word head_drive steps : ℕ) (task : Task) (old new : Fdc) → is_listening task ≡ true → StepsOn head_drive steps task index word old new → steps_left new.phase < 65536 - steps
-listen_left index word head_drive steps task old new listens (inl (last, is)) = subst (λ fdc. steps_left fdc.phase < 65536 - steps) (sym is) (omega arith)
+listen_left : (index : Bool) (word head_drive steps : ℕ) (task : Task) (old new : Fdc) → is_listening task ≡ true → StepsOn head_drive steps task index word old new → LeavesFewer steps new.phase
+listen_left index word head_drive steps task old new listens (inl (last, is)) = subst (λ fdc. LeavesFewer steps fdc.phase) (sym is) (omega arith, tt)
 listen_left index word head_drive steps task old new listens (inr (few, hears)) =
-    let left = hears_left index word head_drive (steps + 1) task old new listens hears in omega arith
+    let left = hears_left index word head_drive (steps + 1) task old new listens (omega arith) hears in
+    let fewer = left.0 in (omega arith, left.1)
 
 -- commands that write
-next_left : (head_drive steps : ℕ) (writing : Writing) (next : WriteNext) (old new : Fdc) → steps < 65535 → new ≡ after_next head_drive (steps + 1) writing next old → steps_left new.phase < 65536 - steps
-next_left head_drive steps writing (write_next.On stage) old new few is = subst (λ fdc. steps_left fdc.phase < 65536 - steps) (sym is) (omega arith)
-next_left head_drive steps writing (write_next.Ended ending) old new few is = subst (λ fdc. steps_left fdc.phase < 65536 - steps) (sym is) (omega arith)
+next_left : (head_drive steps : ℕ) (writing : Writing) (next : WriteNext) (old new : Fdc) → steps < 65535 → new ≡ after_next head_drive (steps + 1) writing next old → LeavesFewer steps new.phase
+next_left head_drive steps writing (write_next.On stage) old new few is = subst (λ fdc. LeavesFewer steps fdc.phase) (sym is) (omega arith, omega arith)
+next_left head_drive steps writing (write_next.Ended ending) old new few is = subst (λ fdc. LeavesFewer steps fdc.phase) (sym is) (omega arith, tt)
 
-laid_left : (head_drive steps : ℕ) (formatting : Formatting) (next : FormatNext) (old new : Fdc) → steps < 65535 → new ≡ after_laid head_drive (steps + 1) formatting next old → steps_left new.phase < 65536 - steps
-laid_left head_drive steps formatting (format_next.On stage) old new few is = subst (λ fdc. steps_left fdc.phase < 65536 - steps) (sym is) (omega arith)
-laid_left head_drive steps formatting (format_next.Ended ending key) old new few is = subst (λ fdc. steps_left fdc.phase < 65536 - steps) (sym is) (omega arith)
+laid_left : (head_drive steps : ℕ) (formatting : Formatting) (next : FormatNext) (old new : Fdc) → steps < 65535 → new ≡ after_laid head_drive (steps + 1) formatting next old → LeavesFewer steps new.phase
+laid_left head_drive steps formatting (format_next.On stage) old new few is = subst (λ fdc. LeavesFewer steps fdc.phase) (sym is) (omega arith, omega arith)
+laid_left head_drive steps formatting (format_next.Ended ending key) old new few is = subst (λ fdc. LeavesFewer steps fdc.phase) (sym is) (omega arith, tt)
 
 stops_few : (steps : ℕ) (protects : Bool) (byte : Option ℕ) (ending : Ending) → Stops steps protects byte ending → steps ≤ 65535
 stops_few steps protects byte Late is = omega arith
@@ -91,28 +101,28 @@ stops_few steps protects byte NoField is = absurd is
 stops_few steps protects byte BadCheck is = absurd is
 stops_few steps protects byte NoCount is = absurd is
 
-stop_left : (ending : Ending) (head_drive steps : ℕ) (key : Chrn) (old new : Fdc) → steps ≤ 65535 → new ≡ finished ending head_drive key old → steps_left new.phase < 65536 - steps
-stop_left ending head_drive steps key old new few is = subst (λ fdc. steps_left fdc.phase < 65536 - steps) (sym is) (omega arith)
+stop_left : (ending : Ending) (head_drive steps : ℕ) (key : Chrn) (old new : Fdc) → steps ≤ 65535 → new ≡ finished ending head_drive key old → LeavesFewer steps new.phase
+stop_left ending head_drive steps key old new few is = subst (λ fdc. LeavesFewer steps fdc.phase) (sym is) (omega arith, tt)
 
-write_left : (time : WordTime) (head_drive steps : ℕ) (writing : Writing) (old : Fdc) (before : DriveState) (new : Fdc) → WriteDoes time head_drive steps writing old before new → steps_left new.phase < 65536 - steps
+write_left : (time : WordTime) (head_drive steps : ℕ) (writing : Writing) (old : Fdc) (before : DriveState) (new : Fdc) → WriteDoes time head_drive steps writing old before new → LeavesFewer steps new.phase
 write_left (Saw index word) head_drive steps writing old before new (due, is) = next_left head_drive steps writing is.next old new is.few is.after_is
 write_left (KeptOut index word) head_drive steps writing old before new (opens, is) = next_left head_drive steps writing is.next old new is.few is.after_is
 write_left (Wrote opened closed index word) head_drive steps writing old before new is = next_left head_drive steps writing is.next _ new is.few is.after_is
 write_left Stopped head_drive steps writing old before new is = stop_left is.ending head_drive steps writing.wanted.key old new (stops_few steps _ _ is.ending is.stops) is.after_is
 
-format_left : (time : WordTime) (head_drive steps : ℕ) (formatting : Formatting) (old : Fdc) (before : DriveState) (new : Fdc) → FormatDoes time head_drive steps formatting old before new → steps_left new.phase < 65536 - steps
+format_left : (time : WordTime) (head_drive steps : ℕ) (formatting : Formatting) (old : Fdc) (before : DriveState) (new : Fdc) → FormatDoes time head_drive steps formatting old before new → LeavesFewer steps new.phase
 format_left (Saw index word) head_drive steps formatting old before new (due, is) = laid_left head_drive steps formatting is.next old new is.few is.after_is
 format_left (KeptOut index word) head_drive steps formatting old before new (due, is) = laid_left head_drive steps formatting is.next old new is.few is.after_is
 format_left (Wrote opened closed index word) head_drive steps formatting old before new is = laid_left head_drive steps formatting is.next _ new is.few is.after_is
 format_left Stopped head_drive steps formatting old before new is = stop_left is.ending head_drive steps no_key old new (stops_few steps _ _ is.ending is.stops) is.after_is
 
-task_left : (task : Task) (head_drive steps : ℕ) (old : Fdc) (before after : DriveState) (new : Fdc) → TaskSteps task head_drive steps old before after new → steps_left new.phase < 65536 - steps
+task_left : (task : Task) (head_drive steps : ℕ) (old : Fdc) (before after : DriveState) (new : Fdc) → TaskSteps task head_drive steps old before after new → LeavesFewer steps new.phase
 task_left (ReadId search) head_drive steps old before after new is = listen_left (at_index before) is.word head_drive steps (ReadId search) old new refl is.does
 task_left (Read reading) head_drive steps old before after new is = listen_left (at_index before) is.word head_drive steps (Read reading) old new refl is.does
 task_left (Write writing) head_drive steps old before after new is = write_left is.does.time head_drive steps writing old before new is.does.does
 task_left (Format formatting) head_drive steps old before after new is = format_left is.does.time head_drive steps formatting old before new is.does.does
 
-nowhere_left : (task : Task) (head_drive steps : ℕ) (old new : Fdc) → TaskStepsNowhere task head_drive steps old new → steps_left new.phase < 65536 - steps
+nowhere_left : (task : Task) (head_drive steps : ℕ) (old new : Fdc) → TaskStepsNowhere task head_drive steps old new → LeavesFewer steps new.phase
 nowhere_left (ReadId search) head_drive steps old new is = listen_left false 0 head_drive steps (ReadId search) old new refl is
 nowhere_left (Read reading) head_drive steps old new is = listen_left false 0 head_drive steps (Read reading) old new refl is
 nowhere_left (Write writing) head_drive steps old new (inl (last, is)) = stop_left Late head_drive steps writing.wanted.key old new (omega arith) is

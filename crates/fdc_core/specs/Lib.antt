@@ -8,6 +8,7 @@ pub mod Phases
 pub mod Dma
 pub mod Reading
 pub mod Steps
+pub mod Ranges
 pub mod Listening
 pub mod Meaning
 pub mod Times

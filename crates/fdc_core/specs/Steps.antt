@@ -58,9 +58,14 @@ abbrev pub steps_left : Phase → ℕ
 steps_left (Execute execution) = 65536 - execution.steps
 steps_left _ = 0
 
+-- the count of a data command in execution is below 65,536
+abbrev pub IsCounted : Phase → Type 0
+IsCounted (Execute execution) = execution.steps < 65536
+IsCounted _ = Unit {0}
+
 -- a device step of a data command leaves fewer
 abbrev pub EndsIn : Phase → Phase → Type 0
-EndsIn (Execute execution) new = steps_left new < steps_left (Execute execution)
+EndsIn (Execute execution) new = (steps_left new < steps_left (Execute execution)) × IsCounted new
 EndsIn _ new = Unit {0}
 
 -- what no device step changes: DOR, the rate, what SPECIFY and CONFIGURE set, the bytes of a command that has begun and the

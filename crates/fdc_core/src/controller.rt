@@ -1,5 +1,6 @@
 // The controller's state, its reset and its lines.
 ghost use Rattle.std.specs.Prelude.{◌≡◌, ◌<◌, ◌+◌, ◌↔◌, ◌%◌, IfOk, IsTrue, IsBitSet, true, false};
+ghost use Rattle.fdc_core.specs.Ranges.{IsInRange};
 ghost use Rattle.fdc_core.specs.State.{at_power_up, reset, is_held, interrupts, asks, is_gated, data_commands_of, dor_of, data_rate, finished};
 
 use crate::answers::{Answer, results};
@@ -156,4 +157,20 @@ impl Fdc {
     {
         self.data_commands
     }
+
+    /// Its numbers are those of its registers. It does nothing.
+    pub fn ranges(&self)
+        ensures { IsInRange self.now }
+    {
+        self.seeks.bits();
+        match &self.phase {
+            Phase::Execute { execution } => keep_steps(execution.steps),
+            _ => {}
+        }
+    }
 }
+
+// A count of device steps is that of its register.
+fn keep_steps(_steps: u16)
+    ensures { _steps < 65536 }
+{}

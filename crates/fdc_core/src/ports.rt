@@ -6,17 +6,8 @@ ghost use Rattle.fdc_core.specs.Ports.{is_taking, main_status, line_bits, result
 use crate::controller::{Fdc, Lines};
 use crate::phases::Phase;
 use crate::rates::DataRate;
+use fdc_registers::ports::{CCR, DATA, DIR, DOR, DSR, MSR};
 use fdc_registers::{Dir, Dor, Flags, Msr};
-
-const DOR: u16 = 0x3F2;
-
-/// MSR where it is read, DSR where it is written.
-const STATUS: u16 = 0x3F4;
-
-const DATA: u16 = 0x3F5;
-
-/// DIR where it is read, CCR where it is written.
-const LINES: u16 = 0x3F7;
 
 /// What a port gives that has nothing to give.
 const NOTHING: u8 = 0xFF;
@@ -34,9 +25,9 @@ impl Fdc {
     {
         match port {
             DOR => self.dor.bits(),
-            STATUS => self.main_status(),
+            MSR => self.main_status(),
             DATA => self.give_byte(),
-            LINES => line_bits(lines),
+            DIR => line_bits(lines),
             _ => NOTHING,
         }
     }
@@ -49,13 +40,13 @@ impl Fdc {
     {
         match port {
             DOR => self.write_dor(value),
-            STATUS => self.write_dsr(value),
+            DSR => self.write_dsr(value),
             DATA => {
                 if self.is_taking() {
                     self.take_command_byte(value, lines);
                 }
             }
-            LINES => self.rate = DataRate::chosen_by(value),
+            CCR => self.rate = DataRate::chosen_by(value),
             _ => {}
         }
     }
@@ -66,7 +57,7 @@ impl Fdc {
     {
         match port {
             DOR => !Dor(value).contains(Dor::NOT_RESET),
-            STATUS => value & SOFT_RESET != 0,
+            DSR => value & SOFT_RESET != 0,
             _ => false,
         }
     }
@@ -134,7 +125,7 @@ impl Fdc {
         ensures { self.new ≡ dsr_written value self.old }
     {
         self.rate = DataRate::chosen_by(value);
-        if Fdc::is_reset_by(STATUS, value) {
+        if Fdc::is_reset_by(DSR, value) {
             self.reset();
         }
     }

@@ -6,6 +6,7 @@
 
 mod drive_lines;
 mod main_status;
+pub mod ports;
 mod results;
 mod saving;
 

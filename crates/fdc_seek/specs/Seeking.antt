@@ -1,5 +1,5 @@
 -- The seeks of the four drives, device step by device step.
-use Rattle.std.specs.Prelude.{◌≡◌, ◌<◌, ◌+◌, ◌-◌, ◌^◌, ◌==◌, ◌||◌, ◌&&◌, ℕ, Bool, true, false, List, [], ◌∷◌, Option, Some, None, is_some, IsSome, IsSomeAnd, IsTrue, IsFalse, not, unwrap_or, option_map, if◌then◌else◌, nat_lt, slice_set, slice_index, slice_index_or, position, length}
+use Rattle.std.specs.Prelude.{◌≡◌, ◌<◌, ◌≤◌, ◌+◌, ◌-◌, ◌^◌, ◌==◌, ◌||◌, ◌&&◌, ℕ, Bool, true, false, List, [], ◌∷◌, Option, Some, None, is_some, IsSome, IsSomeAnd, IsTrue, IsFalse, not, unwrap_or, option_map, if◌then◌else◌, nat_lt, slice_set, slice_index, slice_index_or, position, length}
 use Rattle.std.specs.Option.{option_map_or, ForSome}
 use Rattle.std.specs.Int.RustNames.{bit_or}
 use Rattle.fdc_registers.specs.St0.{polling, abnormal, seek_end, equipment_check}
@@ -16,11 +16,18 @@ pub record Seeking : Type 0 where
   -- ST0 of each drive's pending result
   pub pending : List (Option ℕ)
 
+-- a seek's numbers are bytes, and a RECALIBRATE gives no more than 79 pulses
+abbrev pub IsMotion : Motion → Type 0
+IsMotion (Outward pulses) = pulses ≤ 79
+IsMotion (Toward cylinder target) = (cylinder < 256) × (target < 256)
+IsMotion Ended = Unit {0}
+
 -- there are four drives, and the seek is of one of them
 pub record InRange (seeking : Seeking) : Type 0 where
   pub cylinders : length seeking.cylinders ≡ 4
   pub pending : length seeking.pending ≡ 4
   pub drive : ForSome seeking.seek (λ seek. seek.drive < 4)
+  pub motion : ForSome seeking.seek (λ seek. IsMotion seek.motion)
 
 -- no seek, no result, and each drive at cylinder 0
 abbrev pub at_rest : Seeking

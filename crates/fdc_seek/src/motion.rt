@@ -1,6 +1,9 @@
 // What a seek does, device step by device step.
-ghost use Rattle.std.specs.Prelude.{◌≡◌};
-ghost use Rattle.fdc_seek.specs.Seeking.{has_ended};
+ghost use Rattle.std.specs.Prelude.{◌≡◌, ◌↔◌, IsTrue};
+ghost use Rattle.fdc_seek.specs.Seeking.{IsMotion, has_ended};
+
+/// The most pulses of a RECALIBRATE.
+pub(crate) const RECALIBRATE_PULSES: u8 = 79;
 
 /// A drive's seek, whose bit is set in the main status register.
 #[derive(Clone, Copy, PartialEq, Eq, Debug)]
@@ -27,5 +30,15 @@ impl Motion {
         ensures { result ≡ has_ended self }
     {
         matches!(self, Motion::Ended)
+    }
+
+    /// Whether a seek gives so many pulses.
+    pub(crate) fn is_limited(self) -> bool
+        ensures { IsTrue result ↔ IsMotion self }
+    {
+        match self {
+            Motion::Outward { pulses } => pulses <= RECALIBRATE_PULSES,
+            _ => true,
+        }
     }
 }

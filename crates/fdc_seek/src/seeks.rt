@@ -1,17 +1,15 @@
 // The seeks of the four drives.
 ghost use Rattle.std.specs.Prelude.{◌≡◌, ◌<◌, ◌↔◌, IsTrue, IsFalse, IsSome, IsNone, is_some, slice_index};
-ghost use Rattle.fdc_seek.specs.Seeking.{InRange, at_rest, with_polls, with_motion, ended, pulse_due, stepped, is_seeking, EndsSeek};
+ghost use Rattle.fdc_seek.specs.Seeking.{InRange, IsMotion, at_rest, with_polls, with_motion, ended, pulse_due, stepped, is_seeking, EndsSeek};
 ghost use Rattle.fdc_seek.specs.Seeking.{seek_bits, first_pending, sensed, after_sense, released, has_ended_seek, without_ended};
 ghost use Rattle.fdc_seek.specs.Seeking.{polled as polled_status, sought as sought_status, recalibrated as recalibrated_status};
 
 mod saving;
 
+use crate::motion::RECALIBRATE_PULSES;
 use crate::{Motion, Seek};
 use fdc_registers::{Flags, St0};
 use std::marker::Model;
-
-/// The most pulses of a RECALIBRATE.
-const RECALIBRATE_PULSES: u8 = 79;
 
 /// The controller's seeks: at most one drive has its seek bit set.
 #[derive(Drop)]
@@ -140,7 +138,8 @@ impl Seeks {
 
     // The drive's seek does this from now on.
     fn go_on(&mut self, drive: u8, motion: Motion)
-        requires { drive < 4 }
+        requires drive { drive < 4 }
+        requires motion { IsMotion motion }
         ensures { self.new ≡ with_motion self.old drive motion }
     {
         self.seek = Some(Seek { drive, motion });

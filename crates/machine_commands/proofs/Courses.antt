@@ -55,7 +55,7 @@ left_of board = steps_left (controller_of board).phase
 positive_in : (phase new : Phase) → is_executing phase ≡ true → EndsIn phase new → 1 ≤ steps_left phase
 positive_in Command new busy ends = absurd (false≢true busy)
 positive_in (Result answer) new busy ends = absurd (false≢true busy)
-positive_in (Execute execution) new busy ends = omega arith
+positive_in (Execute execution) new busy ends = let fewer = ends.0 in omega arith
 
 step_positive : (old new : Board) → Step old new → is_executing (controller_of old).phase ≡ true → 1 ≤ left_of old
 step_positive old new step busy = controller (1 ≤ left_of old) old new step (λ before after works. positive_in (controller_of old).phase step.between.phase busy works.ends)

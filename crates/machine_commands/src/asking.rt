@@ -10,15 +10,11 @@ ghost use Rattle.machine_commands.specs.Shown.{board_of, rig_shown};
 use crate::machine::CommandedMachine;
 use crate::ports::{DIR, DOR};
 use drive_model::Drive;
-
-/// SENSE DRIVE STATUS.
-const SENSE_DRIVE: u8 = 0x04;
+use fdc_commands::Command;
+use fdc_registers::{Dir, St3};
 
 /// Status register 3: the medium is protected.
-pub(crate) const PROTECTED: u8 = 0x40;
-
-/// The input register: the change line.
-const CHANGED: u8 = 0x80;
+pub(crate) const PROTECTED: u8 = St3::PROTECTED.0;
 
 /// The word times in which a medium comes to speed.
 const SPIN_UP: u32 = 6_250;
@@ -34,7 +30,7 @@ impl<D: Drive> CommandedMachine<D> {
         ensures motors { self.new.motors ≡ self.old.motors }
     {
         self.select(bay);
-        self.machine.inb(DIR) == CHANGED
+        self.machine.inb(DIR) == Dir::CHANGED.0
     }
 
     /// SENSE DRIVE STATUS.
@@ -44,7 +40,7 @@ impl<D: Drive> CommandedMachine<D> {
         ensures motors { self.new.motors ≡ self.old.motors }
     {
         self.select(bay);
-        self.send(&[SENSE_DRIVE, bay]);
+        self.send_command(Command::SenseDrive { head_drive: bay });
         self.result_byte()
     }
 

@@ -2,31 +2,21 @@
 ghost use Rattle.std.specs.Prelude.{◌≡◌};
 ghost use Rattle.machine_commands.specs.Codes.{refusal_of, rate_byte};
 
+use fdc_registers::{Flags, St1};
 use flop_base::{Code, Rate};
 
-/// Status register 1 (82077AA data sheet): the medium is protected.
-const NOT_WRITABLE: u8 = 0x02;
-
-/// Status register 1: DMA came too late.
-const OVERRUN: u8 = 0x10;
-
-/// Status register 1: no address mark or data mark was seen.
-const MISSING_MARK: u8 = 0x01;
-
-/// Status register 1: no sector has the key.
-const NO_DATA: u8 = 0x04;
-
-/// The refusal of a command that failed: that of the first bit that is set, in this order.
+/// The refusal of a command that failed, by its status register 1: that of the first bit that is set, in this order.
 pub(crate) fn refusal(status: u8) -> Code
     ensures { result ≡ refusal_of status }
 {
-    if status & NOT_WRITABLE != 0 {
+    let status = St1(status);
+    if status.intersects(St1::NOT_WRITABLE) {
         Code::Protected
-    } else if status & OVERRUN != 0 {
+    } else if status.intersects(St1::OVERRUN) {
         Code::Overrun
-    } else if status & MISSING_MARK != 0 {
+    } else if status.intersects(St1::MISSING_MARK) {
         Code::NoMark
-    } else if status & NO_DATA != 0 {
+    } else if status.intersects(St1::NO_DATA) {
         Code::NotFound
     } else {
         Code::BadCrc

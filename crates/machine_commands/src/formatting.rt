@@ -9,11 +9,9 @@ use crate::channel::Way;
 use crate::machine::CommandedMachine;
 use crate::results::Done;
 use drive_model::Drive;
+use fdc_commands::Command;
 use flop_base::standard::SIZE_CODE;
 use flop_base::{Code, Rate};
-
-/// FORMAT TRACK, of MFM.
-const FORMAT_TRACK: u8 = 0x4D;
 
 /// The keys of a format stand here, in the driver's page.
 const KEYS: u32 = 0xF_8000;
@@ -39,7 +37,13 @@ impl<D: Drive> CommandedMachine<D> {
         let sectors = rate.sectors();
         self.prepare(bay, rate);
         self.set_channel(Way::FromMemory, KEYS, u16::from(sectors) * 4 - 1);
-        self.send(&[FORMAT_TRACK, h * 4 + bay, SIZE_CODE, sectors, gap3, fill]);
+        self.send_command(Command::FormatTrack {
+            head_drive: h * 4 + bay,
+            n: SIZE_CODE,
+            sc: sectors,
+            gpl: gap3,
+            fill,
+        });
         self.finish()
     }
 

@@ -6,21 +6,11 @@ ghost use Rattle.machine_commands.specs.Shown.{board_of};
 
 use crate::machine::CommandedMachine;
 use drive_model::Drive;
-
-/// RECALIBRATE.
-const RECALIBRATE: u8 = 0x07;
-
-/// SENSE INTERRUPT STATUS.
-const SENSE_INTERRUPT: u8 = 0x08;
-
-/// SEEK.
-const SEEK: u8 = 0x0F;
-
-/// Status register 0 where no result is pending.
-const NONE_PENDING: u8 = 0x80;
+use fdc_commands::Command;
+use fdc_registers::St0;
 
 /// Status register 0: track 0 was not reached.
-pub(crate) const EQUIPMENT_CHECK: u8 = 0x10;
+pub(crate) const EQUIPMENT_CHECK: u8 = St0::EQUIPMENT_CHECK.0;
 
 /// The device steps in which a seek of at most 79 pulses ends, one for each pulse and one for its end.
 const LONGEST_SEEK: u32 = 80;
@@ -33,7 +23,7 @@ impl<D: Drive> CommandedMachine<D> {
         ensures motors { self.new.motors ≡ self.old.motors }
     {
         self.select(bay);
-        self.send(&[RECALIBRATE, bay]);
+        self.send_command(Command::Recalibrate { drive: bay });
         self.end_seek()
     }
 
@@ -44,7 +34,10 @@ impl<D: Drive> CommandedMachine<D> {
         ensures motors { self.new.motors ≡ self.old.motors }
     {
         self.select(bay);
-        self.send(&[SEEK, bay, target]);
+        self.send_command(Command::Seek {
+            head_drive: bay,
+            ncn: target,
+        });
         let _ = self.end_seek();
     }
 
@@ -64,9 +57,9 @@ impl<D: Drive> CommandedMachine<D> {
         ensures senses { Senses (board_of D.state self.old) result (board_of D.state self.new) }
         ensures motors { self.new.motors ≡ self.old.motors }
     {
-        self.send(&[SENSE_INTERRUPT]);
+        self.send_command(Command::SenseInterrupt);
         let status = self.result_byte();
-        self.take_number(status == NONE_PENDING);
+        self.take_number(status == St0::INVALID.0);
         status
     }
 

@@ -1,22 +1,10 @@
 // The ports of the diskette controller and of DMA channel 2 (PC/AT), and what is written to them.
 
-/// The digital output register: motors, reset, the selected drive.
-pub(crate) const DOR: u16 = 0x3F2;
-
-/// The main status register.
-pub(crate) const MSR: u16 = 0x3F4;
-
-/// The data port: commands and results.
-pub(crate) const DATA: u16 = 0x3F5;
-
-/// The digital input register where it is read: the change line in bit 7.
-pub(crate) const DIR: u16 = 0x3F7;
-
-/// The configuration control register where it is written: the data rate.
-pub(crate) const CCR: u16 = 0x3F7;
+use fdc_registers::Msr;
+pub(crate) use fdc_registers::ports::{CCR, DATA, DIR, DOR, MSR};
 
 /// A result byte is ready, and a command is in progress; no drive seeks.
-pub(crate) const RESULTS_READY: u8 = 0xD0;
+pub(crate) const RESULTS_READY: u8 = Msr::RQM.0 | Msr::DIO.0 | Msr::BUSY.0;
 
 /// Channel 2's address and count, low byte first.
 pub(crate) const ADDRESS: u16 = 0x04;

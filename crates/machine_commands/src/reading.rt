@@ -9,13 +9,9 @@ use crate::channel::Way;
 use crate::machine::CommandedMachine;
 use crate::results::Done;
 use drive_model::Drive;
+use fdc_commands::Command;
+use fdc_commands::codes::READ_DATA;
 use flop_base::{Chrn, Code, Rate, sector_size};
-
-/// READ ID, of MFM.
-const READ_ID: u8 = 0x4A;
-
-/// READ DATA, of MFM.
-const READ_DATA: u8 = 0x46;
 
 /// The data length, which counts where the size code is 0 alone.
 const DATA_LENGTH: u8 = 0xFF;
@@ -29,7 +25,9 @@ impl<D: Drive> CommandedMachine<D> {
         ensures motors { self.new.motors ≡ self.old.motors }
     {
         self.prepare(bay, rate);
-        self.send(&[READ_ID, head * 4 + bay]);
+        self.send_command(Command::ReadId {
+            head_drive: head * 4 + bay,
+        });
         self.finish()
     }
 

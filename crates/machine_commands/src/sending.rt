@@ -1,5 +1,6 @@
 // Bytes to and from the controller.
 ghost use Rattle.std.specs.Prelude.{◌≡◌, ◌≤◌};
+ghost use Rattle.fdc_commands.specs.Spelled.{spelled};
 ghost use Rattle.pc_bus.specs.Ports.{Inputs, Outputs};
 ghost use Rattle.machine_commands.specs.Ready.{dor_with};
 ghost use Rattle.machine_commands.specs.Sending.{Sends, Settles};
@@ -8,6 +9,7 @@ ghost use Rattle.machine_commands.specs.Shown.{board_of};
 use crate::machine::CommandedMachine;
 use crate::ports::{DATA, DOR};
 use drive_model::Drive;
+use fdc_commands::Command;
 
 impl<D: Drive> CommandedMachine<D> {
     /// Selects a bay. The motors stay as they are.
@@ -18,6 +20,14 @@ impl<D: Drive> CommandedMachine<D> {
     {
         let dor = self.motors.dor(bay);
         self.machine.outb(DOR, dor);
+    }
+
+    /// Sends a command.
+    pub(crate) fn send_command(&mut self, command: Command)
+        ensures sends { Sends (spelled command) (board_of D.state self.old) (board_of D.state self.new) }
+        ensures motors { self.new.motors ≡ self.old.motors }
+    {
+        self.send(command.bytes().as_slice());
     }
 
     /// Sends the bytes of a command.

@@ -9,13 +9,21 @@ use crate::machine::CommandedMachine;
 use crate::motors::Motors;
 use crate::ports::{CCR, DOR};
 use drive_model::Drive;
+use fdc_commands::Command;
 use flop_base::Rate;
 
 /// SPECIFY: step rate and head times, and DMA on.
-const SPECIFY: [u8; 3] = [0x03, 0xAF, 0x02];
+const SPECIFY: Command = Command::Specify {
+    srt_hut: 0xAF,
+    hlt_nd: 0x02,
+};
 
 /// CONFIGURE: the FIFO on with threshold 8, polling on, no implied seek.
-const CONFIGURE: [u8; 4] = [0x13, 0x00, 0x07, 0x00];
+const CONFIGURE: Command = Command::Configure {
+    zero: 0x00,
+    options: 0x07,
+    pretrk: 0x00,
+};
 
 /// DOR that holds the controller in reset.
 const HELD: u8 = 0x00;
@@ -33,8 +41,8 @@ impl<D: Drive> CommandedMachine<D> {
         self.machine.outb(DOR, HELD);
         self.select(0);
         self.take_polls();
-        self.send(&SPECIFY);
-        self.send(&CONFIGURE);
+        self.send_command(SPECIFY);
+        self.send_command(CONFIGURE);
         self.machine.outb(CCR, FASTEST);
         self.settle();
     }

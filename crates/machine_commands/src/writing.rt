@@ -9,13 +9,8 @@ use crate::channel::Way;
 use crate::machine::CommandedMachine;
 use crate::results::Done;
 use drive_model::Drive;
+use fdc_commands::codes::{WRITE_DATA, WRITE_DELETED};
 use flop_base::{Chrn, Code, Rate, sector_size};
-
-/// WRITE DATA, of MFM.
-const WRITE_DATA: u8 = 0x45;
-
-/// WRITE DELETED DATA, of MFM.
-const WRITE_DELETED: u8 = 0x49;
 
 impl<D: Drive> CommandedMachine<D> {
     /// WRITE DATA or WRITE DELETED DATA from memory.

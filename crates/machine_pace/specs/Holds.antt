@@ -1,5 +1,6 @@
 -- A DMA request and how long its grant is held back.
 use Rattle.std.specs.Prelude.{◌≤◌, ℕ, ◌+◌, ◌-◌, min, Bool, true, false, ◌==◌, nat_lt, if◌then◌else◌, List}
+use Rattle.std.specs.List.{All}
 use Rattle.flop_base.specs.Counts.{last_count}
 use Rattle.machine_pace.specs.Entries.{next_entry, rest_of}
 use Rattle.machine_pace.specs.declared.holding.Request.{Request}
@@ -42,6 +43,18 @@ looked true old = waited old.request old
 abbrev pub shown : Bool → Holds → Holds
 shown false old = record old { request = Low }
 shown true old = old
+
+-- ---- ranges
+
+-- what is left of a request's hold is a byte
+abbrev pub IsShort : Request → Type 0
+IsShort Low = Unit {0}
+IsShort (High left) = left ≤ 255
+
+-- each hold is a byte, and what is left of one too
+pub record AreShort (holds : Holds) : Type 0 where
+  pub entries : All (λ entry. entry ≤ 255) holds.entries
+  pub request : IsShort holds.request
 
 -- ---- in time
 

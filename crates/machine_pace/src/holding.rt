@@ -1,7 +1,8 @@
 // DMA requests, how long each is held back, and the stalls.
-ghost use Rattle.std.specs.Prelude.{◌≡◌};
+ghost use Rattle.std.specs.Prelude.{◌≡◌, ◌≤◌};
+ghost use Rattle.std.specs.List.{All};
 ghost use Rattle.machine_pace.specs.Entries.{next_entry, rest_of};
-ghost use Rattle.machine_pace.specs.Holds.{looked, shown, is_due, waited, stalls_with};
+ghost use Rattle.machine_pace.specs.Holds.{AreShort, IsShort, looked, shown, is_due, waited, stalls_with};
 ghost use Rattle.machine_pace.specs.declared.holding.Request.TheVariants.{Low};
 
 mod saving;
@@ -114,10 +115,35 @@ impl Holding {
         matches!(self.request, Request::High { left: 0 })
     }
 
+    /// The ranges of the holds and of the request; it does nothing.
+    pub fn ranges(&self)
+        ensures { AreShort self.now }
+    {
+        let (first, second) = self.entries.as_slices();
+        keep_entries(first);
+        keep_entries(second);
+        keep_request(self.request);
+    }
+
     /// How many holds above 8 were taken, which stays at its last value.
     pub fn stalls(&self) -> u64
         ensures { result ≡ self.now.stalls }
     {
         self.stalls
+    }
+}
+
+/// The range of holds; it does nothing.
+fn keep_entries(_entries: &[u8])
+    ensures { All (λ entry. entry ≤ 255) _entries.now }
+{}
+
+/// The range of a request; it does nothing.
+fn keep_request(request: Request)
+    ensures { IsShort request }
+{
+    match request {
+        Request::Low => {}
+        Request::High { left: _left } => {}
     }
 }

@@ -1,12 +1,13 @@
 -- The machine as contracts see it: a board of chips, with a drive in each bay.
 use Rattle.std.specs.Prelude.{◌≡◌, ℕ, ◌%◌, true, false, ◌==◌, if◌then◌else◌, List, None}
 use Rattle.bay_model.specs.Memory.{zeroes}
-use Rattle.drive_model.specs.Drive.{DriveState, Becomes, is_protected, with_motor}
+use Rattle.drive_model.specs.Drive.{DriveState, Becomes, InRange, is_protected, with_motor}
 use Rattle.dma_8237.specs.Channel.{Channel, power_up}
 use Rattle.irq_events.specs.Latch.{Latch}
 use Rattle.irq_events.specs.declared.pace.Pace.{Pace}
-use Rattle.machine_pace.specs.Holds.{Holds}
+use Rattle.machine_pace.specs.Holds.{AreShort, Holds}
 use Rattle.machine_pace.specs.declared.holding.Request.TheVariants.{Low}
+use Rattle.fdc_core.specs.Ranges.{IsInRange as IsFdcInRange}
 use Rattle.fdc_core.specs.State.{at_power_up, dor_of}
 use Rattle.fdc_core.specs.declared.controller.Fdc.{Fdc}
 use Rattle.fdc_core.specs.declared.controller.Lines.{Lines}
@@ -86,6 +87,13 @@ pub record IsNew (pace : Pace) (bay0 bay1 : DriveState) (new : Board) : Type 0 w
   pub bus : new.bus ≡ new_bus pace
   pub first : Becomes (with_motor false bay0) bay0 new.first
   pub second : Becomes (with_motor false bay1) bay1 new.second
+
+-- the numbers of the drives, of the controller and of the holds are those that they hold
+pub record IsInRange (board : Board) : Type 0 where
+  pub first : InRange board.first
+  pub second : InRange board.second
+  pub controller : IsFdcInRange (controller_of board)
+  pub holds : AreShort (holds_of board)
 
 -- ---- the lines of the selected drive
 

@@ -2,7 +2,7 @@
 ghost use Rattle.std.specs.Prelude.{◌≡◌, ◌≤◌, IfOk};
 ghost use Rattle.drive_model.specs.Drive.{InRange, rate_of};
 ghost use Rattle.fdc_core.specs.State.{data_commands_of};
-ghost use Rattle.pc_bus.specs.Boards.{board, drive_in, controller_of, memory_of, holds_of, IsEmpty, IsNew};
+ghost use Rattle.pc_bus.specs.Boards.{board, drive_in, controller_of, memory_of, holds_of, IsEmpty, IsInRange, IsNew};
 
 use crate::bus::Bus;
 use drive_model::Drive;
@@ -101,5 +101,15 @@ impl<D: Drive> MachineOf<D> {
         } else {
             self.second.rate()
         }
+    }
+
+    /// The numbers of its parts are those that they hold. It does nothing.
+    pub fn ranges(&self)
+        ensures { IsInRange (board D.state self.now) }
+    {
+        self.bus.chips.controller.ranges();
+        self.bus.chips.holding.ranges();
+        self.first.faults();
+        self.second.faults();
     }
 }

@@ -7,9 +7,7 @@ ghost use Rattle.fdc_core.specs.Times.{Closes};
 use crate::machine::MachineOf;
 use drive_model::Drive;
 use fdc_core::{Fdc, Lines};
-
-/// The controller's output register, which turns motors on and off.
-const DOR: u16 = 0x3F2;
+use fdc_registers::ports::DOR;
 
 /// The lines of an absent drive.
 const ABSENT: Lines = Lines {

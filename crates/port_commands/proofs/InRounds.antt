@@ -64,7 +64,7 @@ has-run-none old = record { course = []; run = refl; all = refl; report = sym (g
 -- one line more was done
 has-run-more : (old mid new : World) (before : List PortLine) (asked : PortLine) (refused refusal : Bool) → HasRun before old refused mid → IsRound asked mid refusal new → HasRun (before ++ asked ∷ []) old (refused || refusal) new
 has-run-more old mid new before asked refused refusal so_far round =
-    let taken : Taken = record { asked = asked; answer = round.answer; after = new.bench } in
+    let taken : Taken = record { asked = asked; answer = round.answer; after = new.bench; range = round.range } in
     record {
       course = so_far.course ++ taken ∷ [];
       run = run_more old.bench mid.bench so_far.course taken so_far.run round.does;
@@ -99,8 +99,8 @@ broken old mid new asked_for i asked refused ended so_far within item (AtStop ca
     prints = subst (λ (r : Option (List ℕ)). Prints (stop_text cause) (stop_status cause) r new.report ended) so_far.report prints;
   }),
 )
-broken old mid new asked_for i asked refused ended so_far within item (AtPut said tells does part fault) =
-    let last : Taken = record { asked = asked; answer = said; after = new.bench } in (
+broken old mid new asked_for i asked refused ended so_far within item (AtPut said tells does range part fault) =
+    let last : Taken = record { asked = asked; answer = said; after = new.bench; range = range } in (
       so_far.course ++ last ∷ [],
       BrokenOff (record {
         before = so_far.course;

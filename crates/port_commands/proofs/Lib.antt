@@ -1,4 +1,5 @@
 mod InRounds
 mod Named
+mod Finishing
 pub mod Guarding
 mod Exchanged

@@ -1,6 +1,7 @@
 -- Lines done one after the other, with the text that tells their answers; and the end, which stores what is left in.
 use Rattle.std.specs.Prelude.{◌≡◌, ℕ, ◌+◌, Bool, true, false, ◌||◌, List, [], ◌∷◌, ◌++◌, map, Result, Ok, Err}
 use Rattle.floppy_jobs.specs.declared.ports.PortLine.{PortLine}
+use Rattle.pc_bus.specs.Boards.{IsInRange}
 use Rattle.sector_model.specs.declared.reply.Stop.{Stop}
 use Rattle.sector_model.specs.Runs.{IsEndStop}
 use Rattle.port_commands.specs.declared.answer.Answer.{Answer}
@@ -8,11 +9,12 @@ use Rattle.port_commands.specs.Benches.{Bench, is_loaded}
 use Rattle.port_commands.specs.Lines.{DoesLine, StoresMedium, DropsMedium, is_refusal, waits_in}
 use Rattle.port_commands.specs.Texts.{answer_text}
 
--- a line that was done: the line, its answer, and the bench that it leads to
+-- a line that was done: the line, its answer, and the bench that it leads to, whose board is in range
 pub record Taken : Type 0 where
   pub asked : PortLine
   pub answer : Answer
   pub after : Bench
+  pub range : IsInRange after.board
 
 -- the course of a run: its lines were done one after the other
 abbrev pub PortRun : Bench → List Taken → Bench → Type 0

@@ -7,6 +7,7 @@ use Rattle.pc_bus.specs.Boards.{Board, drive_in}
 use Rattle.machine_laws.specs.OnWrites.Guards.{GuardsMedia}
 use Rattle.port_commands.specs.Benches.{Bench, Names}
 use Rattle.port_commands.specs.Courses.{Taken, waits_of}
+use Rattle.port_commands.specs.Finishes.{EndInTime}
 use Rattle.port_commands.specs.Lines.{leaves_bay}
 use Rattle.port_commands.specs.Plays.{World, Plays}
 use Rattle.floppy_jobs.specs.declared.ports.PortLine.{PortLine}
@@ -35,12 +36,14 @@ abbrev pub GuardsCourse : Bench → List Taken → Type 0
 GuardsCourse old [] = Unit {0}
 GuardsCourse old (taken ∷ later) = GuardsLine taken.asked old taken.after × GuardsCourse taken.after later
 
--- how a file of port accesses is run, how many device steps passed at least, and that protected media stayed as they were
+-- how a file of port accesses is run, how many device steps passed at least, that protected media stayed as they were, and that
+-- each command finished in time
 pub record RunsPorts (name : List ℕ) (old new : World) (ended : Status) : Type 0 where
   pub course : List Taken
   pub plays : Plays name old course new ended
   pub steps : RoseBy (waits_of course) old.bench.board.bus.steps new.bench.board.bus.steps
   pub media : GuardsCourse old.bench course
+  pub ends : EndInTime old.bench course new.bench
 
 -- a world whose media are in under these names
 abbrev pub with_names : Names → World → World

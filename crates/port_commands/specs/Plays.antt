@@ -7,6 +7,7 @@ use Rattle.flop_base.specs.declared.answers.Status.TheVariants as status
 use Rattle.floppy_jobs.specs.Texts.{ports_of}
 use Rattle.floppy_jobs.specs.declared.ports.PortLine.{PortLine}
 use Rattle.drive_model.specs.Drive.{DriveState}
+use Rattle.pc_bus.specs.Boards.{IsInRange}
 use Rattle.pc_bus.specs.declared.machine.MachineOf.{MachineOf}
 use Rattle.sector_model.specs.declared.reply.Stop.{Stop}
 use Rattle.sector_model.specs.Steps.{IsAbsent, IsLonger}
@@ -35,6 +36,7 @@ world_of state files report machine names shelf out =
 pub record IsRound (asked : PortLine) (old : World) (refused : Bool) (new : World) : Type 0 where
   pub answer : Answer
   pub does : DoesLine asked old.bench answer new.bench
+  pub range : IsInRange new.bench.board
   pub report : new.report ≡ grown old.report (answer_text asked answer)
   pub is_refused : refused ≡ is_refusal answer
 
@@ -42,7 +44,7 @@ pub record IsRound (asked : PortLine) (old : World) (refused : Bool) (new : Worl
 pub data Breaks (asked : PortLine) (old new : World) (ended : Status) : Type 0 where
   AtStop : (cause : Stop) → StopsAt asked old.bench cause new.bench
       → Prints (stop_text cause) (stop_status cause) old.report new.report ended → Breaks asked old new ended
-  AtPut : (said : Answer) → said ≢ answer.Nothing → DoesLine asked old.bench said new.bench
+  AtPut : (said : Answer) → said ≢ answer.Nothing → DoesLine asked old.bench said new.bench → IsInRange new.bench.board
       → GrowsByPart old.report (answer_text asked said) new.report → IsPutFault ended → Breaks asked old new ended
 
 -- a line was done and told whole, or broke off

@@ -1,12 +1,13 @@
-// What no port access does, whatever the machine is doing. The body is empty.
+// What holds of all port accesses, whatever the machine is doing. The bodies are empty.
 ghost use Rattle.std.specs.Prelude.{◌≤◌, ℕ, Bool, List};
 ghost use Rattle.flop_base.specs.Counts.{RoseBy};
 ghost use Rattle.machine_pace.specs.Entries.{next_entry};
-ghost use Rattle.pc_bus.specs.Boards.{Board};
+ghost use Rattle.pc_bus.specs.Boards.{Board, IsInRange};
 ghost use Rattle.pc_bus.specs.Ports.{Inputs, Outputs};
 ghost use Rattle.pc_bus.specs.Steps.{Runs, Waits, stirred};
 ghost use Rattle.port_commands.specs.Benches.{Bench};
 ghost use Rattle.port_commands.specs.Courses.{Taken, PortRun, waits_of};
+ghost use Rattle.port_commands.specs.Finishes.{EndInTime};
 ghost use Rattle.port_commands.specs.Guards.{ChangesWords, GuardsCourse};
 
 /// A port access changes one word of an unprotected medium at most for each device step of the gap behind it, and a wait one for
@@ -23,4 +24,10 @@ pub fn accesses_guard_media()
     ensures steps { (old new : Bench) (course : List Taken) → PortRun old course new
         → RoseBy (waits_of course) old.board.bus.steps new.board.bus.steps }
     ensures media { (old new : Bench) (course : List Taken) → PortRun old course new → GuardsCourse old course }
+{}
+
+/// Whatever the lines are, and wherever one looks: a data command in execution has ended, or another one began, once lines waited
+/// 65,536 device steps, and a seek once they waited 256.
+pub fn commands_end_in_time()
+    ensures { (old new : Bench) (course : List Taken) → IsInRange old.board → PortRun old course new → EndInTime old course new }
 {}

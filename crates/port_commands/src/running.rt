@@ -41,10 +41,13 @@ fn run_one<S: Shelf, K: Sink, D: Drive>(
         (faulty_of D.state S.told S.fault_count K.told K.fault_count machine.new names.new shelf.new out.new) }
 {
     match do_line(alloc, machine, names, line, shelf) {
-        Ok(answer) => match put_answer(alloc, out, line, &answer) {
-            Ok(()) => Ok(is_refusal(&answer)),
-            Err(ended) => Err(ended),
-        },
+        Ok(answer) => {
+            machine.ranges();
+            match put_answer(alloc, out, line, &answer) {
+                Ok(()) => Ok(is_refusal(&answer)),
+                Err(ended) => Err(ended),
+            }
+        }
         Err(stop) => Err(put_last(alloc, out, &stop)),
     }
 }
@@ -174,6 +177,7 @@ pub fn run_ports<S: Shelf, K: Sink, D: Drive>(
         (faulty_of D.state S.told S.fault_count K.told K.fault_count machine.old no_names shelf.old out.old)
         (faulty_of D.state S.told S.fault_count K.told K.fault_count machine.new no_names shelf.new out.new) result }
 {
+    machine.ranges();
     let mut names = Names::new();
     match shelf.load(alloc, text_name, MOST_TEXT_BYTES) {
         Ok(text) => play_text(alloc, machine, &mut names, &text, shelf, out),

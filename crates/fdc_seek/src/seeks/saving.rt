@@ -1,20 +1,23 @@
 // The seeks of the four drives as bytes.
 ghost use Rattle.std.specs.Prelude.{◌≡◌, ◌<◌};
 ghost use Rattle.std.specs.Option.{ForSome};
+ghost use Rattle.fdc_seek.specs.Seeking.{IsMotion};
 
 use super::Seeks;
 use crate::Seek;
 use saved_state::{Saved, Sink, Source, load_four, save_four};
 
-/// A seek of one of the four drives; none for any other.
+/// A seek of one of the four drives with the pulses of one; none for any other.
 fn limited(seek: Option<Seek>) -> Option<Seek>
     ensures drive { ForSome result (λ seek. seek.drive < 4) }
-    ensures same { ForSome seek (λ seek. seek.drive < 4) → result ≡ seek }
+    ensures motion { ForSome result (λ seek. IsMotion seek.motion) }
+    ensures same { ForSome seek (λ seek. seek.drive < 4) → ForSome seek (λ seek. IsMotion seek.motion) → result ≡ seek }
 {
-    match seek {
-        Some(Seek { drive, .. }) if drive >= 4 => None,
-        _ => seek,
+    let seek = seek?;
+    if seek.drive >= 4 || !seek.motion.is_limited() {
+        return None;
     }
+    Some(seek)
 }
 
 impl Saved for Seeks {

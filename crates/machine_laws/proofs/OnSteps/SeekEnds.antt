@@ -1,9 +1,9 @@
 -- A seek ends in time, whatever is done meanwhile.
-use Rattle.std.proofs.Common.{◌≡◌, ℕ, zero, suc, ◌+◌, ◌-◌, ◌^◌, ◌≤◌, ◌==◌, ◌&&◌, nat_lt, nat_le, not, Bool, true, false, Option, Some, None, List, [], ◌∷◌, ◌++◌, if◌then◌else◌, bit_and, refl, sym, ◌∙◌, ap, subst, arith}
-use Rattle.std.specs.Option.{option_map_or}
+use Rattle.std.proofs.Common.{◌≡◌, ℕ, zero, suc, ◌+◌, ◌-◌, ◌^◌, ◌≤◌, ◌==◌, ◌&&◌, nat_lt, not, Bool, true, false, Option, Some, None, IsSomeAnd, List, [], ◌∷◌, ◌++◌, if◌then◌else◌, refl, sym, ◌∙◌, ap, subst, arith}
+use Rattle.std.specs.Option.{ForSome, option_map_or}
 use Rattle.std.proofs.lemmas.Bool.{false≢true}
 use Rattle.std.proofs.lemmas.Bool.Decides.{nat_tests}
-use Rattle.fdc_seek.specs.Seeking.{Seeking, with_polls, with_motion, ended, recalibrated, sought, neighbour, stepped, stepped_seek, has_ended, is_seeking, sensed, first_pending, without_result, released, seek_bits}
+use Rattle.fdc_seek.specs.Seeking.{Seeking, IsMotion, with_polls, with_motion, ended, recalibrated, sought, neighbour, stepped, stepped_seek, has_ended, is_seeking, sensed, first_pending, without_result, released, seek_bits}
 use Rattle.fdc_seek.specs.declared.motion.Motion.{Motion}
 use Rattle.fdc_seek.specs.declared.motion.Motion.TheVariants.{Outward, Toward, Ended}
 use Rattle.fdc_seek.specs.declared.motion.Seek.{Seek}
@@ -12,29 +12,26 @@ use Rattle.fdc_commands.specs.declared.bytes.Accepted.{Accepted}
 use Rattle.fdc_commands.specs.declared.bytes.Accepted.TheVariants.{More, Ready, Invalid}
 use Rattle.fdc_commands.specs.declared.command.Command.{Command}
 use Rattle.fdc_commands.specs.declared.command.Command.TheVariants as command
-use Rattle.fdc_core.specs.Answers.{after_byte}
 use Rattle.fdc_core.specs.Commands.{Obeys, TakesAs, sensing_by, answered}
 use Rattle.fdc_core.specs.Dma.{phase_told, taken_out, taken_in, to_memory_of}
 use Rattle.fdc_core.specs.Listening.{is_executing}
-use Rattle.fdc_core.specs.Ports.{Writes, phase_after, is_taking}
+use Rattle.fdc_core.specs.Ports.{Writes, dsr_resets, phase_after, is_taking}
 use Rattle.fdc_core.specs.Rates.{rate_chosen}
 use Rattle.fdc_core.specs.State.{reset}
 use Rattle.fdc_core.specs.Steps.{polled, RestsIn, seek_stepped}
-use Rattle.fdc_core.specs.declared.answers.Answer.{Answer}
-use Rattle.fdc_core.specs.declared.answers.Answer.TheVariants.{Short, Long}
 use Rattle.fdc_core.specs.declared.controller.Fdc.{Fdc}
 use Rattle.fdc_core.specs.declared.controller.Lines.{Lines}
 use Rattle.fdc_core.specs.declared.phases.Phase.{Phase}
 use Rattle.fdc_core.specs.declared.phases.Phase.TheVariants as phase
-use Rattle.pc_bus.specs.Boards.{Board, controller_of}
+use Rattle.pc_bus.specs.Boards.{Board, IsInRange, controller_of}
 use Rattle.pc_bus.specs.Steps.{Step}
 use Rattle.pc_bus.specs.Transfers.{moved, moved_to_memory, moved_from_memory, byte_read, told_if}
 use Rattle.pc_bus.specs.declared.chips.Chips.{Chips}
-use Rattle.machine_laws.specs.OnSteps.Ends.{motion_left, seek_left, pulses_left, seeks, SeekEnds, IsMotion}
+use Rattle.machine_laws.specs.OnSteps.Ends.{motion_left, seek_left, pulses_left, seeks, HasNoSeek, Meets, Recalibrates}
 use Rattle.machine_laws.specs.OnSteps.Moves.{Acts, Goes}
 use Rattle.machine_laws.proofs.OnSteps.Acts.{Touches, at_controller}
-use Rattle.machine_laws.proofs.OnSteps.DataEnds.{port_is, zero_of}
-use Rattle.machine_laws.proofs.OnSteps.Moves.{lasts}
+use Rattle.machine_laws.proofs.OnSteps.DataEnds.{idle_answer, port_is, zero_of}
+use Rattle.machine_laws.proofs.OnSteps.Moves.{lasts, meets_act, meets_here, meets_step, meets_within}
 use Rattle.machine_laws.proofs.OnSteps.Transfers.{after_step}
 use Rattle.machine_laws.proofs.OnSteps.Words.{controller}
 
@@ -220,25 +217,12 @@ resets false set old seeks idle = Goes_on.Same (ap (λ s. s.seek) seeks) idle
 writes_go : (port value : ℕ) (lines : Lines) (old new : Fdc) → is_executing old.phase ≡ false → is_seeking old.seeks ≡ true → Writes port value lines old new → Goes_on old new
 writes_go port value lines old new idle runs writes = by_port (port == 0x3F2) (port == 0x3F4) (port == 0x3F5) (port == 0x3F7) refl refl refl refl
   where
-    dsr : (b : Bool) → Goes_on old (if not b then reset (record old { rate = rate_chosen value }) else record old { rate = rate_chosen value })
-    dsr true = Goes_on.Same refl idle
-    dsr false = Goes_on.Forgets refl
-
     by_port : (a b c d : Bool) → (port == 0x3F2) ≡ a → (port == 0x3F4) ≡ b → (port == 0x3F5) ≡ c → (port == 0x3F7) ≡ d → Goes_on old new
     by_port true b c d p q r s = subst (Goes_on old) (sym (writes.output (port_is port 0x3F2 p))) (resets _ (record old { dor = record { 0 = value } }) old refl idle)
-    by_port false true c d p q r s = subst (Goes_on old) (sym (writes.select (port_is port 0x3F4 q))) (dsr (bit_and value 0x80 == 0))
+    by_port false true c d p q r s = subst (Goes_on old) (sym (writes.select (port_is port 0x3F4 q))) (resets (dsr_resets value) (record old { rate = rate_chosen value }) old refl idle)
     by_port false false true d p q r s = sent value lines old new idle runs port (port_is port 0x3F5 r) writes
     by_port false false false true p q r s = subst (Goes_on old) (sym (writes.control (port_is port 0x3F7 s))) (Goes_on.Same refl idle)
     by_port false false false false p q r s = same_fdc old new idle (writes.others p q r s)
-
-idle_answer : (answer : Answer) → is_executing (after_byte answer) ≡ false
-idle_answer (Short next None) = refl
-idle_answer (Short next (Some last)) = refl
-idle_answer (Long ending results taken) = by_last (nat_le 6 taken)
-  where
-    by_last : (b : Bool) → is_executing (if b then phase.Command else phase.Result (Long ending results (taken + 1))) ≡ false
-    by_last true = refl
-    by_last false = refl
 
 idle_given : (p : Phase) → is_executing p ≡ false → is_executing (phase_after p) ≡ false
 idle_given phase.Command idle = refl
@@ -254,8 +238,11 @@ touches_go old new idle runs (Touches.Takes port value lines last writes) = writ
 
 -- the seek ended on the way, or runs with so many fewer steps left
 data Runs (start : Board) (n : ℕ) (now : Board) : Type 0 where
-  Over : SeekEnds start n now → Runs start n now
+  Over : Meets HasNoSeek (pulses_left start) start n now → Runs start n now
   On : Goes start n now → pulses_left now + n ≤ pulses_left start → is_executing (controller_of now).phase ≡ false → seeks now → Runs start n now
+
+over_here : (start : Board) (n : ℕ) (now : Board) → Goes start n now → n ≤ pulses_left start → HasNoSeek now → Runs start n now
+over_here start n now goes within over = Runs.Over (meets_here HasNoSeek (pulses_left start) n start now goes within over)
 
 -- here it may have ended
 here : (start : Board) (n : ℕ) (now : Board) → Goes start n now → pulses_left now + n ≤ pulses_left start → n ≤ pulses_left start → is_executing (controller_of now).phase ≡ false → Runs start n now
@@ -263,33 +250,56 @@ here start n now goes left within idle = by_run (is_seeking (controller_of now).
   where
     by_run : (b : Bool) → is_seeking (controller_of now).seeks ≡ b → Runs start n now
     by_run true is = Runs.On goes left idle is
-    by_run false is = Runs.Over (record { mid = now; first = n; behind = 0; goes = goes; goes_on = Goes.Stays; all = omega arith; within = within; over = is })
+    by_run false is = over_here start n now goes within is
 
 step_on : (start : Board) (n : ℕ) (old new : Board) → Step old new → Runs start n old → Runs start (suc n) new
-step_on start n old new step (Runs.Over ends) = let all = ends.all in
-    Runs.Over (record { mid = ends.mid; first = ends.first; behind = suc ends.behind; goes = ends.goes; goes_on = Goes.Steps ends.behind old new ends.goes_on step; all = omega arith; within = ends.within; over = ends.over })
+step_on start n old new step (Runs.Over ends) = Runs.Over (meets_step HasNoSeek (pulses_left start) n start old new step ends)
 step_on start n old new step (Runs.On goes left idle runs) =
     let has = step_has old new step idle runs in let some = some_left (controller_of old).seeks runs in let fewer = has.left_is in
     here start (suc n) new (Goes.Steps n old new goes step) (omega arith) (omega arith) has.idle
 
 act_on : (start : Board) (n : ℕ) (old new : Board) → Acts old new → Runs start n old → Runs start n new
-act_on start n old new acts (Runs.Over ends) =
-    Runs.Over (record { mid = ends.mid; first = ends.first; behind = ends.behind; goes = ends.goes; goes_on = Goes.Does ends.behind old new ends.goes_on acts; all = ends.all; within = ends.within; over = ends.over })
+act_on start n old new acts (Runs.Over ends) = Runs.Over (meets_act HasNoSeek (pulses_left start) n start old new acts ends)
 act_on start n old new acts (Runs.On goes left idle runs) = by_end (touches_go (controller_of old) (controller_of new) idle runs (at_controller old new acts))
   where
     by_end : Goes_on (controller_of old) (controller_of new) → Runs start n new
     by_end (Goes_on.Same seek rest) = let same = ap seek_left seek in here start n new (Goes.Does n old new goes acts) (omega arith) (omega arith) rest
-    by_end (Goes_on.Forgets none) = Runs.Over (record { mid = new; first = n; behind = 0; goes = Goes.Does n old new goes acts; goes_on = Goes.Stays; all = omega arith; within = omega arith; over = none })
+    by_end (Goes_on.Forgets none) = over_here start n new (Goes.Does n old new goes acts) (omega arith) none
 
-pub seek_ends : (old new : Board) (n : ℕ) → Goes old n new → is_executing (controller_of old).phase ≡ false → seeks old → pulses_left old ≤ n → SeekEnds old n new
+pub seek_ends : (old new : Board) (n : ℕ) → Goes old n new → is_executing (controller_of old).phase ≡ false → seeks old → pulses_left old ≤ n → Meets HasNoSeek (pulses_left old) old n new
 seek_ends old new n goes idle runs many = by_end (lasts (λ n now. Runs old n now) (record { step = step_on old; act = act_on old }) old new n goes (Runs.On Goes.Stays (omega arith) idle runs))
   where
-    by_end : Runs old n new → SeekEnds old n new
+    by_end : Runs old n new → Meets HasNoSeek (pulses_left old) old n new
     by_end (Runs.Over ends) = ends
     by_end (Runs.On goes left rest on) = let some = some_left (controller_of new).seeks on in absurd (omega arith)
 
--- it takes 256 at most
-pub most_left : (motion : Motion) → IsMotion motion → motion_left motion ≤ 256
-most_left (Outward pulses) few = omega arith
-most_left (Toward cylinder target) (first, second) = omega arith
-most_left Ended is = omega arith
+-- ---- numbers
+
+motion_few : (motion : Motion) → IsMotion motion → motion_left motion ≤ 256
+motion_few (Outward pulses) few = omega arith
+motion_few (Toward cylinder target) (first, second) = omega arith
+motion_few Ended is = omega arith
+
+seek_few : (seek : Option Seek) → ForSome seek (λ s. IsMotion s.motion) → seek_left seek ≤ 256
+seek_few None is = omega arith
+seek_few (Some seek) is = motion_few seek.motion (is seek refl)
+
+-- no seek takes more than 256
+pub most_left : (board : Board) → IsInRange board → pulses_left board ≤ 256
+most_left board range = seek_few (controller_of board).seeks.seek range.controller.seeks.motion
+
+outward_few : (motion : Motion) (pulses : ℕ) → motion ≡ Outward pulses → IsMotion motion → motion_left motion ≤ 80
+outward_few motion pulses is range = let few : pulses ≤ 79 = subst IsMotion is range in let left = ap motion_left is in omega arith
+
+outward_left : (seek : Option Seek) → ForSome seek (λ s. IsMotion s.motion) → IsSomeAnd seek (λ s. (pulses : ℕ) × (s.motion ≡ Outward pulses)) → seek_left seek ≤ 80
+outward_left None range none = omega arith
+outward_left (Some seek) range (pulses, is) = outward_few seek.motion pulses is (range seek refl)
+
+-- and that of a RECALIBRATE no more than 80
+pub recalibrate_left : (board : Board) → IsInRange board → Recalibrates board → pulses_left board ≤ 80
+recalibrate_left board range is = outward_left (controller_of board).seeks.seek range.controller.seeks.motion is
+
+-- a seek that runs has ended in 256
+pub seek_ends_in_time : (old new : Board) (n : ℕ) → Goes old n new → IsInRange old → is_executing (controller_of old).phase ≡ false → seeks old → 256 ≤ n → Meets HasNoSeek 256 old n new
+seek_ends_in_time old new n goes range idle runs many = let few = most_left old range in
+    meets_within HasNoSeek (pulses_left old) 256 n old new few (seek_ends old new n goes idle runs (omega arith))

@@ -1,4 +1,6 @@
-use Rattle.port_commands.proofs.Guarding.{read_changes, write_changes, wait_changes, wait_irq_changes, course_rises, course_guards}
+use Rattle.port_commands.specs.Courses.{waits_of}
+use Rattle.port_commands.proofs.Finishing.{course_passes, passes_rise}
+use Rattle.port_commands.proofs.Guarding.{read_changes, write_changes, wait_changes, wait_irq_changes, course_guards}
 use Rattle.port_commands.proofs.laws.accesses_guard_media.Goals as goal
 
 pub returns-clause-read : goal.returns-clause-read
@@ -14,7 +16,7 @@ pub returns-clause-wait_irq : goal.returns-clause-wait_irq
 returns-clause-wait_irq c = wait_irq_changes
 
 pub returns-clause-steps : goal.returns-clause-steps
-returns-clause-steps c = course_rises
+returns-clause-steps c old new course run = passes_rise (waits_of course) old.board new.board (course_passes old new course run)
 
 pub returns-clause-media : goal.returns-clause-media
 returns-clause-media c = course_guards

@@ -4,7 +4,7 @@ use Rattle.port_commands.proofs.running.run_one.Goals as goal
 
 pub returns-in-Err-put_answer : goal.returns-in-Err-put_answer
 returns-in-Err-put_answer g c = record {
-  goes = AtPut c.in-Ok.answer c.in-Err-put_answer.ensures.tells c.in-Ok.ensures.does c.in-Err-put_answer.ensures.puts.err c.in-Err-put_answer.ensures.puts.only;
+  goes = AtPut c.in-Ok.answer c.in-Err-put_answer.ensures.tells c.in-Ok.ensures.does c.ranges-in-Ok.ensures c.in-Err-put_answer.ensures.puts.err c.in-Err-put_answer.ensures.puts.only;
   named = search rules;
   is_form = search rules;
   shelf_faults = search rules;
