@@ -42,18 +42,6 @@ ExecutionSteps (Execute execution) old before after new =
     TaskSteps execution.task execution.head_drive execution.steps old before after new
 ExecutionSteps _ old before after new = Unit {0}
 
--- the same of a command that writes
-abbrev pub WritingTaskSteps : Task → ℕ → ℕ → Fdc → DriveState → DriveState → Fdc → Type 0
-WritingTaskSteps (Write writing) head_drive steps old before after new = IsWriteStep head_drive steps writing old before after new
-WritingTaskSteps (Format formatting) head_drive steps old before after new =
-    IsFormatStep head_drive steps formatting old before after new
-WritingTaskSteps _ head_drive steps old before after new = Unit {0}
-
-abbrev pub WritingSteps : Phase → Fdc → DriveState → DriveState → Fdc → Type 0
-WritingSteps (Execute execution) old before after new =
-    WritingTaskSteps execution.task execution.head_drive execution.steps old before after new
-WritingSteps _ old before after new = Unit {0}
-
 -- the same where no drive is selected: words 0000 are heard, and no index
 abbrev pub WritesNowhere : ℕ → ℕ → Writing → Fdc → Fdc → Type 0
 WritesNowhere head_drive steps writing old new =

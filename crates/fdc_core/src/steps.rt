@@ -4,7 +4,7 @@ ghost use Rattle.drive_model.specs.Drive.{Becomes, at_index};
 ghost use Rattle.fdc_seek.specs.Seeking.{pulse_due};
 ghost use Rattle.fdc_core.specs.Listening.{Listens, ListensToNone, SeesUnder, HearsIn, HasStepsLeft};
 ghost use Rattle.fdc_core.specs.Steps.{polled, seek_stepped, let_pass, Rests, Moves, MovesDrive, Ends, Stays, Flows};
-ghost use Rattle.fdc_core.specs.Tasks.{IsListenStep, ExecutionSteps, WritingSteps, TaskStepsNowhere, StepsNowhere};
+ghost use Rattle.fdc_core.specs.Tasks.{IsListenStep, ExecutionSteps, TaskStepsNowhere, StepsNowhere};
 ghost use Rattle.fdc_core.specs.Waiting.{LastsOn, Feeds};
 ghost use Rattle.fdc_core.specs.Writes.{WritesOn};
 
@@ -157,30 +157,9 @@ impl Fdc {
                         if writing.only_hears(steps) {
                             self.hear_writing(head_drive, drive);
                         } else {
-                            self.transfer(drive);
+                            let writing = *writing;
+                            self.step_writing(head_drive, steps, writing, drive);
                         }
-                    }
-                    Task::Format { .. } => self.transfer(drive),
-                }
-            }
-            _ => {}
-        }
-    }
-
-    /// A device step of a command that writes, by its task.
-    #[inline(never)]
-    fn transfer<D: Drive>(&mut self, drive: &mut D)
-        ensures { WritingSteps self.old.phase self.old (D.state drive.old) (D.state drive.new) self.new }
-    {
-        match &self.phase {
-            Phase::Execute { execution } => {
-                let head_drive = execution.head_drive;
-                let steps = execution.steps;
-                match &execution.task {
-                    Task::ReadId { .. } | Task::Read { .. } => {}
-                    Task::Write { writing } => {
-                        let writing = *writing;
-                        self.step_writing(head_drive, steps, writing, drive);
                     }
                     Task::Format { formatting } => {
                         let formatting = *formatting;
