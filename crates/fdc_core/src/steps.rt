@@ -3,16 +3,17 @@ ghost use Rattle.std.specs.Prelude.{◌≡◌, ◌==◌, false};
 ghost use Rattle.drive_model.specs.Drive.{Becomes, at_index};
 ghost use Rattle.fdc_seek.specs.Seeking.{pulse_due};
 ghost use Rattle.fdc_core.specs.Listening.{Listens, ListensToNone, SeesUnder, HearsIn, HasStepsLeft};
+ghost use Rattle.fdc_core.specs.State.{finished};
 ghost use Rattle.fdc_core.specs.Steps.{polled, seek_stepped, let_pass, Rests, Moves, MovesDrive, Ends, Stays, Flows};
 ghost use Rattle.fdc_core.specs.Tasks.{IsListenStep, ExecutionSteps, TaskStepsNowhere, StepsNowhere};
 ghost use Rattle.fdc_core.specs.Waiting.{LastsOn, Feeds};
 ghost use Rattle.fdc_core.specs.Writes.{WritesOn};
 
 use crate::controller::Fdc;
-use crate::phases::{Execution, LAST_STEP, Phase, Task, head_of};
-use crate::writing::let_pass;
 use drive_model::{Drive, Turn};
+use fdc_phases::{Execution, LAST_STEP, Phase, Task, head_of};
 use fdc_stages::Ending;
+use flop_base::Chrn;
 
 /// What passes where no drive is selected.
 const NOTHING: Turn = Turn {
@@ -254,4 +255,28 @@ impl Fdc {
             index: passing.index,
         }
     }
+
+    /// The command ends in this step: the gate is closed, and no word is read or written.
+    #[inline(never)]
+    pub(crate) fn stop<D: Drive>(
+        &mut self,
+        ending: Ending,
+        head_drive: u8,
+        key: Chrn,
+        drive: &mut D,
+    )
+        ensures state { self.new ≡ finished ending head_drive key self.old }
+        ensures drive { Becomes (let_pass (D.state drive.old)) (D.state drive.old) (D.state drive.new) }
+    {
+        let_pass(drive);
+        self.finish(ending, head_drive, key);
+    }
+}
+
+/// A word time in which no word is read or written, with the gate closed.
+fn let_pass<D: Drive>(drive: &mut D)
+    ensures { Becomes (let_pass (D.state drive.old)) (D.state drive.old) (D.state drive.new) }
+{
+    drive.gate(false);
+    drive.pass();
 }

@@ -1,7 +1,7 @@
 use Rattle.std.proofs.Common.{sym, ap, subst, ◌∙◌, arith}
 use Rattle.fdc_core.specs.Tasks.{ExecutionSteps}
-use Rattle.fdc_core.specs.Writing.{IsWritingAt}
-use Rattle.fdc_core.specs.declared.phases.Phase.TheVariants.{Execute}
+use Rattle.fdc_phases.specs.Writing.{IsWritingAt}
+use Rattle.fdc_phases.specs.declared.phases.Phase.TheVariants.{Execute}
 use Rattle.fdc_core.proofs.Words.{heard_time}
 use Rattle.fdc_core.proofs.controller.Fdc.execute.Goals as goal
 

@@ -1,6 +1,6 @@
 use Rattle.std.proofs.Common.{sym, ap, ◌∙◌, ◌≡◌, false}
 use Rattle.drive_model.specs.Drive.{rate_of}
-use Rattle.fdc_core.specs.Rates.{rate_fits}
+use Rattle.fdc_phases.specs.Rates.{rate_fits}
 use Rattle.fdc_core.proofs.Words.{kept_from}
 use Rattle.fdc_core.proofs.controller.Fdc.listen.Goals as goal
 
