@@ -12,8 +12,8 @@ use Rattle.fdc_core.specs.Ports.{main_status, phase_bits}
 use Rattle.fdc_core.specs.State.{is_held, data_commands_of}
 use Rattle.fdc_core.specs.Steps.{steps_left}
 use Rattle.fdc_core.specs.declared.controller.Fdc.{Fdc}
-use Rattle.fdc_core.specs.declared.phases.Phase.{Phase}
-use Rattle.fdc_core.specs.declared.phases.Phase.TheVariants.{Command, Execute, Result}
+use Rattle.fdc_phases.specs.declared.phases.Phase.{Phase}
+use Rattle.fdc_phases.specs.declared.phases.Phase.TheVariants.{Command, Execute, Result}
 use Rattle.machine_laws.specs.OnCounts.Counts.{CountsGoOn, long_holds}
 use Rattle.machine_pace.specs.Holds.{counted}
 use Rattle.machine_laws.specs.OnQuiet.Quiet.{GoesQuietly, StandsStill}

@@ -10,20 +10,20 @@ use Rattle.flop_base.specs.declared.answers.Code.{Code}
 use Rattle.bay_model.specs.Bays.{in_bay}
 use Rattle.drive_model.specs.Drive.{InRange}
 use Rattle.fdc_commands.specs.Table.{answer}
-use Rattle.fdc_core.specs.Heard.{Sent}
+use Rattle.fdc_phases.specs.Heard.{Sent}
 use Rattle.fdc_writing.specs.Formats.{Numbers}
 use Rattle.std.specs.List.{flat_map}
 use Rattle.track_format.specs.Keys.{key_bytes}
 use Rattle.fdc_core.specs.Listening.{is_executing}
-use Rattle.fdc_core.specs.Phases.{is_overrun}
+use Rattle.fdc_phases.specs.Phases.{is_overrun}
 use Rattle.fdc_core.specs.State.{is_held}
 use Rattle.fdc_core.specs.Steps.{steps_left}
-use Rattle.fdc_core.specs.Written.{MayFormatIn, MayFormatTask}
-use Rattle.fdc_core.specs.declared.answers.Answer.TheVariants.{Long}
-use Rattle.fdc_core.specs.declared.phases.Phase.{Phase}
-use Rattle.fdc_core.specs.declared.phases.Phase.TheVariants as phase
-use Rattle.fdc_core.specs.declared.phases.Task.{Task}
-use Rattle.fdc_core.specs.declared.phases.Task.TheVariants as task
+use Rattle.fdc_phases.specs.Written.{MayFormatIn, MayFormatTask}
+use Rattle.fdc_phases.specs.declared.answers.Answer.TheVariants.{Long}
+use Rattle.fdc_phases.specs.declared.phases.Phase.{Phase}
+use Rattle.fdc_phases.specs.declared.phases.Phase.TheVariants as phase
+use Rattle.fdc_phases.specs.declared.phases.Task.{Task}
+use Rattle.fdc_phases.specs.declared.phases.Task.TheVariants as task
 use Rattle.fdc_fifo.specs.Fifo.{Fifo}
 use Rattle.fdc_stages.specs.History.{Past}
 use Rattle.fdc_stages.specs.declared.ending.Ending.TheVariants as ending

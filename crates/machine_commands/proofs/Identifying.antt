@@ -18,13 +18,13 @@ use Rattle.fdc_commands.specs.declared.bytes.Accepted.TheVariants.{More, Ready}
 use Rattle.fdc_commands.specs.declared.command.Command.TheVariants.{ReadId}
 use Rattle.fdc_stages.specs.declared.ending.Ending.{Ending}
 use Rattle.fdc_stages.specs.declared.ending.Ending.TheVariants.{Done as Finished, NoMark, NoSector, NoField, BadCheck, Overrun, NoCount, Protected, Late}
-use Rattle.fdc_core.specs.Answers.{results_of}
+use Rattle.fdc_phases.specs.Answers.{results_of}
 use Rattle.fdc_core.specs.Commands.{begun, TakesAs}
-use Rattle.fdc_core.specs.declared.phases.Task.{Task}
+use Rattle.fdc_phases.specs.declared.phases.Task.{Task}
 use Rattle.fdc_core.specs.Ports.{Writes}
-use Rattle.fdc_core.specs.Heard.{key_met}
+use Rattle.fdc_phases.specs.Heard.{key_met}
 use Rattle.fdc_core.specs.Listening.{is_executing}
-use Rattle.fdc_core.specs.Rates.{rate_chosen}
+use Rattle.fdc_phases.specs.Rates.{rate_chosen}
 use Rattle.fdc_core.specs.State.{data_commands_of}
 use Rattle.fdc_core.specs.declared.controller.Fdc.{Fdc}
 use Rattle.machine_laws.specs.OnAwaits.Awaits.{IsAwaited, IsLetOut, HoldsSet, TurnsOn}

@@ -7,9 +7,9 @@ use Rattle.raw_image.specs.Disk.{Disk}
 use Rattle.dma_8237.specs.Channel.{Channel, after_write, has_bit}
 use Rattle.dma_8237.specs.SetUp.{IsSetUp, set_up}
 use Rattle.fdc_commands.specs.Table.{answer}
-use Rattle.fdc_core.specs.Heard.{Sent}
+use Rattle.fdc_phases.specs.Heard.{Sent}
 use Rattle.fdc_core.specs.State.{is_held, is_gated, data_commands_of}
-use Rattle.fdc_core.specs.declared.phases.Phase.TheVariants.{Command}
+use Rattle.fdc_phases.specs.declared.phases.Phase.TheVariants.{Command}
 use Rattle.machine_laws.specs.OnAwaits.Awaits.{IsAwaited, IsLetOut}
 use Rattle.machine_laws.specs.OnCounts.Counts.{CountsGoOn}
 use Rattle.machine_laws.specs.OnReads.Ends.{ReadPrompt}

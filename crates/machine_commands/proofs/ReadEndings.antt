@@ -19,10 +19,10 @@ use Rattle.sector_map.specs.Met.{met_in}
 use Rattle.drive_model.specs.Drive.{InRange}
 use Rattle.fdc_stages.specs.declared.ending.Ending.{Ending}
 use Rattle.fdc_stages.specs.declared.ending.Ending.TheVariants.{Done as Finished, NoMark, NoSector, NoField, BadCheck, Overrun, NoCount, Protected, Late}
-use Rattle.fdc_core.specs.Heard.{Sent, results_sent}
-use Rattle.fdc_core.specs.Phases.{is_overrun}
-use Rattle.fdc_core.specs.declared.answers.Answer.TheVariants.{Long}
-use Rattle.fdc_core.specs.declared.phases.Phase.TheVariants.{Result}
+use Rattle.fdc_phases.specs.Heard.{Sent, results_sent}
+use Rattle.fdc_phases.specs.Phases.{is_overrun}
+use Rattle.fdc_phases.specs.declared.answers.Answer.TheVariants.{Long}
+use Rattle.fdc_phases.specs.declared.phases.Phase.TheVariants.{Result}
 use Rattle.machine_laws.specs.OnReads.Ends.{ReadPrompt, is_late}
 use Rattle.machine_laws.specs.OnReads.Timely.{Stalled}
 use Rattle.machine_laws.specs.OnQuiet.Settings.{Setting, setting_of, with_rate}

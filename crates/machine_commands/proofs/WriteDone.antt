@@ -12,18 +12,18 @@ use Rattle.drive_model.specs.Drive.{DriveState, InRange, at_speed}
 use Rattle.fdc_commands.specs.Table.{answer}
 use Rattle.fdc_commands.specs.declared.bytes.Accepted.TheVariants.{Ready}
 use Rattle.fdc_commands.specs.declared.results.Results.{Results}
-use Rattle.fdc_core.specs.Answers.{key_after, results_of, st0_of, st1_of, st2_of}
-use Rattle.fdc_core.specs.Heard.{Sent}
+use Rattle.fdc_phases.specs.Answers.{key_after, results_of, st0_of, st1_of, st2_of}
+use Rattle.fdc_phases.specs.Heard.{Sent}
 use Rattle.fdc_core.specs.Listening.{is_executing}
-use Rattle.fdc_core.specs.Phases.{is_overrun}
+use Rattle.fdc_phases.specs.Phases.{is_overrun}
 use Rattle.fdc_core.specs.State.{is_held}
 use Rattle.fdc_core.specs.Steps.{steps_left}
-use Rattle.fdc_core.specs.Written.{MayWriteIn, MayWriteTask}
-use Rattle.fdc_core.specs.declared.answers.Answer.TheVariants.{Long}
-use Rattle.fdc_core.specs.declared.phases.Phase.{Phase}
-use Rattle.fdc_core.specs.declared.phases.Phase.TheVariants as phase
-use Rattle.fdc_core.specs.declared.phases.Task.{Task}
-use Rattle.fdc_core.specs.declared.phases.Task.TheVariants as task
+use Rattle.fdc_phases.specs.Written.{MayWriteIn, MayWriteTask}
+use Rattle.fdc_phases.specs.declared.answers.Answer.TheVariants.{Long}
+use Rattle.fdc_phases.specs.declared.phases.Phase.{Phase}
+use Rattle.fdc_phases.specs.declared.phases.Phase.TheVariants as phase
+use Rattle.fdc_phases.specs.declared.phases.Task.{Task}
+use Rattle.fdc_phases.specs.declared.phases.Task.TheVariants as task
 use Rattle.fdc_fifo.specs.Fifo.{Fifo}
 use Rattle.fdc_stages.specs.History.{Past}
 use Rattle.fdc_stages.specs.declared.ending.Ending.{Ending}

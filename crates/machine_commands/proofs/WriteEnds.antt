@@ -14,10 +14,10 @@ use Rattle.fdc_core.specs.Listening.{is_executing}
 use Rattle.fdc_core.specs.Ports.{given, main_status, phase_bits, result_byte}
 use Rattle.fdc_core.specs.State.{is_held}
 use Rattle.fdc_core.specs.Steps.{polled, steps_left}
-use Rattle.fdc_core.specs.declared.answers.Answer.TheVariants.{Long, Short}
+use Rattle.fdc_phases.specs.declared.answers.Answer.TheVariants.{Long, Short}
 use Rattle.fdc_core.specs.declared.controller.Fdc.{Fdc}
-use Rattle.fdc_core.specs.declared.phases.Phase.{Phase}
-use Rattle.fdc_core.specs.declared.phases.Phase.TheVariants as phase
+use Rattle.fdc_phases.specs.declared.phases.Phase.{Phase}
+use Rattle.fdc_phases.specs.declared.phases.Phase.TheVariants as phase
 use Rattle.fdc_registers.specs.declared.drive_lines.Dor.{Dor}
 use Rattle.fdc_seek.specs.Seeking.{has_ended, seek_bits}
 use Rattle.fdc_stages.specs.declared.ending.Ending.{Ending}

@@ -20,8 +20,8 @@ use Rattle.sector_map.proofs.MetTracks.{length-met_track, met_track, nothing_fro
 use Rattle.track_model.specs.Fields.{IsAddressAt, content_size}
 use Rattle.track_model.specs.Looks.{HasAddressMark}
 use Rattle.machine_laws.specs.OnWritten.Written.{IsCalm}
-use Rattle.fdc_core.specs.Answers.{st0_of, st1_of}
-use Rattle.fdc_core.specs.Rates.{rate_fits}
+use Rattle.fdc_phases.specs.Answers.{st0_of, st1_of}
+use Rattle.fdc_phases.specs.Rates.{rate_fits}
 use Rattle.fdc_stages.specs.Searches.{HasNoClear}
 use Rattle.fdc_stages.specs.declared.ending.Ending.{Ending}
 use Rattle.fdc_stages.specs.declared.ending.Ending.TheVariants as ending

@@ -6,7 +6,7 @@ use Rattle.fdc_commands.specs.Table.{answer, kept}
 use Rattle.fdc_commands.specs.declared.bytes.Accepted.TheVariants.{More}
 use Rattle.fdc_core.specs.Commands.{TakesAs}
 use Rattle.fdc_core.specs.Ports.{ccr_written, takes_in, is_taking}
-use Rattle.fdc_core.specs.Rates.{rate_chosen}
+use Rattle.fdc_phases.specs.Rates.{rate_chosen}
 use Rattle.fdc_core.specs.State.{asks, is_held}
 use Rattle.fdc_core.specs.Steps.{polled, RestsIn}
 use Rattle.fdc_core.specs.declared.controller.Fdc.{Fdc}

@@ -6,7 +6,7 @@ use Rattle.fdc_core.specs.Listening.{is_executing}
 use Rattle.fdc_core.specs.State.{asks, data_commands_of}
 use Rattle.fdc_core.specs.Waiting.{CanWait, Feeds}
 use Rattle.fdc_core.specs.declared.controller.Fdc.{Fdc}
-use Rattle.fdc_core.specs.declared.phases.Phase.TheVariants.{Command}
+use Rattle.fdc_phases.specs.declared.phases.Phase.TheVariants.{Command}
 use Rattle.machine_laws.specs.OnCounts.Counts.{CountsGoOn}
 use Rattle.machine_laws.specs.OnReads.Timely.{Stalled}
 use Rattle.machine_pace.specs.Entries.{next_entry}

@@ -1,6 +1,6 @@
 -- What is known of a write and of a FORMAT, where the chips and the drives are the same.
 use Rattle.std.proofs.Common.{◌≡◌, ◌⊎◌, ℕ, Bool}
-use Rattle.fdc_core.specs.declared.phases.Phase.TheVariants.{Command}
+use Rattle.fdc_phases.specs.declared.phases.Phase.TheVariants.{Command}
 use Rattle.fdc_writing.specs.Formats.{Numbers}
 use Rattle.machine_laws.specs.OnFormats.Underway.{FormatUnderway, KeepsFormat}
 use Rattle.machine_laws.specs.OnReads.Scenes.{Scene}

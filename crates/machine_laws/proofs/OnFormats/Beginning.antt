@@ -5,11 +5,12 @@ use Rattle.fdc_fifo.specs.Fifo.{emptied}
 use Rattle.fdc_commands.specs.Table.{kept}
 use Rattle.fdc_commands.specs.declared.bytes.Accepted.{Accepted}
 use Rattle.fdc_commands.specs.declared.bytes.Accepted.TheVariants.{Ready}
-use Rattle.fdc_core.specs.Commands.{IsFormattingTrack, TakesAs}
+use Rattle.fdc_core.specs.Commands.{TakesAs}
+use Rattle.fdc_phases.specs.Commands.{IsFormattingTrack}
 use Rattle.fdc_core.specs.State.{dor_of, is_gated}
 use Rattle.fdc_core.specs.declared.controller.Fdc.{Fdc}
-use Rattle.fdc_core.specs.declared.phases.Task.{Task}
-use Rattle.fdc_core.specs.declared.phases.Task.TheVariants.{ReadId, Read, Write, Format}
+use Rattle.fdc_phases.specs.declared.phases.Task.{Task}
+use Rattle.fdc_phases.specs.declared.phases.Task.TheVariants.{ReadId, Read, Write, Format}
 use Rattle.machine_pace.specs.Entries.{next_entry}
 use Rattle.machine_pace.specs.Holds.{Holds, shown}
 use Rattle.machine_pace.specs.declared.holding.Request.TheVariants.{Low}

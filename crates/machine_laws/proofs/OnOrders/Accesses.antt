@@ -13,7 +13,7 @@ use Rattle.fdc_core.specs.Listening.{is_executing}
 use Rattle.fdc_core.specs.Ports.{given, phase_after, after_read as controller_after, Writes}
 use Rattle.fdc_core.specs.State.{dor_of}
 use Rattle.fdc_core.specs.declared.controller.Fdc.{Fdc}
-use Rattle.fdc_core.specs.declared.phases.Phase.TheVariants.{Command}
+use Rattle.fdc_phases.specs.declared.phases.Phase.TheVariants.{Command}
 use Rattle.pc_bus.specs.Boards.{Board, controller_of, drive_in, lines_of}
 use Rattle.pc_bus.specs.Ports.{is_controllers, port_read, WritesPort, Inputs, Outputs}
 use Rattle.pc_bus.specs.Transfers.{shown_again}

@@ -6,14 +6,14 @@ use Rattle.drive_model.specs.Drive.{DriveState}
 use Rattle.dma_8237.specs.Channel.{Channel, after_write}
 use Rattle.fdc_stages.specs.History.{Past}
 use Rattle.fdc_writing.specs.Formats.{Numbers}
-use Rattle.fdc_core.specs.Heard.{MayReadIn, MayReadIdIn, Sent}
+use Rattle.fdc_phases.specs.Heard.{MayReadIn, MayReadIdIn, Sent}
 use Rattle.fdc_core.specs.Listening.{is_executing}
 use Rattle.fdc_core.specs.Ports.{Writes, takes_in, is_taking}
 use Rattle.fdc_core.specs.State.{is_held}
-use Rattle.fdc_core.specs.Written.{MayWriteIn, MayFormatIn}
+use Rattle.fdc_phases.specs.Written.{MayWriteIn, MayFormatIn}
 use Rattle.fdc_core.specs.declared.controller.Fdc.{Fdc}
-use Rattle.fdc_core.specs.declared.phases.Phase.{Phase}
-use Rattle.fdc_core.specs.declared.phases.Phase.TheVariants as phase
+use Rattle.fdc_phases.specs.declared.phases.Phase.{Phase}
+use Rattle.fdc_phases.specs.declared.phases.Phase.TheVariants as phase
 use Rattle.fdc_fifo.specs.Fifo.{Fifo}
 use Rattle.pc_bus.specs.Boards.{Board, controller_of, channel_of, drive_in, lines_of}
 use Rattle.pc_bus.specs.Ports.{is_controllers, WritesPort, Outputs}

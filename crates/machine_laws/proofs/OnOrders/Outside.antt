@@ -7,15 +7,17 @@ use Rattle.fdc_commands.specs.Table.{kept}
 use Rattle.fdc_stages.specs.History.{Past, begun as new_past}
 use Rattle.fdc_core.proofs.MayRead.{out_reads, told_reads}
 use Rattle.fdc_core.specs.Commands.{TakesAs}
-use Rattle.fdc_core.specs.Dma.{phase_told, phase_asks, taken_out, told_count, byte_out}
-use Rattle.fdc_core.specs.Heard.{MayRead, gave, told_in}
+use Rattle.fdc_core.specs.Dma.{taken_out, told_count, byte_out}
+use Rattle.fdc_phases.specs.Dma.{phase_told, phase_asks}
+use Rattle.fdc_core.specs.Heard.{MayRead}
+use Rattle.fdc_phases.specs.Heard.{gave, told_in}
 use Rattle.fdc_core.specs.Listening.{is_executing, after_step as past_after, Follows}
-use Rattle.fdc_core.specs.Phases.{is_reading}
+use Rattle.fdc_phases.specs.Phases.{is_reading}
 use Rattle.fdc_core.specs.State.{asks, is_gated}
 use Rattle.fdc_core.specs.Steps.{polled, RestsIn, FlowsIn}
 use Rattle.fdc_core.specs.declared.controller.Fdc.{Fdc}
-use Rattle.fdc_core.specs.declared.phases.Phase.{Phase}
-use Rattle.fdc_core.specs.declared.phases.Phase.TheVariants as phase
+use Rattle.fdc_phases.specs.declared.phases.Phase.{Phase}
+use Rattle.fdc_phases.specs.declared.phases.Phase.TheVariants as phase
 use Rattle.fdc_fifo.specs.Fifo.{Fifo}
 use Rattle.pc_bus.specs.Boards.{Board, controller_of, memory_of, channel_of, lines_of}
 use Rattle.pc_bus.specs.Ports.{Outputs}

@@ -8,15 +8,16 @@ use Rattle.fdc_stages.specs.History.{Past}
 use Rattle.fdc_writing.specs.Formats.{Numbers}
 use Rattle.fdc_core.proofs.MayRead.{out_reads, told_reads}
 use Rattle.fdc_core.proofs.MayWrite.{in_writes, in_formats, told_writes, told_formats}
-use Rattle.fdc_core.specs.Dma.{phase_told, taken_in, taken_out, told_count, byte_out}
-use Rattle.fdc_core.specs.Heard.{gave, told_in}
+use Rattle.fdc_core.specs.Dma.{taken_in, taken_out, told_count, byte_out}
+use Rattle.fdc_phases.specs.Dma.{phase_told}
+use Rattle.fdc_phases.specs.Heard.{gave, told_in}
 use Rattle.fdc_core.specs.Listening.{is_executing}
-use Rattle.fdc_core.specs.Phases.{is_reading}
+use Rattle.fdc_phases.specs.Phases.{is_reading}
 use Rattle.fdc_core.specs.State.{asks, is_gated}
-use Rattle.fdc_core.specs.Written.{took}
+use Rattle.fdc_phases.specs.Written.{took}
 use Rattle.fdc_core.specs.declared.controller.Fdc.{Fdc}
-use Rattle.fdc_core.specs.declared.phases.Phase.{Phase}
-use Rattle.fdc_core.specs.declared.phases.Phase.TheVariants as phase
+use Rattle.fdc_phases.specs.declared.phases.Phase.{Phase}
+use Rattle.fdc_phases.specs.declared.phases.Phase.TheVariants as phase
 use Rattle.pc_bus.specs.Boards.{Board, controller_of, selected_of, drive_in}
 use Rattle.pc_bus.specs.Steps.{Works, Step}
 use Rattle.pc_bus.specs.Transfers.{can_move, moved, moved_to_memory, moved_from_memory, byte_read, memory_after, told_if, dma_stepped}

@@ -4,14 +4,15 @@ use Rattle.std.proofs.lemmas.Bool.{false≢true}
 use Rattle.drive_model.specs.Drive.{DriveState, is_protected, rate_of}
 use Rattle.fdc_stages.specs.History.{Past, heard, wrote}
 use Rattle.fdc_writing.specs.Writings.{opens}
-use Rattle.fdc_core.specs.Heard.{stepped}
+use Rattle.fdc_phases.specs.Heard.{stepped}
 use Rattle.fdc_core.specs.Listening.{is_executing}
-use Rattle.fdc_core.specs.Rates.{rate_fits}
+use Rattle.fdc_phases.specs.Rates.{rate_fits}
 use Rattle.fdc_core.specs.Times.{WordTime, Saw, KeptOut, Wrote, Stopped, IsTime, after_time}
 use Rattle.fdc_core.specs.Writing.{WriteDoes}
-use Rattle.fdc_core.specs.Written.{MayWrite, IsWritingOn}
+use Rattle.fdc_core.specs.Written.{MayWrite}
+use Rattle.fdc_phases.specs.Written.{IsWritingOn}
 use Rattle.fdc_core.specs.declared.controller.Fdc.{Fdc}
-use Rattle.fdc_core.specs.declared.transfers.Writing.{Writing}
+use Rattle.fdc_phases.specs.declared.transfers.Writing.{Writing}
 use Rattle.machine_laws.specs.OnReads.Scenes.{Scene, IsScene, head_sent}
 use Rattle.machine_laws.specs.OnWrites.Underway as write
 use Rattle.machine_laws.proofs.OnWrites.Words.{heard_met}

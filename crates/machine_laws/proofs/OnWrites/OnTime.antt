@@ -14,24 +14,27 @@ use Rattle.fdc_writing.specs.declared.formatting.FormatNext.{FormatNext}
 use Rattle.fdc_writing.specs.declared.formatting.FormatNext.TheVariants as format_next
 use Rattle.fdc_writing.specs.declared.writing.WriteNext.{WriteNext}
 use Rattle.fdc_writing.specs.declared.writing.WriteNext.TheVariants as write_next
-use Rattle.fdc_core.specs.Commands.{WaitsAtFirst, begun}
-use Rattle.fdc_core.specs.Dma.{asked, phase_asks, phase_told}
+use Rattle.fdc_core.specs.Commands.{begun}
+use Rattle.fdc_phases.specs.Commands.{WaitsAtFirst}
+use Rattle.fdc_core.specs.Dma.{asked}
+use Rattle.fdc_phases.specs.Dma.{phase_asks, phase_told}
 use Rattle.fdc_core.specs.Formatting.{FormatDoes, after_laid}
 use Rattle.fdc_core.specs.Listening.{is_executing}
-use Rattle.fdc_core.specs.Phases.{is_overrun, is_reading}
+use Rattle.fdc_phases.specs.Phases.{is_overrun, is_reading}
 use Rattle.fdc_core.specs.State.{asks, is_gated, is_held}
 use Rattle.fdc_core.specs.Steps.{polled, RestsIn, FlowsIn}
 use Rattle.fdc_core.specs.Times.{WordTime, Saw, KeptOut, Wrote, Stopped}
-use Rattle.fdc_core.specs.Waiting.{Lasts, LastsIn, PhaseWaits, phase_counted}
+use Rattle.fdc_core.specs.Waiting.{Lasts, LastsIn}
+use Rattle.fdc_phases.specs.Waiting.{PhaseWaits, phase_counted}
 use Rattle.fdc_core.specs.Writes.{WritesIn, WritesTask}
 use Rattle.fdc_core.specs.Writing.{WriteDoes, after_next, without_byte}
 use Rattle.fdc_core.specs.declared.controller.Fdc.{Fdc}
-use Rattle.fdc_core.specs.declared.phases.Phase.{Phase}
-use Rattle.fdc_core.specs.declared.phases.Phase.TheVariants.{Command, Execute, Result}
-use Rattle.fdc_core.specs.declared.phases.Task.{Task}
-use Rattle.fdc_core.specs.declared.phases.Task.TheVariants.{ReadId, Read, Write, Format}
-use Rattle.fdc_core.specs.declared.transfers.Formatting.{Formatting}
-use Rattle.fdc_core.specs.declared.transfers.Writing.{Writing}
+use Rattle.fdc_phases.specs.declared.phases.Phase.{Phase}
+use Rattle.fdc_phases.specs.declared.phases.Phase.TheVariants.{Command, Execute, Result}
+use Rattle.fdc_phases.specs.declared.phases.Task.{Task}
+use Rattle.fdc_phases.specs.declared.phases.Task.TheVariants.{ReadId, Read, Write, Format}
+use Rattle.fdc_phases.specs.declared.transfers.Formatting.{Formatting}
+use Rattle.fdc_phases.specs.declared.transfers.Writing.{Writing}
 use Rattle.machine_pace.specs.Entries.{next_entry}
 use Rattle.machine_pace.specs.Holds.{Holds, IsInTime, IsReady, counted, is_due, looked, shown, waited}
 use Rattle.machine_pace.specs.declared.holding.Request.{Request}

@@ -7,8 +7,8 @@ use Rattle.fdc_seek.specs.declared.motion.Motion.TheVariants.{Outward, Toward, E
 use Rattle.fdc_seek.specs.declared.motion.Seek.{Seek}
 use Rattle.fdc_core.specs.State.{data_commands_of}
 use Rattle.fdc_core.specs.Steps.{steps_left}
-use Rattle.fdc_core.specs.declared.phases.Phase.{Phase}
-use Rattle.fdc_core.specs.declared.phases.Phase.TheVariants.{Execute}
+use Rattle.fdc_phases.specs.declared.phases.Phase.{Phase}
+use Rattle.fdc_phases.specs.declared.phases.Phase.TheVariants.{Execute}
 use Rattle.pc_bus.specs.Boards.{Board, controller_of}
 use Rattle.machine_laws.specs.OnSteps.Moves.{Goes}
 
