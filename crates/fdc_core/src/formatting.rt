@@ -8,6 +8,7 @@ ghost use Rattle.fdc_core.specs.Formatting.{IsFormatStep, IsFormatTime, AwaitsIn
 ghost use Rattle.fdc_phases.specs.Formatting.{StageHearsIndex};
 
 use crate::controller::Fdc;
+use crate::steps::listen;
 use crate::writing::{close_behind, open_before};
 use drive_model::Drive;
 use fdc_phases::{Formatting, LAST_STEP, NO_KEY, Task, head_of, is_format_over};
@@ -65,7 +66,7 @@ impl Fdc {
         requires { steps < 65535 }
         ensures { AwaitsIndex head_drive steps formatting self.old (D.state drive.old) (D.state drive.new) self.new }
     {
-        let passing = self.listen(head_of(head_drive), drive);
+        let passing = listen(self.rate, head_of(head_drive), drive);
         let next = formatting.stage.hear(passing.index);
         self.follow_formatting(head_drive, steps + 1, formatting, next);
     }

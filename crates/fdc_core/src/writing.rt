@@ -9,6 +9,7 @@ ghost use Rattle.fdc_core.specs.Writing.{HearsToWrite, gone_or_over, IsWriteStep
 ghost use Rattle.fdc_phases.specs.Writing.{IsWritingAt};
 
 use crate::controller::Fdc;
+use crate::steps::listen;
 use drive_model::{Drive, Turn};
 use fdc_phases::{End, LAST_STEP, Phase, Task, Writing, head_of, is_write_over};
 use fdc_stages::Ending;
@@ -60,7 +61,7 @@ impl Fdc {
         ensures { (steps : ℕ) (writing : Writing) → IsWritingAt head_drive steps writing self.old.phase
             → HearsAWord head_drive steps writing self.old (D.state drive.old) (D.state drive.new) self.new }
     {
-        let passing = self.listen(head_of(head_drive), drive);
+        let passing = listen(self.rate, head_of(head_drive), drive);
         self.hear_to_write(passing);
     }
 

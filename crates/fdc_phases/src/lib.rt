@@ -15,7 +15,7 @@ mod transfers;
 
 pub use answers::{Answer, results};
 pub use beginning::{formatting_track, reading_data, reading_id, writing_data};
-pub use phases::{End, Execution, LAST_STEP, NO_KEY, Phase, Task, head_of};
+pub use phases::{End, Execution, LAST_STEP, NO_KEY, Phase, Task, head_of, is_last};
 pub use rates::DataRate;
 pub use sized_key::SizedKey;
 pub use transfers::{Formatting, Reading, Writing, is_format_over, is_write_over};

@@ -1,5 +1,5 @@
 // What the controller is doing.
-ghost use Rattle.std.specs.Prelude.{◌≡◌};
+ghost use Rattle.std.specs.Prelude.{◌≡◌, ◌<◌, false};
 ghost use Rattle.fdc_phases.specs.Dma.{task_told};
 ghost use Rattle.fdc_phases.specs.Phases.{is_reading, head_of, key_as_sent, over_at, over_of, ending_of_phase, mark_of_phase, mark_in};
 
@@ -18,6 +18,14 @@ pub const NO_KEY: Chrn = Chrn {
 
 /// The step that ends a data command, whatever it does.
 pub const LAST_STEP: u16 = 65535;
+
+/// Whether the step behind so many others is that one.
+#[inline(always)]
+pub fn is_last(steps: u16) -> bool
+    ensures { result ≡ false → steps < 65535 }
+{
+    steps == LAST_STEP
+}
 
 /// The phase of the controller.
 #[derive(Clone, Copy)]
