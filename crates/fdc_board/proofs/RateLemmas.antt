@@ -13,7 +13,7 @@ use Rattle.fdc_seek.specs.Seeking.{seek_bits, sensed, has_ended_seek, without_en
 use Rattle.fdc_stages.specs.declared.ending.Ending.{Ending}
 use Rattle.fdc_core.specs.Commands.{answered, sensing_by, BeginsData, Begins, ObeysAtRest, Obeys, TakesAs, Takes}
 use Rattle.fdc_core.specs.Ports.{is_taking, Writes}
-use Rattle.fdc_core.specs.Rates.{rate_chosen}
+use Rattle.fdc_phases.specs.Rates.{rate_chosen}
 use Rattle.fdc_core.specs.State.{reset}
 use Rattle.fdc_core.specs.Whole.{ending_told, given_up_if, given_up, without_seek}
 use Rattle.fdc_core.specs.declared.controller.Fdc.{Fdc}

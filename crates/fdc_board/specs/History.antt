@@ -1,8 +1,8 @@
 -- What a command heard and moved, once the channel was served.
 use Rattle.std.specs.Prelude.{ℕ, Bool, true, false, Option, Some, None}
 use Rattle.fdc_stages.specs.History.{Past}
-use Rattle.fdc_core.specs.Heard.{gave}
-use Rattle.fdc_core.specs.Written.{took}
+use Rattle.fdc_phases.specs.Heard.{gave}
+use Rattle.fdc_phases.specs.Written.{took}
 
 -- a byte went to memory, or none
 abbrev pub gave_if : Option ℕ → Past → Past

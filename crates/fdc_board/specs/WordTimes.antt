@@ -1,7 +1,7 @@
 -- How long a word time lasts.
 use Rattle.std.specs.Prelude.{ℕ}
-use Rattle.fdc_core.specs.declared.rates.DataRate.{DataRate}
-use Rattle.fdc_core.specs.declared.rates.DataRate.TheVariants.{Kbit500, Kbit300, Kbit250, Mbit1}
+use Rattle.fdc_phases.specs.declared.rates.DataRate.{DataRate}
+use Rattle.fdc_phases.specs.declared.rates.DataRate.TheVariants.{Kbit500, Kbit300, Kbit250, Mbit1}
 
 -- the nanoseconds in which sixteen cells pass: at 300 kbit/s 26,666 and two thirds, rounded up
 abbrev pub nanoseconds : DataRate → ℕ

@@ -3,7 +3,8 @@ ghost use Rattle.std.specs.Prelude.{◌≡◌, ◌%◌, Bool, IfOk, IsTrue, IsFa
 ghost use Rattle.fdc_board.specs.WordTimes.{nanoseconds};
 ghost use Rattle.fdc_board.specs.History.{gave_if, took_if};
 ghost use Rattle.fdc_core.specs.Dma.{told_count, to_memory_of};
-ghost use Rattle.fdc_core.specs.Heard.{Sent, MayRead, told_in};
+ghost use Rattle.fdc_core.specs.Heard.{MayRead};
+ghost use Rattle.fdc_phases.specs.Heard.{Sent, told_in};
 ghost use Rattle.fdc_core.specs.Listening.{is_executing};
 ghost use Rattle.fdc_core.specs.Ports.{value_read, after_read, Writes};
 ghost use Rattle.fdc_core.specs.State.{asks, interrupts, dor_of, data_rate};

@@ -1,7 +1,7 @@
 // How long a word time lasts.
 ghost use Rattle.std.specs.Prelude.{◌≡◌, ◌==◌, ◌||◌, if◌then◌else◌};
 ghost use Rattle.fdc_board.specs.WordTimes.{nanoseconds};
-ghost use Rattle.fdc_core.specs.Rates.{rate_chosen};
+ghost use Rattle.fdc_phases.specs.Rates.{rate_chosen};
 
 use fdc_core::DataRate;
 

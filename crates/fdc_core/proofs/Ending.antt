@@ -6,21 +6,21 @@ use Rattle.fdc_stages.specs.Readings.{ReadOutcome}
 use Rattle.fdc_stages.specs.Readings as heard
 use Rattle.fdc_stages.specs.Searches.{SearchOutcome}
 use Rattle.fdc_stages.specs.Searches as searched
-use Rattle.fdc_core.specs.Phases.{ending_of, is_listening}
+use Rattle.fdc_phases.specs.Phases.{ending_of, is_listening}
 use Rattle.fdc_core.specs.Reading.{after_searched, after_heard, over_or_on, gone_on_reading, at_stage, pushed, is_full}
 use Rattle.fdc_core.specs.State.{finished}
 use Rattle.drive_model.specs.Drive.{DriveState, at_index}
-use Rattle.fdc_core.specs.Answers.{no_key}
+use Rattle.fdc_phases.specs.Answers.{no_key}
 use Rattle.fdc_core.specs.Formatting.{FormatDoes, after_laid}
 use Rattle.fdc_core.specs.Listening.{Hears, StepsOn}
 use Rattle.fdc_core.specs.Steps.{steps_left, IsCounted, Ends, EndsIn}
 use Rattle.fdc_core.specs.Tasks.{TaskSteps, TaskStepsNowhere}
 use Rattle.fdc_core.specs.Times.{WordTime, Saw, KeptOut, Wrote, Stopped}
 use Rattle.fdc_core.specs.Writing.{WriteDoes, Stops, after_next}
-use Rattle.fdc_core.specs.declared.phases.Phase.{Phase}
-use Rattle.fdc_core.specs.declared.phases.Phase.TheVariants.{Execute}
-use Rattle.fdc_core.specs.declared.transfers.Formatting.{Formatting}
-use Rattle.fdc_core.specs.declared.transfers.Writing.{Writing}
+use Rattle.fdc_phases.specs.declared.phases.Phase.{Phase}
+use Rattle.fdc_phases.specs.declared.phases.Phase.TheVariants.{Execute}
+use Rattle.fdc_phases.specs.declared.transfers.Formatting.{Formatting}
+use Rattle.fdc_phases.specs.declared.transfers.Writing.{Writing}
 use Rattle.fdc_writing.specs.declared.formatting.FormatNext.{FormatNext}
 use Rattle.fdc_writing.specs.declared.formatting.FormatNext.TheVariants as format_next
 use Rattle.fdc_writing.specs.declared.writing.WriteNext.{WriteNext}
@@ -28,10 +28,10 @@ use Rattle.fdc_writing.specs.declared.writing.WriteNext.TheVariants as write_nex
 use Rattle.flop_base.specs.declared.key.Chrn.{Chrn}
 use Rattle.std.proofs.lemmas.Bool.{false≢true}
 use Rattle.fdc_core.specs.declared.controller.Fdc.{Fdc}
-use Rattle.fdc_core.specs.declared.phases.Execution.{Execution}
-use Rattle.fdc_core.specs.declared.phases.Reading.{Reading}
-use Rattle.fdc_core.specs.declared.phases.Task.{Task}
-use Rattle.fdc_core.specs.declared.phases.Task.TheVariants.{ReadId, Read, Write, Format}
+use Rattle.fdc_phases.specs.declared.phases.Execution.{Execution}
+use Rattle.fdc_phases.specs.declared.transfers.Reading.{Reading}
+use Rattle.fdc_phases.specs.declared.phases.Task.{Task}
+use Rattle.fdc_phases.specs.declared.phases.Task.TheVariants.{ReadId, Read, Write, Format}
 
 -- so many steps at most are left, and they are counted
 abbrev Leaves : ℕ → Phase → Type 0

@@ -1,20 +1,22 @@
 -- DRQ by the FIFO's rule, and how long the controller can wait while it is low.
-use Rattle.std.proofs.Common.{◌≡◌, ◌⊎◌, ◌<◌, ◌≤◌, ℕ, ◌+◌, ◌-◌, Bool, true, false, not, ◌&&◌, ◌||◌, if◌then◌else◌, ◌==◌, List, [], ◌∷◌, ◌++◌, length, drop, bit_and, nat_le, max, refl, sym, ap, subst, ◌∙◌, arith, inl, inr, length-append, length-drop}
+use Rattle.std.proofs.Common.{◌≡◌, ◌⊎◌, ◌<◌, ◌≤◌, ℕ, ◌-◌, Bool, true, false, not, ◌&&◌, ◌||◌, if◌then◌else◌, ◌==◌, List, [], ◌∷◌, ◌++◌, length, drop, bit_and, nat_le, max, refl, sym, ap, subst, ◌∙◌, arith, inl, inr, length-append, length-drop}
 use Rattle.std.proofs.lemmas.Bool.{false≢true, eqb-true}
 use Rattle.std.proofs.lemmas.Bool.Decides.{nat_tests}
 use Rattle.fdc_fifo.specs.Fifo.{Fifo, room_of, worth_fetching, low_level, wants}
-use Rattle.fdc_core.specs.Dma.{task_asks, phase_asks, with_byte, taken_out, taken_in, task_told, phase_told, fifo_told, asking_told, told_count}
-use Rattle.fdc_core.specs.Phases.{is_over, is_read, is_reading, moves_bytes, is_moving}
+use Rattle.fdc_core.specs.Dma.{with_byte, taken_out, taken_in, fifo_told, asking_told, told_count}
+use Rattle.fdc_phases.specs.Dma.{task_asks, phase_asks, task_told, phase_told}
+use Rattle.fdc_phases.specs.Phases.{is_over, is_read, is_reading, moves_bytes, is_moving}
 use Rattle.fdc_core.specs.State.{asks, is_gated, is_held}
 use Rattle.fdc_core.specs.Steps.{Stays, polled, seek_stepped}
 use Rattle.fdc_registers.specs.Dor.{gate}
 use Rattle.fdc_seek.specs.Seeking.{with_polls}
-use Rattle.fdc_core.specs.Waiting.{TaskWaits, PhaseWaits, CanWait, Feeds}
+use Rattle.fdc_core.specs.Waiting.{CanWait, Feeds}
+use Rattle.fdc_phases.specs.Waiting.{TaskWaits, PhaseWaits}
 use Rattle.fdc_core.specs.declared.controller.Fdc.{Fdc}
-use Rattle.fdc_core.specs.declared.phases.Phase.{Phase}
-use Rattle.fdc_core.specs.declared.phases.Phase.TheVariants.{Command, Execute, Result}
-use Rattle.fdc_core.specs.declared.phases.Task.{Task}
-use Rattle.fdc_core.specs.declared.phases.Task.TheVariants.{ReadId, Read, Write, Format}
+use Rattle.fdc_phases.specs.declared.phases.Phase.{Phase}
+use Rattle.fdc_phases.specs.declared.phases.Phase.TheVariants.{Command, Execute, Result}
+use Rattle.fdc_phases.specs.declared.phases.Task.{Task}
+use Rattle.fdc_phases.specs.declared.phases.Task.TheVariants.{ReadId, Read, Write, Format}
 
 below : (m n : ℕ) → nat_le m n ≡ false → n < m
 below m n is = grind (arith, nat_tests)
@@ -192,11 +194,3 @@ if_feeds false old feeds = feeds
 
 pub polled_feeds : (old polls new : Fdc) → polls ≡ polled old → (Feeds polls → Feeds new) → Feeds old → Feeds new
 polled_feeds old polls new is was feeds = was (subst (λ p. Feeds p) (sym is) (if_feeds (old.poll_due && not (is_held old)) old feeds))
-
--- ---- a command that begins
-
-pub empty_room : (fifo : Fifo) → fifo.bytes ≡ [] → fifo.on ≡ true → 9 + length fifo.bytes ≤ room_of fifo.on
-empty_room fifo none on = let room = room_on fifo on in let empty = ap length none in omega arith
-
-pub empty_lead : (lead least : ℕ) (fifo : Fifo) → lead ≡ least → 9 ≤ least → 9 ≤ lead + length fifo.bytes
-empty_lead lead least fifo is enough = omega arith

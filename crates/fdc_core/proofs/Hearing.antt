@@ -14,22 +14,22 @@ use Rattle.fdc_stages.specs.declared.reading.ReadStage.TheVariants as stages
 use Rattle.fdc_stages.specs.Searches.{SearchOutcome}
 use Rattle.fdc_stages.specs.Searches as searched
 use Rattle.flop_base.specs.declared.key.Chrn.{Chrn}
-use Rattle.fdc_core.specs.Answers.{no_key}
+use Rattle.fdc_phases.specs.Answers.{no_key}
 use Rattle.fdc_core.specs.Listening.{SeesWord, Listens, ListensToNone, StepHears, Follows, StepsOn, ExecutesTask, ExecutesIn, OverrunsIn, OverrunsTask, FindsFull, Hears, StageHears}
-use Rattle.fdc_core.specs.Phases.{is_listening, ending_at, ending_over, is_overrun}
+use Rattle.fdc_phases.specs.Phases.{is_listening, ending_at, ending_over, is_overrun}
 use Rattle.fdc_core.specs.Reading.{after_searched, after_heard, over_or_on, gone_on_reading, at_stage, pushed, is_full}
 use Rattle.fdc_core.specs.State.{is_held, finished}
 use Rattle.fdc_core.specs.Steps.{polled, seek_stepped}
 use Rattle.fdc_core.specs.Tasks.{TaskSteps, TaskStepsNowhere}
-use Rattle.fdc_core.specs.declared.transfers.Formatting.{Formatting}
-use Rattle.fdc_core.specs.declared.transfers.Writing.{Writing}
+use Rattle.fdc_phases.specs.declared.transfers.Formatting.{Formatting}
+use Rattle.fdc_phases.specs.declared.transfers.Writing.{Writing}
 use Rattle.fdc_core.specs.declared.controller.Fdc.{Fdc}
-use Rattle.fdc_core.specs.declared.phases.Execution.{Execution}
-use Rattle.fdc_core.specs.declared.phases.Phase.{Phase}
-use Rattle.fdc_core.specs.declared.phases.Phase.TheVariants.{Command, Execute, Result}
-use Rattle.fdc_core.specs.declared.phases.Reading.{Reading}
-use Rattle.fdc_core.specs.declared.phases.Task.{Task}
-use Rattle.fdc_core.specs.declared.phases.Task.TheVariants.{ReadId, Read, Write, Format}
+use Rattle.fdc_phases.specs.declared.phases.Execution.{Execution}
+use Rattle.fdc_phases.specs.declared.phases.Phase.{Phase}
+use Rattle.fdc_phases.specs.declared.phases.Phase.TheVariants.{Command, Execute, Result}
+use Rattle.fdc_phases.specs.declared.transfers.Reading.{Reading}
+use Rattle.fdc_phases.specs.declared.phases.Task.{Task}
+use Rattle.fdc_phases.specs.declared.phases.Task.TheVariants.{ReadId, Read, Write, Format}
 use Rattle.fdc_core.proofs.MayRead.{hears_reads, late_reads, rests_sees, rests_reads}
 use Rattle.fdc_core.proofs.MayReadId.{hears_identifies, late_identifies, rests_identifies}
 

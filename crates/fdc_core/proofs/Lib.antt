@@ -5,6 +5,7 @@ pub mod Staying
 pub mod Hearing
 pub mod Meanings
 mod Following
+mod Passing
 pub mod Words
 pub mod MayWrite
 pub mod Writes

@@ -15,24 +15,26 @@ use Rattle.fdc_stages.specs.declared.reading.ReadStage.{ReadStage}
 use Rattle.fdc_stages.specs.declared.reading.ReadStage.TheVariants.{Search, Wait, Content, Over}
 use Rattle.fdc_stages.proofs.Lawful.{over_told, told_stays, heard_count}
 use Rattle.drive_model.specs.Drive.{DriveState}
-use Rattle.fdc_core.specs.Heard.{Sent, sent_of, IsUnderway, HasEndedAs, IsSpent, MayRead, MayReadIn, MayReadTask, MayReadIdIn, told_in, stepped, gave}
+use Rattle.fdc_core.specs.Heard.{MayRead}
+use Rattle.fdc_phases.specs.Heard.{Sent, sent_of, IsUnderway, HasEndedAs, IsSpent, MayReadIn, MayReadTask, MayReadIdIn, told_in, stepped, gave}
 use Rattle.fdc_core.specs.Listening.{SeesWord, is_executing, after_step, Hears, StageHears}
 use Rattle.fdc_core.specs.State.{finished}
 use Rattle.fdc_fifo.specs.Fifo.{Fifo}
-use Rattle.fdc_core.specs.Answers.{key_after, results_of}
-use Rattle.fdc_core.specs.Dma.{phase_asks, task_asks, phase_told, task_told, fifo_told, asking_told}
-use Rattle.fdc_core.specs.Phases.{ending_at, ending_over, ending_of, is_read, is_reading, moves_bytes, is_moving, key_as_sent}
+use Rattle.fdc_phases.specs.Answers.{key_after, results_of}
+use Rattle.fdc_core.specs.Dma.{fifo_told, asking_told}
+use Rattle.fdc_phases.specs.Dma.{phase_asks, task_asks, phase_told, task_told}
+use Rattle.fdc_phases.specs.Phases.{ending_at, ending_over, ending_of, is_read, is_reading, moves_bytes, is_moving, key_as_sent}
 use Rattle.fdc_core.specs.Ports.{phase_after}
 use Rattle.fdc_core.specs.Reading.{over_or_on, gone_on_reading, after_heard, at_stage, pushed, is_full}
 use Rattle.fdc_core.specs.declared.controller.Fdc.{Fdc}
-use Rattle.fdc_core.specs.declared.phases.Reading.{Reading}
-use Rattle.fdc_core.specs.declared.phases.Execution.{Execution}
-use Rattle.fdc_core.specs.declared.phases.Phase.{Phase}
-use Rattle.fdc_core.specs.declared.phases.Phase.TheVariants.{Command, Execute, Result}
-use Rattle.fdc_core.specs.declared.answers.Answer.TheVariants.{Short, Long}
-use Rattle.fdc_core.specs.declared.phases.Task.{Task}
-use Rattle.fdc_core.specs.declared.phases.Task.TheVariants.{ReadId, Read, Write, Format}
-use Rattle.fdc_core.specs.declared.rates.DataRate.{DataRate}
+use Rattle.fdc_phases.specs.declared.transfers.Reading.{Reading}
+use Rattle.fdc_phases.specs.declared.phases.Execution.{Execution}
+use Rattle.fdc_phases.specs.declared.phases.Phase.{Phase}
+use Rattle.fdc_phases.specs.declared.phases.Phase.TheVariants.{Command, Execute, Result}
+use Rattle.fdc_phases.specs.declared.answers.Answer.TheVariants.{Short, Long}
+use Rattle.fdc_phases.specs.declared.phases.Task.{Task}
+use Rattle.fdc_phases.specs.declared.phases.Task.TheVariants.{ReadId, Read, Write, Format}
+use Rattle.fdc_phases.specs.declared.rates.DataRate.{DataRate}
 
 -- ---- the stage, apart from what else passed
 

@@ -10,19 +10,20 @@ use Rattle.fdc_stages.specs.declared.ending.Ending.TheVariants.{Done, NoMark, No
 use Rattle.fdc_stages.specs.declared.searching.Search.{Search}
 use Rattle.fdc_stages.specs.Searches.{SearchOutcome}
 use Rattle.fdc_stages.specs.Searches as searched
-use Rattle.fdc_core.specs.Answers.{no_key, results_of}
-use Rattle.fdc_core.specs.Heard.{MayReadId, MayReadIdIn, MayReadIdTask, IdentifiedAs, stepped}
+use Rattle.fdc_phases.specs.Answers.{no_key, results_of}
+use Rattle.fdc_core.specs.Heard.{MayReadId}
+use Rattle.fdc_phases.specs.Heard.{MayReadIdIn, MayReadIdTask, IdentifiedAs, stepped}
 use Rattle.fdc_core.specs.Listening.{Hears, is_executing, after_step}
 use Rattle.fdc_core.specs.Reading.{after_searched}
-use Rattle.fdc_core.specs.Phases.{key_as_sent}
+use Rattle.fdc_phases.specs.Phases.{key_as_sent}
 use Rattle.fdc_core.specs.State.{finished}
 use Rattle.fdc_stages.proofs.Lawful.{heard_count}
 use Rattle.fdc_core.specs.declared.controller.Fdc.{Fdc}
-use Rattle.fdc_core.specs.declared.phases.Execution.{Execution}
-use Rattle.fdc_core.specs.declared.phases.Phase.{Phase}
-use Rattle.fdc_core.specs.declared.phases.Phase.TheVariants.{Command, Execute, Result}
-use Rattle.fdc_core.specs.declared.phases.Task.{Task}
-use Rattle.fdc_core.specs.declared.phases.Task.TheVariants.{ReadId, Read, Write, Format}
+use Rattle.fdc_phases.specs.declared.phases.Execution.{Execution}
+use Rattle.fdc_phases.specs.declared.phases.Phase.{Phase}
+use Rattle.fdc_phases.specs.declared.phases.Phase.TheVariants.{Command, Execute, Result}
+use Rattle.fdc_phases.specs.declared.phases.Task.{Task}
+use Rattle.fdc_phases.specs.declared.phases.Task.TheVariants.{ReadId, Read, Write, Format}
 
 met_address : (index : Bool) (past : Past) (key : Chrn) (separator : Separator) → IsMet index past key separator → HasAddress past key
 met_address false past key separator (p, met) = (past.seen, p, record { among = inl refl; address = met.address })

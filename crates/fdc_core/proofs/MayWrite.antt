@@ -1,10 +1,10 @@
 -- What a device step, a transfer and the terminal count leave of a write and of a FORMAT.
-use Rattle.std.proofs.Common.{◌≡◌, ℕ, zero, suc, ◌+◌, Bool, true, false, not, ◌&&◌, ◌||◌, if◌then◌else◌, ◌==◌, List, [], ◌∷◌, ◌++◌, length, replicate, drop, nat_le, Option, Some, None, refl, sym, ap, subst, ◌∙◌, arith, inl, inr, append_assoc, append-nil}
+use Rattle.std.proofs.Common.{◌≡◌, ℕ, zero, suc, ◌+◌, Bool, true, false, if◌then◌else◌, ◌==◌, List, [], ◌∷◌, ◌++◌, length, replicate, drop, Option, Some, None, refl, sym, ap, subst, ◌∙◌, arith, inl, inr, append_assoc, append-nil}
 use Rattle.std.proofs.lemmas.Bool.{false≢true}
 use Rattle.std.proofs.lemmas.List.{replicate_more}
 use Rattle.flop_base.specs.declared.key.Chrn.{Chrn}
 use Rattle.drive_model.specs.Drive.{DriveState, is_protected}
-use Rattle.fdc_fifo.specs.Fifo.{Fifo, room_of, low_level, wants}
+use Rattle.fdc_fifo.specs.Fifo.{Fifo, room_of}
 use Rattle.fdc_stages.specs.History.{Past, heard, kept_out, wrote}
 use Rattle.fdc_stages.specs.declared.ending.Ending.{Ending}
 use Rattle.fdc_stages.specs.declared.ending.Ending.TheVariants.{Done, NoMark, NoSector, NoField, BadCheck, Overrun, NoCount, Protected, Late}
@@ -20,34 +20,28 @@ use Rattle.fdc_writing.specs.declared.writing.WriteNext.TheVariants as write_nex
 use Rattle.fdc_writing.specs.declared.writing.WriteStage.{WriteStage}
 use Rattle.fdc_writing.specs.declared.writing.WriteStage.TheVariants as stages
 use Rattle.fdc_writing.proofs.Ended.{stopped_written, stopped_formatted}
-use Rattle.fdc_core.specs.Answers.{key_after, results_of, no_key}
-use Rattle.fdc_core.specs.Dma.{task_asks, task_told, asking_told, fifo_told, with_byte, phase_asks, phase_told}
+use Rattle.fdc_phases.proofs.AtFirst.{rule_room}
+use Rattle.fdc_phases.specs.Answers.{key_after, results_of, no_key}
+use Rattle.fdc_core.specs.Dma.{asking_told, fifo_told, with_byte}
+use Rattle.fdc_phases.specs.Dma.{task_asks, task_told, phase_asks, phase_told}
 use Rattle.fdc_core.specs.Formatting.{FormatDoes, after_laid}
-use Rattle.fdc_core.specs.Heard.{Sent, stepped, told_in}
+use Rattle.fdc_phases.specs.Heard.{Sent, stepped, told_in}
 use Rattle.fdc_core.specs.Listening.{is_executing}
-use Rattle.fdc_core.specs.Phases.{is_read, is_reading, moves_bytes, is_moving}
+use Rattle.fdc_phases.specs.Phases.{is_read, is_reading, moves_bytes, is_moving}
 use Rattle.fdc_core.specs.Times.{WordTime, Saw, KeptOut, Wrote, Stopped, after_time}
 use Rattle.fdc_core.specs.Writing.{WriteDoes, Stops, after_next, oldest_of, byte_taken, without_byte}
-use Rattle.fdc_core.specs.Written.{took, IsHanded, IsContent, AsksWithRoom, write_sent, MayWrite, MayWriteIn, MayWriteTask, MayFormat, MayFormatIn, MayFormatTask}
-use Rattle.fdc_core.specs.declared.answers.Answer.TheVariants.{Short, Long}
+use Rattle.fdc_core.specs.Written.{MayWrite, MayFormat}
+use Rattle.fdc_phases.specs.Written.{took, IsHanded, IsContent, write_sent, MayWriteIn, MayWriteTask, MayFormatIn, MayFormatTask}
+use Rattle.fdc_phases.specs.declared.answers.Answer.TheVariants.{Short, Long}
 use Rattle.fdc_core.specs.declared.controller.Fdc.{Fdc}
-use Rattle.fdc_core.specs.declared.phases.Phase.{Phase}
-use Rattle.fdc_core.specs.declared.phases.Phase.TheVariants.{Command, Execute, Result}
-use Rattle.fdc_core.specs.declared.phases.Task.{Task}
-use Rattle.fdc_core.specs.declared.phases.Task.TheVariants.{ReadId, Read, Write, Format}
-use Rattle.fdc_core.specs.declared.transfers.Formatting.{Formatting}
-use Rattle.fdc_core.specs.declared.transfers.Writing.{Writing}
+use Rattle.fdc_phases.specs.declared.phases.Phase.{Phase}
+use Rattle.fdc_phases.specs.declared.phases.Phase.TheVariants.{Command, Execute, Result}
+use Rattle.fdc_phases.specs.declared.phases.Task.{Task}
+use Rattle.fdc_phases.specs.declared.phases.Task.TheVariants.{ReadId, Read, Write, Format}
+use Rattle.fdc_phases.specs.declared.transfers.Formatting.{Formatting}
+use Rattle.fdc_phases.specs.declared.transfers.Writing.{Writing}
 
 -- ---- bytes from memory
-
--- DRQ by the FIFO's rule is up only where there is room
-asks_room : (counted full asking low : Bool) → (not (counted || full) && (asking || low)) ≡ true → (counted ≡ false) × (full ≡ false)
-asks_room true full asking low up = absurd (false≢true up)
-asks_room false true asking low up = absurd (false≢true up)
-asks_room false false asking low up = (refl, refl)
-
-pub rule_room : (counted asking : Bool) (fifo : Fifo) → AsksWithRoom counted (wants false asking counted fifo) fifo
-rule_room counted asking fifo up = asks_room counted (length fifo.bytes == room_of fifo.on) asking (nat_le (length fifo.bytes) (low_level fifo)) up
 
 -- the next word takes its byte
 hand_byte : (needs counted : Bool) (taken handed bytes : List ℕ) (byte : ℕ) → (if needs then oldest_of counted bytes else Some 0) ≡ Some byte → IsHanded counted taken handed bytes → IsHanded counted taken (handed_with needs byte handed) (if needs then drop 1 bytes else bytes)

@@ -13,15 +13,16 @@ use Rattle.fdc_stages.specs.declared.reading.ReadStage.{ReadStage}
 use Rattle.fdc_stages.specs.declared.reading.ReadStage.TheVariants as stages
 use Rattle.fdc_stages.proofs.Causes.{found_of, bad_check_of, no_field_of, no_mark_of, no_sector_of}
 use Rattle.fdc_stages.proofs.Lawful.{over_told, over_full, reading_told, searching_few}
-use Rattle.fdc_core.specs.Heard.{Sent, MayRead, MayReadIn, MayReadTask, MayReadId, MayReadIdIn, MayReadIdTask, HasEndedAs}
+use Rattle.fdc_core.specs.Heard.{MayRead, MayReadId}
+use Rattle.fdc_phases.specs.Heard.{Sent, MayReadIn, MayReadTask, MayReadIdIn, MayReadIdTask, HasEndedAs}
 use Rattle.fdc_core.specs.Meaning.{ReadMeans, ReadMeansIn, FindsUncounted, ReadGives, AreOfField, bytes_held, IdMeans, IdMeansIn, PacedIn, IsPaced, is_hearing}
-use Rattle.fdc_core.specs.Phases.{is_over}
-use Rattle.fdc_core.specs.declared.answers.Answer.TheVariants.{Short, Long}
+use Rattle.fdc_phases.specs.Phases.{is_over}
+use Rattle.fdc_phases.specs.declared.answers.Answer.TheVariants.{Short, Long}
 use Rattle.fdc_core.specs.declared.controller.Fdc.{Fdc}
-use Rattle.fdc_core.specs.declared.phases.Phase.{Phase}
-use Rattle.fdc_core.specs.declared.phases.Phase.TheVariants.{Command, Execute, Result}
-use Rattle.fdc_core.specs.declared.phases.Task.{Task}
-use Rattle.fdc_core.specs.declared.phases.Task.TheVariants.{ReadId, Read, Write, Format}
+use Rattle.fdc_phases.specs.declared.phases.Phase.{Phase}
+use Rattle.fdc_phases.specs.declared.phases.Phase.TheVariants.{Command, Execute, Result}
+use Rattle.fdc_phases.specs.declared.phases.Task.{Task}
+use Rattle.fdc_phases.specs.declared.phases.Task.TheVariants.{ReadId, Read, Write, Format}
 use Rattle.fdc_core.proofs.MayRead.{starts}
 
 -- ---- READ DATA

@@ -8,9 +8,10 @@ use Rattle.fdc_stages.specs.Readings as heard
 use Rattle.fdc_stages.specs.Searches.{SearchOutcome}
 use Rattle.fdc_stages.specs.Searches as searched
 use Rattle.flop_base.specs.declared.key.Chrn.{Chrn}
-use Rattle.fdc_core.specs.Answers.{key_after, no_key}
-use Rattle.fdc_core.specs.Dma.{gone_on, phase_asks}
-use Rattle.fdc_core.specs.Phases.{ending_of, is_listening, key_as_sent, write_at, format_at}
+use Rattle.fdc_phases.specs.Answers.{key_after, no_key}
+use Rattle.fdc_core.specs.Dma.{gone_on}
+use Rattle.fdc_phases.specs.Dma.{phase_asks}
+use Rattle.fdc_phases.specs.Phases.{ending_of, is_listening, key_as_sent, write_at, format_at}
 use Rattle.fdc_core.specs.Reading.{after_searched, after_heard, over_or_on, gone_on_reading, at_stage, pushed, is_full}
 use Rattle.fdc_core.specs.State.{finished, is_held}
 use Rattle.drive_model.specs.Drive.{DriveState, at_index}
@@ -20,11 +21,11 @@ use Rattle.fdc_core.specs.Steps.{Stays, Flows, FlowsIn, MovesTask, MovesIn, Move
 use Rattle.fdc_core.specs.Tasks.{TaskSteps, TaskStepsNowhere}
 use Rattle.fdc_core.specs.Times.{WordTime, Saw, KeptOut, Wrote, Stopped}
 use Rattle.fdc_core.specs.Writing.{WriteDoes, after_next, without_byte}
-use Rattle.fdc_core.specs.declared.phases.Execution.{Execution}
-use Rattle.fdc_core.specs.declared.phases.Phase.{Phase}
-use Rattle.fdc_core.specs.declared.phases.Phase.TheVariants.{Execute}
-use Rattle.fdc_core.specs.declared.transfers.Formatting.{Formatting}
-use Rattle.fdc_core.specs.declared.transfers.Writing.{Writing}
+use Rattle.fdc_phases.specs.declared.phases.Execution.{Execution}
+use Rattle.fdc_phases.specs.declared.phases.Phase.{Phase}
+use Rattle.fdc_phases.specs.declared.phases.Phase.TheVariants.{Execute}
+use Rattle.fdc_phases.specs.declared.transfers.Formatting.{Formatting}
+use Rattle.fdc_phases.specs.declared.transfers.Writing.{Writing}
 use Rattle.fdc_writing.specs.Writings.{needs_byte}
 use Rattle.fdc_writing.specs.declared.formatting.FormatNext.{FormatNext}
 use Rattle.fdc_writing.specs.declared.formatting.FormatNext.TheVariants as format_next
@@ -34,9 +35,9 @@ use Rattle.fdc_core.specs.Waiting.{Feeds}
 use Rattle.fdc_core.proofs.Feeding.{step_feeds}
 use Rattle.std.proofs.lemmas.Bool.{false≢true}
 use Rattle.fdc_core.specs.declared.controller.Fdc.{Fdc}
-use Rattle.fdc_core.specs.declared.phases.Reading.{Reading}
-use Rattle.fdc_core.specs.declared.phases.Task.{Task}
-use Rattle.fdc_core.specs.declared.phases.Task.TheVariants.{ReadId, Read, Write, Format}
+use Rattle.fdc_phases.specs.declared.transfers.Reading.{Reading}
+use Rattle.fdc_phases.specs.declared.phases.Task.{Task}
+use Rattle.fdc_phases.specs.declared.phases.Task.TheVariants.{ReadId, Read, Write, Format}
 
 -- both: what stays, and DRQ by the FIFO's rule
 pub record Keeps (old new : Fdc) : Type 0 where

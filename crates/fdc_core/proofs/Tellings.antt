@@ -11,15 +11,16 @@ use Rattle.fdc_writing.specs.declared.writing.WriteStage.{WriteStage}
 use Rattle.fdc_writing.specs.declared.writing.WriteStage.TheVariants as stages
 use Rattle.fdc_writing.specs.declared.formatting.FormatStage.{FormatStage}
 use Rattle.fdc_writing.proofs.Ended.{stopped_written, stopped_formatted, first_written, whole_written, whole_laid}
-use Rattle.fdc_core.specs.Heard.{Sent}
+use Rattle.fdc_phases.specs.Heard.{Sent}
 use Rattle.fdc_core.specs.Tellings.{WritesWindow, WholeIfDone, WriteMeansIn, LaysTrack, LaidIfDone, FormatMeansIn}
-use Rattle.fdc_core.specs.Written.{write_sent, IsContent, MayWrite, MayWriteIn, MayWriteTask, MayFormat, MayFormatIn, MayFormatTask}
-use Rattle.fdc_core.specs.declared.answers.Answer.TheVariants.{Short, Long}
+use Rattle.fdc_core.specs.Written.{MayWrite, MayFormat}
+use Rattle.fdc_phases.specs.Written.{write_sent, IsContent, MayWriteIn, MayWriteTask, MayFormatIn, MayFormatTask}
+use Rattle.fdc_phases.specs.declared.answers.Answer.TheVariants.{Short, Long}
 use Rattle.fdc_core.specs.declared.controller.Fdc.{Fdc}
-use Rattle.fdc_core.specs.declared.phases.Phase.{Phase}
-use Rattle.fdc_core.specs.declared.phases.Phase.TheVariants.{Command, Execute, Result}
-use Rattle.fdc_core.specs.declared.phases.Task.{Task}
-use Rattle.fdc_core.specs.declared.phases.Task.TheVariants.{ReadId, Read, Write, Format}
+use Rattle.fdc_phases.specs.declared.phases.Phase.{Phase}
+use Rattle.fdc_phases.specs.declared.phases.Phase.TheVariants.{Command, Execute, Result}
+use Rattle.fdc_phases.specs.declared.phases.Task.{Task}
+use Rattle.fdc_phases.specs.declared.phases.Task.TheVariants.{ReadId, Read, Write, Format}
 use Rattle.fdc_core.proofs.MayWrite.{content_of}
 
 -- ---- WRITE DATA and WRITE DELETED

@@ -25,26 +25,27 @@ use Rattle.fdc_writing.specs.declared.writing.WriteNext.TheVariants as write_nex
 use Rattle.fdc_writing.specs.declared.writing.WriteStage.{WriteStage}
 use Rattle.fdc_writing.specs.declared.writing.WriteStage.TheVariants as stages
 use Rattle.flop_base.specs.declared.key.Chrn.{Chrn}
-use Rattle.fdc_core.specs.Answers.{key_after, no_key}
+use Rattle.fdc_phases.specs.Answers.{key_after, no_key}
 use Rattle.fdc_core.specs.Formatting.{FormatDoes, after_laid}
 use Rattle.fdc_core.specs.Listening.{StepsOn, FindsFull}
-use Rattle.fdc_core.specs.Phases.{ending_of, is_overrun, overran}
+use Rattle.fdc_phases.specs.Phases.{ending_of, is_overrun, overran}
 use Rattle.fdc_core.specs.Reading.{after_searched, after_heard, over_or_on, gone_on_reading, at_stage, pushed, is_full}
 use Rattle.fdc_core.specs.State.{finished, is_held}
 use Rattle.fdc_core.specs.Steps.{polled}
 use Rattle.fdc_core.specs.Tasks.{TaskSteps}
 use Rattle.fdc_core.specs.Times.{WordTime, Saw, KeptOut, Wrote, Stopped}
-use Rattle.fdc_core.specs.Waiting.{task_counted, phase_counted, TaskWaits, CanWait, Lasts, LastsIn, LastsOn}
+use Rattle.fdc_core.specs.Waiting.{CanWait, Lasts, LastsIn, LastsOn}
+use Rattle.fdc_phases.specs.Waiting.{task_counted, phase_counted, TaskWaits}
 use Rattle.fdc_core.specs.Writing.{WriteDoes, Stops, after_next, oldest_of, without_byte}
 use Rattle.fdc_core.specs.declared.controller.Fdc.{Fdc}
-use Rattle.fdc_core.specs.declared.phases.Execution.{Execution}
-use Rattle.fdc_core.specs.declared.phases.Phase.{Phase}
-use Rattle.fdc_core.specs.declared.phases.Phase.TheVariants.{Command, Execute, Result}
-use Rattle.fdc_core.specs.declared.phases.Reading.{Reading}
-use Rattle.fdc_core.specs.declared.phases.Task.{Task}
-use Rattle.fdc_core.specs.declared.phases.Task.TheVariants.{ReadId, Read, Write, Format}
-use Rattle.fdc_core.specs.declared.transfers.Formatting.{Formatting}
-use Rattle.fdc_core.specs.declared.transfers.Writing.{Writing}
+use Rattle.fdc_phases.specs.declared.phases.Execution.{Execution}
+use Rattle.fdc_phases.specs.declared.phases.Phase.{Phase}
+use Rattle.fdc_phases.specs.declared.phases.Phase.TheVariants.{Command, Execute, Result}
+use Rattle.fdc_phases.specs.declared.transfers.Reading.{Reading}
+use Rattle.fdc_phases.specs.declared.phases.Task.{Task}
+use Rattle.fdc_phases.specs.declared.phases.Task.TheVariants.{ReadId, Read, Write, Format}
+use Rattle.fdc_phases.specs.declared.transfers.Formatting.{Formatting}
+use Rattle.fdc_phases.specs.declared.transfers.Writing.{Writing}
 use Rattle.fdc_core.proofs.Hearing.{hears_overruns}
 
 -- what a step leaves: it can wait, and the terminal count came where it had come

@@ -13,24 +13,26 @@ use Rattle.fdc_writing.specs.Leads.{HasLead}
 use Rattle.fdc_writing.specs.Writings.{opens, is_due, needs_byte}
 use Rattle.fdc_writing.specs.declared.writing.WriteStage.{WriteStage}
 use Rattle.fdc_writing.specs.declared.writing.WriteStage.TheVariants as stages
-use Rattle.fdc_core.specs.Answers.{no_key}
+use Rattle.fdc_phases.specs.Answers.{no_key}
 use Rattle.fdc_core.specs.Formatting as formats
+use Rattle.fdc_phases.specs.Formatting.{is_ended as is_format_ended}
 use Rattle.fdc_core.specs.Formatting.{IsFormatTime, AwaitsIndex, LaysByte}
 use Rattle.fdc_core.specs.Listening.{SeesUnder, StepsOn}
-use Rattle.fdc_core.specs.Phases.{head_of}
-use Rattle.fdc_core.specs.Rates.{rate_fits, seen_of}
+use Rattle.fdc_phases.specs.Phases.{head_of}
+use Rattle.fdc_phases.specs.Rates.{rate_fits, seen_of}
 use Rattle.fdc_core.specs.State.{finished}
 use Rattle.fdc_core.specs.Steps.{let_pass}
 use Rattle.fdc_core.specs.Tasks.{IsListenStep, TaskSteps, ExecutionSteps}
 use Rattle.fdc_core.specs.Times.{Saw, KeptOut, Wrote, Stopped, Opens}
-use Rattle.fdc_core.specs.Writing.{after_next, IsWriteTime, HearsAWord, PutsByte, byte_taken, without_byte, is_ended}
+use Rattle.fdc_core.specs.Writing.{after_next, IsWriteTime, HearsAWord, PutsByte, byte_taken, without_byte}
+use Rattle.fdc_phases.specs.Writing.{is_ended}
 use Rattle.fdc_core.specs.declared.controller.Fdc.{Fdc}
-use Rattle.fdc_core.specs.declared.phases.Execution.{Execution}
-use Rattle.fdc_core.specs.declared.phases.Phase.TheVariants.{Execute}
-use Rattle.fdc_core.specs.declared.phases.Task.{Task}
-use Rattle.fdc_core.specs.declared.rates.DataRate.{DataRate}
-use Rattle.fdc_core.specs.declared.transfers.Formatting.{Formatting}
-use Rattle.fdc_core.specs.declared.transfers.Writing.{Writing}
+use Rattle.fdc_phases.specs.declared.phases.Execution.{Execution}
+use Rattle.fdc_phases.specs.declared.phases.Phase.TheVariants.{Execute}
+use Rattle.fdc_phases.specs.declared.phases.Task.{Task}
+use Rattle.fdc_phases.specs.declared.rates.DataRate.{DataRate}
+use Rattle.fdc_phases.specs.declared.transfers.Formatting.{Formatting}
+use Rattle.fdc_phases.specs.declared.transfers.Writing.{Writing}
 
 -- ---- the gate moves nothing else
 
@@ -138,7 +140,7 @@ kept_index head_drive steps formatting old before after new firsts unfit is =
 pub laid_time : (head_drive steps byte : ℕ) (needs : Bool) (formatting : Formatting) (old mid_fdc : Fdc) (before after : DriveState) (new : Fdc) → steps < 65535 → (formats_of.opens formatting.stage ≡ true → rate_fits old.rate (rate_of before.medium) ≡ true) → formats_of.is_due formatting.stage ≡ true
     → formats_of.Takes formatting.stage needs → ((lead : ℕ) → HasLead formatting.stage lead → needs ≡ true → lead ≡ 0) → byte_taken needs formatting.counted old.fifo ≡ Some byte → mid_fdc ≡ without_byte needs old → LaysByte head_drive steps formatting needs byte mid_fdc before after new → IsFormatTime head_drive steps formatting old before after new
 laid_time head_drive steps byte needs formatting old mid_fdc before after new few fits due asks needed takes leaves is = record {
-  time = Wrote (formats_of.opens formatting.stage) (formats.is_ended is.next) (at_index before) is.given.word;
+  time = Wrote (formats_of.opens formatting.stage) (is_format_ended is.next) (at_index before) is.given.word;
   is = record {
     from = is.from;
     mid = is.mid;

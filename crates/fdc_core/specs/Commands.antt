@@ -8,20 +8,16 @@ use Rattle.fdc_commands.specs.declared.bytes.Accepted.{Accepted}
 use Rattle.fdc_commands.specs.declared.bytes.Accepted.TheVariants.{More, Ready, Invalid}
 use Rattle.fdc_commands.specs.declared.command.Command.{Command}
 use Rattle.fdc_commands.specs.declared.command.Command.TheVariants as command
-use Rattle.fdc_fifo.specs.Fifo.{Fifo, emptied}
+use Rattle.fdc_fifo.specs.Fifo.{emptied}
 use Rattle.fdc_seek.specs.Seeking.{with_motion, seek_bits, sensed, after_sense}
 use Rattle.fdc_seek.specs.declared.motion.Motion.TheVariants.{Outward, Toward}
-use Rattle.fdc_stages.specs.History.{begun as new_past}
-use Rattle.fdc_core.specs.Heard.{Sent, MayReadTask, MayReadIdTask}
-use Rattle.fdc_core.specs.declared.answers.Answer.TheVariants.{Short}
+use Rattle.fdc_phases.specs.declared.answers.Answer.TheVariants.{Short}
 use Rattle.fdc_core.specs.declared.controller.Fdc.{Fdc}
 use Rattle.fdc_core.specs.declared.controller.Lines.{Lines}
-use Rattle.fdc_core.specs.declared.phases.Phase.TheVariants.{Execute, Result}
-use Rattle.fdc_core.specs.declared.phases.Task.{Task}
-use Rattle.fdc_core.specs.Dma.{asked, task_asks}
-use Rattle.fdc_core.specs.Waiting.{TaskWaits}
-use Rattle.fdc_core.specs.Written.{MayWriteTask, MayFormatTask}
-use Rattle.fdc_writing.specs.Formats.{Numbers}
+use Rattle.fdc_phases.specs.declared.phases.Phase.TheVariants.{Execute, Result}
+use Rattle.fdc_phases.specs.declared.phases.Task.{Task}
+use Rattle.fdc_core.specs.Dma.{asked}
+use Rattle.fdc_phases.specs.Commands.{IsReadingId, IsReadingData, WaitsAtFirst, IsWritingData, IsFormattingTrack}
 
 -- the result phase of a command without execution
 abbrev pub answered : ℕ → Option ℕ → Fdc → Fdc
@@ -77,18 +73,6 @@ begun head_drive task old = record old {
   data_commands = min (old.data_commands + 1) last_count;
 }
 
--- READ ID, which has heard nothing
-abbrev pub IsReadingId : ℕ → Task → Type 0
-IsReadingId head_drive task = MayReadIdTask new_past head_drive head_drive 0 task
-
--- READ DATA of what was sent, which has heard and given nothing
-abbrev pub IsReadingData : Sent → Task → Type 0
-IsReadingData sent task = MayReadTask new_past sent sent.head_drive 0 task false []
-
--- it can wait nine device steps for DMA, where the FIFO is on
-abbrev pub WaitsAtFirst : Task → Type 0
-WaitsAtFirst task = (fifo : Fifo) → fifo.bytes ≡ [] → fifo.on ≡ true → TaskWaits 9 task fifo
-
 -- the execution of such a task begins
 abbrev pub BeginsTask : ℕ → (Task → Type 0) → Fdc → Fdc → Type 0
 BeginsTask head_drive Is old new = (task : Task) × Is task × WaitsAtFirst task × (new ≡ begun head_drive task old)
@@ -97,14 +81,6 @@ BeginsTask head_drive Is old new = (task : Task) × Is task × WaitsAtFirst task
 abbrev pub BeginsAsking : ℕ → (Task → Type 0) → Fdc → Fdc → Type 0
 BeginsAsking head_drive Is old new =
     (task : Task) × Is task × WaitsAtFirst task × (new ≡ asked (begun head_drive task old))
-
--- WRITE DATA or WRITE DELETED of what was sent, which has heard, taken and written nothing
-abbrev pub IsWritingData : Sent → Bool → Task → Type 0
-IsWritingData sent deleted task = (fifo : Fifo) (asking : Bool) → fifo.bytes ≡ [] → MayWriteTask new_past sent deleted sent.head_drive 0 task (task_asks task asking fifo) fifo
-
--- FORMAT TRACK of these numbers, which has heard, taken and written nothing
-abbrev pub IsFormattingTrack : ℕ → Numbers → Task → Type 0
-IsFormattingTrack head_drive numbers task = (fifo : Fifo) (asking : Bool) → fifo.bytes ≡ [] → MayFormatTask new_past head_drive numbers head_drive 0 task (task_asks task asking fifo) fifo
 
 -- a data command begins
 abbrev pub BeginsData : Command → Fdc → Fdc → Type 0

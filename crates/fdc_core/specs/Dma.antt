@@ -1,27 +1,15 @@
 -- The controller's side of the DMA channel.
 use Rattle.std.specs.Prelude.{ℕ, Bool, true, false, ◌==◌, [], ◌∷◌, ◌++◌, length, drop, get_or, if◌then◌else◌}
-use Rattle.fdc_fifo.specs.Fifo.{Fifo, emptied, room_of, wants}
-use Rattle.fdc_core.specs.Phases.{is_over, is_reading, is_moving, told, write_told, format_told}
+use Rattle.fdc_fifo.specs.Fifo.{Fifo, emptied, room_of}
+use Rattle.fdc_phases.specs.Phases.{is_reading, is_moving}
 use Rattle.fdc_core.specs.declared.controller.Fdc.{Fdc}
-use Rattle.fdc_core.specs.declared.phases.Phase.{Phase}
-use Rattle.fdc_core.specs.declared.phases.Phase.TheVariants.{Execute}
-use Rattle.fdc_core.specs.declared.phases.Task.{Task}
-use Rattle.fdc_core.specs.declared.phases.Task.TheVariants.{ReadId, Read, Write, Format}
+use Rattle.fdc_phases.specs.declared.phases.Phase.TheVariants.{Execute}
+use Rattle.fdc_phases.specs.declared.phases.Task.{Task}
+use Rattle.fdc_phases.specs.Dma.{task_asks, phase_asks, phase_told}
 
 -- the bytes of the command go to memory
 abbrev pub to_memory_of : Fdc → Bool
 to_memory_of fdc = is_reading fdc.phase
-
--- DRQ by the FIFO's rule, where it was `asking` before; only a command that moves bytes asks
-abbrev pub task_asks : Task → Bool → Fifo → Bool
-task_asks (Read reading) asking fifo = wants true asking (is_over reading.stage) fifo
-task_asks (ReadId _) asking fifo = false
-task_asks (Write writing) asking fifo = wants false asking writing.counted fifo
-task_asks (Format formatting) asking fifo = wants false asking formatting.counted fifo
-
-abbrev pub phase_asks : Phase → Bool → Fifo → Bool
-phase_asks (Execute execution) asking fifo = task_asks execution.task asking fifo
-phase_asks _ asking fifo = false
 
 -- DRQ goes by the FIFO's rule
 abbrev pub asked : Fdc → Fdc
@@ -49,18 +37,6 @@ with_byte byte fifo =
 -- the channel gives a byte
 abbrev pub taken_in : ℕ → Fdc → Fdc
 taken_in byte old = asked (record old { fifo = with_byte byte old.fifo })
-
--- the terminal count comes: a READ DATA gives no further byte, and its FIFO is emptied; a write takes no further byte, and
--- those in the FIFO stay
-abbrev pub task_told : Task → Task
-task_told (ReadId search) = ReadId search
-task_told (Read reading) = Read (told reading)
-task_told (Write writing) = Write (write_told writing)
-task_told (Format formatting) = Format (format_told formatting)
-
-abbrev pub phase_told : Phase → Phase
-phase_told (Execute execution) = Execute (record execution { task = task_told execution.task })
-phase_told phase = phase
 
 abbrev pub fifo_told : Bool → Fifo → Fifo
 fifo_told true fifo = emptied fifo.on fifo.threshold

@@ -1,50 +1,27 @@
 -- FORMAT TRACK, word by word.
-use Rattle.std.specs.Prelude.{◌≡◌, ◌<◌, ℕ, ◌+◌, ◌-◌, Bool, true, false, List, Some}
+use Rattle.std.specs.Prelude.{◌≡◌, ◌<◌, ℕ, ◌+◌, Bool, true, false, Some}
 use Rattle.drive_model.specs.Drive.{DriveState, is_protected, at_index, Writes, InRange}
-use Rattle.fdc_stages.specs.History.{Past, wrote}
 use Rattle.fdc_stages.specs.declared.ending.Ending.{Ending}
-use Rattle.fdc_writing.specs.Formats.{Numbers, is_open, opens, is_due, Takes, IsFormatting, IsNextLaid, HasNext, FailsWell, EndsWell}
-use Rattle.fdc_writing.specs.Leads.{HasLead, LeadsOn}
-use Rattle.fdc_writing.specs.Writings.{handed_with, heard_where}
+use Rattle.fdc_writing.specs.Formats.{opens, is_due, Takes}
+use Rattle.fdc_writing.specs.Leads.{HasLead}
 use Rattle.fdc_writing.specs.declared.formatting.FormatNext.{FormatNext}
 use Rattle.fdc_writing.specs.declared.formatting.FormatNext.TheVariants.{On, Ended}
 use Rattle.fdc_writing.specs.declared.formatting.FormatWord.{FormatWord}
-use Rattle.fdc_core.specs.Answers.{no_key}
+use Rattle.fdc_phases.specs.Answers.{no_key}
 use Rattle.fdc_core.specs.Dma.{gone_on}
-use Rattle.fdc_core.specs.Phases.{head_of, format_at}
+use Rattle.fdc_phases.specs.Phases.{head_of, format_at}
 use Rattle.fdc_core.specs.State.{finished}
 use Rattle.fdc_core.specs.Times.{WordTime, Saw, KeptOut, Wrote, Stopped, IsTime, IsHeardTime, Opens, Closes}
 use Rattle.fdc_core.specs.Writing.{byte_taken, without_byte, Stops}
 use Rattle.fdc_core.specs.declared.controller.Fdc.{Fdc}
-use Rattle.fdc_core.specs.declared.phases.Task.TheVariants.{Format}
-use Rattle.fdc_core.specs.declared.transfers.Formatting.{Formatting}
+use Rattle.fdc_phases.specs.declared.phases.Task.TheVariants.{Format}
+use Rattle.fdc_phases.specs.declared.transfers.Formatting.{Formatting}
+use Rattle.fdc_phases.specs.Formatting.{is_ended, StageHearsIndex, StageLaysWord}
 
 -- a FORMAT after what a word gave
 abbrev pub after_laid : ℕ → ℕ → Formatting → FormatNext → Fdc → Fdc
 after_laid head_drive steps formatting (On stage) old = gone_on head_drive steps (Format (format_at formatting stage)) old
 after_laid head_drive steps formatting (Ended ending key) old = finished ending head_drive key old
-
-abbrev pub is_ended : FormatNext → Bool
-is_ended (Ended _ _) = true
-is_ended (On _) = false
-
--- ---- what a stage makes of a word, whatever has passed before
-
--- where it is heard; a stage whose gate is open stays as it is
-abbrev pub StageHearsIndex : Formatting → Bool → FormatNext → Type 0
-StageHearsIndex formatting index next =
-    ((past : Past) (numbers : Numbers) (handed : List ℕ) (word : ℕ) → is_open formatting.stage ≡ false → IsFormatting past numbers handed formatting.stage
-    → HasNext (heard_where (opens formatting.stage) index word past) numbers handed next)
-    × FailsWell next × ((lead : ℕ) → HasLead formatting.stage lead → LeadsOn lead next)
-    × (is_open formatting.stage ≡ true → next ≡ On formatting.stage)
-
-pub record StageLaysWord (formatting : Formatting) (takes : Bool) (byte : ℕ) (index : Bool) (given : FormatWord) (next : FormatNext) : Type 0 where
-  pub word_is : (past : Past) (numbers : Numbers) (handed : List ℕ) → is_due formatting.stage ≡ true → IsFormatting past numbers handed formatting.stage → Takes formatting.stage takes
-      → IsNextLaid past numbers (handed_with takes byte handed) given.word given.stream given.key
-  pub goes_on : (past : Past) (numbers : Numbers) (handed : List ℕ)
-      → IsNextLaid past numbers handed given.word given.stream given.key → HasNext (wrote index given.word past) numbers handed next
-  pub well : EndsWell next
-  pub lead : (lead : ℕ) → HasLead formatting.stage lead → LeadsOn (lead - 1) next
 
 -- ---- a device step, behind so many others, by what its word time is
 

@@ -1,10 +1,7 @@
-pub mod Rates
-pub mod Answers
 pub mod State
 pub mod Heard
 pub mod Commands
 pub mod Ports
-pub mod Phases
 pub mod Dma
 pub mod Reading
 pub mod Steps

@@ -11,18 +11,19 @@ use Rattle.fdc_stages.specs.Readings as given
 use Rattle.fdc_stages.specs.declared.reading.ReadStage.{ReadStage}
 use Rattle.fdc_stages.specs.declared.searching.Search.{Search}
 use Rattle.fdc_stages.specs.Searches.{SearchOutcome}
-use Rattle.fdc_core.specs.Heard.{Sent, MayReadIn, MayRead, MayReadIdIn, MayReadId, stepped}
-use Rattle.fdc_core.specs.Phases.{head_of, is_overrun, is_listening, key_as_sent}
-use Rattle.fdc_core.specs.Rates.{rate_fits, seen_of}
+use Rattle.fdc_core.specs.Heard.{MayRead, MayReadId}
+use Rattle.fdc_phases.specs.Heard.{Sent, MayReadIn, MayReadIdIn, stepped}
+use Rattle.fdc_phases.specs.Phases.{head_of, is_overrun, is_listening, key_as_sent}
+use Rattle.fdc_phases.specs.Rates.{rate_fits, seen_of}
 use Rattle.fdc_core.specs.Reading.{after_searched, after_heard, is_full}
 use Rattle.fdc_core.specs.State.{finished}
 use Rattle.fdc_core.specs.declared.controller.Fdc.{Fdc}
-use Rattle.fdc_core.specs.declared.phases.Phase.{Phase}
-use Rattle.fdc_core.specs.declared.phases.Phase.TheVariants.{Execute}
-use Rattle.fdc_core.specs.declared.phases.Reading.{Reading}
-use Rattle.fdc_core.specs.declared.phases.Task.{Task}
-use Rattle.fdc_core.specs.declared.phases.Task.TheVariants.{ReadId, Read}
-use Rattle.fdc_core.specs.declared.rates.DataRate.{DataRate}
+use Rattle.fdc_phases.specs.declared.phases.Phase.{Phase}
+use Rattle.fdc_phases.specs.declared.phases.Phase.TheVariants.{Execute}
+use Rattle.fdc_phases.specs.declared.transfers.Reading.{Reading}
+use Rattle.fdc_phases.specs.declared.phases.Task.{Task}
+use Rattle.fdc_phases.specs.declared.phases.Task.TheVariants.{ReadId, Read}
+use Rattle.fdc_phases.specs.declared.rates.DataRate.{DataRate}
 
 -- ---- the word
 

@@ -7,15 +7,15 @@ use Rattle.fdc_stages.specs.Readings.{IsToldOf}
 use Rattle.fdc_stages.specs.declared.ending.Ending.{Ending}
 use Rattle.fdc_stages.specs.declared.ending.Ending.TheVariants.{Done, NoMark, NoSector, NoField, BadCheck, Overrun, NoCount, Protected, Late}
 use Rattle.flop_base.specs.declared.key.Chrn.{Chrn}
-use Rattle.fdc_core.specs.Answers.{results_of}
-use Rattle.fdc_core.specs.Heard.{Sent, results_sent, key_met}
-use Rattle.fdc_core.specs.Phases.{is_over}
-use Rattle.fdc_core.specs.declared.answers.Answer.TheVariants.{Long}
+use Rattle.fdc_phases.specs.Answers.{results_of}
+use Rattle.fdc_phases.specs.Heard.{Sent, results_sent, key_met}
+use Rattle.fdc_phases.specs.Phases.{is_over}
+use Rattle.fdc_phases.specs.declared.answers.Answer.TheVariants.{Long}
 use Rattle.fdc_core.specs.declared.controller.Fdc.{Fdc}
-use Rattle.fdc_core.specs.declared.phases.Phase.{Phase}
-use Rattle.fdc_core.specs.declared.phases.Phase.TheVariants.{Execute, Result}
-use Rattle.fdc_core.specs.declared.phases.Task.{Task}
-use Rattle.fdc_core.specs.declared.phases.Task.TheVariants.{ReadId, Read}
+use Rattle.fdc_phases.specs.declared.phases.Phase.{Phase}
+use Rattle.fdc_phases.specs.declared.phases.Phase.TheVariants.{Execute, Result}
+use Rattle.fdc_phases.specs.declared.phases.Task.{Task}
+use Rattle.fdc_phases.specs.declared.phases.Task.TheVariants.{ReadId, Read}
 
 -- ---- READ DATA
 

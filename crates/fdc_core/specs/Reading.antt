@@ -13,17 +13,17 @@ use Rattle.fdc_stages.specs.declared.searching.Searched.TheVariants as found
 use Rattle.flop_base.specs.declared.key.Chrn.{Chrn}
 use Rattle.fdc_stages.specs.Searches.{SearchOutcome}
 use Rattle.fdc_stages.specs.Searches as searched
-use Rattle.fdc_core.specs.Answers.{key_after, no_key}
+use Rattle.fdc_phases.specs.Answers.{key_after, no_key}
 use Rattle.fdc_core.specs.Dma.{gone_on, asked}
-use Rattle.fdc_core.specs.Phases.{ending_of, is_over, over_of}
-use Rattle.fdc_core.specs.declared.phases.End.{End}
+use Rattle.fdc_phases.specs.Phases.{ending_of, is_over, over_of}
+use Rattle.fdc_phases.specs.declared.phases.End.{End}
 use Rattle.fdc_core.specs.State.{finished}
 use Rattle.fdc_core.specs.declared.controller.Fdc.{Fdc}
-use Rattle.fdc_core.specs.declared.phases.Reading.{Reading}
-use Rattle.fdc_core.specs.declared.phases.Phase.{Phase}
-use Rattle.fdc_core.specs.declared.phases.Phase.TheVariants.{Execute}
-use Rattle.fdc_core.specs.declared.phases.Task.{Task}
-use Rattle.fdc_core.specs.declared.phases.Task.TheVariants.{ReadId, Read}
+use Rattle.fdc_phases.specs.declared.transfers.Reading.{Reading}
+use Rattle.fdc_phases.specs.declared.phases.Phase.{Phase}
+use Rattle.fdc_phases.specs.declared.phases.Phase.TheVariants.{Execute}
+use Rattle.fdc_phases.specs.declared.phases.Task.{Task}
+use Rattle.fdc_phases.specs.declared.phases.Task.TheVariants.{ReadId, Read}
 
 -- the same command at a stage
 abbrev pub at_stage : Reading → ReadStage → Reading

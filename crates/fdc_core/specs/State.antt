@@ -5,12 +5,12 @@ use Rattle.fdc_registers.specs.Dor.{not_reset, gate}
 use Rattle.fdc_fifo.specs.Fifo.{emptied}
 use Rattle.fdc_seek.specs.Seeking.{at_rest}
 use Rattle.fdc_stages.specs.declared.ending.Ending.{Ending}
-use Rattle.fdc_core.specs.Answers.{results_of}
-use Rattle.fdc_core.specs.declared.answers.Answer.TheVariants.{Long}
+use Rattle.fdc_phases.specs.Answers.{results_of}
+use Rattle.fdc_phases.specs.declared.answers.Answer.TheVariants.{Long}
 use Rattle.fdc_core.specs.declared.controller.Fdc.{Fdc}
-use Rattle.fdc_core.specs.declared.phases.Phase.TheVariants.{Command, Result}
-use Rattle.fdc_core.specs.declared.rates.DataRate.{DataRate}
-use Rattle.fdc_core.specs.declared.rates.DataRate.TheVariants.{Kbit250}
+use Rattle.fdc_phases.specs.declared.phases.Phase.TheVariants.{Command, Result}
+use Rattle.fdc_phases.specs.declared.rates.DataRate.{DataRate}
+use Rattle.fdc_phases.specs.declared.rates.DataRate.TheVariants.{Kbit250}
 
 -- held in reset, at 250 kbit/s, polling on, with no command and no seek
 abbrev pub at_power_up : Fdc

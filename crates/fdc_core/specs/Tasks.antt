@@ -3,21 +3,23 @@ use Rattle.std.specs.Prelude.{◌≡◌, ◌⊎◌, ◌<◌, ℕ, ◌+◌, false
 use Rattle.drive_model.specs.Drive.{DriveState, at_index}
 use Rattle.fdc_writing.specs.declared.formatting.FormatNext.{FormatNext}
 use Rattle.fdc_writing.specs.declared.writing.WriteNext.{WriteNext}
-use Rattle.fdc_core.specs.Answers.{no_key}
-use Rattle.fdc_core.specs.Formatting.{IsFormatStep, StageHearsIndex, after_laid}
+use Rattle.fdc_phases.specs.Answers.{no_key}
+use Rattle.fdc_core.specs.Formatting.{IsFormatStep, after_laid}
+use Rattle.fdc_phases.specs.Formatting.{StageHearsIndex}
 use Rattle.fdc_core.specs.Listening.{SeesUnder, StepsOn}
-use Rattle.fdc_core.specs.Phases.{head_of}
+use Rattle.fdc_phases.specs.Phases.{head_of}
 use Rattle.fdc_core.specs.State.{finished}
 use Rattle.fdc_core.specs.Steps.{Moves}
-use Rattle.fdc_core.specs.Writing.{IsWriteStep, StageHearsWord, after_next}
+use Rattle.fdc_core.specs.Writing.{IsWriteStep, after_next}
+use Rattle.fdc_phases.specs.Writing.{StageHearsWord}
 use Rattle.fdc_stages.specs.declared.ending.Ending.TheVariants.{Late}
 use Rattle.fdc_core.specs.declared.controller.Fdc.{Fdc}
-use Rattle.fdc_core.specs.declared.phases.Phase.{Phase}
-use Rattle.fdc_core.specs.declared.phases.Phase.TheVariants.{Execute}
-use Rattle.fdc_core.specs.declared.phases.Task.{Task}
-use Rattle.fdc_core.specs.declared.phases.Task.TheVariants.{ReadId, Read, Write, Format}
-use Rattle.fdc_core.specs.declared.transfers.Formatting.{Formatting}
-use Rattle.fdc_core.specs.declared.transfers.Writing.{Writing}
+use Rattle.fdc_phases.specs.declared.phases.Phase.{Phase}
+use Rattle.fdc_phases.specs.declared.phases.Phase.TheVariants.{Execute}
+use Rattle.fdc_phases.specs.declared.phases.Task.{Task}
+use Rattle.fdc_phases.specs.declared.phases.Task.TheVariants.{ReadId, Read, Write, Format}
+use Rattle.fdc_phases.specs.declared.transfers.Formatting.{Formatting}
+use Rattle.fdc_phases.specs.declared.transfers.Writing.{Writing}
 
 -- READ ID and READ DATA: one word is seen and followed
 pub record IsListenStep (head_drive steps : ℕ) (task : Task) (old : Fdc) (before after : DriveState) (new : Fdc) : Type 0 where
@@ -41,18 +43,6 @@ abbrev pub ExecutionSteps : Phase → Fdc → DriveState → DriveState → Fdc 
 ExecutionSteps (Execute execution) old before after new =
     TaskSteps execution.task execution.head_drive execution.steps old before after new
 ExecutionSteps _ old before after new = Unit {0}
-
--- the same of a command that writes
-abbrev pub WritingTaskSteps : Task → ℕ → ℕ → Fdc → DriveState → DriveState → Fdc → Type 0
-WritingTaskSteps (Write writing) head_drive steps old before after new = IsWriteStep head_drive steps writing old before after new
-WritingTaskSteps (Format formatting) head_drive steps old before after new =
-    IsFormatStep head_drive steps formatting old before after new
-WritingTaskSteps _ head_drive steps old before after new = Unit {0}
-
-abbrev pub WritingSteps : Phase → Fdc → DriveState → DriveState → Fdc → Type 0
-WritingSteps (Execute execution) old before after new =
-    WritingTaskSteps execution.task execution.head_drive execution.steps old before after new
-WritingSteps _ old before after new = Unit {0}
 
 -- the same where no drive is selected: words 0000 are heard, and no index
 abbrev pub WritesNowhere : ℕ → ℕ → Writing → Fdc → Fdc → Type 0

@@ -8,13 +8,13 @@ use Rattle.fdc_stages.specs.declared.ending.Ending.TheVariants.{Done}
 use Rattle.fdc_writing.specs.Formats as formats
 use Rattle.fdc_writing.specs.Formats.{Numbers, LaysFirst, LaysWhole, IsResultKey}
 use Rattle.fdc_writing.specs.Writings.{WritesFirst, WritesWhole, HasCause}
-use Rattle.fdc_core.specs.Answers.{results_of}
-use Rattle.fdc_core.specs.Heard.{Sent, results_sent}
-use Rattle.fdc_core.specs.Written.{IsContent}
-use Rattle.fdc_core.specs.declared.answers.Answer.TheVariants.{Long}
+use Rattle.fdc_phases.specs.Answers.{results_of}
+use Rattle.fdc_phases.specs.Heard.{Sent, results_sent}
+use Rattle.fdc_phases.specs.Written.{IsContent}
+use Rattle.fdc_phases.specs.declared.answers.Answer.TheVariants.{Long}
 use Rattle.fdc_core.specs.declared.controller.Fdc.{Fdc}
-use Rattle.fdc_core.specs.declared.phases.Phase.{Phase}
-use Rattle.fdc_core.specs.declared.phases.Phase.TheVariants.{Result}
+use Rattle.fdc_phases.specs.declared.phases.Phase.{Phase}
+use Rattle.fdc_phases.specs.declared.phases.Phase.TheVariants.{Result}
 
 -- ---- WRITE DATA and WRITE DELETED
 

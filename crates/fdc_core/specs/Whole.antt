@@ -6,16 +6,12 @@ use Rattle.fdc_commands.specs.declared.bytes.Accepted.TheVariants.{Ready}
 use Rattle.fdc_commands.specs.declared.command.Command.TheVariants.{Configure}
 use Rattle.fdc_seek.specs.Seeking.{seek_bits, has_ended_seek, without_ended}
 use Rattle.fdc_stages.specs.declared.ending.Ending.{Ending}
-use Rattle.fdc_stages.specs.Readings.{mark_at}
 use Rattle.fdc_core.specs.Commands.{TakesAs}
 use Rattle.fdc_core.specs.Ports.{is_taking}
-use Rattle.fdc_core.specs.declared.answers.Answer.TheVariants.{Long}
 use Rattle.fdc_core.specs.declared.controller.Fdc.{Fdc}
 use Rattle.fdc_core.specs.declared.controller.Lines.{Lines}
-use Rattle.fdc_core.specs.declared.phases.Phase.{Phase}
-use Rattle.fdc_core.specs.declared.phases.Phase.TheVariants.{Command as Taking, Execute, Result}
-use Rattle.fdc_core.specs.declared.phases.Task.{Task}
-use Rattle.fdc_core.specs.declared.phases.Task.TheVariants.{Read}
+use Rattle.fdc_phases.specs.declared.phases.Phase.TheVariants.{Command as Taking}
+use Rattle.fdc_phases.specs.Phases.{ending_of_phase, mark_of_phase}
 
 -- the data port takes a byte, and none of a command has come
 abbrev pub is_idle : Fdc → Bool
@@ -40,11 +36,6 @@ looked_at accepted = accepted
 abbrev pub TakesWhole : Accepted → Lines → Fdc → Fdc → Type 0
 TakesWhole accepted lines old new = TakesAs (looked_at accepted) lines (record old { command = [] }) new
 
--- how the data command ended whose results the host reads
-abbrev pub ending_of_phase : Phase → Option Ending
-ending_of_phase (Result (Long ending _ _)) = Some ending
-ending_of_phase _ = None
-
 abbrev pub ending_told : Fdc → Option Ending
 ending_told fdc = ending_of_phase fdc.phase
 
@@ -55,15 +46,6 @@ given_up_if (Some _) old = record old { phase = Taking; interrupt = false }
 
 abbrev pub given_up : Fdc → Fdc
 given_up old = given_up_if (ending_told old) old
-
--- the mark of the data field that a READ DATA reads, once it is met: F8 is true
-abbrev pub mark_in : Task → Option Bool
-mark_in (Read reading) = mark_at reading.stage
-mark_in _ = None
-
-abbrev pub mark_of_phase : Phase → Option Bool
-mark_of_phase (Execute execution) = mark_in execution.task
-mark_of_phase _ = None
 
 abbrev pub mark_of : Fdc → Option Bool
 mark_of fdc = mark_of_phase fdc.phase

@@ -1,28 +1,26 @@
 -- WRITE DATA and WRITE DELETED, word by word.
 use Rattle.std.specs.Prelude.{◌≡◌, ◌<◌, ℕ, ◌+◌, Bool, true, false, List, [], ◌∷◌, Option, Some, None, if◌then◌else◌, drop}
 use Rattle.drive_model.specs.Drive.{DriveState, is_protected, at_index, Writes, InRange}
-use Rattle.flop_base.specs.declared.key.Chrn.{Chrn}
 use Rattle.fdc_fifo.specs.Fifo.{Fifo, wants}
-use Rattle.fdc_stages.specs.History.{Past, wrote}
 use Rattle.fdc_stages.specs.declared.ending.Ending.{Ending}
 use Rattle.fdc_stages.specs.declared.ending.Ending.TheVariants.{Protected, Overrun, Late}
-use Rattle.fdc_writing.specs.Writings.{is_open, opens, is_due, needs_byte, handed_with, heard_where, IsWriting, IsNextWord, HasNext, FailsWell, EndsWell, LeadsOn, lead_of}
-use Rattle.fdc_writing.specs.declared.writing.WriteStage.{WriteStage}
+use Rattle.fdc_writing.specs.Writings.{opens, is_due, needs_byte}
 use Rattle.fdc_writing.specs.declared.writing.WriteNext.{WriteNext}
 use Rattle.fdc_writing.specs.declared.writing.WriteNext.TheVariants.{On, Ended}
 use Rattle.fdc_writing.specs.declared.writing.WriteWord.{WriteWord}
-use Rattle.fdc_core.specs.Answers.{key_after}
+use Rattle.fdc_phases.specs.Answers.{key_after}
 use Rattle.fdc_core.specs.Dma.{gone_on}
-use Rattle.fdc_core.specs.Phases.{head_of, write_at}
+use Rattle.fdc_phases.specs.Phases.{head_of, write_at}
 use Rattle.fdc_core.specs.State.{finished}
 use Rattle.fdc_core.specs.Times.{WordTime, Saw, KeptOut, Wrote, Stopped, IsTime, IsHeardTime, Opens, Closes}
 use Rattle.fdc_core.specs.declared.controller.Fdc.{Fdc}
-use Rattle.fdc_core.specs.declared.phases.End.{End}
-use Rattle.fdc_core.specs.declared.phases.Phase.{Phase}
-use Rattle.fdc_core.specs.declared.phases.Phase.TheVariants.{Execute}
-use Rattle.fdc_core.specs.declared.phases.Task.{Task}
-use Rattle.fdc_core.specs.declared.phases.Task.TheVariants.{Write}
-use Rattle.fdc_core.specs.declared.transfers.Writing.{Writing}
+use Rattle.fdc_phases.specs.declared.phases.End.{End}
+use Rattle.fdc_phases.specs.declared.phases.Phase.{Phase}
+use Rattle.fdc_phases.specs.declared.phases.Phase.TheVariants.{Execute}
+use Rattle.fdc_phases.specs.declared.phases.Task.{Task}
+use Rattle.fdc_phases.specs.declared.phases.Task.TheVariants.{Write}
+use Rattle.fdc_phases.specs.declared.transfers.Writing.{Writing}
+use Rattle.fdc_phases.specs.Writing.{is_ended, StageHearsWord, StageWritesWord}
 
 -- a write after what a word gave
 abbrev pub after_next : ℕ → ℕ → Writing → WriteNext → Fdc → Fdc
@@ -30,27 +28,10 @@ after_next head_drive steps writing (On stage) old = gone_on head_drive steps (W
 after_next head_drive steps writing (Ended ending) old =
     finished ending head_drive (key_after ending writing.wanted.key writing.last_sector) old
 
-abbrev pub is_ended : WriteNext → Bool
-is_ended (Ended _) = true
-is_ended (On _) = false
-
--- the same from how the command is over, where it is, and its stage as it then is
-abbrev pub write_over : WriteStage → Option End → WriteNext
-write_over after None = On after
-write_over after (Some over) = Ended over.ending
-
-abbrev pub write_end : Ending → ℕ → Writing → End
-write_end ending head_drive writing =
-    record { ending = ending; head_drive = head_drive; key = key_after ending writing.wanted.key writing.last_sector }
-
 -- a command that takes bytes goes on, and DRQ by the FIFO's rule, or is over
 abbrev pub gone_or_over : Bool → Option End → Fdc → Fdc
 gone_or_over counted None old = record old { asking = wants false old.asking counted old.fifo }
 gone_or_over counted (Some over) old = finished over.ending over.head_drive over.key old
-
--- a write is in execution, behind so many steps
-abbrev pub IsWritingAt : ℕ → ℕ → Writing → Phase → Type 0
-IsWritingAt head_drive steps writing phase = phase ≡ Execute (record { head_drive = head_drive; steps = steps; task = Write writing })
 
 -- ---- bytes from the FIFO
 
@@ -66,24 +47,6 @@ byte_taken needs counted fifo = if needs then oldest_of counted fifo.bytes else 
 
 abbrev pub without_byte : Bool → Fdc → Fdc
 without_byte needs old = if needs then record old { fifo = record old.fifo { bytes = drop 1 old.fifo.bytes } } else old
-
--- ---- what a stage makes of a word, whatever has passed before
-
--- where it is heard; a stage whose gate is open stays as it is
-abbrev pub StageHearsWord : Writing → Bool → ℕ → WriteNext → Type 0
-StageHearsWord writing index word next =
-    ((past : Past) (deleted : Bool) (handed : List ℕ) → is_open writing.stage ≡ false → IsWriting past writing.wanted.key deleted handed writing.stage
-    → HasNext (heard_where (opens writing.stage) index word past) writing.wanted.key deleted handed next)
-    × FailsWell next × LeadsOn (lead_of writing.stage) next
-    × (is_open writing.stage ≡ true → next ≡ On writing.stage)
-
-pub record StageWritesWord (writing : Writing) (byte : ℕ) (index : Bool) (given : WriteWord) (next : WriteNext) : Type 0 where
-  pub word_is : (past : Past) (handed : List ℕ) → is_due writing.stage ≡ true → IsWriting past writing.wanted.key writing.deleted handed writing.stage
-      → IsNextWord past writing.wanted.key writing.deleted (handed_with (needs_byte writing.stage) byte handed) given.word given.rest
-  pub goes_on : (past : Past) (key : Chrn) (deleted : Bool) (handed : List ℕ) → past.counted ≡ writing.counted
-      → IsNextWord past key deleted handed given.word given.rest → HasNext (wrote index given.word past) key deleted handed next
-  pub well : EndsWell next
-  pub lead : is_due writing.stage ≡ true → LeadsOn (lead_of writing.stage) next
 
 -- a write in execution hears a word
 abbrev pub HearsToWriteTask : ℕ → ℕ → Task → Bool → ℕ → Fdc → Fdc → Type 0

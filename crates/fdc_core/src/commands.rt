@@ -1,19 +1,17 @@
 // The commands, once their last byte came.
-ghost use Rattle.std.specs.Prelude.{◌≡◌, ℕ};
+ghost use Rattle.std.specs.Prelude.{◌≡◌};
 ghost use Rattle.track_model.specs.Fields.{IsSizeCode};
 ghost use Rattle.fdc_seek.specs.Seeking.{seek_bits};
 ghost use Rattle.fdc_commands.specs.Table.{SizeInRange};
-ghost use Rattle.fdc_core.specs.Commands.{answered, IsReadingId, IsReadingData, status_of_lines, sensing, configured, begun, BeginsTask, BeginsAsking, WaitsAtFirst, IsWritingData, IsFormattingTrack, Begins, ObeysAtRest, Obeys, Takes};
+ghost use Rattle.fdc_core.specs.Commands.{answered, status_of_lines, sensing, configured, begun, BeginsTask, BeginsAsking, Begins, ObeysAtRest, Obeys, Takes};
+ghost use Rattle.fdc_phases.specs.Commands.{IsReadingId, IsReadingData, IsWritingData, IsFormattingTrack};
 
-use crate::answers::Answer;
 use crate::controller::{Fdc, Lines};
-use crate::phases::{Execution, Phase, Reading, Task};
-use crate::sized_key::SizedKey;
-use crate::transfers::{Formatting, Writing};
 use fdc_commands::{Accepted, Command};
+use fdc_phases::{
+    Answer, Execution, Phase, Task, formatting_track, reading_data, reading_id, writing_data,
+};
 use fdc_registers::{Flags, St3};
-use fdc_stages::{ReadStage, Search};
-use fdc_writing::{FormatStage, WriteStage};
 use flop_base::Chrn;
 
 /// The only result byte of a command that is invalid.
@@ -226,65 +224,5 @@ impl Fdc {
                 task,
             },
         };
-    }
-}
-
-/// READ ID as it begins.
-fn reading_id() -> Task
-    ensures is { (head_drive : ℕ) → IsReadingId head_drive result }
-    ensures waits { WaitsAtFirst result }
-{
-    Task::ReadId {
-        search: Search::new(),
-    }
-}
-
-/// READ DATA as it begins.
-fn reading_data(key: Chrn, last_sector: u8) -> Task
-    requires { IsSizeCode key.n }
-    ensures is { (head_drive : ℕ)
-        → IsReadingData (record { head_drive = head_drive; key = key; last_sector = last_sector }) result }
-    ensures waits { WaitsAtFirst result }
-{
-    Task::Read {
-        reading: Reading {
-            wanted: SizedKey { key },
-            last_sector,
-            counted: false,
-            stage: ReadStage::new(),
-        },
-    }
-}
-
-/// WRITE DATA or WRITE DELETED as it begins.
-fn writing_data(key: Chrn, last_sector: u8, deleted: bool) -> Task
-    requires { IsSizeCode key.n }
-    ensures is { (head_drive : ℕ)
-        → IsWritingData (record { head_drive = head_drive; key = key; last_sector = last_sector }) deleted result }
-    ensures waits { WaitsAtFirst result }
-{
-    Task::Write {
-        writing: Writing {
-            wanted: SizedKey { key },
-            deleted,
-            last_sector,
-            counted: false,
-            stage: WriteStage::new(),
-        },
-    }
-}
-
-/// FORMAT TRACK as it begins.
-fn formatting_track(n: u8, sectors: u8, gap3: u8, fill: u8) -> Task
-    requires { IsSizeCode n }
-    ensures is { (head_drive : ℕ)
-        → IsFormattingTrack head_drive (record { n = n; sectors = sectors; gap3 = gap3; fill = fill }) result }
-    ensures waits { WaitsAtFirst result }
-{
-    Task::Format {
-        formatting: Formatting {
-            counted: false,
-            stage: FormatStage::new(n, sectors, gap3, fill),
-        },
     }
 }

@@ -1,16 +1,19 @@
 // The controller's side of the DMA channel.
 ghost use Rattle.std.specs.Prelude.{◌≡◌, ℕ, Bool, IsTrue, IsFalse};
 ghost use Rattle.fdc_stages.specs.History.{Past};
-ghost use Rattle.fdc_core.specs.Heard.{Sent, MayRead, gave, told_in};
+ghost use Rattle.fdc_core.specs.Heard.{MayRead};
+ghost use Rattle.fdc_phases.specs.Heard.{Sent, gave, told_in};
 ghost use Rattle.fdc_core.specs.Listening.{is_executing};
 ghost use Rattle.fdc_core.specs.State.{asks};
 ghost use Rattle.fdc_core.specs.Waiting.{CanWait, Feeds};
-ghost use Rattle.fdc_core.specs.Written.{MayWrite, MayFormat, took};
+ghost use Rattle.fdc_core.specs.Written.{MayWrite, MayFormat};
+ghost use Rattle.fdc_phases.specs.Written.{took};
 ghost use Rattle.fdc_writing.specs.Formats.{Numbers};
-ghost use Rattle.fdc_core.specs.Dma.{asked, byte_out, taken_out, taken_in, with_byte, told_count, told_to, task_asks, to_memory_of};
+ghost use Rattle.fdc_core.specs.Dma.{asked, byte_out, taken_out, taken_in, with_byte, told_count, told_to, to_memory_of};
+ghost use Rattle.fdc_phases.specs.Dma.{task_asks};
 
 use crate::controller::Fdc;
-use crate::phases::{Execution, Phase, Task};
+use fdc_phases::{Execution, Phase, Task};
 
 /// What a transfer from an empty FIFO would give.
 const NOTHING: u8 = 0xFF;

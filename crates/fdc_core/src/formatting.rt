@@ -2,15 +2,16 @@
 ghost use Rattle.std.specs.Prelude.{◌≡◌, ◌<◌, ◌+◌, Bool, true, false};
 ghost use Rattle.drive_model.specs.Drive.{rate_of};
 ghost use Rattle.fdc_writing.specs.Formats.{opens, is_due};
-ghost use Rattle.fdc_core.specs.Rates.{rate_fits};
+ghost use Rattle.fdc_phases.specs.Rates.{rate_fits};
 ghost use Rattle.fdc_writing.specs.declared.formatting.FormatNext.{FormatNext};
-ghost use Rattle.fdc_core.specs.Formatting.{IsFormatStep, IsFormatTime, AwaitsIndex, LaysByte, StageHearsIndex, after_laid, is_ended};
+ghost use Rattle.fdc_core.specs.Formatting.{IsFormatStep, IsFormatTime, AwaitsIndex, LaysByte, after_laid};
+ghost use Rattle.fdc_phases.specs.Formatting.{StageHearsIndex};
 
 use crate::controller::Fdc;
-use crate::phases::{LAST_STEP, NO_KEY, Task, head_of};
-use crate::transfers::Formatting;
+use crate::steps::listen;
 use crate::writing::{close_behind, open_before};
 use drive_model::Drive;
+use fdc_phases::{Formatting, LAST_STEP, NO_KEY, Task, head_of, is_format_over};
 use fdc_stages::Ending;
 use fdc_writing::FormatNext;
 
@@ -65,7 +66,7 @@ impl Fdc {
         requires { steps < 65535 }
         ensures { AwaitsIndex head_drive steps formatting self.old (D.state drive.old) (D.state drive.new) self.new }
     {
-        let passing = self.listen(head_of(head_drive), drive);
+        let passing = listen(self.rate, head_of(head_drive), drive);
         let next = formatting.stage.hear(passing.index);
         self.follow_formatting(head_drive, steps + 1, formatting, next);
     }
@@ -133,7 +134,7 @@ impl Fdc {
         let given = formatting.stage.write(byte);
         let index = drive.write_word(head_of(head_drive), given.word);
         let next = given.after(index);
-        close_behind(is_ended(next), drive);
+        close_behind(is_format_over(next), drive);
         self.follow_formatting(head_drive, steps + 1, formatting, next);
     }
 
@@ -158,11 +159,4 @@ impl Fdc {
             FormatNext::Ended { ending, key } => self.finish(ending, head_drive, key),
         }
     }
-}
-
-/// Whether the FORMAT is over.
-fn is_ended(next: FormatNext) -> bool
-    ensures { result ≡ is_ended next }
-{
-    matches!(next, FormatNext::Ended { .. })
 }

@@ -3,7 +3,8 @@
 ghost use Rattle.std.specs.Prelude.{◌≡◌, ℕ, Bool, false};
 ghost use Rattle.track_model.specs.Fields.{IsSizeCode};
 ghost use Rattle.fdc_stages.specs.History.{Past};
-ghost use Rattle.fdc_core.specs.Heard.{Sent, MayRead, MayReadId};
+ghost use Rattle.fdc_core.specs.Heard.{MayRead, MayReadId};
+ghost use Rattle.fdc_phases.specs.Heard.{Sent};
 ghost use Rattle.fdc_core.specs.Meaning.{ReadTells, ReadGives, IdTells, Paced};
 ghost use Rattle.fdc_writing.specs.Formats.{Numbers};
 ghost use Rattle.fdc_core.specs.Ports.{Gives, value_read, after_read};

@@ -4,8 +4,7 @@ ghost use Rattle.fdc_core.specs.Written.{KeepsKnown};
 ghost use Rattle.fdc_core.specs.Ports.{is_taking, main_status, line_bits, result_byte, given, dor_written, dsr_written, resets, Writes, value_read, after_read};
 
 use crate::controller::{Fdc, Lines};
-use crate::phases::Phase;
-use crate::rates::DataRate;
+use fdc_phases::{DataRate, Phase};
 use fdc_registers::ports::{CCR, DATA, DIR, DOR, DSR, MSR};
 use fdc_registers::{Dir, Dor, Flags, Msr};
 

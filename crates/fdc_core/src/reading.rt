@@ -4,7 +4,7 @@ ghost use Rattle.fdc_core.specs.Dma.{gone_on};
 ghost use Rattle.fdc_core.specs.Reading.{followed_id, followed, failure_of, with_heard, settled, IsReadingTo};
 
 use crate::controller::Fdc;
-use crate::phases::{Execution, NO_KEY, Phase, Task};
+use fdc_phases::{Execution, NO_KEY, Phase, Task};
 use fdc_stages::{Ending, ReadHeard, Searched};
 use flop_base::Chrn;
 

@@ -3,16 +3,17 @@ ghost use Rattle.std.specs.Prelude.{◌≡◌, ◌==◌, false};
 ghost use Rattle.drive_model.specs.Drive.{Becomes, at_index};
 ghost use Rattle.fdc_seek.specs.Seeking.{pulse_due};
 ghost use Rattle.fdc_core.specs.Listening.{Listens, ListensToNone, SeesUnder, HearsIn, HasStepsLeft};
+ghost use Rattle.fdc_core.specs.State.{finished};
 ghost use Rattle.fdc_core.specs.Steps.{polled, seek_stepped, let_pass, Rests, Moves, MovesDrive, Ends, Stays, Flows};
-ghost use Rattle.fdc_core.specs.Tasks.{IsListenStep, ExecutionSteps, WritingSteps, TaskStepsNowhere, StepsNowhere};
+ghost use Rattle.fdc_core.specs.Tasks.{IsListenStep, ExecutionSteps, TaskStepsNowhere, StepsNowhere};
 ghost use Rattle.fdc_core.specs.Waiting.{LastsOn, Feeds};
 ghost use Rattle.fdc_core.specs.Writes.{WritesOn};
 
 use crate::controller::Fdc;
-use crate::phases::{Execution, LAST_STEP, Phase, Task, head_of};
-use crate::writing::let_pass;
 use drive_model::{Drive, Turn};
-use fdc_stages::Ending;
+use fdc_phases::{DataRate, Execution, LAST_STEP, Phase, Task, head_of, is_last};
+use fdc_stages::{Ending, ReadHeard};
+use flop_base::Chrn;
 
 /// What passes where no drive is selected.
 const NOTHING: Turn = Turn {
@@ -139,9 +140,50 @@ impl Fdc {
         pulse
     }
 
-    /// A device step of a data command, by its task. The usual step of a write that searches hears a word in place.
+    /// A device step of a data command. The usual one, in which a word passes by a READ DATA that searches, is made in place: nothing
+    /// is copied, and no other call is made.
     #[inline(never)]
     fn execute<D: Drive>(&mut self, drive: &mut D)
+        ensures { ExecutionSteps self.old.phase self.old (D.state drive.old) (D.state drive.new) self.new }
+    {
+        match &mut self.phase {
+            Phase::Execute { execution } => match &mut execution.task {
+                Task::Read { reading } => {
+                    let head_drive = execution.head_drive;
+                    let steps = execution.steps;
+                    if is_last(steps) {
+                        self.execute_any(drive);
+                    } else {
+                        let passing = listen(self.rate, head_of(head_drive), drive);
+                        if reading.stage.pass_by(passing.word, passing.index) {
+                            execution.steps = steps + 1;
+                            let key = reading.wanted.key;
+                            let counted = reading.counted;
+                            let over = reading.is_over();
+                            self.follow(head_drive, key, counted, ReadHeard::On, over);
+                        } else {
+                            self.hear_seen(passing);
+                        }
+                    }
+                }
+                _ => self.execute_any(drive),
+            },
+            _ => {}
+        }
+    }
+
+    /// READ DATA hears a word that didn't pass by.
+    #[inline(never)]
+    fn hear_seen(&mut self, passing: Turn)
+        requires { HasStepsLeft self.old.phase }
+        ensures { HearsIn self.old.phase passing.index passing.word self.old self.new }
+    {
+        self.hear(passing);
+    }
+
+    /// A device step of a data command, by its task. The usual step of a write that searches hears a word in place.
+    #[inline(never)]
+    fn execute_any<D: Drive>(&mut self, drive: &mut D)
         ensures { ExecutionSteps self.old.phase self.old (D.state drive.old) (D.state drive.new) self.new }
     {
         match &self.phase {
@@ -157,30 +199,9 @@ impl Fdc {
                         if writing.only_hears(steps) {
                             self.hear_writing(head_drive, drive);
                         } else {
-                            self.transfer(drive);
+                            let writing = *writing;
+                            self.step_writing(head_drive, steps, writing, drive);
                         }
-                    }
-                    Task::Format { .. } => self.transfer(drive),
-                }
-            }
-            _ => {}
-        }
-    }
-
-    /// A device step of a command that writes, by its task.
-    #[inline(never)]
-    fn transfer<D: Drive>(&mut self, drive: &mut D)
-        ensures { WritingSteps self.old.phase self.old (D.state drive.old) (D.state drive.new) self.new }
-    {
-        match &self.phase {
-            Phase::Execute { execution } => {
-                let head_drive = execution.head_drive;
-                let steps = execution.steps;
-                match &execution.task {
-                    Task::ReadId { .. } | Task::Read { .. } => {}
-                    Task::Write { writing } => {
-                        let writing = *writing;
-                        self.step_writing(head_drive, steps, writing, drive);
                     }
                     Task::Format { formatting } => {
                         let formatting = *formatting;
@@ -224,7 +245,7 @@ impl Fdc {
             self.stop(Ending::Late, head_drive, task.key_as_sent(), drive);
             return;
         }
-        let passing = self.listen(head_of(head_drive), drive);
+        let passing = listen(self.rate, head_of(head_drive), drive);
         self.hear(passing);
     }
 
@@ -257,22 +278,46 @@ impl Fdc {
         }
     }
 
-    /// The word that the controller sees in this word time: 0000 where its rate isn't the medium's. The gate is closed.
-    #[inline(always)]
-    pub(crate) fn listen<D: Drive>(&self, head: u8, drive: &mut D) -> Turn
-        ensures word { SeesUnder self.now.rate head (D.state drive.old) result.word (D.state drive.new) }
-        ensures index { result.index ≡ at_index (D.state drive.old) }
+    /// The command ends in this step: the gate is closed, and no word is read or written.
+    #[inline(never)]
+    pub(crate) fn stop<D: Drive>(
+        &mut self,
+        ending: Ending,
+        head_drive: u8,
+        key: Chrn,
+        drive: &mut D,
+    )
+        ensures state { self.new ≡ finished ending head_drive key self.old }
         ensures drive { Becomes (let_pass (D.state drive.old)) (D.state drive.old) (D.state drive.new) }
     {
-        drive.gate(false);
-        let fits = self.rate.fits(drive.rate());
-        let passing = drive.read_word(head);
-        if fits {
-            return passing;
-        }
-        Turn {
-            word: 0,
-            index: passing.index,
-        }
+        let_pass(drive);
+        self.finish(ending, head_drive, key);
     }
+}
+
+/// The word that a controller of this rate sees in this word time: 0000 where its rate isn't the medium's. The gate is closed.
+#[inline(always)]
+pub(crate) fn listen<D: Drive>(rate: DataRate, head: u8, drive: &mut D) -> Turn
+    ensures word { SeesUnder rate head (D.state drive.old) result.word (D.state drive.new) }
+    ensures index { result.index ≡ at_index (D.state drive.old) }
+    ensures drive { Becomes (let_pass (D.state drive.old)) (D.state drive.old) (D.state drive.new) }
+{
+    drive.gate(false);
+    let fits = rate.fits(drive.rate());
+    let passing = drive.read_word(head);
+    if fits {
+        return passing;
+    }
+    Turn {
+        word: 0,
+        index: passing.index,
+    }
+}
+
+/// A word time in which no word is read or written, with the gate closed.
+fn let_pass<D: Drive>(drive: &mut D)
+    ensures { Becomes (let_pass (D.state drive.old)) (D.state drive.old) (D.state drive.new) }
+{
+    drive.gate(false);
+    drive.pass();
 }

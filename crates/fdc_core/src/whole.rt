@@ -6,8 +6,8 @@ ghost use Rattle.fdc_seek.specs.Seeking.{has_ended_seek};
 
 use crate::commands::INVALID;
 use crate::controller::{Fdc, Lines};
-use crate::phases::Phase;
 use fdc_commands::{Accepted, Command, CommandBytes};
+use fdc_phases::Phase;
 use fdc_stages::Ending;
 
 impl Fdc {

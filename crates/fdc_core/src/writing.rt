@@ -1,21 +1,19 @@
 // WRITE DATA and WRITE DELETED, word by word.
 ghost use Rattle.std.specs.Prelude.{◌≡◌, ◌<◌, ◌+◌, ℕ, true, false};
-ghost use Rattle.drive_model.specs.Drive.{Becomes, rate_of};
+ghost use Rattle.drive_model.specs.Drive.{rate_of};
 ghost use Rattle.fdc_writing.specs.Writings.{opens, is_due};
-ghost use Rattle.fdc_core.specs.Rates.{rate_fits};
-ghost use Rattle.fdc_core.specs.State.{finished};
-ghost use Rattle.fdc_core.specs.Steps.{let_pass};
+ghost use Rattle.fdc_phases.specs.Rates.{rate_fits};
 ghost use Rattle.fdc_core.specs.Times.{Opens, Closes};
 ghost use Rattle.fdc_core.specs.Listening.{HasStepsLeft};
-ghost use Rattle.fdc_core.specs.Writing.{IsWritingAt, HearsToWrite, gone_or_over, IsWriteStep, IsWriteTime, HearsAWord, PutsByte, after_next, byte_taken, without_byte, is_ended};
+ghost use Rattle.fdc_core.specs.Writing.{HearsToWrite, gone_or_over, IsWriteStep, IsWriteTime, HearsAWord, PutsByte, after_next, byte_taken, without_byte};
+ghost use Rattle.fdc_phases.specs.Writing.{IsWritingAt};
 
 use crate::controller::Fdc;
-use crate::phases::{End, LAST_STEP, Phase, Task, head_of};
-use crate::transfers::Writing;
+use crate::steps::listen;
 use drive_model::{Drive, Turn};
+use fdc_phases::{End, LAST_STEP, Phase, Task, Writing, head_of, is_write_over};
 use fdc_stages::Ending;
 use fdc_writing::WriteNext;
-use flop_base::Chrn;
 
 /// What is recorded where no byte is needed, or where none came before the terminal count.
 const NO_BYTE: u8 = 0x00;
@@ -63,7 +61,7 @@ impl Fdc {
         ensures { (steps : ℕ) (writing : Writing) → IsWritingAt head_drive steps writing self.old.phase
             → HearsAWord head_drive steps writing self.old (D.state drive.old) (D.state drive.new) self.new }
     {
-        let passing = self.listen(head_of(head_drive), drive);
+        let passing = listen(self.rate, head_of(head_drive), drive);
         self.hear_to_write(passing);
     }
 
@@ -151,7 +149,7 @@ impl Fdc {
             .write(writing.wanted.key, writing.deleted, byte);
         let index = drive.write_word(head_of(head_drive), given.word);
         let next = given.after(index, writing.counted);
-        close_behind(is_ended(next), drive);
+        close_behind(is_write_over(next), drive);
         self.follow_writing(head_drive, steps + 1, writing, next);
     }
 
@@ -186,29 +184,6 @@ impl Fdc {
             None => None,
         }
     }
-
-    /// The command ends in this step: the gate is closed, and no word is read or written.
-    #[inline(never)]
-    pub(crate) fn stop<D: Drive>(
-        &mut self,
-        ending: Ending,
-        head_drive: u8,
-        key: Chrn,
-        drive: &mut D,
-    )
-        ensures state { self.new ≡ finished ending head_drive key self.old }
-        ensures drive { Becomes (let_pass (D.state drive.old)) (D.state drive.old) (D.state drive.new) }
-    {
-        let_pass(drive);
-        self.finish(ending, head_drive, key);
-    }
-}
-
-/// Whether the write is over.
-fn is_ended(next: WriteNext) -> bool
-    ensures { result ≡ is_ended next }
-{
-    matches!(next, WriteNext::Ended(_))
 }
 
 /// Opens the gate, where the word is the first.
@@ -227,12 +202,4 @@ pub(crate) fn close_behind<D: Drive>(last: bool, drive: &mut D)
     if last {
         drive.gate(false);
     }
-}
-
-/// A word time in which no word is read or written, with the gate closed.
-pub(crate) fn let_pass<D: Drive>(drive: &mut D)
-    ensures { Becomes (let_pass (D.state drive.old)) (D.state drive.old) (D.state drive.new) }
-{
-    drive.gate(false);
-    drive.pass();
 }

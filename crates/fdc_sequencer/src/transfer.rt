@@ -4,7 +4,7 @@ ghost use Rattle.fdc_sequencer.specs.Transfers.{transfer_of, command_of, next_of
 
 use crate::opcode::{Opcode, Operation};
 use fdc_commands::{Command, Results};
-use fdc_core::results;
+use fdc_phases::results;
 use fdc_registers::{Flags, St2};
 use fdc_stages::Ending;
 use flop_base::Chrn;

@@ -5,11 +5,11 @@ use Rattle.flop_base.specs.declared.key.Chrn.{Chrn}
 use Rattle.track_model.specs.Marks.{IsAddressMark}
 use Rattle.track_model.specs.Looks.{HasAddressMark}
 use Rattle.track_separator.specs.declared.state.Seen.{Seen}
-use Rattle.track_separator.specs.declared.state.Seen.TheVariants.{Mark, Address}
+use Rattle.track_separator.specs.declared.state.Seen.TheVariants.{Nothing, Mark, Address}
 use Rattle.track_separator.specs.declared.state.Separator.{Separator}
 use Rattle.track_separator.specs.Parts.{with_word, turn_after, EndsInLast}
 use Rattle.track_separator.specs.Hunts.{SHunts, SFollows, SHuntSeen, GivesAll, Stands}
-use Rattle.track_separator.specs.Turns.{SBegins}
+use Rattle.track_separator.specs.Turns.{SBegins, IsHunted}
 use Rattle.track_separator.proofs.Lawful.{part_with_word, mark_stays, no_run_stood, mark_old_or_new, address_old_or_new, follows_hunts}
 use Rattle.fdc_stages.specs.History.{Past, heard}
 use Rattle.fdc_stages.proofs.Lawful.{turned_few}
@@ -148,3 +148,15 @@ met_of true past word wanted old new turned marked event key searching stands ad
         begins = begins refl;
       },
     )
+
+-- ---- a word in which nothing is seen
+
+stays_marked : (marked : Bool) → MatchBool marked ((marked ≡ true) ⊎ (Nothing ≡ Mark)) ((marked ≡ false) × (Nothing ≡ Mark → ⊥))
+stays_marked true = inl refl
+stays_marked false = (refl, λ is. absurd (cc is))
+
+pub passes_by : (past : Past) (word : ℕ) (wanted : Option Chrn) (old new : Separator) (turned marked : Bool) → IsHunted old word new Nothing → IsSearchingIn past.turns past.seen wanted old turned marked
+    → IsSearchingIn (heard false word past).turns (heard false word past).seen wanted new turned marked
+passes_by past word wanted old new turned marked hunted searching =
+    on_within false past word wanted new turned marked refl
+    (passed_of false past word wanted old new turned marked marked Nothing searching hunted.follows hunted.gives (λ fed hunts. tt) (λ key is wants. absurd (cc is)) (stays_marked marked))

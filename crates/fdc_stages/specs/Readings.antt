@@ -13,7 +13,7 @@ use Rattle.fdc_stages.specs.declared.reading.ReadStage.{ReadStage}
 use Rattle.fdc_stages.specs.declared.reading.ReadStage.TheVariants.{Search, Wait, Content, Over}
 use Rattle.fdc_stages.specs.declared.reading.ReadHeard.{ReadHeard}
 use Rattle.fdc_stages.specs.declared.reading.ReadHeard.TheVariants as given
-use Rattle.fdc_stages.specs.History.{Past, IsTurn, IsJustOver, HasFewTurns}
+use Rattle.fdc_stages.specs.History.{Past, heard, IsTurn, IsJustOver, HasFewTurns}
 use Rattle.fdc_stages.specs.Searches.{IsSearching, IsMissed}
 
 -- the bytes are all of these, or after the terminal count the first of them
@@ -146,3 +146,9 @@ abbrev pub KeepsMark : ReadStage → ReadOutcome → Type 0
 KeepsMark (Content separator deleted) after = HasMark deleted after
 KeepsMark (Over deleted good) after = HasMark deleted after
 KeepsMark _ after = Unit {0}
+
+-- a word of a search in which nothing is seen, and behind which no index passes, whatever was heard before
+abbrev pub PassesBy : ℕ → ReadStage → ReadStage → Type 0
+PassesBy word stage next =
+    ((past : Past) (key : Chrn) (told : List ℕ) → IsReading past key told stage → IsReading (heard false word past) key told next)
+    × KeepsMark stage (On next)

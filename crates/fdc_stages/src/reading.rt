@@ -1,10 +1,10 @@
 // The stages of a reading.
-ghost use Rattle.std.specs.Prelude.{◌≡◌, ◌≤◌, ℕ, Bool, List, [], length, Some};
+ghost use Rattle.std.specs.Prelude.{◌≡◌, ◌≤◌, ℕ, Bool, true, false, List, [], length, Some};
 ghost use Rattle.track_model.specs.Fields.{IsSizeCode, content_size, IsAddressAt};
 ghost use Rattle.flop_base.specs.declared.key.Chrn.{Chrn};
 ghost use Rattle.fdc_stages.specs.History.{Past, begun, heard};
 ghost use Rattle.fdc_stages.specs.Searches.{IsMet, IsSearching};
-ghost use Rattle.fdc_stages.specs.Readings.{IsOver, IsWaitingAt, IsContentAt, IsReading, HasRead, read_outcome, HasHeard, FailsWell, IsFailure, KeepsMark};
+ghost use Rattle.fdc_stages.specs.Readings.{IsOver, IsWaitingAt, IsContentAt, IsReading, HasRead, read_outcome, HasHeard, FailsWell, IsFailure, KeepsMark, PassesBy};
 
 use crate::ending::Ending;
 use crate::searching::{Search, Searched};
@@ -70,6 +70,19 @@ impl ReadStage {
                 _ => ReadHeard::On,
             },
             ReadStage::Over { .. } => ReadHeard::On,
+        }
+    }
+
+    /// Hears a word of a search in which nothing is seen and behind which no index passes, and tells whether it was one: else
+    /// nothing changes, and `hear` has to.
+    #[inline(always)]
+    pub fn pass_by(&mut self, word: u16, index: bool) -> bool
+        ensures passed { result ≡ true → (index ≡ false) × PassesBy word self.old self.new }
+        ensures others { result ≡ false → self.new ≡ self.old }
+    {
+        match self {
+            ReadStage::Search(search) => search.pass_by(word, index),
+            _ => false,
         }
     }
 

@@ -109,6 +109,20 @@ impl Search {
         }
     }
 
+    /// Hears a word in which nothing is seen and behind which no index passes, and tells whether it was one: else nothing changes,
+    /// and `hear` has to.
+    #[inline(always)]
+    pub fn pass_by(&mut self, word: u16, index: bool) -> bool
+        ensures passed { result ≡ true → (index ≡ false)
+            × ((past : Past) (wanted : Option Chrn) → IsSearching past wanted self.old → IsSearching (heard false word past) wanted self.new) }
+        ensures others { result ≡ false → self.new ≡ self.old }
+    {
+        if index {
+            return false;
+        }
+        self.separator.pass_by(word)
+    }
+
     /// Goes on searching behind a word in which nothing was met, unless the second index followed it.
     fn go_on(&mut self, index: bool) -> Searched
         ensures hears { (past : Past) (word : ℕ) (wanted : Option Chrn)

@@ -10,8 +10,8 @@ use Rattle.fdc_core.specs.Ports.{Writes, takes_in, is_taking}
 use Rattle.fdc_core.specs.State.{is_held, dor_of}
 use Rattle.fdc_core.specs.declared.controller.Fdc.{Fdc}
 use Rattle.fdc_core.specs.declared.controller.Lines.{Lines}
-use Rattle.fdc_core.specs.declared.phases.Phase.{Phase}
-use Rattle.fdc_core.specs.declared.phases.Phase.TheVariants as phase
+use Rattle.fdc_phases.specs.declared.phases.Phase.{Phase}
+use Rattle.fdc_phases.specs.declared.phases.Phase.TheVariants as phase
 use Rattle.pc_bus.specs.Boards.{Board, controller_of, lines_of, lines_of_drive, absent_lines}
 use Rattle.pc_bus.specs.Ports.{Outputs}
 use Rattle.machine_commands.proofs.Idling.{IsResting, KeepsDrive, KeepsAll, Idles}

@@ -7,7 +7,7 @@ use Rattle.fdc_seek.specs.Seeking.{is_seeking, sensed, after_sense}
 use Rattle.fdc_core.specs.Commands.{answered, sensing_by}
 use Rattle.fdc_core.specs.Ports.{given, result_byte}
 use Rattle.fdc_core.specs.declared.controller.Fdc.{Fdc}
-use Rattle.fdc_core.specs.declared.phases.Phase.TheVariants.{Command}
+use Rattle.fdc_phases.specs.declared.phases.Phase.TheVariants.{Command}
 use Rattle.pc_bus.specs.Boards.{Board, controller_of}
 use Rattle.machine_commands.proofs.Idling.{IsResting, Idles}
 use Rattle.machine_commands.specs.Sending.{Senses, TakesNumber}

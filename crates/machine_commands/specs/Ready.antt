@@ -4,7 +4,7 @@ use Rattle.drive_model.specs.Drive.{InRange}
 use Rattle.fdc_seek.specs.Seeking.{Seeking}
 use Rattle.fdc_core.specs.State.{dor_of}
 use Rattle.fdc_core.specs.declared.controller.Fdc.{Fdc}
-use Rattle.fdc_core.specs.declared.phases.Phase.TheVariants.{Command}
+use Rattle.fdc_phases.specs.declared.phases.Phase.TheVariants.{Command}
 use Rattle.pc_bus.specs.Boards.{Board, controller_of, latch_of}
 use Rattle.machine_commands.specs.declared.motors.Motors.{Motors}
 

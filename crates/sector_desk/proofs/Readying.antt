@@ -8,8 +8,8 @@ use Rattle.drive_model.specs.PlainDrive.{plain_state}
 use Rattle.drive_model.specs.declared.plain.PlainDrive.{PlainDrive}
 use Rattle.fdc_core.specs.State.{dor_of}
 use Rattle.fdc_core.specs.declared.controller.Fdc.{Fdc}
-use Rattle.fdc_core.specs.declared.phases.Phase.{Phase}
-use Rattle.fdc_core.specs.declared.phases.Phase.TheVariants.{Command, Execute, Result}
+use Rattle.fdc_phases.specs.declared.phases.Phase.{Phase}
+use Rattle.fdc_phases.specs.declared.phases.Phase.TheVariants.{Command, Execute, Result}
 use Rattle.fdc_seek.specs.Seeking.{Seeking}
 use Rattle.pc_bus.specs.Boards.{Board, controller_of}
 use Rattle.machine_commands.specs.Ready.{AreSeeksOver, HasMotors, IsIdle, IsReady, dor_with}

@@ -5,9 +5,9 @@ use Rattle.std.specs.List.{list_any}
 use Rattle.fdc_seek.specs.Seeking.{with_polls}
 use Rattle.fdc_core.specs.State.{is_held}
 use Rattle.fdc_core.specs.Steps.{RestsIn, polled}
-use Rattle.fdc_core.specs.declared.answers.Answer.TheVariants.{Short}
+use Rattle.fdc_phases.specs.declared.answers.Answer.TheVariants.{Short}
 use Rattle.fdc_core.specs.declared.controller.Fdc.{Fdc}
-use Rattle.fdc_core.specs.declared.phases.Phase.TheVariants.{Result}
+use Rattle.fdc_phases.specs.declared.phases.Phase.TheVariants.{Result}
 use Rattle.fdc_board.specs.Boards.{BoardState, StepsBoard, selected_at}
 use Rattle.sequencer_laws.specs.Calls.{AreWithin, Behind, Call, Changes, Counts, Does, Gives, Reads, Steps, Takes, Writes, is_count, passed_by, passed_in_all}
 use Rattle.fdc_sequencer.specs.Fronts.{Front, KeepsFront}

@@ -7,8 +7,8 @@ use Rattle.track_model.specs.Fields.{IsSizeCode, content_size}
 use Rattle.fdc_stages.specs.History.{Past, begun as new_past}
 use Rattle.fdc_stages.specs.declared.ending.Ending.TheVariants.{Done}
 use Rattle.fdc_writing.specs.Writings.{WritesWhole}
-use Rattle.fdc_core.specs.Heard.{Sent, told_in}
-use Rattle.fdc_core.specs.Written.{IsContent}
+use Rattle.fdc_phases.specs.Heard.{Sent, told_in}
+use Rattle.fdc_phases.specs.Written.{IsContent}
 use Rattle.fdc_sequencer.specs.Moves.{goes_on, has_met_other, would_go_on}
 use Rattle.sequencer_laws.specs.Serving.{Accounts, AreAll, AreLeft, AreMoved, History, IsMoved, IsOfOther, IsWholeField, Means, Part, all_bytes, bytes_moved, bytes_of_parts, has_other, sector_after, sent_of}
 use Rattle.fdc_sequencer.specs.Transfers.{is_last, is_other, is_skipping, next_cylinder, next_of, next_record, other_head, size_of}

@@ -8,14 +8,14 @@ use Rattle.fdc_commands.specs.Table.{answer, is_begun, kept}
 use Rattle.fdc_commands.specs.declared.bytes.Accepted.{Accepted}
 use Rattle.fdc_commands.specs.declared.bytes.Accepted.TheVariants.{More, Ready, Invalid}
 use Rattle.fdc_core.specs.Ports.{Writes, dor_resets, dsr_resets, is_taking, resets, takes_in}
-use Rattle.fdc_core.specs.Rates.{rate_chosen}
+use Rattle.fdc_phases.specs.Rates.{rate_chosen}
 use Rattle.fdc_core.specs.State.{is_held, reset}
 use Rattle.fdc_core.specs.Steps.{RestsIn, polled}
 use Rattle.fdc_core.specs.Whole.{ending_told, is_idle, mark_of}
 use Rattle.fdc_core.specs.declared.controller.Fdc.{Fdc}
 use Rattle.fdc_core.specs.declared.controller.Lines.{Lines}
-use Rattle.fdc_core.specs.declared.phases.Phase.{Phase}
-use Rattle.fdc_core.specs.declared.phases.Phase.TheVariants.{Command, Execute, Result}
+use Rattle.fdc_phases.specs.declared.phases.Phase.{Phase}
+use Rattle.fdc_phases.specs.declared.phases.Phase.TheVariants.{Command, Execute, Result}
 use Rattle.fdc_board.specs.Boards.{BoardState, StepsBoard, WritesBoard, lines_at, selected_at}
 use Rattle.sequencer_laws.specs.Calls as call
 use Rattle.sequencer_laws.specs.Calls.{Call, Does, Waits, WaitsAt}

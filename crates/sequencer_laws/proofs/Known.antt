@@ -11,29 +11,32 @@ use Rattle.fdc_writing.specs.Writings.{is_due, is_open, opens}
 use Rattle.fdc_writing.specs.declared.writing.WriteNext.TheVariants.{On}
 use Rattle.fdc_writing.specs.declared.writing.WriteStage.{WriteStage}
 use Rattle.fdc_writing.specs.declared.writing.WriteStage.TheVariants as stage
-use Rattle.fdc_core.specs.Dma.{byte_out, phase_told, taken_out, taken_in, told_count, to_memory_of}
-use Rattle.fdc_core.specs.Heard.{Sent, MayReadIn, MayReadTask, gave, stepped, told_in}
+use Rattle.fdc_core.specs.Dma.{byte_out, taken_out, taken_in, told_count, to_memory_of}
+use Rattle.fdc_phases.specs.Dma.{phase_told}
+use Rattle.fdc_phases.specs.Heard.{Sent, MayReadIn, MayReadTask, gave, stepped, told_in}
 use Rattle.fdc_core.specs.Listening.{Follows, after_step, is_executing}
-use Rattle.fdc_core.specs.Phases.{is_reading}
+use Rattle.fdc_phases.specs.Phases.{is_reading, mark_of_phase}
 use Rattle.fdc_core.specs.Ports.{Writes, dor_resets, dsr_resets, resets}
-use Rattle.fdc_core.specs.Rates.{rate_chosen}
+use Rattle.fdc_phases.specs.Rates.{rate_chosen}
 use Rattle.fdc_core.specs.State.{asks, is_gated, is_held, reset}
 use Rattle.fdc_core.specs.Steps.{polled}
 use Rattle.fdc_core.specs.Tasks.{StepsNowhere, TaskStepsNowhere, WritesNowhere}
 use Rattle.fdc_core.specs.Times.{WordTime, Saw, KeptOut, Wrote, Stopped, after_time}
-use Rattle.fdc_core.specs.Whole.{mark_of, mark_of_phase}
+use Rattle.fdc_core.specs.Whole.{mark_of}
 use Rattle.fdc_core.specs.Writes.{WritesIn, WritesTask}
 use Rattle.fdc_core.specs.Writing.{WriteDoes, after_next}
-use Rattle.fdc_core.specs.Written.{MayWrite, MayWriteIn, MayWriteTask, took}
+use Rattle.fdc_core.specs.Written.{MayWrite}
+use Rattle.fdc_phases.specs.Written.{MayWriteIn, MayWriteTask, took}
 use Rattle.fdc_core.specs.declared.controller.Fdc.{Fdc}
 use Rattle.fdc_core.specs.declared.controller.Lines.{Lines}
-use Rattle.fdc_core.specs.declared.phases.Phase.{Phase}
-use Rattle.fdc_core.specs.declared.phases.Phase.TheVariants.{Command, Execute, Result as Telling}
-use Rattle.fdc_core.specs.declared.phases.Task.{Task}
-use Rattle.fdc_core.specs.declared.phases.Task.TheVariants.{ReadId, Read as ReadTask, Write as WriteTask, Format}
-use Rattle.fdc_core.specs.declared.transfers.Writing.{Writing}
+use Rattle.fdc_phases.specs.declared.phases.Phase.{Phase}
+use Rattle.fdc_phases.specs.declared.phases.Phase.TheVariants.{Command, Execute, Result as Telling}
+use Rattle.fdc_phases.specs.declared.phases.Task.{Task}
+use Rattle.fdc_phases.specs.declared.phases.Task.TheVariants.{ReadId, Read as ReadTask, Write as WriteTask, Format}
+use Rattle.fdc_phases.specs.declared.transfers.Writing.{Writing}
 use Rattle.fdc_core.proofs.MayRead.{out_reads, told_reads}
-use Rattle.fdc_core.proofs.MayWrite.{in_writes, rule_room, told_writes, writes_on}
+use Rattle.fdc_core.proofs.MayWrite.{in_writes, told_writes, writes_on}
+use Rattle.fdc_phases.proofs.AtFirst.{rule_room}
 use Rattle.fdc_board.specs.Boards.{BoardState, StepsBoard, selected_at}
 use Rattle.sequencer_laws.specs.Serving.{MayMove, bytes_moved}
 use Rattle.fdc_sequencer.specs.declared.opcode.Operation.{Operation}

@@ -12,20 +12,19 @@ use Rattle.fdc_stages.specs.declared.ending.Ending.{Ending}
 use Rattle.fdc_stages.specs.declared.ending.Ending.TheVariants.{Done, NoMark, NoSector, NoField, BadCheck, Overrun, NoCount, Protected, Late}
 use Rattle.fdc_stages.specs.declared.reading.ReadStage.{ReadStage}
 use Rattle.fdc_stages.specs.declared.reading.ReadStage.TheVariants.{Search, Wait, Content, Over}
-use Rattle.fdc_core.specs.Dma.{phase_told}
-use Rattle.fdc_core.specs.Heard.{MayReadIn, MayReadTask, Sent}
+use Rattle.fdc_phases.specs.Dma.{phase_told}
+use Rattle.fdc_phases.specs.Heard.{MayReadIn, MayReadTask, Sent}
 use Rattle.fdc_core.specs.Listening.{ExecutesTask, Follows, is_executing}
-use Rattle.fdc_core.specs.Phases.{ending_over, is_listening}
+use Rattle.fdc_phases.specs.Phases.{ending_over, is_listening, ending_of_phase, mark_in, mark_of_phase}
 use Rattle.fdc_core.specs.Reading.{after_heard, at_stage, gone_on_reading, is_full, over_or_on, pushed}
 use Rattle.fdc_core.specs.State.{finished}
-use Rattle.fdc_core.specs.Whole.{ending_of_phase, mark_in, mark_of_phase}
-use Rattle.fdc_core.specs.declared.answers.Answer.TheVariants.{Short, Long}
+use Rattle.fdc_phases.specs.declared.answers.Answer.TheVariants.{Short, Long}
 use Rattle.fdc_core.specs.declared.controller.Fdc.{Fdc}
-use Rattle.fdc_core.specs.declared.phases.Phase.{Phase}
-use Rattle.fdc_core.specs.declared.phases.Phase.TheVariants.{Command, Execute, Result as Telling}
-use Rattle.fdc_core.specs.declared.phases.Reading.{Reading}
-use Rattle.fdc_core.specs.declared.phases.Task.{Task}
-use Rattle.fdc_core.specs.declared.phases.Task.TheVariants.{ReadId, Read, Write, Format}
+use Rattle.fdc_phases.specs.declared.phases.Phase.{Phase}
+use Rattle.fdc_phases.specs.declared.phases.Phase.TheVariants.{Command, Execute, Result as Telling}
+use Rattle.fdc_phases.specs.declared.transfers.Reading.{Reading}
+use Rattle.fdc_phases.specs.declared.phases.Task.{Task}
+use Rattle.fdc_phases.specs.declared.phases.Task.TheVariants.{ReadId, Read, Write, Format}
 use Rattle.fdc_core.proofs.MayRead.{starts, starts_given}
 
 -- ---- as the command goes on, and as it ends

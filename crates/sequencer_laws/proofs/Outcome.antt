@@ -8,8 +8,8 @@ use Rattle.fdc_stages.specs.Findings.{FindsSector}
 use Rattle.fdc_stages.specs.declared.ending.Ending.{Ending}
 use Rattle.fdc_stages.specs.declared.ending.Ending.TheVariants.{Done, NoMark, NoSector, NoField, BadCheck, Overrun, NoCount, Protected, Late}
 use Rattle.fdc_commands.specs.declared.results.Results.{Results}
-use Rattle.fdc_core.specs.Heard.{Sent}
-use Rattle.fdc_core.specs.Written.{IsContent}
+use Rattle.fdc_phases.specs.Heard.{Sent}
+use Rattle.fdc_phases.specs.Written.{IsContent}
 use Rattle.fdc_core.specs.declared.controller.Fdc.{Fdc}
 use Rattle.fdc_sequencer.specs.Fronts.{Front}
 use Rattle.fdc_sequencer.specs.Moves.{goes_on, has_met_other, results_behind, results_failed, would_go_on}

@@ -10,18 +10,19 @@ use Rattle.fdc_commands.specs.Table.{kept}
 use Rattle.fdc_commands.specs.declared.bytes.Accepted.TheVariants.{Ready}
 use Rattle.fdc_commands.specs.declared.results.Results.{Results}
 use Rattle.fdc_core.specs.Dma.{byte_out, taken_in, taken_out, to_memory_of, told_count}
-use Rattle.fdc_core.specs.Heard.{MayReadIn, Sent, results_sent, told_in}
+use Rattle.fdc_phases.specs.Heard.{MayReadIn, Sent, results_sent, told_in}
 use Rattle.fdc_core.specs.Listening.{is_executing}
 use Rattle.fdc_core.specs.Meaning.{AreOfField, ReadMeans, ReadMeansIn, bytes_held}
 use Rattle.fdc_core.specs.Ports.{resets}
 use Rattle.fdc_core.specs.State.{asks}
 use Rattle.fdc_core.specs.Tellings.{WriteMeans, WriteMeansIn}
-use Rattle.fdc_core.specs.Whole.{ending_of_phase, ending_told, given_up, is_idle, mark_of, without_seek}
-use Rattle.fdc_core.specs.Written.{MayWriteIn}
-use Rattle.fdc_core.specs.declared.answers.Answer.TheVariants.{Short, Long}
+use Rattle.fdc_core.specs.Whole.{ending_told, given_up, is_idle, mark_of, without_seek}
+use Rattle.fdc_phases.specs.Phases.{ending_of_phase}
+use Rattle.fdc_phases.specs.Written.{MayWriteIn}
+use Rattle.fdc_phases.specs.declared.answers.Answer.TheVariants.{Short, Long}
 use Rattle.fdc_core.specs.declared.controller.Fdc.{Fdc}
-use Rattle.fdc_core.specs.declared.phases.Phase.{Phase}
-use Rattle.fdc_core.specs.declared.phases.Phase.TheVariants.{Command as Taking, Execute, Result}
+use Rattle.fdc_phases.specs.declared.phases.Phase.{Phase}
+use Rattle.fdc_phases.specs.declared.phases.Phase.TheVariants.{Command as Taking, Execute, Result}
 use Rattle.fdc_core.proofs.MayRead.{starts_given}
 use Rattle.fdc_core.proofs.Meanings.{read_gives, read_tells}
 use Rattle.fdc_core.proofs.Tellings.{write_tells, writes_window}

@@ -12,15 +12,16 @@ use Rattle.fdc_commands.specs.declared.command.Command.TheVariants.{ReadData, Se
 use Rattle.fdc_stages.specs.History.{Past, begun as new_past}
 use Rattle.fdc_core.specs.Commands.{BeginsData, Obeys, TakesAs, answered}
 use Rattle.fdc_core.specs.Dma.{told_count}
-use Rattle.fdc_core.specs.Heard.{Sent, MayRead, told_in}
+use Rattle.fdc_core.specs.Heard.{MayRead}
+use Rattle.fdc_phases.specs.Heard.{Sent, told_in}
 use Rattle.fdc_core.specs.Listening.{is_executing}
 use Rattle.fdc_core.specs.Ports.{is_taking}
 use Rattle.fdc_core.specs.Whole.{TakesWhole, is_idle, mark_of}
 use Rattle.fdc_core.specs.Written.{MayWrite}
-use Rattle.fdc_core.specs.declared.answers.Answer.TheVariants.{Short}
+use Rattle.fdc_phases.specs.declared.answers.Answer.TheVariants.{Short}
 use Rattle.fdc_core.specs.declared.controller.Fdc.{Fdc}
 use Rattle.fdc_core.specs.declared.controller.Lines.{Lines}
-use Rattle.fdc_core.specs.declared.phases.Phase.TheVariants.{Result}
+use Rattle.fdc_phases.specs.declared.phases.Phase.TheVariants.{Result}
 use Rattle.fdc_board.specs.Boards.{BoardState}
 use Rattle.fdc_sequencer.specs.Fronts.{told_if, moving_of}
 use Rattle.sequencer_laws.specs.Serving.{Accounts, Carries, IsOfOther, MayMove, bytes_moved, sent_of}

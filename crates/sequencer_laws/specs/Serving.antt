@@ -13,15 +13,16 @@ use Rattle.fdc_commands.specs.Table.{answer}
 use Rattle.fdc_commands.specs.declared.bytes.Accepted.TheVariants.{Ready}
 use Rattle.fdc_commands.specs.declared.command.Command.{Command}
 use Rattle.fdc_commands.specs.declared.results.Results.{Results}
-use Rattle.fdc_core.specs.Heard.{Sent, MayRead, results_sent}
+use Rattle.fdc_core.specs.Heard.{MayRead}
+use Rattle.fdc_phases.specs.Heard.{Sent, results_sent}
 use Rattle.fdc_core.specs.Listening.{is_executing}
 use Rattle.fdc_core.specs.Meaning.{AreOfField, ReadMeans}
 use Rattle.fdc_core.specs.Tellings.{WriteMeans, WritesWindow}
 use Rattle.fdc_core.specs.Whole.{is_idle, mark_of}
 use Rattle.fdc_core.specs.Written.{MayWrite}
-use Rattle.fdc_core.specs.declared.answers.Answer.TheVariants.{Short}
+use Rattle.fdc_phases.specs.declared.answers.Answer.TheVariants.{Short}
 use Rattle.fdc_core.specs.declared.controller.Fdc.{Fdc}
-use Rattle.fdc_core.specs.declared.phases.Phase.TheVariants.{Result}
+use Rattle.fdc_phases.specs.declared.phases.Phase.TheVariants.{Result}
 use Rattle.fdc_sequencer.specs.Fronts.{Front}
 use Rattle.fdc_sequencer.specs.Moves.{goes_on, results_behind, results_failed}
 use Rattle.fdc_sequencer.specs.Transfers.{next_of, is_other, is_skipping, transfer_of}

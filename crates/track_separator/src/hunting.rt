@@ -1,5 +1,5 @@
 // The hunt for address marks and address fields.
-ghost use Rattle.std.specs.Prelude.{◌≡◌, ℕ, List};
+ghost use Rattle.std.specs.Prelude.{◌≡◌, ℕ, List, true, false};
 
 use crate::register::{byte_before, ends_no_run, key_before, next_cells, run_end};
 use crate::state::{Seen, Separator, Stage};
@@ -26,6 +26,26 @@ impl Separator {
             return Seen::Nothing;
         }
         self.hunt_word(word)
+    }
+
+    /// Takes a word, inside the turn, where a run of marks is hunted for and none ends in it; nothing is seen in it then. It tells
+    /// whether it did, as it does with nearly every word of a search.
+    #[inline(always)]
+    pub fn pass_by(&mut self, word: u16) -> bool
+        ensures passed { result ≡ true → IsHunted self.old word self.new Seen.Nothing }
+        ensures others { result ≡ false → self.new ≡ self.old }
+    {
+        match self.stage {
+            Stage::Hunting => {
+                let cells = next_cells(self.cells, word);
+                if !ends_no_run(cells) {
+                    return false;
+                }
+                self.cells = cells;
+                true
+            }
+            _ => false,
+        }
     }
 
     /// Takes one word while address marks are hunted for. A run that ends in it begins a field anew.

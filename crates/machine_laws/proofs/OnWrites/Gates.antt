@@ -8,20 +8,21 @@ use Rattle.fdc_writing.specs.declared.formatting.FormatNext.TheVariants as forma
 use Rattle.fdc_writing.specs.declared.writing.WriteNext.{WriteNext}
 use Rattle.fdc_writing.specs.declared.writing.WriteNext.TheVariants as write_next
 use Rattle.fdc_core.specs.Formatting.{FormatDoes, after_laid}
-use Rattle.fdc_core.specs.Formatting as laying
-use Rattle.fdc_core.specs.Phases.{is_listening}
+use Rattle.fdc_phases.specs.Formatting as laying
+use Rattle.fdc_phases.specs.Phases.{is_listening}
 use Rattle.fdc_core.specs.Steps.{polled, Moves, MovesIn, MovesTask}
 use Rattle.fdc_core.specs.Times.{WordTime, Saw, KeptOut, Wrote, Stopped, IsTime, Closes, Opens}
 use Rattle.fdc_core.specs.Writes.{WritesIn, WritesTask}
-use Rattle.fdc_core.specs.Writing.{WriteDoes, after_next, is_ended}
+use Rattle.fdc_core.specs.Writing.{WriteDoes, after_next}
+use Rattle.fdc_phases.specs.Writing.{is_ended}
 use Rattle.fdc_core.specs.declared.controller.Fdc.{Fdc}
-use Rattle.fdc_core.specs.declared.phases.Phase.{Phase}
-use Rattle.fdc_core.specs.declared.phases.Phase.TheVariants.{Command, Execute, Result}
-use Rattle.fdc_core.specs.declared.phases.Task.{Task}
-use Rattle.fdc_core.specs.declared.phases.Task.TheVariants.{ReadId, Read, Write, Format}
-use Rattle.fdc_core.specs.declared.rates.DataRate.{DataRate}
-use Rattle.fdc_core.specs.declared.transfers.Formatting.{Formatting}
-use Rattle.fdc_core.specs.declared.transfers.Writing.{Writing}
+use Rattle.fdc_phases.specs.declared.phases.Phase.{Phase}
+use Rattle.fdc_phases.specs.declared.phases.Phase.TheVariants.{Command, Execute, Result}
+use Rattle.fdc_phases.specs.declared.phases.Task.{Task}
+use Rattle.fdc_phases.specs.declared.phases.Task.TheVariants.{ReadId, Read, Write, Format}
+use Rattle.fdc_phases.specs.declared.rates.DataRate.{DataRate}
+use Rattle.fdc_phases.specs.declared.transfers.Formatting.{Formatting}
+use Rattle.fdc_phases.specs.declared.transfers.Writing.{Writing}
 use Rattle.pc_bus.specs.Boards.{Board, controller_of, selected_of}
 use Rattle.pc_bus.specs.Steps.{Works, Step}
 use Rattle.machine_laws.specs.OnWrites.Guards.{GatesDrives, HoldsGates, IsGated, IsGateOf, IsGivenWord, MakesTask, MakesTime, PassesClosed, is_recording}

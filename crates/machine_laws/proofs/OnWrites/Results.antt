@@ -27,13 +27,13 @@ use Rattle.fdc_writing.specs.Writings.{HasBegun, HasNoWindow, HasWritten, IsFirs
 use Rattle.fdc_writing.specs.declared.writing.WriteStage.{WriteStage}
 use Rattle.fdc_writing.specs.declared.writing.WriteStage.TheVariants as stage
 use Rattle.fdc_commands.specs.declared.results.Results.{Results}
-use Rattle.fdc_core.specs.Phases.{is_overrun, overran}
-use Rattle.fdc_core.specs.Written.{IsContent, MayWriteIn, MayWriteTask}
-use Rattle.fdc_core.specs.declared.answers.Answer.TheVariants.{Short, Long}
-use Rattle.fdc_core.specs.declared.phases.Phase.{Phase}
-use Rattle.fdc_core.specs.declared.phases.Phase.TheVariants.{Command, Execute, Result}
-use Rattle.fdc_core.specs.declared.phases.Task.{Task}
-use Rattle.fdc_core.specs.declared.phases.Task.TheVariants.{Write}
+use Rattle.fdc_phases.specs.Phases.{is_overrun, overran}
+use Rattle.fdc_phases.specs.Written.{IsContent, MayWriteIn, MayWriteTask}
+use Rattle.fdc_phases.specs.declared.answers.Answer.TheVariants.{Short, Long}
+use Rattle.fdc_phases.specs.declared.phases.Phase.{Phase}
+use Rattle.fdc_phases.specs.declared.phases.Phase.TheVariants.{Command, Execute, Result}
+use Rattle.fdc_phases.specs.declared.phases.Task.{Task}
+use Rattle.fdc_phases.specs.declared.phases.Task.TheVariants.{Write}
 use Rattle.fdc_core.proofs.MayWrite.{content_of}
 use Rattle.machine_laws.specs.OnHeard.Heard.{start_of, IsHeard, AreHeard, AreHeardWhole, IsHeardFrom, IsWholeFrom}
 use Rattle.machine_laws.proofs.OnHeard.Fields.{address_heard, mark_heard, turn_is}

@@ -1,6 +1,7 @@
 use Rattle.std.proofs.Common.{sym, subst}
 use Rattle.fdc_core.specs.State.{is_gated}
-use Rattle.fdc_core.specs.Written.{MayWrite, MayFormat, took}
+use Rattle.fdc_core.specs.Written.{MayWrite, MayFormat}
+use Rattle.fdc_phases.specs.Written.{took}
 use Rattle.fdc_core.proofs.MayRead.{second_true}
 use Rattle.fdc_core.proofs.MayWrite.{in_writes, in_formats}
 use Rattle.fdc_core.specs.Waiting.{CanWait, Feeds}

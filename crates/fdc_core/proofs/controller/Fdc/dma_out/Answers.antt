@@ -1,5 +1,6 @@
 use Rattle.std.proofs.Common.{sym, subst}
-use Rattle.fdc_core.specs.Heard.{MayRead, gave}
+use Rattle.fdc_core.specs.Heard.{MayRead}
+use Rattle.fdc_phases.specs.Heard.{gave}
 use Rattle.fdc_core.specs.Dma.{byte_out}
 use Rattle.fdc_core.specs.State.{is_gated}
 use Rattle.fdc_core.proofs.MayRead.{out_reads, second_true}

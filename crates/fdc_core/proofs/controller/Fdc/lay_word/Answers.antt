@@ -1,7 +1,7 @@
 use Rattle.std.proofs.Common.{subst, ◌∙◌, ◌-◌}
 use Rattle.drive_model.specs.Drive.{Writes}
 use Rattle.fdc_core.specs.Times.{Opens, Closes}
-use Rattle.fdc_core.specs.Formatting.{StageLaysWord}
+use Rattle.fdc_phases.specs.Formatting.{StageLaysWord}
 use Rattle.fdc_core.proofs.Words.{opens_index}
 use Rattle.fdc_core.proofs.controller.Fdc.lay_word.Goals as goal
 
@@ -21,6 +21,6 @@ returns g c = λ takes. record {
   puts = subst (λ head. Writes head c.write-given.result.word (g.D.Drive.state c.open_before.new.drive) (g.D.Drive.state c.write_word-index.new.self)) c.head_of.ensures c.write_word-index.ensures.writes;
   range_from = c.write_word-index.ensures.range_before;
   range_mid = c.write_word-index.ensures.range;
-  closes = subst (λ last. Closes last (g.D.Drive.state c.write_word-index.new.self) (g.D.Drive.state c.close_behind.new.drive)) c.is_ended.ensures c.close_behind.ensures;
+  closes = subst (λ last. Closes last (g.D.Drive.state c.write_word-index.new.self) (g.D.Drive.state c.close_behind.new.drive)) c.is_format_over.ensures c.close_behind.ensures;
   after_is = c.follow_formatting.ensures;
 }

@@ -1,8 +1,6 @@
 // The result bytes of a command, and how the host reads them.
-ghost use Rattle.std.specs.Prelude.{◌≡◌, false, Option, None, if◌then◌else◌, bit_and, get_or};
-ghost use Rattle.std.specs.Int.RustNames.{bit_or};
-ghost use Rattle.fdc_commands.specs.Results.{result_bytes};
-ghost use Rattle.fdc_core.specs.Answers.{st0_of, st1_of, st2_of, results_of, next_byte, after_byte, is_fresh};
+ghost use Rattle.std.specs.Prelude.{◌≡◌, false, Option, None};
+ghost use Rattle.fdc_phases.specs.Answers.{st0_of, st1_of, st2_of, results_of, next_byte, after_byte, is_fresh};
 
 use crate::phases::Phase;
 use fdc_commands::Results;
@@ -82,7 +80,7 @@ pub fn results(ending: Ending, head_drive: u8, key: Chrn) -> Results
 
 impl Answer {
     /// Whether these are the results of a data command of which none was read.
-    pub(crate) fn is_fresh(self) -> bool
+    pub fn is_fresh(self) -> bool
         ensures { result ≡ is_fresh self }
     {
         match self {
@@ -91,8 +89,8 @@ impl Answer {
         }
     }
 
-    /// The byte that the host reads next.
-    pub(crate) fn next(self) -> u8
+    /// The byte that the host reads next: FF behind the seventh of a data command.
+    pub fn next(self) -> u8
         ensures { result ≡ next_byte self }
     {
         match self {
@@ -104,8 +102,8 @@ impl Answer {
         }
     }
 
-    /// The phase after that byte.
-    pub(crate) fn after(self) -> Phase
+    /// The phase once the host read that byte: behind the last the controller takes commands.
+    pub fn after(self) -> Phase
         ensures { result ≡ after_byte self }
     {
         match self {

@@ -1,7 +1,7 @@
-use Rattle.fdc_core.proofs.Feeding.{empty_room}
+use Rattle.fdc_phases.proofs.AtFirst.{empty_room}
 use Rattle.std.proofs.Common.{refl, []}
 use Rattle.std.proofs.lemmas.Bool.{false≢true}
-use Rattle.fdc_core.proofs.commands.reading_data.Goals as goal
+use Rattle.fdc_phases.proofs.beginning.reading_data.Goals as goal
 
 pub returns-clause-is : goal.returns-clause-is
 returns-clause-is c = λ head_drive. (

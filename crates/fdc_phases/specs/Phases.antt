@@ -5,19 +5,20 @@ use Rattle.fdc_stages.specs.declared.ending.Ending.{Ending}
 use Rattle.fdc_stages.specs.declared.ending.Ending.TheVariants.{Done, BadCheck, Overrun, NoCount}
 use Rattle.fdc_stages.specs.declared.reading.ReadStage.{ReadStage}
 use Rattle.fdc_stages.specs.declared.reading.ReadStage.TheVariants.{Over}
-use Rattle.fdc_core.specs.Answers.{no_key, key_after}
-use Rattle.fdc_core.specs.declared.phases.End.{End}
-use Rattle.fdc_core.specs.declared.answers.Answer.{Answer}
-use Rattle.fdc_core.specs.declared.answers.Answer.TheVariants.{Long}
-use Rattle.fdc_core.specs.declared.phases.Phase.{Phase}
-use Rattle.fdc_core.specs.declared.phases.Phase.TheVariants.{Execute, Result}
-use Rattle.fdc_core.specs.declared.phases.Task.{Task}
-use Rattle.fdc_core.specs.declared.phases.Task.TheVariants.{ReadId, Read, Write, Format}
-use Rattle.fdc_core.specs.declared.phases.Reading.{Reading}
-use Rattle.fdc_core.specs.declared.transfers.Writing.{Writing}
-use Rattle.fdc_core.specs.declared.transfers.Formatting.{Formatting}
+use Rattle.fdc_phases.specs.Answers.{no_key, key_after}
+use Rattle.fdc_phases.specs.declared.phases.End.{End}
+use Rattle.fdc_phases.specs.declared.answers.Answer.{Answer}
+use Rattle.fdc_phases.specs.declared.answers.Answer.TheVariants.{Long}
+use Rattle.fdc_phases.specs.declared.phases.Phase.{Phase}
+use Rattle.fdc_phases.specs.declared.phases.Phase.TheVariants.{Execute, Result}
+use Rattle.fdc_phases.specs.declared.phases.Task.{Task}
+use Rattle.fdc_phases.specs.declared.phases.Task.TheVariants.{ReadId, Read, Write, Format}
+use Rattle.fdc_phases.specs.declared.transfers.Reading.{Reading}
+use Rattle.fdc_phases.specs.declared.transfers.Writing.{Writing}
+use Rattle.fdc_phases.specs.declared.transfers.Formatting.{Formatting}
 use Rattle.fdc_writing.specs.declared.writing.WriteStage.{WriteStage}
 use Rattle.fdc_writing.specs.declared.formatting.FormatStage.{FormatStage}
+use Rattle.fdc_stages.specs.Readings.{mark_at}
 
 -- READ DATA is the task
 abbrev pub is_read : Task → Bool
@@ -116,3 +117,17 @@ over_at _ head_drive = None
 abbrev pub over_of : Phase → Option End
 over_of (Execute execution) = over_at execution.task execution.head_drive
 over_of _ = None
+
+-- how the data command ended whose results the host reads
+abbrev pub ending_of_phase : Phase → Option Ending
+ending_of_phase (Result (Long ending _ _)) = Some ending
+ending_of_phase _ = None
+
+-- the mark of the data field that a READ DATA reads, once it is met: F8 is true
+abbrev pub mark_in : Task → Option Bool
+mark_in (Read reading) = mark_at reading.stage
+mark_in _ = None
+
+abbrev pub mark_of_phase : Phase → Option Bool
+mark_of_phase (Execute execution) = mark_in execution.task
+mark_of_phase _ = None

@@ -1,7 +1,7 @@
 use Rattle.std.proofs.Common.{arith}
 use Rattle.std.proofs.Common.{refl, inl, [], false}
-use Rattle.fdc_core.proofs.MayWrite.{rule_room}
-use Rattle.fdc_core.proofs.commands.formatting_track.Goals as goal
+use Rattle.fdc_phases.proofs.AtFirst.{rule_room}
+use Rattle.fdc_phases.proofs.beginning.formatting_track.Goals as goal
 
 pub returns-clause-is : goal.returns-clause-is
 returns-clause-is c = λ head_drive fifo asking none. (

@@ -1,19 +1,15 @@
 // What the controller is doing.
-ghost use Rattle.std.specs.Prelude.{◌≡◌};
-ghost use Rattle.fdc_core.specs.Answers.{next_key, key_after};
-ghost use Rattle.fdc_core.specs.Dma.{task_told};
-ghost use Rattle.fdc_core.specs.Whole.{ending_of_phase, mark_of_phase, mark_in};
-ghost use Rattle.fdc_stages.specs.Readings.{mark_at};
-ghost use Rattle.fdc_core.specs.Phases.{is_reading, head_of, key_as_sent, told, is_over, ending_of, over_at, over_of};
+ghost use Rattle.std.specs.Prelude.{◌≡◌, ◌<◌, false};
+ghost use Rattle.fdc_phases.specs.Dma.{task_told};
+ghost use Rattle.fdc_phases.specs.Phases.{is_reading, head_of, key_as_sent, over_at, over_of, ending_of_phase, mark_of_phase, mark_in};
 
 use crate::answers::Answer;
-use crate::sized_key::SizedKey;
-use crate::transfers::{Formatting, Writing};
-use fdc_stages::{Ending, ReadStage, Search};
+use crate::transfers::{Formatting, Reading, Writing};
+use fdc_stages::{Ending, Search};
 use flop_base::Chrn;
 
-/// The key of a READ ID that found none.
-pub(crate) const NO_KEY: Chrn = Chrn {
+/// The key in the results of a READ ID that found none, and of a FORMAT that was ended.
+pub const NO_KEY: Chrn = Chrn {
     c: 0,
     h: 0,
     r: 0,
@@ -21,7 +17,15 @@ pub(crate) const NO_KEY: Chrn = Chrn {
 };
 
 /// The step that ends a data command, whatever it does.
-pub(crate) const LAST_STEP: u16 = 65535;
+pub const LAST_STEP: u16 = 65535;
+
+/// Whether the step behind so many others is that one.
+#[inline(always)]
+pub fn is_last(steps: u16) -> bool
+    ensures { result ≡ false → steps < 65535 }
+{
+    steps == LAST_STEP
+}
 
 /// The phase of the controller.
 #[derive(Clone, Copy)]
@@ -58,32 +62,19 @@ pub enum Task {
     Format { formatting: Formatting },
 }
 
-/// A READ DATA.
-#[derive(Clone, Copy)]
-pub struct Reading {
-    /// The key of the sector.
-    pub wanted: SizedKey,
-    /// The number of the cylinder's last sector.
-    pub last_sector: u8,
-    /// The terminal count came.
-    pub counted: bool,
-    /// How far it is.
-    pub stage: ReadStage,
-}
-
 /// How a data command ends whose field is over.
 #[derive(Clone, Copy)]
-pub(crate) struct End {
-    pub(crate) ending: Ending,
+pub struct End {
+    pub ending: Ending,
     /// The head and the drive, as the command sent them.
-    pub(crate) head_drive: u8,
+    pub head_drive: u8,
     /// The key in its results.
-    pub(crate) key: Chrn,
+    pub key: Chrn,
 }
 
 impl Phase {
     /// Whether a READ DATA is in execution.
-    pub(crate) fn is_reading(&self) -> bool
+    pub fn is_reading(&self) -> bool
         ensures { result ≡ is_reading self.now }
     {
         match self {
@@ -93,7 +84,7 @@ impl Phase {
     }
 
     /// How a data command ended, while its results are given.
-    pub(crate) fn ending(&self) -> Option<Ending>
+    pub fn ending(&self) -> Option<Ending>
         ensures { result ≡ ending_of_phase self.now }
     {
         match self {
@@ -105,7 +96,7 @@ impl Phase {
     }
 
     /// The mark of the data field that a READ DATA reads, once it is met.
-    pub(crate) fn mark(&self) -> Option<bool>
+    pub fn mark(&self) -> Option<bool>
         ensures { result ≡ mark_of_phase self.now }
     {
         match self {
@@ -115,7 +106,7 @@ impl Phase {
     }
 
     /// How a READ DATA ends, where its field is over.
-    pub(crate) fn over(&self) -> Option<End>
+    pub fn over(&self) -> Option<End>
         ensures { result ≡ over_of self.now }
     {
         match self {
@@ -126,7 +117,7 @@ impl Phase {
 }
 
 /// The head, bit 2 of the byte that the command sent.
-pub(crate) fn head_of(head_drive: u8) -> u8
+pub fn head_of(head_drive: u8) -> u8
     ensures { result ≡ head_of head_drive }
 {
     head_drive / 4 % 2
@@ -149,9 +140,7 @@ impl Execution {
             _ => None,
         }
     }
-}
 
-impl Execution {
     /// The mark of the data field that a READ DATA reads, once it is met.
     fn mark(&self) -> Option<bool>
         ensures { result ≡ mark_in self.now.task }
@@ -165,7 +154,7 @@ impl Execution {
 
 impl Task {
     /// The key in the results of a failure: as it was sent, 00 00 00 00 where none was.
-    pub(crate) fn key_as_sent(self) -> Chrn
+    pub fn key_as_sent(self) -> Chrn
         ensures { result ≡ key_as_sent self }
     {
         match self {
@@ -176,7 +165,7 @@ impl Task {
     }
 
     /// The same task once the terminal count came.
-    pub(crate) fn told(self) -> Task
+    pub fn told(self) -> Task
         ensures { result ≡ task_told self }
     {
         match self {
@@ -191,77 +180,5 @@ impl Task {
                 formatting: formatting.told(),
             },
         }
-    }
-}
-
-impl Reading {
-    /// The same command once the terminal count came.
-    pub(crate) fn told(self) -> Reading
-        ensures { result ≡ told self }
-    {
-        Reading {
-            counted: true,
-            ..self
-        }
-    }
-
-    /// The mark of the data field, once it is met.
-    fn mark(&self) -> Option<bool>
-        ensures { result ≡ mark_at self.now.stage }
-    {
-        match &self.stage {
-            ReadStage::Content { deleted, .. } | ReadStage::Over { deleted, .. } => Some(*deleted),
-            _ => None,
-        }
-    }
-
-    /// Whether the field is over.
-    pub(crate) fn is_over(&self) -> bool
-        ensures { result ≡ is_over self.now.stage }
-    {
-        matches!(self.stage, ReadStage::Over { .. })
-    }
-
-    /// How the command ends, where the field is over and all its bytes went to memory.
-    fn ending(&self) -> Option<Ending>
-        ensures { result ≡ ending_of self.now }
-    {
-        match self.stage {
-            ReadStage::Over { good: false, .. } => Some(Ending::BadCheck),
-            ReadStage::Over { .. } if !self.counted => Some(Ending::NoCount),
-            ReadStage::Over { deleted, .. } => Some(Ending::Done { deleted }),
-            _ => None,
-        }
-    }
-
-    /// The key in the results of this ending.
-    fn key_after(&self, ending: Ending) -> Chrn
-        ensures { result ≡ key_after ending self.now.wanted.key self.now.last_sector }
-    {
-        match ending {
-            Ending::Done { .. } => next_key(self.wanted.key, self.last_sector),
-            _ => self.wanted.key,
-        }
-    }
-}
-
-/// The key of the next sector: the next record, or record 1 of the next cylinder behind the last.
-pub(crate) fn next_key(key: Chrn, last_sector: u8) -> Chrn
-    ensures { result ≡ next_key key last_sector }
-{
-    let Chrn { c, h, r, n } = key;
-    if r == last_sector {
-        return Chrn {
-            c: c.wrapping_add(1),
-            h,
-            r: 1,
-            n,
-        };
-    }
-    Chrn {
-        c,
-        h,
-        r: r.wrapping_add(1),
-        n,
     }
 }

@@ -2,8 +2,8 @@
 use Rattle.std.specs.Prelude.{ℕ, ◌%◌, ◌==◌, Bool, true, false, if◌then◌else◌}
 use Rattle.flop_base.specs.declared.answers.Rate.{Rate}
 use Rattle.flop_base.specs.declared.answers.Rate.TheVariants.{R500, R250}
-use Rattle.fdc_core.specs.declared.rates.DataRate.{DataRate}
-use Rattle.fdc_core.specs.declared.rates.DataRate.TheVariants.{Kbit500, Kbit300, Kbit250, Mbit1}
+use Rattle.fdc_phases.specs.declared.rates.DataRate.{DataRate}
+use Rattle.fdc_phases.specs.declared.rates.DataRate.TheVariants.{Kbit500, Kbit300, Kbit250, Mbit1}
 
 -- the rate that bits 1 and 0 of a byte choose
 abbrev pub rate_chosen : ℕ → DataRate

@@ -1,9 +1,9 @@
 use Rattle.std.proofs.Common.{arith}
 use Rattle.fdc_writing.specs.Writings.{lead_of}
-use Rattle.fdc_core.proofs.Feeding.{empty_lead}
+use Rattle.fdc_phases.proofs.AtFirst.{empty_lead}
 use Rattle.std.proofs.Common.{refl, inl, [], false}
-use Rattle.fdc_core.proofs.MayWrite.{rule_room}
-use Rattle.fdc_core.proofs.commands.writing_data.Goals as goal
+use Rattle.fdc_phases.proofs.AtFirst.{rule_room}
+use Rattle.fdc_phases.proofs.beginning.writing_data.Goals as goal
 
 pub returns-clause-is : goal.returns-clause-is
 returns-clause-is c = λ head_drive fifo asking none. (

@@ -1,6 +1,6 @@
 // The data rates, and whether one fits a medium.
 ghost use Rattle.std.specs.Prelude.{◌≡◌};
-ghost use Rattle.fdc_core.specs.Rates.{rate_fits, rate_chosen};
+ghost use Rattle.fdc_phases.specs.Rates.{rate_fits, rate_chosen};
 
 use flop_base::Rate;
 
@@ -31,7 +31,7 @@ impl DataRate {
     }
 
     /// Whether a medium of this rate can be read and written at it.
-    pub(crate) fn fits(self, medium: Rate) -> bool
+    pub fn fits(self, medium: Rate) -> bool
         ensures { result ≡ rate_fits self medium }
     {
         match medium {

@@ -1,0 +1,19 @@
+use Rattle.std.proofs.Common.{sym, ap, subst, ◌∙◌, arith}
+use Rattle.fdc_core.specs.Tasks.{ExecutionSteps}
+use Rattle.fdc_phases.specs.Writing.{IsWritingAt}
+use Rattle.fdc_phases.specs.declared.phases.Phase.TheVariants.{Execute}
+use Rattle.fdc_core.proofs.Words.{heard_time}
+use Rattle.fdc_core.proofs.controller.Fdc.execute_any.Goals as goal
+
+pub returns-then-only_hears : goal.returns-then-only_hears
+returns-then-only_hears g c =
+    let old = c.args.self.now in
+    let now = c.in-Execute.execution in
+    let writing = c.in-Write.writing in
+    let before = g.D.Drive.state c.args.drive.now in
+    let after = g.D.Drive.state c.hear_writing.new.drive in
+    let new = c.hear_writing.new.self in
+    let at : IsWritingAt now.head_drive now.steps writing old.phase = c.in-Execute.is ∙ ap (λ task. Execute (record { head_drive = now.head_drive; steps = now.steps; task = task })) c.in-Write.is in
+    let only = c.only_hears.ensures c.if-only_hears.true in
+    subst (λ phase. ExecutionSteps phase old before after new) (sym at)
+    (record { does = heard_time now.head_drive now.steps writing old before after new only.2 (c.hear_writing.ensures now.steps writing at); guards = λ first protects. let some = only.0 in absurd (omega arith) })

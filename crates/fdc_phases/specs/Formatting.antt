@@ -1,0 +1,33 @@
+-- FORMAT TRACK: what a word makes of its stage.
+use Rattle.std.specs.Prelude.{◌≡◌, ℕ, ◌-◌, Bool, true, false, List}
+use Rattle.fdc_stages.specs.History.{Past, wrote}
+use Rattle.fdc_writing.specs.Formats.{Numbers, is_open, opens, is_due, Takes, IsFormatting, IsNextLaid, HasNext, FailsWell, EndsWell}
+use Rattle.fdc_writing.specs.Leads.{HasLead, LeadsOn}
+use Rattle.fdc_writing.specs.Writings.{handed_with, heard_where}
+use Rattle.fdc_writing.specs.declared.formatting.FormatNext.{FormatNext}
+use Rattle.fdc_writing.specs.declared.formatting.FormatNext.TheVariants.{On, Ended}
+use Rattle.fdc_writing.specs.declared.formatting.FormatWord.{FormatWord}
+use Rattle.fdc_phases.specs.declared.transfers.Formatting.{Formatting}
+
+-- the FORMAT is over
+abbrev pub is_ended : FormatNext → Bool
+is_ended (Ended _ _) = true
+is_ended (On _) = false
+
+-- ---- what a stage makes of a word, whatever has passed before
+
+-- where it is heard; a stage whose gate is open stays as it is
+abbrev pub StageHearsIndex : Formatting → Bool → FormatNext → Type 0
+StageHearsIndex formatting index next =
+    ((past : Past) (numbers : Numbers) (handed : List ℕ) (word : ℕ) → is_open formatting.stage ≡ false → IsFormatting past numbers handed formatting.stage
+    → HasNext (heard_where (opens formatting.stage) index word past) numbers handed next)
+    × FailsWell next × ((lead : ℕ) → HasLead formatting.stage lead → LeadsOn lead next)
+    × (is_open formatting.stage ≡ true → next ≡ On formatting.stage)
+
+pub record StageLaysWord (formatting : Formatting) (takes : Bool) (byte : ℕ) (index : Bool) (given : FormatWord) (next : FormatNext) : Type 0 where
+  pub word_is : (past : Past) (numbers : Numbers) (handed : List ℕ) → is_due formatting.stage ≡ true → IsFormatting past numbers handed formatting.stage → Takes formatting.stage takes
+      → IsNextLaid past numbers (handed_with takes byte handed) given.word given.stream given.key
+  pub goes_on : (past : Past) (numbers : Numbers) (handed : List ℕ)
+      → IsNextLaid past numbers handed given.word given.stream given.key → HasNext (wrote index given.word past) numbers handed next
+  pub well : EndsWell next
+  pub lead : (lead : ℕ) → HasLead formatting.stage lead → LeadsOn (lead - 1) next

@@ -1,0 +1,11 @@
+pub mod Rates
+pub mod Answers
+pub mod Phases
+pub mod Heard
+pub mod Written
+pub mod Waiting
+pub mod Commands
+pub mod Dma
+pub mod Writing
+pub mod Formatting
+pub mod Saving
