@@ -2,12 +2,12 @@
 use Rattle.std.proofs.Common.{◌≡◌, ℕ, ◌==◌, Bool, true, false, if◌then◌else◌, refl, sym, ◌∙◌, ap, subst, arith}
 use Rattle.drive_model.specs.Drive.{DriveState}
 use Rattle.dma_8237.specs.Channel.{after_read}
-use Rattle.fdc_core.specs.Answers.{is_fresh}
+use Rattle.fdc_phases.specs.Answers.{is_fresh}
 use Rattle.fdc_core.specs.Ports.{Writes, after_read as controller_after, given, interrupt_after}
 use Rattle.fdc_core.specs.State.{asks}
 use Rattle.fdc_core.specs.declared.controller.Fdc.{Fdc}
-use Rattle.fdc_core.specs.declared.phases.Phase.{Phase}
-use Rattle.fdc_core.specs.declared.phases.Phase.TheVariants.{Command, Execute, Result}
+use Rattle.fdc_phases.specs.declared.phases.Phase.{Phase}
+use Rattle.fdc_phases.specs.declared.phases.Phase.TheVariants.{Command, Execute, Result}
 use Rattle.machine_laws.proofs.OnSteps.Runs.{gap}
 use Rattle.machine_pace.specs.Holds.{Holds, shown}
 use Rattle.pc_bus.specs.Boards.{Board, controller_of, lines_of}

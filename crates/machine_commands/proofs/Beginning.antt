@@ -9,9 +9,9 @@ use Rattle.fdc_commands.specs.declared.bytes.Accepted.{Accepted}
 use Rattle.fdc_commands.specs.declared.bytes.Accepted.TheVariants.{More}
 use Rattle.fdc_seek.specs.Seeking.{seek_bits}
 use Rattle.fdc_core.specs.Commands.{TakesAs}
-use Rattle.fdc_core.specs.Heard.{Sent}
+use Rattle.fdc_phases.specs.Heard.{Sent}
 use Rattle.fdc_core.specs.Ports.{takes_in, is_taking}
-use Rattle.fdc_core.specs.Rates.{rate_chosen}
+use Rattle.fdc_phases.specs.Rates.{rate_chosen}
 use Rattle.fdc_core.specs.State.{asks, data_commands_of, dor_of, is_held}
 use Rattle.fdc_core.specs.declared.controller.Fdc.{Fdc}
 use Rattle.flop_base.specs.declared.answers.Code.{Code}

@@ -11,8 +11,8 @@ use Rattle.fdc_core.specs.Ports.{main_status, phase_bits}
 use Rattle.fdc_core.specs.State.{is_held}
 use Rattle.fdc_core.specs.Steps.{steps_left, EndsIn}
 use Rattle.fdc_core.specs.declared.controller.Fdc.{Fdc}
-use Rattle.fdc_core.specs.declared.phases.Phase.{Phase}
-use Rattle.fdc_core.specs.declared.phases.Phase.TheVariants.{Command, Execute, Result}
+use Rattle.fdc_phases.specs.declared.phases.Phase.{Phase}
+use Rattle.fdc_phases.specs.declared.phases.Phase.TheVariants.{Command, Execute, Result}
 use Rattle.machine_laws.specs.OnAwaits.Awaits.{IsAwaited, is_unread}
 use Rattle.machine_laws.specs.OnAwaits.Goes.{GoesOn, with_one}
 use Rattle.machine_laws.specs.OnOrders.Orders.{Order}

@@ -11,10 +11,10 @@ use Rattle.fdc_core.specs.Listening.{is_executing}
 use Rattle.fdc_core.specs.Ports.{given, result_byte, interrupt_after, phase_after}
 use Rattle.fdc_core.specs.State.{is_held, dor_of}
 use Rattle.fdc_core.specs.Steps.{polled}
-use Rattle.fdc_core.specs.declared.answers.Answer.TheVariants.{Short, Long}
+use Rattle.fdc_phases.specs.declared.answers.Answer.TheVariants.{Short, Long}
 use Rattle.fdc_core.specs.declared.controller.Fdc.{Fdc}
-use Rattle.fdc_core.specs.declared.phases.Phase.{Phase}
-use Rattle.fdc_core.specs.declared.phases.Phase.TheVariants.{Command, Execute, Result}
+use Rattle.fdc_phases.specs.declared.phases.Phase.{Phase}
+use Rattle.fdc_phases.specs.declared.phases.Phase.TheVariants.{Command, Execute, Result}
 use Rattle.machine_laws.specs.OnAwaits.Awaits.{is_unread}
 use Rattle.machine_laws.specs.OnAwaits.Goes.{GoesOn, with_one}
 use Rattle.machine_laws.specs.OnOrders.Orders.{Order}

@@ -13,9 +13,9 @@ use Rattle.drive_model.specs.Drive.{InRange}
 use Rattle.fdc_commands.specs.declared.bytes.Accepted.TheVariants.{Ready}
 use Rattle.fdc_commands.specs.declared.command.Command.TheVariants.{FormatTrack}
 use Rattle.fdc_commands.proofs.WriteSpellings.{spells_format}
-use Rattle.fdc_core.specs.Heard.{Sent}
-use Rattle.fdc_core.specs.declared.answers.Answer.TheVariants.{Long}
-use Rattle.fdc_core.specs.declared.phases.Phase.TheVariants as phase
+use Rattle.fdc_phases.specs.Heard.{Sent}
+use Rattle.fdc_phases.specs.declared.answers.Answer.TheVariants.{Long}
+use Rattle.fdc_phases.specs.declared.phases.Phase.TheVariants as phase
 use Rattle.fdc_writing.specs.Formats.{Numbers}
 use Rattle.track_format.specs.Keys.{key_bytes}
 use Rattle.machine_laws.specs.OnOrders.Orders.{Track, Write}

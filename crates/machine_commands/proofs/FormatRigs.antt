@@ -13,7 +13,7 @@ use Rattle.raw_image.specs.Disk.{Disk, HasTrack}
 use Rattle.sector_map.specs.Layings.{Format, IsLaying, Laying, format_keys}
 use Rattle.sector_map.proofs.MetTracks.{same_rates}
 use Rattle.track_model.specs.Layouts.{Fits}
-use Rattle.fdc_core.specs.Rates.{rate_fits}
+use Rattle.fdc_phases.specs.Rates.{rate_fits}
 use Rattle.fdc_stages.specs.declared.ending.Ending.{Ending}
 use Rattle.fdc_stages.specs.declared.ending.Ending.TheVariants as ending
 use Rattle.fdc_writing.specs.Formats.{Numbers}

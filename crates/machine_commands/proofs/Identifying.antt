@@ -13,7 +13,7 @@ use Rattle.fdc_commands.specs.declared.command.Command.TheVariants.{ReadId}
 use Rattle.fdc_commands.proofs.ReadSpellings.{spells_id}
 use Rattle.fdc_stages.specs.declared.ending.Ending.{Ending}
 use Rattle.fdc_stages.specs.declared.ending.Ending.TheVariants.{Done as Finished, NoMark, NoSector, NoField, BadCheck, Overrun, NoCount, Protected, Late}
-use Rattle.fdc_core.specs.Heard.{key_met}
+use Rattle.fdc_phases.specs.Heard.{key_met}
 use Rattle.machine_laws.specs.OnOrders.Orders.{Identify}
 use Rattle.machine_laws.specs.OnReads.Begins.{scene_of}
 use Rattle.machine_laws.specs.OnReads.Ids.{IdEndedIn, IdEndsAs, sent_id}

@@ -5,7 +5,7 @@ use Rattle.std.specs.Int.RustNames.{bit_or}
 use Rattle.flop_base.specs.declared.answers.Code.{Code}
 use Rattle.flop_base.specs.declared.key.Chrn.{Chrn}
 use Rattle.fdc_commands.specs.declared.results.Results.{Results}
-use Rattle.fdc_core.specs.Answers.{results_of, st1_of, st2_of}
+use Rattle.fdc_phases.specs.Answers.{results_of, st1_of, st2_of}
 use Rattle.fdc_stages.specs.declared.ending.Ending.{Ending}
 use Rattle.fdc_stages.specs.declared.ending.Ending.TheVariants.{Done as Finished, NoMark, NoSector, NoField, BadCheck, Overrun, NoCount, Protected, Late}
 use Rattle.machine_commands.specs.Codes.{has_set, refusal_of}

@@ -23,11 +23,11 @@ use Rattle.fdc_commands.specs.Reads.{SpellsRead}
 use Rattle.fdc_commands.proofs.ReadSpellings.{spells_read}
 use Rattle.fdc_stages.specs.declared.ending.Ending.{Ending}
 use Rattle.fdc_stages.specs.declared.ending.Ending.TheVariants.{Done as Finished, NoMark, NoSector, NoField, BadCheck, Overrun, NoCount, Protected, Late}
-use Rattle.fdc_core.specs.Answers.{key_after}
-use Rattle.fdc_core.specs.Heard.{Sent}
-use Rattle.fdc_core.specs.Phases.{is_overrun}
-use Rattle.fdc_core.specs.declared.answers.Answer.TheVariants.{Long}
-use Rattle.fdc_core.specs.declared.phases.Phase.TheVariants.{Result}
+use Rattle.fdc_phases.specs.Answers.{key_after}
+use Rattle.fdc_phases.specs.Heard.{Sent}
+use Rattle.fdc_phases.specs.Phases.{is_overrun}
+use Rattle.fdc_phases.specs.declared.answers.Answer.TheVariants.{Long}
+use Rattle.fdc_phases.specs.declared.phases.Phase.TheVariants.{Result}
 use Rattle.machine_laws.specs.OnOrders.Orders.{Read}
 use Rattle.machine_laws.specs.OnReads.Begins.{scene_of}
 use Rattle.machine_laws.specs.OnReads.Ends.{is_late}

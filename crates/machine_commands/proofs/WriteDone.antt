@@ -13,10 +13,10 @@ use Rattle.drive_model.specs.Drive.{InRange}
 use Rattle.fdc_commands.specs.declared.bytes.Accepted.TheVariants.{Ready}
 use Rattle.fdc_commands.specs.Writes.{write_code, write_command}
 use Rattle.fdc_commands.proofs.WriteSpellings.{spells_write}
-use Rattle.fdc_core.specs.Answers.{key_after}
-use Rattle.fdc_core.specs.Heard.{Sent}
-use Rattle.fdc_core.specs.declared.answers.Answer.TheVariants.{Long}
-use Rattle.fdc_core.specs.declared.phases.Phase.TheVariants as phase
+use Rattle.fdc_phases.specs.Answers.{key_after}
+use Rattle.fdc_phases.specs.Heard.{Sent}
+use Rattle.fdc_phases.specs.declared.answers.Answer.TheVariants.{Long}
+use Rattle.fdc_phases.specs.declared.phases.Phase.TheVariants as phase
 use Rattle.machine_laws.specs.OnOrders.Orders.{Window, Write}
 use Rattle.machine_laws.specs.OnReads.Begins.{scene_of}
 use Rattle.machine_laws.specs.OnWrites.Begins.{write_of}

@@ -18,10 +18,10 @@ use Rattle.sector_map.specs.MetTracks.{MeetsTrack}
 use Rattle.sector_map.proofs.MetTracks.{length-met_track, met_track, nothing_from, rates_same}
 use Rattle.track_model.specs.Fields.{IsAddressAt, content_size}
 use Rattle.track_model.specs.Looks.{HasAddressMark}
-use Rattle.fdc_core.specs.Phases.{is_overrun}
-use Rattle.fdc_core.specs.Rates.{rate_fits}
-use Rattle.fdc_core.specs.declared.answers.Answer.TheVariants.{Long}
-use Rattle.fdc_core.specs.declared.phases.Phase.TheVariants as phase
+use Rattle.fdc_phases.specs.Phases.{is_overrun}
+use Rattle.fdc_phases.specs.Rates.{rate_fits}
+use Rattle.fdc_phases.specs.declared.answers.Answer.TheVariants.{Long}
+use Rattle.fdc_phases.specs.declared.phases.Phase.TheVariants as phase
 use Rattle.fdc_stages.specs.Searches.{HasNoClear}
 use Rattle.fdc_stages.specs.declared.ending.Ending.{Ending}
 use Rattle.fdc_stages.specs.declared.ending.Ending.TheVariants as ending

@@ -5,8 +5,8 @@ use Rattle.flop_base.specs.Counts.{last_count, Rose}
 use Rattle.fdc_core.specs.Listening.{is_executing}
 use Rattle.fdc_core.specs.Ports.{takes_in}
 use Rattle.fdc_core.specs.State.{asks, data_commands_of, is_held}
-use Rattle.fdc_core.specs.declared.phases.Phase.{Phase}
-use Rattle.fdc_core.specs.declared.phases.Phase.TheVariants.{Command, Execute, Result}
+use Rattle.fdc_phases.specs.declared.phases.Phase.{Phase}
+use Rattle.fdc_phases.specs.declared.phases.Phase.TheVariants.{Command, Execute, Result}
 use Rattle.fdc_core.proofs.Feeding.{low_waits}
 use Rattle.machine_laws.specs.OnCounts.Counts.{CountsGoOn}
 use Rattle.machine_laws.proofs.OnCounts.Counting.{counting, input_counts, output_counts}

@@ -8,10 +8,10 @@ use Rattle.fdc_stages.specs.declared.ending.Ending.{Ending}
 use Rattle.fdc_commands.specs.declared.results.Results.{Results}
 use Rattle.fdc_core.specs.Listening.{is_executing}
 use Rattle.fdc_core.specs.Ports.{given, phase_after}
-use Rattle.fdc_core.specs.declared.answers.Answer.TheVariants.{Short, Long}
+use Rattle.fdc_phases.specs.declared.answers.Answer.TheVariants.{Short, Long}
 use Rattle.fdc_core.specs.declared.controller.Fdc.{Fdc}
-use Rattle.fdc_core.specs.declared.phases.Phase.{Phase}
-use Rattle.fdc_core.specs.declared.phases.Phase.TheVariants as phase
+use Rattle.fdc_phases.specs.declared.phases.Phase.{Phase}
+use Rattle.fdc_phases.specs.declared.phases.Phase.TheVariants as phase
 use Rattle.pc_bus.specs.Boards.{Board, controller_of, drive_in}
 use Rattle.pc_bus.specs.Ports.{is_controllers, port_read, WritesPort, Inputs, Outputs}
 use Rattle.pc_bus.specs.Transfers.{shown_again}

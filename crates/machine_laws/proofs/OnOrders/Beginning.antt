@@ -10,14 +10,15 @@ use Rattle.fdc_commands.specs.declared.command.Command.TheVariants.{ReadId, Read
 use Rattle.fdc_fifo.specs.Fifo.{emptied}
 use Rattle.fdc_seek.specs.Seeking.{seek_bits}
 use Rattle.fdc_stages.specs.History.{begun as new_past}
-use Rattle.fdc_core.specs.Commands.{Obeys, TakesAs, BeginsAsking, IsWritingData, WaitsAtFirst, begun as begun_with}
+use Rattle.fdc_core.specs.Commands.{Obeys, TakesAs, BeginsAsking, begun as begun_with}
+use Rattle.fdc_phases.specs.Commands.{IsWritingData, WaitsAtFirst}
 use Rattle.fdc_core.specs.Dma.{asked}
-use Rattle.fdc_core.specs.Heard.{Sent}
+use Rattle.fdc_phases.specs.Heard.{Sent}
 use Rattle.fdc_core.specs.Listening.{is_executing}
 use Rattle.fdc_core.specs.Ports.{Writes, is_taking}
 use Rattle.fdc_core.specs.declared.controller.Fdc.{Fdc}
 use Rattle.fdc_core.specs.declared.controller.Lines.{Lines}
-use Rattle.fdc_core.specs.declared.phases.Task.{Task}
+use Rattle.fdc_phases.specs.declared.phases.Task.{Task}
 use Rattle.pc_bus.specs.Boards.{Board, controller_of, lines_of}
 use Rattle.pc_bus.specs.Ports.{WritesPort}
 use Rattle.pc_bus.specs.Transfers.{shown_again}

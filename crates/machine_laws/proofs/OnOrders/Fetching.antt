@@ -3,12 +3,14 @@ use Rattle.std.proofs.Common.{◌≡◌, ℕ, ◌+◌, ◌≤◌, ◌==◌, ◌&
 use Rattle.dma_8237.specs.Channel.{grants, after_transfer}
 use Rattle.fdc_stages.specs.History.{Past}
 use Rattle.fdc_core.proofs.MayRead.{out_reads, told_reads}
-use Rattle.fdc_core.specs.Dma.{phase_told, taken_out, told_count, byte_out}
-use Rattle.fdc_core.specs.Heard.{MayRead, gave, told_in}
+use Rattle.fdc_core.specs.Dma.{taken_out, told_count, byte_out}
+use Rattle.fdc_phases.specs.Dma.{phase_told}
+use Rattle.fdc_core.specs.Heard.{MayRead}
+use Rattle.fdc_phases.specs.Heard.{gave, told_in}
 use Rattle.fdc_core.specs.Listening.{is_executing}
 use Rattle.fdc_core.specs.State.{asks, is_gated}
-use Rattle.fdc_core.specs.declared.phases.Phase.{Phase}
-use Rattle.fdc_core.specs.declared.phases.Phase.TheVariants as phase
+use Rattle.fdc_phases.specs.declared.phases.Phase.{Phase}
+use Rattle.fdc_phases.specs.declared.phases.Phase.TheVariants as phase
 use Rattle.pc_bus.specs.Transfers.{can_move, moved, moved_to_memory, moved_from_memory, memory_after, told_if}
 use Rattle.pc_bus.specs.declared.chips.Chips.{Chips}
 use Rattle.machine_laws.specs.OnReads.Scenes.{Scene}

@@ -9,8 +9,8 @@ use Rattle.fdc_core.specs.Listening.{is_executing}
 use Rattle.fdc_core.specs.Ports.{Writes, takes_in}
 use Rattle.fdc_core.specs.State.{is_held}
 use Rattle.fdc_core.specs.declared.controller.Fdc.{Fdc}
-use Rattle.fdc_core.specs.declared.phases.Phase.{Phase}
-use Rattle.fdc_core.specs.declared.phases.Phase.TheVariants as phase
+use Rattle.fdc_phases.specs.declared.phases.Phase.{Phase}
+use Rattle.fdc_phases.specs.declared.phases.Phase.TheVariants as phase
 use Rattle.pc_bus.specs.Boards.{Board, controller_of, channel_of, drive_in, lines_of}
 use Rattle.pc_bus.specs.Ports.{is_controllers, sets_lines, WritesPort, Outputs}
 use Rattle.pc_bus.specs.Transfers.{shown_again}

@@ -7,8 +7,8 @@ use Rattle.fdc_core.specs.Listening.{is_executing, after_step as past_after, Fol
 use Rattle.fdc_core.specs.State.{asks, is_gated}
 use Rattle.fdc_core.specs.Steps.{polled, RestsIn, FlowsIn}
 use Rattle.fdc_core.specs.declared.controller.Fdc.{Fdc}
-use Rattle.fdc_core.specs.declared.phases.Phase.{Phase}
-use Rattle.fdc_core.specs.declared.phases.Phase.TheVariants as phase
+use Rattle.fdc_phases.specs.declared.phases.Phase.{Phase}
+use Rattle.fdc_phases.specs.declared.phases.Phase.TheVariants as phase
 use Rattle.pc_bus.specs.Boards.{Board, controller_of, memory_of, channel_of, lines_of}
 use Rattle.pc_bus.specs.Ports.{Outputs}
 use Rattle.pc_bus.specs.Steps.{Runs}

@@ -4,8 +4,8 @@ use Rattle.flop_base.specs.Counts.{Rose}
 use Rattle.fdc_fifo.specs.Fifo.{emptied}
 use Rattle.fdc_core.specs.State.{dor_of, is_gated}
 use Rattle.fdc_core.specs.declared.controller.Fdc.{Fdc}
-use Rattle.fdc_core.specs.declared.phases.Task.{Task}
-use Rattle.fdc_core.specs.declared.phases.Task.TheVariants.{Write, Format}
+use Rattle.fdc_phases.specs.declared.phases.Task.{Task}
+use Rattle.fdc_phases.specs.declared.phases.Task.TheVariants.{Write, Format}
 use Rattle.machine_pace.specs.Entries.{next_entry}
 use Rattle.machine_pace.specs.Holds.{Holds, shown}
 use Rattle.machine_pace.specs.declared.holding.Request.TheVariants.{Low}
@@ -23,7 +23,7 @@ use Rattle.machine_laws.proofs.OnOrders.Beginning.{begun_at}
 use Rattle.dma_8237.specs.Channel.{Channel, grants}
 use Rattle.fdc_fifo.specs.Fifo.{Fifo}
 use Rattle.fdc_stages.specs.History.{Past, begun as new_past}
-use Rattle.fdc_core.specs.declared.phases.Phase.TheVariants.{Execute}
+use Rattle.fdc_phases.specs.declared.phases.Phase.TheVariants.{Execute}
 use Rattle.machine_laws.proofs.OnSteps.Stalls.{runs_until}
 
 -- it fills its FIFO from memory

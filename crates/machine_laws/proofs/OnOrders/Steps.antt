@@ -5,19 +5,20 @@ use Rattle.drive_model.specs.Drive.{DriveState}
 use Rattle.dma_8237.specs.Channel.{grants, after_transfer}
 use Rattle.fdc_stages.specs.History.{Past}
 use Rattle.fdc_core.proofs.MayWrite.{in_writes, in_formats, told_writes, told_formats}
-use Rattle.fdc_core.specs.Dma.{phase_told, taken_in, told_count}
-use Rattle.fdc_core.specs.Heard.{told_in}
+use Rattle.fdc_core.specs.Dma.{taken_in, told_count}
+use Rattle.fdc_phases.specs.Dma.{phase_told}
+use Rattle.fdc_phases.specs.Heard.{told_in}
 use Rattle.fdc_core.specs.Listening.{is_executing}
-use Rattle.fdc_core.specs.Phases.{is_read, is_reading}
+use Rattle.fdc_phases.specs.Phases.{is_read, is_reading}
 use Rattle.fdc_core.specs.State.{asks, is_gated}
-use Rattle.fdc_core.specs.Written.{took}
+use Rattle.fdc_phases.specs.Written.{took}
 use Rattle.fdc_core.specs.declared.controller.Fdc.{Fdc}
-use Rattle.fdc_core.specs.declared.phases.Phase.{Phase}
-use Rattle.fdc_core.specs.declared.phases.Phase.TheVariants as phase
-use Rattle.fdc_core.specs.declared.phases.Task.{Task}
-use Rattle.fdc_core.specs.declared.phases.Task.TheVariants as task
-use Rattle.fdc_core.specs.declared.answers.Answer.{Answer}
-use Rattle.fdc_core.specs.declared.answers.Answer.TheVariants.{Short, Long}
+use Rattle.fdc_phases.specs.declared.phases.Phase.{Phase}
+use Rattle.fdc_phases.specs.declared.phases.Phase.TheVariants as phase
+use Rattle.fdc_phases.specs.declared.phases.Task.{Task}
+use Rattle.fdc_phases.specs.declared.phases.Task.TheVariants as task
+use Rattle.fdc_phases.specs.declared.answers.Answer.{Answer}
+use Rattle.fdc_phases.specs.declared.answers.Answer.TheVariants.{Short, Long}
 use Rattle.fdc_fifo.specs.Fifo.{Fifo}
 use Rattle.pc_bus.specs.Boards.{Board, controller_of, drive_in}
 use Rattle.pc_bus.specs.Steps.{Step}

@@ -10,9 +10,9 @@ use Rattle.fdc_core.specs.Steps.{polled, RestsIn, MovesIn}
 use Rattle.fdc_core.specs.Times.{WordTime, Saw, KeptOut, Wrote, Stopped, after_time}
 use Rattle.fdc_core.specs.Writes.{WritesIn, RestsWritten}
 use Rattle.fdc_core.specs.declared.controller.Fdc.{Fdc}
-use Rattle.fdc_core.specs.declared.phases.Execution.{Execution}
-use Rattle.fdc_core.specs.declared.phases.Phase.{Phase}
-use Rattle.fdc_core.specs.declared.phases.Phase.TheVariants.{Command, Execute, Result}
+use Rattle.fdc_phases.specs.declared.phases.Execution.{Execution}
+use Rattle.fdc_phases.specs.declared.phases.Phase.{Phase}
+use Rattle.fdc_phases.specs.declared.phases.Phase.TheVariants.{Command, Execute, Result}
 use Rattle.pc_bus.specs.Steps.{Works}
 use Rattle.pc_bus.specs.declared.chips.Chips.{Chips}
 use Rattle.machine_laws.specs.OnReads.Scenes.{Scene, IsScene}

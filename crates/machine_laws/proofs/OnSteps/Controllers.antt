@@ -4,16 +4,17 @@ use Rattle.fdc_fifo.specs.Fifo.{Fifo}
 use Rattle.fdc_registers.specs.Dor.{gate}
 use Rattle.fdc_registers.specs.declared.drive_lines.Dor.{Dor}
 use Rattle.fdc_seek.specs.Seeking.{with_polls}
-use Rattle.fdc_core.specs.Dma.{fifo_told, phase_told, taken_in, taken_out, task_told, to_memory_of, told_count}
+use Rattle.fdc_core.specs.Dma.{fifo_told, taken_in, taken_out, to_memory_of, told_count}
+use Rattle.fdc_phases.specs.Dma.{phase_told, task_told}
 use Rattle.fdc_core.specs.Listening.{is_executing}
-use Rattle.fdc_core.specs.Phases.{is_overrun, is_read, is_reading}
+use Rattle.fdc_phases.specs.Phases.{is_overrun, is_read, is_reading}
 use Rattle.fdc_core.specs.State.{is_gated, is_held}
 use Rattle.fdc_core.specs.Steps.{polled}
 use Rattle.fdc_core.specs.declared.controller.Fdc.{Fdc}
-use Rattle.fdc_core.specs.declared.phases.Phase.{Phase}
-use Rattle.fdc_core.specs.declared.phases.Phase.TheVariants.{Command, Execute, Result}
-use Rattle.fdc_core.specs.declared.phases.Task.{Task}
-use Rattle.fdc_core.specs.declared.phases.Task.TheVariants.{ReadId, Read, Write, Format}
+use Rattle.fdc_phases.specs.declared.phases.Phase.{Phase}
+use Rattle.fdc_phases.specs.declared.phases.Phase.TheVariants.{Command, Execute, Result}
+use Rattle.fdc_phases.specs.declared.phases.Task.{Task}
+use Rattle.fdc_phases.specs.declared.phases.Task.TheVariants.{ReadId, Read, Write, Format}
 use Rattle.pc_bus.specs.Transfers.{moved, moved_to_memory, moved_from_memory, byte_read, told_if, dma_stepped}
 use Rattle.pc_bus.specs.declared.chips.Chips.{Chips}
 use Rattle.machine_laws.specs.OnSteps.Steady.{Transferred}

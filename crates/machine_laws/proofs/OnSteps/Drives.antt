@@ -3,16 +3,16 @@
 use Rattle.std.proofs.Common.{ℕ, ◌/◌, ◌%◌, Bool, Option, None, subst}
 use Rattle.drive_model.specs.Drive.{DriveState}
 use Rattle.fdc_fifo.specs.Fifo.{Fifo}
-use Rattle.fdc_core.specs.Phases.{is_listening}
+use Rattle.fdc_phases.specs.Phases.{is_listening}
 use Rattle.fdc_core.specs.Steps.{polled, Moves, MovesIn, MovesTask}
 use Rattle.fdc_core.specs.Times.{WordTime, IsTime}
 use Rattle.fdc_core.specs.Writes.{WritesIn, WritesTask}
 use Rattle.fdc_core.specs.declared.controller.Fdc.{Fdc}
-use Rattle.fdc_core.specs.declared.phases.Phase.{Phase}
-use Rattle.fdc_core.specs.declared.phases.Phase.TheVariants.{Command, Execute, Result}
-use Rattle.fdc_core.specs.declared.phases.Task.{Task}
-use Rattle.fdc_core.specs.declared.phases.Task.TheVariants.{ReadId, Read, Write, Format}
-use Rattle.fdc_core.specs.declared.rates.DataRate.{DataRate}
+use Rattle.fdc_phases.specs.declared.phases.Phase.{Phase}
+use Rattle.fdc_phases.specs.declared.phases.Phase.TheVariants.{Command, Execute, Result}
+use Rattle.fdc_phases.specs.declared.phases.Task.{Task}
+use Rattle.fdc_phases.specs.declared.phases.Task.TheVariants.{ReadId, Read, Write, Format}
+use Rattle.fdc_phases.specs.declared.rates.DataRate.{DataRate}
 use Rattle.pc_bus.specs.Boards.{Board, controller_of}
 use Rattle.pc_bus.specs.Steps.{Works, Step}
 use Rattle.machine_laws.proofs.OnSteps.Controllers.{polled_phase}

@@ -13,16 +13,17 @@ use Rattle.fdc_commands.specs.declared.bytes.Accepted.TheVariants.{More, Ready, 
 use Rattle.fdc_commands.specs.declared.command.Command.{Command}
 use Rattle.fdc_commands.specs.declared.command.Command.TheVariants as command
 use Rattle.fdc_core.specs.Commands.{Obeys, TakesAs, sensing_by, answered}
-use Rattle.fdc_core.specs.Dma.{phase_told, taken_out, taken_in, to_memory_of}
+use Rattle.fdc_core.specs.Dma.{taken_out, taken_in, to_memory_of}
+use Rattle.fdc_phases.specs.Dma.{phase_told}
 use Rattle.fdc_core.specs.Listening.{is_executing}
 use Rattle.fdc_core.specs.Ports.{Writes, dsr_resets, phase_after, is_taking}
-use Rattle.fdc_core.specs.Rates.{rate_chosen}
+use Rattle.fdc_phases.specs.Rates.{rate_chosen}
 use Rattle.fdc_core.specs.State.{reset}
 use Rattle.fdc_core.specs.Steps.{polled, RestsIn, seek_stepped}
 use Rattle.fdc_core.specs.declared.controller.Fdc.{Fdc}
 use Rattle.fdc_core.specs.declared.controller.Lines.{Lines}
-use Rattle.fdc_core.specs.declared.phases.Phase.{Phase}
-use Rattle.fdc_core.specs.declared.phases.Phase.TheVariants as phase
+use Rattle.fdc_phases.specs.declared.phases.Phase.{Phase}
+use Rattle.fdc_phases.specs.declared.phases.Phase.TheVariants as phase
 use Rattle.pc_bus.specs.Boards.{Board, IsInRange, controller_of}
 use Rattle.pc_bus.specs.Steps.{Step}
 use Rattle.pc_bus.specs.Transfers.{moved, moved_to_memory, moved_from_memory, byte_read, told_if}

@@ -10,24 +10,26 @@ use Rattle.fdc_writing.specs.declared.formatting.FormatNext.{FormatNext}
 use Rattle.fdc_writing.specs.declared.formatting.FormatNext.TheVariants as format_next
 use Rattle.fdc_writing.specs.declared.writing.WriteNext.{WriteNext}
 use Rattle.fdc_writing.specs.declared.writing.WriteNext.TheVariants as write_next
-use Rattle.fdc_core.specs.Commands.{WaitsAtFirst, begun}
+use Rattle.fdc_core.specs.Commands.{begun}
+use Rattle.fdc_phases.specs.Commands.{WaitsAtFirst}
 use Rattle.fdc_core.specs.Dma.{asked}
 use Rattle.fdc_core.specs.Formatting.{FormatDoes, after_laid}
 use Rattle.fdc_core.specs.Listening.{is_executing}
-use Rattle.fdc_core.specs.Phases.{is_overrun, is_reading}
+use Rattle.fdc_phases.specs.Phases.{is_overrun, is_reading}
 use Rattle.fdc_core.specs.State.{asks, is_gated}
 use Rattle.fdc_core.specs.Steps.{polled}
 use Rattle.fdc_core.specs.Times.{WordTime, Saw, KeptOut, Wrote, Stopped}
-use Rattle.fdc_core.specs.Waiting.{Lasts, LastsIn, PhaseWaits, phase_counted}
+use Rattle.fdc_core.specs.Waiting.{Lasts, LastsIn}
+use Rattle.fdc_phases.specs.Waiting.{PhaseWaits, phase_counted}
 use Rattle.fdc_core.specs.Writes.{WritesIn, WritesTask}
 use Rattle.fdc_core.specs.Writing.{WriteDoes, after_next, without_byte}
 use Rattle.fdc_core.specs.declared.controller.Fdc.{Fdc}
-use Rattle.fdc_core.specs.declared.phases.Phase.{Phase}
-use Rattle.fdc_core.specs.declared.phases.Phase.TheVariants.{Command, Execute, Result}
-use Rattle.fdc_core.specs.declared.phases.Task.{Task}
-use Rattle.fdc_core.specs.declared.phases.Task.TheVariants.{ReadId, Read, Write, Format}
-use Rattle.fdc_core.specs.declared.transfers.Formatting.{Formatting}
-use Rattle.fdc_core.specs.declared.transfers.Writing.{Writing}
+use Rattle.fdc_phases.specs.declared.phases.Phase.{Phase}
+use Rattle.fdc_phases.specs.declared.phases.Phase.TheVariants.{Command, Execute, Result}
+use Rattle.fdc_phases.specs.declared.phases.Task.{Task}
+use Rattle.fdc_phases.specs.declared.phases.Task.TheVariants.{ReadId, Read, Write, Format}
+use Rattle.fdc_phases.specs.declared.transfers.Formatting.{Formatting}
+use Rattle.fdc_phases.specs.declared.transfers.Writing.{Writing}
 use Rattle.machine_pace.specs.Holds.{IsInTime, IsReady, looked}
 use Rattle.machine_pace.specs.declared.holding.Request.{Request}
 use Rattle.machine_pace.specs.declared.holding.Request.TheVariants.{Low}

@@ -5,12 +5,12 @@ use Rattle.dma_8237.specs.Channel.{Channel, after_write}
 use Rattle.fdc_fifo.specs.Fifo.{Fifo}
 use Rattle.fdc_stages.specs.History.{Past}
 use Rattle.fdc_writing.specs.Formats.{Numbers}
-use Rattle.fdc_core.specs.Heard.{MayReadIn, MayReadIdIn}
+use Rattle.fdc_phases.specs.Heard.{MayReadIn, MayReadIdIn}
 use Rattle.fdc_core.specs.Listening.{is_executing}
 use Rattle.fdc_core.specs.State.{dor_of}
-use Rattle.fdc_core.specs.Written.{MayWriteIn, MayFormatIn}
+use Rattle.fdc_phases.specs.Written.{MayWriteIn, MayFormatIn}
 use Rattle.fdc_core.specs.declared.controller.Fdc.{Fdc}
-use Rattle.fdc_core.specs.declared.phases.Phase.{Phase}
+use Rattle.fdc_phases.specs.declared.phases.Phase.{Phase}
 use Rattle.pc_bus.specs.Boards.{Board, controller_of, channel_of, memory_of, drive_in}
 use Rattle.pc_bus.specs.Ports.{is_controllers}
 use Rattle.pc_bus.specs.declared.chips.Chips.{Chips}

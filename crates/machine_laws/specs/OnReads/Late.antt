@@ -2,10 +2,10 @@
 use Rattle.std.specs.Prelude.{Bool, true, false}
 use Rattle.fdc_stages.specs.declared.ending.Ending.{Ending}
 use Rattle.fdc_stages.specs.declared.ending.Ending.TheVariants.{Late}
-use Rattle.fdc_core.specs.declared.answers.Answer.{Answer}
-use Rattle.fdc_core.specs.declared.answers.Answer.TheVariants.{Long}
-use Rattle.fdc_core.specs.declared.phases.Phase.{Phase}
-use Rattle.fdc_core.specs.declared.phases.Phase.TheVariants.{Result}
+use Rattle.fdc_phases.specs.declared.answers.Answer.{Answer}
+use Rattle.fdc_phases.specs.declared.answers.Answer.TheVariants.{Long}
+use Rattle.fdc_phases.specs.declared.phases.Phase.{Phase}
+use Rattle.fdc_phases.specs.declared.phases.Phase.TheVariants.{Result}
 
 -- MA, since all steps were taken
 abbrev pub ends_late : Ending → Bool

@@ -1,6 +1,6 @@
 // What follows of the machine's steps. The bodies are empty.
 ghost use Rattle.std.specs.Prelude.{◌≡◌, ◌⊎◌, ◌≤◌, ◌+◌, ℕ, length};
-ghost use Rattle.fdc_core.specs.declared.phases.Phase.TheVariants.{Command};
+ghost use Rattle.fdc_phases.specs.declared.phases.Phase.TheVariants.{Command};
 ghost use Rattle.machine_laws.specs.OnOrders.Orders.{CanBegin, Leaves, Order, Underway};
 ghost use Rattle.machine_laws.specs.OnOrders.Outside.{CanFetch, IsFetching};
 ghost use Rattle.machine_laws.specs.OnQuiet.Quiet.{StandsStill};
