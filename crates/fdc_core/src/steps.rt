@@ -140,8 +140,8 @@ impl Fdc {
         pulse
     }
 
-    /// A device step of a data command. The usual one, in which a word passes by a READ DATA that searches, is made in place: nothing
-    /// is copied, and no other call is made.
+    /// A device step of a data command. The usual one, in which a word passes by a READ DATA that searches, is made in place; each
+    /// other is a call at the end, so that nothing is copied here.
     #[inline(never)]
     fn execute<D: Drive>(&mut self, drive: &mut D)
         ensures { ExecutionSteps self.old.phase self.old (D.state drive.old) (D.state drive.new) self.new }
