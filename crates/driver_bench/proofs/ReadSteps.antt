@@ -104,6 +104,7 @@ missed track key bay code old new miss =
     record {
       coded = of_code.0;
       reason = λ quiet. reason_of track key miss.looked code miss.is miss.by_code;
+      cause = λ faultless. inl (reason_of track key miss.looked code miss.is miss.by_code);
       overrun = λ e. absurd (of_code.1 e);
     }
 

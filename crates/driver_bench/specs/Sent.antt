@@ -3,7 +3,7 @@ use Rattle.std.specs.Prelude.{◌≡◌, ℕ}
 use Rattle.flop_base.specs.Counts.{RoseBy}
 use Rattle.flop_base.specs.declared.answers.Code.{Code}
 use Rattle.flop_base.specs.declared.answers.Code.TheVariants.{Overrun}
-use Rattle.bay_model.specs.Counters.{IsUndisturbed, FaultsRoseBy}
+use Rattle.bay_model.specs.Counters.{IsFaultless, IsUndisturbed, FaultsRoseBy}
 use Rattle.single_commands.specs.Rigs.{Rig}
 use Rattle.single_commands.specs.Reading.{SendsRead}
 
@@ -18,9 +18,10 @@ pub record HasFault (bay : ℕ) (old new : Rig) : Type 0 where
   pub fails : Fails old new
   pub fault : FaultsRoseBy 1 bay old.counters new.counters
 
--- it was disturbed, and is refused so
+-- it was disturbed, and is refused so: without a fault of the drive by OR
 pub record IsDisturbed (IsCode : Code → Type 0) (bay : ℕ) (old : Rig) (code : Code) (new : Rig) : Type 0 where
   pub fails : Fails old new
   pub coded : IsCode code
   pub disturbed : IsUndisturbed bay old.counters new.counters → ⊥
+  pub faultless : IsFaultless bay old.counters new.counters → code ≡ Overrun
   pub overrun : code ≡ Overrun → RoseBy 1 old.counters.stalls new.counters.stalls

@@ -1,6 +1,7 @@
 -- A data command begins on an idle machine, once all is set and its bytes are sent.
 use Rattle.std.proofs.Common.{◌≡◌, inl, inr, ℕ, zero, suc, ◌+◌, ◌*◌, ◌/◌, ◌%◌, ◌<◌, ◌≤◌, ◌==◌, not, Bool, true, false, List, [], ◌∷◌, ◌++◌, length, Result as result, refl, sym, ◌∙◌, ap, subst, arith}
 use Rattle.std.specs.Prelude.{bit_and}
+use Rattle.std.specs.List.{All}
 use Rattle.dma_8237.specs.Channel.{Channel, after_write, has_bit, reads_memory}
 use Rattle.dma_8237.specs.SetUp.{set_up}
 use Rattle.dma_8237.proofs.SettingUp.{is_set_up}
@@ -17,7 +18,7 @@ use Rattle.fdc_core.specs.declared.controller.Fdc.{Fdc}
 use Rattle.flop_base.specs.declared.answers.Code.{Code}
 use Rattle.flop_base.specs.declared.answers.Rate.{Rate}
 use Rattle.flop_base.specs.declared.answers.Rate.TheVariants.{R500, R250}
-use Rattle.machine_pace.specs.Holds.{Holds, shown}
+use Rattle.machine_pace.specs.Holds.{AreShort, Holds, IsShort, shown}
 use Rattle.machine_pace.specs.declared.holding.Request.TheVariants.{Low}
 use Rattle.machine_laws.specs.OnAwaits.Goes.{StandsReady}
 use Rattle.machine_laws.specs.OnOrders.Orders.{Order, CanBegin, IsLast, IsSetFor}
@@ -136,14 +137,15 @@ pub record HasSent (motors : Motors) (bay : ℕ) (rate : Rate) (old start : Boar
   pub numbers : (controller_of start).seeks.cylinders ≡ (controller_of old).seeks.cylinders
   pub commands : data_commands_of (controller_of start) ≡ data_commands_of (controller_of old)
   pub rate_at : (controller_of start).rate ≡ data_rate rate
+  pub short : AreShort (holds_of start)
 
 chosen : (rate : Rate) → rate_chosen (rate_byte rate) ≡ data_rate rate
 chosen R500 = refl
 chosen R250 = refl
 
-has_sent : (motors : Motors) (bay : ℕ) (rate : Rate) (bytes : List ℕ) (old start : Board) → IsIdle motors old → bay ≤ 1 → AreCounts old → StaysIdle old start
+has_sent : (motors : Motors) (bay : ℕ) (rate : Rate) (bytes : List ℕ) (old start : Board) → IsIdle motors old → bay ≤ 1 → AreCounts old → AreShort (holds_of old) → StaysIdle old start
     → controller_of start ≡ with_bytes bytes (prepared motors bay rate (controller_of old)) → (holds_of start).request ≡ Low → HasSent motors bay rate old start
-has_sent motors bay rate bytes old start idle small counts stays is request = record {
+has_sent motors bay rate bytes old start idle small counts short stays is request = record {
   counts = counts;
   stays = stays;
   sending = record {
@@ -165,6 +167,7 @@ has_sent motors bay rate bytes old start idle small counts stays is request = re
   numbers = ap (λ f. f.seeks.cylinders) is;
   commands = ap data_commands_of is;
   rate_at = ap (λ f. f.rate) is ∙ chosen rate;
+  short = record { entries = subst (All (λ entry. entry ≤ 255)) (sym stays.keeps.entries) short.entries; request = subst IsShort (sym request) tt };
 }
 
 sending_free : (motors : Motors) (bay : ℕ) (board : Board) → IsSending motors bay board → is_held (controller_of board) ≡ false
@@ -249,7 +252,7 @@ is_run order s bay address size motors rate channel first next byte old ready se
     let bytes = first ++ next ∷ [] in
     let later = stays_then ready set start put.stays part.idles.stays in
     let has = disk_stays bay is.disk ready start later is.has in
-    let all = has_sent motors bay rate bytes old start idle small prepares.counts (stays_then old ready start is.stays later) (part.idles.controller_is ∙ ap (with_bytes bytes) at) part.request in
+    let all = has_sent motors bay rate bytes old start idle small prepares.counts prepares.short (stays_then old ready start is.stays later) (part.idles.controller_is ∙ ap (with_bytes bytes) at) part.request in
     let scene = scene_of s bay is.disk address size start in
     let selects = selects_bay motors bay start all.sending in
     let scene_is : IsScene scene = record {

@@ -18,7 +18,7 @@ use Rattle.machine_laws.specs.OnAwaits.Goes.{GoesOn, with_one}
 use Rattle.machine_laws.specs.OnOrders.Orders.{Order}
 use Rattle.machine_laws.specs.OnReads.Scenes.{Scene}
 use Rattle.machine_laws.proofs.OnAwaits.Courses.{goes_status, goes_stray, goes_wait, goes_waits}
-use Rattle.machine_laws.proofs.OnAwaits.Kept.{fewer}
+use Rattle.machine_laws.specs.OnSteps.Steady.{Steady}
 use Rattle.machine_laws.proofs.OnSteps.DataEnds.{step_ends}
 use Rattle.machine_laws.proofs.OnSteps.Runs.{inputs, wait, waits}
 use Rattle.machine_laws.proofs.OnSteps.Words.{controller}
@@ -60,6 +60,10 @@ positive_in (Execute execution) new busy ends = let fewer = ends.0 in omega arit
 step_positive : (old new : Board) → Step old new → is_executing (controller_of old).phase ≡ true → 1 ≤ left_of old
 step_positive old new step busy = controller (1 ≤ left_of old) old new step (λ before after works. positive_in (controller_of old).phase step.between.phase busy works.ends)
     (λ works. positive_in (controller_of old).phase step.between.phase busy works.ends)
+
+-- none comes back
+fewer : (most : ℕ) → Steady (λ board. left_of board ≤ most)
+fewer most = record { step = λ old new step was. (let less = step_ends old new step in omega arith); idle = λ old gaps fresh was. was }
 
 most_left : (phase : Phase) → steps_left phase ≤ 65536
 most_left Command = omega arith

@@ -1,5 +1,5 @@
 -- READ DATA.
-use Rattle.std.proofs.Common.{◌≡◌, ◌⊎◌, inl, inr, ℕ, zero, suc, ◌+◌, ◌-◌, ◌*◌, ◌/◌, ◌%◌, ◌<◌, ◌≤◌, Bool, true, List, [], ◌∷◌, length, get_or, Result as result, Ok, Err, IfOk, IfErr, refl, sym, ◌∙◌, ap, subst, arith}
+use Rattle.std.proofs.Common.{◌≡◌, ◌⊎◌, inl, inr, ℕ, zero, suc, ◌+◌, ◌-◌, ◌*◌, ◌/◌, ◌%◌, ◌<◌, ◌≤◌, Bool, true, false, List, [], ◌∷◌, length, get_or, Result as result, Ok, Err, IfOk, IfErr, refl, sym, ◌∙◌, ap, subst, arith}
 use Rattle.std.proofs.lemmas.Bool.{false≢true}
 use Rattle.std.proofs.lemmas.List.FromFn.{length-map-range_with_len}
 use Rattle.flop_base.specs.Standard.{read_gap_at}
@@ -8,6 +8,7 @@ use Rattle.flop_base.specs.declared.answers.Code.{Code}
 use Rattle.flop_base.specs.declared.answers.Code.TheVariants as code
 use Rattle.flop_base.specs.declared.answers.Rate.{Rate}
 use Rattle.bay_model.specs.Bays.{in_bay}
+use Rattle.bay_model.specs.Counters.{IsFaultless}
 use Rattle.flop_base.specs.Lists.{with_items}
 use Rattle.bay_model.specs.Memory.{user_bytes}
 use Rattle.dma_8237.specs.SetUp.{set_up}
@@ -30,7 +31,7 @@ use Rattle.fdc_phases.specs.declared.answers.Answer.TheVariants.{Long}
 use Rattle.fdc_phases.specs.declared.phases.Phase.TheVariants.{Result}
 use Rattle.machine_laws.specs.OnOrders.Orders.{Read}
 use Rattle.machine_laws.specs.OnReads.Begins.{scene_of}
-use Rattle.machine_laws.specs.OnReads.Ends.{is_late}
+use Rattle.machine_laws.specs.OnReads.Ends.{ends_late, is_late}
 use Rattle.machine_laws.specs.OnReads.Results as heard
 use Rattle.machine_laws.specs.OnReads.Scenes.{Scene, IsRecorded, track_met}
 use Rattle.machine_laws.specs.OnReads.Underway.{IsCalm, HasBytes}
@@ -56,28 +57,30 @@ use Rattle.machine_commands.proofs.Seeing.{calm_drive, cylinder_before, faultles
 -- a refusal, where a stall is this
 record Refuses (scene : Scene) (faults : ℕ) (Stall : Type 0) (refusal : Code) : Type 0 where
   pub coded : IsReadCode refusal
-  pub reason : IsCalm scene.faults faults → (Stall → ⊥) → IsReadReason (track_met scene) scene.sent.key refusal
+  pub cause : IsCalm scene.faults faults → IsReadReason (track_met scene) scene.sent.key refusal ⊎ (refusal ≡ code.Overrun)
   pub overrun : refusal ≡ code.Overrun → Stall
 
 abbrev Tells : Scene → ℕ → List ℕ → Type 0 → result Bool Code → Type 0
 Tells scene faults memory Stall (Ok deleted) = (content : List ℕ) × heard.FindsField scene faults deleted content memory
 Tells scene faults memory Stall (Err refusal) = Refuses scene faults Stall refusal
 
-tells_by : (scene : Scene) (faults : ℕ) (memory : List ℕ) (Stall : Type 0) (ending : Ending) → heard.EndsAs scene faults memory ending → (ending ≡ Overrun → Stall) → (ending ≡ Late → Stall)
+-- a read never ends late, and overruns by a stall
+tells_by : (scene : Scene) (faults : ℕ) (memory : List ℕ) (Stall : Type 0) (ending : Ending) → heard.EndsAs scene faults memory ending → ends_late ending ≡ false → (ending ≡ Overrun → Stall)
     → (key : Chrn) → Tells scene faults memory Stall (mark_told (told_as ending key))
-tells_by scene faults memory Stall (Finished deleted) says overran late key = says
-tells_by scene faults memory Stall NoMark says overran late key = record { coded = tt; reason = λ calm _. inl (λ p clear. says calm (p, clear.mark)); overrun = λ wrong. absurd cc }
-tells_by scene faults memory Stall NoSector says overran late key = record {
+tells_by scene faults memory Stall (Finished deleted) says never overran key = says
+tells_by scene faults memory Stall NoMark says never overran key =
+    record { coded = tt; cause = λ calm. inl (inl (λ p clear. says calm (p, clear.mark))); overrun = λ wrong. absurd cc }
+tells_by scene faults memory Stall NoSector says never overran key = record {
   coded = tt;
-  reason = λ calm _. (says.0, λ (p, clear). says.1 calm p scene.sent.key refl clear.address clear.clear.inner);
+  cause = λ calm. inl (says.0, λ (p, clear). says.1 calm p scene.sent.key refl clear.address clear.clear.inner);
   overrun = λ wrong. absurd cc;
 }
-tells_by scene faults memory Stall NoField says overran late key = record { coded = tt; reason = λ calm _. inr (says calm); overrun = λ wrong. absurd cc }
-tells_by scene faults memory Stall BadCheck says overran late key = record { coded = tt; reason = λ calm _. says calm; overrun = λ wrong. absurd cc }
-tells_by scene faults memory Stall Overrun says overran late key = record { coded = tt; reason = λ calm none. none (overran refl); overrun = λ _. overran refl }
-tells_by scene faults memory Stall NoCount says overran late key = absurd says
-tells_by scene faults memory Stall Protected says overran late key = absurd says
-tells_by scene faults memory Stall Late says overran late key = record { coded = tt; reason = λ calm none. absurd (none (late refl)); overrun = λ wrong. absurd cc }
+tells_by scene faults memory Stall NoField says never overran key = record { coded = tt; cause = λ calm. inl (inr (says calm)); overrun = λ wrong. absurd cc }
+tells_by scene faults memory Stall BadCheck says never overran key = record { coded = tt; cause = λ calm. inl (says calm); overrun = λ wrong. absurd cc }
+tells_by scene faults memory Stall Overrun says never overran key = record { coded = tt; cause = λ calm. inr refl; overrun = λ _. overran refl }
+tells_by scene faults memory Stall NoCount says never overran key = absurd says
+tells_by scene faults memory Stall Protected says never overran key = absurd says
+tells_by scene faults memory Stall Late says never overran key = absurd (false≢true (sym never))
 
 -- ---- sizes
 
@@ -144,16 +147,12 @@ module _ (motors : Motors) (bay : ℕ) (key : Chrn) (rate : Rate) (address : ℕ
   abbrev Stall : Type 0
   Stall = Stalled start at
 
-  -- what comes of stalls alone
+  never_late : ends_late ran.run.over.results.ending ≡ false
+  never_late = let (under, soon, short) = ran.run.over.goes.soon ran.run.sent.short in sym (ap is_late ran.run.over.results.is) ∙ soon.no_late
+
   overran : ran.run.over.results.ending ≡ Overrun → Stall
   overran is = elim ran.run.over.goes.in_time [
     | inl ((under, punctual), soon) ↦ absurd (false≢true (sym punctual.no_overrun ∙ (ap is_overrun ran.run.over.results.is ∙ ap (λ e. is_overrun (Result (Long e ran.run.over.results.results 0))) is)))
-    | inr stalled ↦ stalled
-  ]
-
-  late : ran.run.over.results.ending ≡ Late → Stall
-  late is = elim ran.run.over.goes.in_time [
-    | inl (in_time, soon) ↦ absurd (false≢true (sym soon.no_late ∙ (ap is_late ran.run.over.results.is ∙ ap (λ e. is_late (Result (Long e ran.run.over.results.results 0))) is)))
     | inr stalled ↦ stalled
   ]
 
@@ -163,7 +162,7 @@ module _ (motors : Motors) (bay : ℕ) (key : Chrn) (rate : Rate) (address : ℕ
       let (results, ends) = subst (heard.EndedIn scene faults (memory_of at)) over.results.is (read_ended scene at coded size_is over.goes.underway) in
       let after = key_after over.results.ending key key.r in
       subst (λ told. Tells scene faults (memory_of at) Stall (mark_told told)) (sym (outcome_is outcome over.results.ending over.results.results head_drive after (small_drive key.h bay low small) over.outcome_is results))
-      (tells_by scene faults (memory_of at) Stall over.results.ending ends overran late after)
+      (tells_by scene faults (memory_of at) Stall over.results.ending ends never_late overran after)
 
   head_is : head_drive / 4 % 2 ≡ key.h
   head_is = head_of_sent key.h bay low small
@@ -182,9 +181,13 @@ module _ (motors : Motors) (bay : ℕ) (key : Chrn) (rate : Rate) (address : ℕ
       by_told (Ok deleted) says = tt
       by_told (Err refusal) says = record {
         coded = says.coded;
-        reason = λ undisturbed. subst (λ t. IsReadReason t key refusal) track (says.reason (calm_drive ran.run (faultless ran.run undisturbed)) (unstalled ran.run undisturbed));
+        reason = λ undisturbed. elim (cause (faultless ran.run undisturbed)) [ inl why ↦ why | inr is ↦ absurd (unstalled ran.run undisturbed (says.overrun is)) ];
+        cause = cause;
         overrun = λ is. stall_counts ran.run (says.overrun is);
       }
+        where
+          cause : IsFaultless bay (rig_of old).counters (rig_of new).counters → IsReadReason (track_under (rig_of old) bay rate key.h) key refusal ⊎ (refusal ≡ code.Overrun)
+          cause few = elim (says.cause (calm_drive ran.run few)) [ inl why ↦ inl (subst (λ t. IsReadReason t key refusal) track why) | inr is ↦ inr is ]
 
   -- ---- the field
 

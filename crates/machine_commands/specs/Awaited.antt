@@ -11,6 +11,7 @@ use Rattle.fdc_core.specs.State.{data_commands_of}
 use Rattle.pc_bus.specs.Boards.{Board, controller_of, holds_of, memory_of}
 use Rattle.pc_bus.specs.Ports.{Inputs, Outputs}
 use Rattle.pc_bus.specs.Steps.{Runs, Waits, stirred}
+use Rattle.machine_pace.specs.Holds.{AreShort}
 use Rattle.machine_commands.specs.Codes.{has_set, refusal_of, rate_byte}
 use Rattle.machine_commands.specs.Ready.{dor_with}
 use Rattle.machine_commands.specs.Sending.{Sends, Settles, latch_taken}
@@ -30,6 +31,7 @@ pub record AreCounts (board : Board) : Type 0 where
 pub record Prepares (motors : Motors) (bay : ℕ) (rate : Rate) (old new : Board) : Type 0 where
   pub counts : AreCounts old
   pub memory : length (memory_of old) ≡ 1048576
+  pub short : AreShort (holds_of old)
   pub selected : Board
   pub selects : Outputs 0x3F2 (dor_with motors bay) old selected
   pub first : InRange selected.first

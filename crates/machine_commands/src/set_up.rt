@@ -65,6 +65,7 @@ impl<D: Drive> CommandedMachine<D> {
         ensures prepares { Prepares self.old.motors bay rate (board_of D.state self.old) (board_of D.state self.new) }
         ensures motors { self.new.motors ≡ self.old.motors }
     {
+        self.machine.ranges();
         self.keep_counts();
         self.keep_memory();
         self.select(bay);

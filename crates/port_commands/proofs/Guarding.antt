@@ -1,5 +1,5 @@
 -- Protected media over lines, and how far a run came.
-use Rattle.std.proofs.Common.{◌≡◌, ℕ, zero, suc, ◌-◌, ◌≤◌, ◌==◌, nat_le, not, Bool, true, false, List, [], ◌∷◌, Option, Some, None, Result, Ok, Err, inl, inr, if◌then◌else◌, refl, sym, ap, subst, ◌∙◌, arith}
+use Rattle.std.proofs.Common.{◌≡◌, ℕ, zero, suc, ◌-◌, ◌≤◌, ◌==◌, nat_le, not, Bool, true, false, List, [], ◌∷◌, Option, Some, None, Result, Ok, Err, if◌then◌else◌, refl, sym, ap, subst, arith}
 use Rattle.std.specs.Option.{MatchOption}
 use Rattle.std.proofs.lemmas.Bool.{false≢true}
 use Rattle.std.proofs.lemmas.Bool.Decides.{nat_tests}
@@ -7,15 +7,14 @@ use Rattle.flop_base.specs.Shelf.{Files}
 use Rattle.flop_base.specs.declared.answers.Status.{Status}
 use Rattle.flop_base.specs.declared.answers.Status.TheVariants as status
 use Rattle.drive_model.specs.Drive.{DriveState, is_protected}
-use Rattle.raw_image.specs.Disk.{Disk}
 use Rattle.floppy_jobs.specs.Texts.{ports_of}
 use Rattle.floppy_jobs.specs.declared.ports.PortLine.{PortLine}
 use Rattle.floppy_jobs.specs.declared.ports.PortLine.TheVariants as line
 use Rattle.machine_pace.specs.Entries.{next_entry}
 use Rattle.machine_laws.specs.OnSteps.Steady.{regapped, Marching, Steady}
-use Rattle.machine_laws.specs.OnWrites.Guards.{GuardsMedia, IsGuarded}
+use Rattle.machine_laws.specs.OnWrites.Guards.{GuardsMedia}
 use Rattle.machine_laws.proofs.OnSteps.Runs.{inputs, outputs, march_gap, march_wait, march_waits, read_from, wait}
-use Rattle.machine_laws.proofs.OnWrites.Guards.{step_guards}
+use Rattle.machine_laws.proofs.OnWrites.Guards.{guarding, step_guards}
 use Rattle.pc_bus.specs.Boards.{Board, IsInRange, drive_in}
 use Rattle.pc_bus.specs.Handling.{Touches}
 use Rattle.pc_bus.specs.Ports.{Inputs, Outputs}
@@ -81,33 +80,22 @@ bay_same old new same bay = by_bay (bay == 0)
     by_bay true = same.first
     by_bay false = same.second
 
-protected_same : (before after : Option Disk) → IsGuarded before after → is_protected before ≡ true → after ≡ before
-protected_same before after (inl same) covered = same
-protected_same before after (inr one) covered = absurd (false≢true (sym one.unprotected ∙ (sym (ap is_protected one.was) ∙ covered)))
+-- device steps leave it
+abbrev KeepsBay : ℕ → Board → Board → Type 0
+KeepsBay bay old new = (drive_in new bay).medium ≡ (drive_in old bay).medium
 
-step_guards_bay : (bay : ℕ) (old new : Board) → GuardsMedia old new → GuardsBay bay old new
-step_guards_bay bay old new guards = by_bay (bay == 0)
-  where
-    by_bay : (b : Bool) → is_protected (if b then old.first else old.second).medium ≡ true
-        → (if b then new.first else new.second).medium ≡ (if b then old.first else old.second).medium
-    by_bay true = protected_same old.first.medium new.first.medium guards.first
-    by_bay false = protected_same old.second.medium new.second.medium guards.second
-
-stays_guarded : (bay : ℕ) (start : Board) → Steady (GuardsBay bay start)
-stays_guarded bay start = record {
-  step = λ old new step was covered. (let same = was covered in step_guards_bay bay old new (step_guards old new step) (ap is_protected same ∙ covered) ∙ same);
-  idle = λ old gaps fresh was. was;
-}
+kept : (bay : ℕ) (old : Board) → is_protected (drive_in old bay).medium ≡ true → Steady (KeepsBay bay old)
+kept bay old covered = guarding bay (drive_in old bay).medium covered
 
 read_guards : (port value : ℕ) (old new : Board) → Inputs port old value new → (bay : ℕ) → GuardsBay bay old new
-read_guards port value old new access bay = inputs (GuardsBay bay old) (stays_guarded bay old) port value old new (λ covered. refl) access
+read_guards port value old new access bay covered = inputs (KeepsBay bay old) (kept bay old covered) port value old new refl access
 
 write_guards : (port value : ℕ) (old new : Board) → Outputs port value old new → (bay : ℕ) → GuardsBay bay old new
-write_guards port value old new access bay =
-    outputs (GuardsBay bay old) (stays_guarded bay old) port value old new (λ between writes covered. bay_same old between (write_same port value old between writes) bay) access
+write_guards port value old new access bay covered =
+    outputs (KeepsBay bay old) (kept bay old covered) port value old new (λ between writes. bay_same old between (write_same port value old between writes) bay) access
 
 wait_guards : (n : ℕ) (old new : Board) → Runs n (stirred old) new → (bay : ℕ) → GuardsBay bay old new
-wait_guards n old new runs bay = wait (GuardsBay bay old) (stays_guarded bay old) n old new runs (λ covered. refl)
+wait_guards n old new runs bay covered = wait (KeepsBay bay old) (kept bay old covered) n old new runs refl
 
 -- the other bay is the one that isn't touched
 other_same : (touched bay : ℕ) (old new : Board) → touched ≤ 1 → bay ≤ 1 → not (touched == bay) ≡ true → drive_in new (1 - touched) ≡ drive_in old (1 - touched) → drive_in new bay ≡ drive_in old bay

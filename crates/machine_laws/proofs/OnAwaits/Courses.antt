@@ -1,6 +1,7 @@
 -- A data command, from its beginning until its end is told: through device steps, waits, strays that are taken and reads of MSR.
 use Rattle.std.proofs.Common.{◌≡◌, ◌⊎◌, inl, inr, ℕ, ◌+◌, ◌≤◌, Bool, true, false, min, if◌then◌else◌, refl, sym, ◌∙◌, ap, subst, arith}
 use Rattle.std.proofs.lemmas.Bool.{false≢true}
+use Rattle.machine_laws.proofs.Facts.{shown_stalls}
 use Rattle.flop_base.specs.Counts.{last_count, Rose}
 use Rattle.fdc_core.specs.Listening.{is_executing}
 use Rattle.fdc_core.specs.Ports.{takes_in}
@@ -14,11 +15,11 @@ use Rattle.machine_laws.specs.OnQuiet.Quiet.{GoesQuietly, HoldsOn, Turned, only_
 use Rattle.machine_laws.proofs.OnQuiet.Steps.{quietly, starts_quietly}
 use Rattle.machine_laws.proofs.OnReads.Beginnings.{begins_quietly}
 use Rattle.machine_laws.specs.OnReads.Scenes.{Scene}
-use Rattle.machine_laws.proofs.OnReads.EndCalls.{begins_prompt, inputs_prompt}
-use Rattle.machine_pace.specs.Holds.{Holds, counted, shown}
+use Rattle.machine_laws.proofs.OnReads.EndCalls.{begins_prompt, begins_soon, inputs_prompt, inputs_soon}
+use Rattle.machine_pace.specs.Holds.{AreShort, Holds, counted, shown}
 use Rattle.machine_laws.specs.OnWrites.Guards.{LeavesOthers}
 use Rattle.machine_laws.specs.OnWrites.Timely.{IsTimely, IsOnTime}
-use Rattle.machine_laws.proofs.OnReads.EndSteps.{prompting}
+use Rattle.machine_laws.proofs.OnReads.EndSteps.{prompting, soon_over}
 use Rattle.machine_laws.proofs.OnWrites.Guards.{leaving}
 use Rattle.machine_laws.proofs.OnWrites.OnTime.{on_time}
 use Rattle.machine_laws.proofs.OnOrders.Heads.{begin_leaves}
@@ -32,7 +33,7 @@ use Rattle.machine_laws.specs.OnOrders.Orders.{Order, Identify, Read, Write, Can
 use Rattle.machine_laws.proofs.OnOrders.Accesses.{begins, inputs_keep}
 use Rattle.machine_laws.proofs.OnOrders.Steps.{underway}
 use Rattle.machine_laws.specs.OnAwaits.Awaits.{IsAwaited, is_unread}
-use Rattle.machine_laws.specs.OnAwaits.Goes.{CountsOn, GoesOn, InTime, Listens, StandsReady, with_one}
+use Rattle.machine_laws.specs.OnAwaits.Goes.{CountsOn, EndsSoon, GoesOn, InTime, Listens, StandsReady, with_one}
 use Rattle.machine_laws.proofs.OnAwaits.Awaiting.{awaiting}
 use Rattle.machine_laws.proofs.OnAwaits.Accesses.{begins_awaited, input_awaits, stray_awaits}
 use Rattle.pc_bus.specs.Boards.{Board, controller_of, holds_of}
@@ -107,10 +108,6 @@ shown_ready chips was false is = record {
   ready = λ _. omega arith;
 }
 
-shown_stalls : (line : Bool) (holding : Holds) → (shown line holding).stalls ≡ holding.stalls
-shown_stalls true holding = refl
-shown_stalls false holding = refl
-
 status_in_time : (order : Order) (scene : Scene) (value : ℕ) (old new : Board) → Inputs 0x3F4 old value new → ((controller_of new).phase ≡ Command → ⊥) → InTime order scene old
     → InTime order scene new ⊎ Stalled old new
 status_in_time Identify scene value old new access other was = inl tt
@@ -142,6 +139,33 @@ begins_in_time : (order : Order) (scene : Scene) (byte : ℕ) (old new : Board) 
 begins_in_time Identify scene byte old new access can ready = inl tt
 begins_in_time Read scene byte old new access can ready = begins_prompt scene byte old new access can ready.on ready.threshold ready.out.gated
 begins_in_time (Write laid) scene byte old new access can ready = begins_on_time laid scene byte old new access can ready.on ready.threshold ready.out.gated ready.low
+
+-- ---- a READ DATA ends soon
+
+ending_soon : (order : Order) (scene : Scene) → Steady (EndsSoon order scene)
+ending_soon Identify scene = record { step = λ old new step was. tt; idle = λ old gaps fresh was. tt }
+ending_soon Read scene = soon_over scene
+ending_soon (Write laid) scene = record { step = λ old new step was. tt; idle = λ old gaps fresh was. tt }
+
+begins_to_end : (order : Order) (scene : Scene) (byte : ℕ) (old new : Board) → Outputs 0x3F5 byte old new → CanBegin order scene byte old → StandsReady old → AreShort (holds_of old)
+    → EndsSoon order scene new
+begins_to_end Identify scene byte old new access can ready short = tt
+begins_to_end Read scene byte old new access can ready short = begins_soon scene byte old new access can ready.out.gated short
+begins_to_end (Write laid) scene byte old new access can ready short = tt
+
+status_soon : (order : Order) (scene : Scene) (value : ℕ) (old new : Board) → Inputs 0x3F4 old value new → ((controller_of new).phase ≡ Command → ⊥) → EndsSoon order scene old
+    → EndsSoon order scene new
+status_soon Identify scene value old new access other was = tt
+status_soon Read scene value old new access other was = elim (inputs_soon 0x3F4 value old new access scene was) [
+  | inl on ↦ on
+  | inr over ↦ absurd (other over)
+]
+status_soon (Write laid) scene value old new access other was = tt
+
+taken_soon : (order : Order) (scene : Scene) (old : Board) → EndsSoon order scene old → EndsSoon order scene (record old { bus = irq_taken old.bus })
+taken_soon Identify scene old was = tt
+taken_soon Read scene old ((past, is), soon, short) = ((past, record { scene_is = is.scene_is; chips = is.chips; drive = is.drive }), soon, short)
+taken_soon (Write laid) scene old was = tt
 
 -- ---- the drives under a command that reads
 
@@ -192,6 +216,7 @@ goes_begins order scene byte old new access can ready = record {
   others = begin_leaves order scene byte old new access can;
   counts = counts_then old old new (counts_none old) (output_counts 0x3F5 byte old new access);
   in_time = begins_in_time order scene byte old new access can ready;
+  soon = begins_to_end order scene byte old new access can ready;
 }
 
 pub going : (order : Order) (scene : Scene) (start : Board) → Steady (GoesOn order scene start)
@@ -203,6 +228,7 @@ going order scene start = record {
     others = (from_start LeavesOthers leaving start).step old new step was.others;
     counts = counts_then start old new was.counts (counting.step old new step);
     in_time = ((until_stalled (InTime order scene) (timing order scene) start).step old new step (record { grows = was.counts.stalls; holds = was.in_time })).holds;
+    soon = λ short. (ending_soon order scene).step old new step (was.soon short);
   };
   idle = λ old gaps fresh was. record {
     underway = (underway order scene).idle old gaps fresh was.underway;
@@ -211,6 +237,7 @@ going order scene start = record {
     others = (from_start LeavesOthers leaving start).idle old gaps fresh was.others;
     counts = counts_then start old (regapped gaps fresh old) was.counts (counting.idle old gaps fresh);
     in_time = ((until_stalled (InTime order scene) (timing order scene) start).idle old gaps fresh (record { grows = was.counts.stalls; holds = was.in_time })).holds;
+    soon = λ short. (ending_soon order scene).idle old gaps fresh (was.soon short);
   };
 }
 
@@ -246,6 +273,7 @@ goes_status order scene start value old new access was =
         ]
         | inr rose ↦ inr (kept_up _ _ _ last_count rose counts.stalls)
       ];
+      soon = λ short. status_soon order scene value old new access (not_over (with_one start) start new awaited) (was.soon short);
     }
 
 pub goes_stray : (order : Order) (scene : Scene) (start old : Board) → is_executing (controller_of old).phase ≡ true → GoesOn order scene start old
@@ -260,4 +288,5 @@ goes_stray order scene start old busy was = record {
     | inl time ↦ inl (taken_in_time order scene old time)
     | inr rose ↦ inr rose
   ];
+  soon = λ short. taken_soon order scene old (was.soon short);
 }

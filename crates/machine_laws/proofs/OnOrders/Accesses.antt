@@ -17,18 +17,18 @@ use Rattle.pc_bus.specs.Ports.{is_controllers, port_read, WritesPort, Inputs, Ou
 use Rattle.pc_bus.specs.Transfers.{shown_again}
 use Rattle.pc_bus.specs.declared.chips.Chips.{Chips}
 use Rattle.pc_bus.proofs.Lines.{drive_stays}
-use Rattle.machine_laws.specs.OnReads.Scenes.{Scene}
-use Rattle.machine_laws.proofs.OnReads.Accesses.{busy_before, still_busy, calm_read, hearing_less}
+use Rattle.machine_laws.specs.OnReads.Scenes.{IsScene, Scene}
+use Rattle.machine_laws.proofs.OnReads.Accesses.{busy_before, still_busy, calm_read}
 use Rattle.machine_laws.proofs.OnReads.Commands.{step_command}
 use Rattle.machine_laws.proofs.OnReads.Steps.{same_drive}
 use Rattle.machine_laws.proofs.OnWrites.Covered.{read_refuses}
-use Rattle.machine_laws.proofs.OnWrites.Drives.{drive_less}
 use Rattle.machine_laws.specs.OnSteps.Moves.{read_from}
 use Rattle.machine_laws.proofs.OnSteps.Runs.{gap, outputs}
-use Rattle.machine_laws.specs.OnOrders.Orders.{Window, Track, Order, Identify, Read, Write, MayIn, Shows, Moves, AtDrive, IsDoneBy, Underway, CanBegin}
-use Rattle.machine_laws.proofs.OnOrders.Behind.{laid_on}
+use Rattle.machine_laws.specs.OnOrders.Orders.{CanBeginAt, GoesOn, Window, Track, Order, Identify, Read, Write, MayIn, Shows, Moves, AtDrive, IsDoneBy, Underway, CanBegin}
+use Rattle.machine_laws.proofs.OnOrders.Behind.{KeepsOn}
 use Rattle.machine_laws.proofs.OnOrders.Beginning.{begun_at, begun_by, none_heard}
-use Rattle.machine_laws.proofs.OnOrders.Steps.{underway}
+use Rattle.machine_laws.proofs.OnOrders.Steps.{goes_on, at_drive}
+use Rattle.machine_laws.specs.OnReads.Begins.{IsDriveOf}
 
 -- ---- a read of the data port
 
@@ -103,18 +103,12 @@ moves_read order scene past memory channel port was = by_port (port == 4 || port
 
 -- ---- reads
 
-drive_on : (order : Order) (scene : Scene) (past : Past) (before now : Bool) (drive : DriveState) → (now ≡ true → before ≡ true) → AtDrive order scene past before drive → AtDrive order scene past now drive
-drive_on (Write laid) scene past before now drive less was =
-    laid_on laid scene past past before now drive drive (drive_less scene past before now drive past.taken past.counted less) refl refl was
-drive_on Identify scene past before now drive less was = hearing_less scene past before now drive less was
-drive_on Read scene past before now drive less was = hearing_less scene past before now drive less was
-
 -- it is as before, or the controller takes commands
-record IsReadOn (order : Order) (scene : Scene) (past : Past) (old new : Chips) : Type 0 where
-  known : IsDoneBy order scene past new
-  busy : is_executing new.controller.phase ≡ true → is_executing old.controller.phase ≡ true
+pub record IsReadOn (order : Order) (scene : Scene) (past : Past) (old new : Chips) : Type 0 where
+  pub known : IsDoneBy order scene past new
+  pub busy : is_executing new.controller.phase ≡ true → is_executing old.controller.phase ≡ true
 
-by_port : (order : Order) (scene : Scene) (past : Past) (port : ℕ) (chips : Chips) → IsDoneBy order scene past chips → (b d : Bool)
+pub by_port : (order : Order) (scene : Scene) (past : Past) (port : ℕ) (chips : Chips) → IsDoneBy order scene past chips → (b d : Bool)
     → IsReadOn order scene past chips (if b then shown_again (record chips { controller = if d then given chips.controller else chips.controller }) else record chips { channel = after_read port chips.channel })
     ⊎ ((if b then shown_again (record chips { controller = if d then given chips.controller else chips.controller }) else record chips { channel = after_read port chips.channel }).controller.phase ≡ phase.Command)
 by_port order scene past port chips was true true = elim (may_given order scene past chips.controller.phase chips.controller.asking chips.controller.fifo was.may) [
@@ -129,44 +123,59 @@ by_port order scene past port chips was true false =
 by_port order scene past port chips was false d =
     inl (record { known = record { may = was.may; shows = was.shows; dor = was.dor; rate = was.rate; moves = moves_read order scene past chips.memory chips.channel port was.moves }; busy = λ busy. busy })
 
--- before the gap; or the controller takes commands behind it
+module _ (order : Order) (scene : Scene) (On : Past → Bool → DriveState → Type 0) (keeps : KeepsOn order scene On) where
+  -- before the gap; or the controller takes commands behind it
+  pub between_goes : (port value : ℕ) (old new : Board) → Inputs port old value new → GoesOn On order scene old → GoesOn On order scene (read_from port old) ⊎ ((controller_of new).phase ≡ phase.Command)
+  between_goes port value old new access (past, was) = elim (by_port order scene past port old.bus.chips was.chips (is_controllers port) (port == 0x3F5)) [
+    | inl on ↦ inl (
+      past,
+      record {
+        scene_is = was.scene_is;
+        chips = on.known;
+        drive = keeps.less past (is_executing (controller_of old).phase) (is_executing (port_read port old.bus.chips).controller.phase) (drive_in old scene.bay) on.busy was.drive;
+      },
+    )
+    | inr over ↦ inr (gap (λ board. (controller_of board).phase ≡ phase.Command) (record { step = step_command; idle = λ old gaps fresh is. is }) (read_from port old) new access.gap over)
+  ]
+
+  pub inputs_go : (port value : ℕ) (old new : Board) → Inputs port old value new → GoesOn On order scene old → GoesOn On order scene new ⊎ ((controller_of new).phase ≡ phase.Command)
+  inputs_go port value old new access was = elim (between_goes port value old new access was) [
+    | inl on ↦ inl (gap (GoesOn On order scene) (goes_on order scene On keeps) (read_from port old) new access.gap on)
+    | inr over ↦ inr over
+  ]
+
+  -- ---- the write that begins it
+
+  module _ (At : Scene → DriveState → Type 0) (none_heard : (executes : Bool) (drive : DriveState) → IsScene scene → At scene drive → On new_past executes drive) where
+    -- before the gap
+    pub between_begun : (byte : ℕ) (old between : Board) → WritesPort 0x3F5 byte old between → CanBeginAt At order scene byte old → GoesOn On order scene between
+    between_begun byte old between writes can =
+        let (has, chips_are) = begun_at order scene byte old between writes can.last in
+        let drive_is : drive_in between scene.bay ≡ drive_in old scene.bay =
+        same_drive old.first old.second between.first between.second (drive_stays writes.lines.first refl) (drive_stays writes.lines.second refl) (scene.bay == 0) in (
+          new_past,
+          record {
+            scene_is = can.scene_is;
+            chips = subst (IsDoneBy order scene new_past) (sym chips_are) (begun_by order scene old.bus.chips (controller_of between) can.dor can.rate can.memory can.channel has);
+            drive = subst (On new_past (is_executing (controller_of between).phase)) (sym drive_is) (none_heard (is_executing (controller_of between).phase) (drive_in old scene.bay) can.scene_is can.drive);
+          },
+        )
+
+    pub begins_on : (byte : ℕ) (old new : Board) → Outputs 0x3F5 byte old new → CanBeginAt At order scene byte old → GoesOn On order scene new
+    begins_on byte old new access can = outputs (GoesOn On order scene) (goes_on order scene On keeps) 0x3F5 byte old new (λ between writes. between_begun byte old between writes can) access
+
+-- ---- of a drive at speed
+
 pub read_between : (order : Order) (scene : Scene) (port value : ℕ) (old new : Board) → Inputs port old value new → Underway order scene old
     → Underway order scene (read_from port old) ⊎ ((controller_of new).phase ≡ phase.Command)
-read_between order scene port value old new access (past, was) = elim (by_port order scene past port old.bus.chips was.chips (is_controllers port) (port == 0x3F5)) [
-  | inl on ↦ inl (
-    past,
-    record {
-      scene_is = was.scene_is;
-      chips = on.known;
-      drive = drive_on order scene past (is_executing (controller_of old).phase) (is_executing (port_read port old.bus.chips).controller.phase) (drive_in old scene.bay) on.busy was.drive;
-    },
-  )
-  | inr over ↦ inr (gap (λ board. (controller_of board).phase ≡ phase.Command) (record { step = step_command; idle = λ old gaps fresh is. is }) (read_from port old) new access.gap over)
-]
+read_between order scene = between_goes order scene (AtDrive order scene) (at_drive order scene)
 
 pub inputs_keep : (order : Order) (scene : Scene) (port value : ℕ) (old new : Board) → Inputs port old value new → Underway order scene old
     → Underway order scene new ⊎ ((controller_of new).phase ≡ phase.Command)
-inputs_keep order scene port value old new access was = elim (read_between order scene port value old new access was) [
-  | inl on ↦ inl (gap (Underway order scene) (underway order scene) (read_from port old) new access.gap on)
-  | inr over ↦ inr over
-]
+inputs_keep order scene = inputs_go order scene (AtDrive order scene) (at_drive order scene)
 
--- ---- the write that begins it
-
--- before the gap
 pub begun_underway : (order : Order) (scene : Scene) (byte : ℕ) (old between : Board) → WritesPort 0x3F5 byte old between → CanBegin order scene byte old → Underway order scene between
-begun_underway order scene byte old between writes can =
-    let (has, chips_are) = begun_at order scene byte old between writes can in
-    let drive_is : drive_in between scene.bay ≡ drive_in old scene.bay =
-    same_drive old.first old.second between.first between.second (drive_stays writes.lines.first refl) (drive_stays writes.lines.second refl) (scene.bay == 0) in (
-      new_past,
-      record {
-        scene_is = can.scene_is;
-        chips = subst (IsDoneBy order scene new_past) (sym chips_are) (begun_by order scene byte old (controller_of between) can has);
-        drive = subst (AtDrive order scene new_past (is_executing (controller_of between).phase)) (sym drive_is)
-            (none_heard order scene (is_executing (controller_of between).phase) (drive_in old scene.bay) can.scene_is can.drive);
-      },
-    )
+begun_underway order scene = between_begun order scene (AtDrive order scene) (at_drive order scene) IsDriveOf (none_heard order scene)
 
 pub begins : (order : Order) (scene : Scene) (byte : ℕ) (old new : Board) → Outputs 0x3F5 byte old new → CanBegin order scene byte old → Underway order scene new
-begins order scene byte old new access can = outputs (Underway order scene) (underway order scene) 0x3F5 byte old new (λ between writes. begun_underway order scene byte old between writes can) access
+begins order scene = begins_on order scene (AtDrive order scene) (at_drive order scene) IsDriveOf (none_heard order scene)

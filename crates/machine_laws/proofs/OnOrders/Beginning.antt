@@ -16,12 +16,14 @@ use Rattle.fdc_core.specs.Dma.{asked}
 use Rattle.fdc_phases.specs.Heard.{Sent}
 use Rattle.fdc_core.specs.Listening.{is_executing}
 use Rattle.fdc_core.specs.Ports.{Writes, is_taking}
+use Rattle.fdc_core.specs.State.{dor_of}
 use Rattle.fdc_core.specs.declared.controller.Fdc.{Fdc}
 use Rattle.fdc_core.specs.declared.controller.Lines.{Lines}
 use Rattle.fdc_phases.specs.declared.phases.Task.{Task}
 use Rattle.pc_bus.specs.Boards.{Board, controller_of, lines_of}
 use Rattle.pc_bus.specs.Ports.{WritesPort}
 use Rattle.pc_bus.specs.Transfers.{shown_again}
+use Rattle.pc_bus.specs.declared.chips.Chips.{Chips}
 use Rattle.machine_laws.specs.OnReads.Begins.{IsDriveOf}
 use Rattle.machine_laws.specs.OnReads.Late.{is_late}
 use Rattle.machine_laws.specs.OnReads.Scenes.{Scene, IsScene}
@@ -30,7 +32,7 @@ use Rattle.machine_laws.specs.OnWrites.Begins.{write_of}
 use Rattle.machine_laws.specs.OnWrites.Underway.{refuses}
 use Rattle.machine_laws.proofs.OnWrites.Bytes.{none_taken}
 use Rattle.machine_laws.proofs.OnWrites.Drives as writes
-use Rattle.machine_laws.specs.OnOrders.Orders.{Window, Track, Order, Identify, Read, Write, May, Shows, Moves, AtDrive, IsDoneBy, IsLast, IsSetFor, CanBegin}
+use Rattle.machine_laws.specs.OnOrders.Orders.{Window, Track, Order, Identify, Read, Write, May, Shows, Moves, AtDrive, IsDoneBy, IsLast, IsSetFor}
 
 -- a command that writes asks for bytes at once
 abbrev pub first_line : Order → Fdc → Bool
@@ -103,13 +105,13 @@ begun (Write (Track numbers)) scene byte lines old new last writes =
 -- ---- on the board
 
 -- the other chips are as they were
-pub begun_at : (order : Order) (scene : Scene) (byte : ℕ) (old between : Board) → WritesPort 0x3F5 byte old between → CanBegin order scene byte old
+pub begun_at : (order : Order) (scene : Scene) (byte : ℕ) (old between : Board) → WritesPort 0x3F5 byte old between → IsLast order scene byte (controller_of old)
     → HasBegun order scene (controller_of old) (controller_of between) × (between.bus.chips ≡ shown_again (record old.bus.chips { controller = controller_of between }))
-begun_at order scene byte old between writes can =
+begun_at order scene byte old between writes last =
     let (controller, does, chips_are) = writes.writes.controllers refl in
     let at : between.bus.chips ≡ shown_again (record old.bus.chips { controller = controller }) = ap (λ bus. bus.chips) writes.bus ∙ chips_are in
     let same : controller ≡ controller_of between = sym (ap (λ chips. chips.controller) at) in (
-      subst (HasBegun order scene (controller_of old)) same (begun order scene byte (lines_of old) (controller_of old) controller can.last does),
+      subst (HasBegun order scene (controller_of old)) same (begun order scene byte (lines_of old) (controller_of old) controller last does),
       at ∙ ap (λ (c : Fdc). shown_again (record old.bus.chips { controller = c })) same,
     )
 
@@ -127,12 +129,12 @@ none_heard (Write (Track numbers)) scene executes drive whole is = writes.none_h
 none_heard Identify scene executes drive whole is = reads.none_heard scene executes drive whole is
 none_heard Read scene executes drive whole is = reads.none_heard scene executes drive whole is
 
-pub begun_by : (order : Order) (scene : Scene) (byte : ℕ) (old : Board) (new : Fdc) → CanBegin order scene byte old → HasBegun order scene (controller_of old) new
-    → IsDoneBy order scene new_past (shown_again (record old.bus.chips { controller = new }))
-begun_by order scene byte old new can has = record {
+pub begun_by : (order : Order) (scene : Scene) (old : Chips) (new : Fdc) → dor_of old.controller ≡ scene.dor → old.controller.rate ≡ scene.rate → old.memory ≡ scene.memory
+    → IsSetFor order scene old.channel → HasBegun order scene old.controller new → IsDoneBy order scene new_past (shown_again (record old { controller = new }))
+begun_by order scene old new dor rate memory channel has = record {
   may = has.may;
   shows = has.shows;
-  dor = ap (λ (fdc : Fdc). fdc.dor.0) has.after ∙ can.dor;
-  rate = ap (λ (fdc : Fdc). fdc.rate) has.after ∙ can.rate;
-  moves = none_moved order scene old.bus.chips.memory old.bus.chips.channel can.memory can.channel;
+  dor = ap (λ (fdc : Fdc). fdc.dor.0) has.after ∙ dor;
+  rate = ap (λ (fdc : Fdc). fdc.rate) has.after ∙ rate;
+  moves = none_moved order scene old.memory old.channel memory channel;
 }

@@ -1,28 +1,70 @@
 -- What is known behind a word time, and in the transfers that follow it.
-use Rattle.std.proofs.Common.{◌≡◌, ◌≤◌, Bool, true, length, ◌∙◌, subst}
-use Rattle.drive_model.specs.Drive.{DriveState}
-use Rattle.fdc_stages.specs.History.{Past}
-use Rattle.fdc_core.specs.Listening.{is_executing}
+use Rattle.std.proofs.Common.{◌≡◌, ◌≤◌, Bool, true, length, ◌∙◌, subst, ℕ, false, List}
+use Rattle.drive_model.specs.Drive.{DriveState, Becomes, at_index}
+use Rattle.fdc_stages.specs.History.{Past, heard}
+use Rattle.fdc_core.specs.Listening.{is_executing, SeesUnder}
+use Rattle.fdc_phases.specs.Heard.{stepped}
+use Rattle.fdc_core.specs.Steps.{let_pass}
 use Rattle.fdc_core.specs.Times.{WordTime, after_time}
+use Rattle.fdc_core.specs.Writes.{WritesIn}
 use Rattle.fdc_core.specs.declared.controller.Fdc.{Fdc}
+use Rattle.fdc_phases.specs.declared.phases.Execution.{Execution}
+use Rattle.fdc_phases.specs.declared.phases.Phase.TheVariants.{Execute}
+use Rattle.fdc_fifo.specs.Fifo.{Fifo}
+use Rattle.pc_bus.specs.Steps.{Works}
 use Rattle.pc_bus.specs.declared.chips.Chips.{Chips}
-use Rattle.machine_laws.specs.OnReads.Scenes.{Scene}
+use Rattle.machine_laws.specs.OnLead.Leads.{led}
+use Rattle.machine_laws.specs.OnReads.Scenes.{Scene, IsScene, head_sent}
 use Rattle.machine_laws.specs.OnWrites.Drives.{IsAtDrive}
 use Rattle.machine_laws.specs.OnWrites.Underway.{refuses}
-use Rattle.machine_laws.specs.OnOrders.Orders.{Laid, Window, Track, Order, MayLay, LaysOn, AtDrive, IsDoneBy}
+use Rattle.machine_laws.specs.OnOrders.Orders.{Laid, Window, Track, Order, MayLayIn, MayLay, LaysOn, AtDrive, IsDoneBy}
 
--- of the chips and the drive that is selected
-pub record IsBehind (order : Order) (scene : Scene) (chips : Chips) (drive : DriveState) : Type 0 where
+-- of the chips, and a property of the past and of whether the command is in execution, as the drive's
+pub record IsDoing (order : Order) (scene : Scene) (P : Past → Bool → Type 0) (chips : Chips) : Type 0 where
   pub past : Past
   pub known : IsDoneBy order scene past chips
-  pub at : AtDrive order scene past (is_executing chips.controller.phase) drive
+  pub at : P past (is_executing chips.controller.phase)
+
+-- of the chips and the drive that is selected
+abbrev pub IsBehind : Order → Scene → Chips → DriveState → Type 0
+IsBehind order scene chips drive = IsDoing order scene (λ past executes. AtDrive order scene past executes drive) chips
+
+-- bytes that were moved play no part in it
+pub record IsOfWords (P : Past → Bool → Type 0) : Type 0 where
+  pub bytes : (past : Past) (given taken : List ℕ) (counted executes : Bool) → P past executes → P (record past { given = given; taken = taken; counted = counted }) executes
+
+-- what a word that a command hears leaves of a property of the past and the drive, and what a word time leaves of it once the command is over
+pub record Listening (scene : Scene) (P : Past → Bool → DriveState → Type 0) : Type 0 where
+  pub hears : (past : Past) (drive after : DriveState) (word : ℕ) (executes : Bool) → P past true drive → SeesUnder scene.rate (head_sent scene.sent) drive word after
+      → Becomes (let_pass drive) drive after → P (heard (at_index drive) word (stepped past)) executes after
+  pub rests : (past : Past) (drive after : DriveState) → P past false drive → drive.faults ≤ after.faults → P past false after
 
 -- a command that writes made this word time
-pub record IsTimeOf (laid : Laid) (scene : Scene) (past : Past) (between : Fdc) (after : DriveState) : Type 0 where
+pub record IsTimed (laid : Laid) (scene : Scene) (P : Past → Bool → Type 0) (past : Past) (between : Fdc) : Type 0 where
   pub time : WordTime
   pub may : MayLay laid scene (after_time time past) between
   pub covered : refuses between.phase ≡ true → scene.disk.protected ≡ true
-  pub at : LaysOn laid scene (after_time time past) (is_executing between.phase) after
+  pub at : P (after_time time past) (is_executing between.phase)
+
+-- the same of the drive, where so many words 0000 came first
+pub record IsTimedLed (laid : Laid) (scene : Scene) (lead : ℕ) (late : Past) (between : Fdc) (after : DriveState) : Type 0 where
+  pub time : WordTime
+  pub may : MayLay laid scene (after_time time (led lead late)) between
+  pub covered : refuses between.phase ≡ true → scene.disk.protected ≡ true
+  pub at : LaysOn laid scene (after_time time late) (is_executing between.phase) after
+
+-- what a word time of a command that writes leaves of a property of the past and the drive
+pub record Laying (laid : Laid) (scene : Scene) (P : Past → Bool → DriveState → Type 0) : Type 0 where
+  pub works : (past : Past) (drive after : DriveState) (polls between : Fdc) (asking : Bool) (fifo : Fifo) → polls.rate ≡ scene.rate → P past true drive → (execution : Execution)
+      → MayLayIn laid scene past (Execute execution) asking fifo → WritesIn (Execute execution) asking fifo polls drive after between → IsTimed laid scene (λ now executes. P now executes after) past between
+  pub rests : (past : Past) (drive after : DriveState) → P past false drive → after.medium ≡ drive.medium → drive.faults ≤ after.faults → P past false after
+
+-- what is known of the drive goes on: through word times, bytes that were moved, and the command's end
+pub record KeepsOn (order : Order) (scene : Scene) (On : Past → Bool → DriveState → Type 0) : Type 0 where
+  pub word_time : (past : Past) (chips : Chips) (drive : DriveState) (between : Fdc) (after : DriveState) → IsScene scene → IsDoneBy order scene past chips
+      → On past (is_executing chips.controller.phase) drive → Works chips.controller drive between after → IsDoing order scene (λ now executes. On now executes after) (record chips { controller = between })
+  pub bytes : (drive : DriveState) → IsOfWords (λ past executes. On past executes drive)
+  pub less : (past : Past) (before now : Bool) (drive : DriveState) → (now ≡ true → before ≡ true) → On past before drive → On past now drive
 
 -- what the drive record of a FORMAT keeps, that of a window does, where no word was written
 pub laid_on : (laid : Laid) (scene : Scene) (past now : Past) (executes later : Bool) (before after : DriveState) → (IsAtDrive scene past executes before → IsAtDrive scene now later after)

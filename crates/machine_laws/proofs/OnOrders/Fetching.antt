@@ -1,16 +1,14 @@
 -- A byte of a READ DATA goes to memory.
 use Rattle.std.proofs.Common.{◌≡◌, ℕ, ◌+◌, ◌≤◌, ◌==◌, ◌&&◌, Bool, true, false, List, length, [], ◌∷◌, ◌++◌, if◌then◌else◌, refl, sym, subst}
+use Rattle.machine_laws.proofs.Facts.{told_busy}
 use Rattle.dma_8237.specs.Channel.{grants, after_transfer}
 use Rattle.fdc_stages.specs.History.{Past}
 use Rattle.fdc_core.proofs.MayRead.{out_reads, told_reads}
 use Rattle.fdc_core.specs.Dma.{taken_out, told_count, byte_out}
-use Rattle.fdc_phases.specs.Dma.{phase_told}
 use Rattle.fdc_core.specs.Heard.{MayRead}
 use Rattle.fdc_phases.specs.Heard.{gave, told_in}
 use Rattle.fdc_core.specs.Listening.{is_executing}
 use Rattle.fdc_core.specs.State.{asks, is_gated}
-use Rattle.fdc_phases.specs.declared.phases.Phase.{Phase}
-use Rattle.fdc_phases.specs.declared.phases.Phase.TheVariants as phase
 use Rattle.pc_bus.specs.Transfers.{can_move, moved, moved_to_memory, moved_from_memory, memory_after, told_if}
 use Rattle.pc_bus.specs.declared.chips.Chips.{Chips}
 use Rattle.machine_laws.specs.OnReads.Scenes.{Scene}
@@ -27,11 +25,9 @@ pub second_true : (a b : Bool) → (a && b) ≡ true → b ≡ true
 second_true true b h = h
 second_true false b h = absurd cc
 
--- TC keeps a controller as busy as it was
-pub told_busy : (p : Phase) → is_executing (phase_told p) ≡ is_executing p
-told_busy phase.Command = refl
-told_busy (phase.Result answer) = refl
-told_busy (phase.Execute execution) = refl
+-- a byte moves where the controller asks
+pub must_ask : (chips : Chips) → can_move chips ≡ true → chips.controller.asking ≡ true
+must_ask chips can = second_true (is_gated chips.controller) chips.controller.asking (first_true (asks chips.controller) (grants chips.channel) can)
 
 -- what was given then; the same words were heard
 pub record Fetched (scene : Scene) (past : Past) (old new : Chips) : Type 0 where
@@ -71,7 +67,7 @@ pub fetched : (scene : Scene) → scene.address + scene.size ≤ length scene.me
 unfolding moved
 fetched scene fits past chips can may quiet was =
     let granting = second_true (asks chips.controller) (grants chips.channel) can in
-    let up = second_true (is_gated chips.controller) chips.controller.asking (first_true (asks chips.controller) (grants chips.channel) can) in
+    let up = must_ask chips can in
     let busy = quiet up in
     let reading = reads_there past scene.sent chips.controller.phase chips.controller.asking chips.controller.fifo.bytes may busy in
     let uncounted = moving.still_uncounted scene past.given past.counted chips.memory chips.channel was granting in

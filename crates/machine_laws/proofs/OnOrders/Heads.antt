@@ -52,7 +52,7 @@ begins_leaving byte old new access same =
 -- so it is where a data command begins
 begin_keeps : (order : Order) (scene : Scene) (byte : ℕ) (old new : Board) (access : Outputs 0x3F5 byte old new) → CanBegin order scene byte old → KeepsSeeks (controller_of old) (controller_of access.between)
 begin_keeps order scene byte old new access can =
-    let (has, chips_are) = begun_at order scene byte old access.between access.writes can in
+    let (has, chips_are) = begun_at order scene byte old access.between access.writes can.last in
     record { seeks = ap (λ (fdc : Fdc). fdc.seeks) has.after; dor = ap (λ (fdc : Fdc). fdc.dor) has.after }
 
 no_bits_last : (order : Order) (scene : Scene) (byte : ℕ) (fdc : Fdc) → IsLast order scene byte fdc → seek_bits fdc.seeks ≡ 0

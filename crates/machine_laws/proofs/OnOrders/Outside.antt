@@ -1,14 +1,10 @@
 -- A READ DATA puts bytes into its range alone, whatever the drive is.
-use Rattle.std.proofs.Common.{◌≡◌, ℕ, ◌+◌, ◌≤◌, ◌==◌, Bool, true, false, List, length, refl, sym, ◌∙◌, ap, subst}
-use Rattle.std.proofs.lemmas.Bool.{false≢true}
-use Rattle.dma_8237.specs.Channel.{grants}
-use Rattle.fdc_stages.specs.History.{Past, begun as new_past}
+use Rattle.std.proofs.Common.{ℕ, ◌+◌, ◌≤◌, ◌==◌, Bool, false, length, refl, sym, ◌∙◌, ap, subst}
+use Rattle.machine_laws.proofs.Facts.{polled_phase}
+use Rattle.fdc_stages.specs.History.{begun as new_past}
 use Rattle.fdc_core.specs.Listening.{is_executing, after_step as past_after, Follows}
-use Rattle.fdc_core.specs.State.{asks, is_gated}
 use Rattle.fdc_core.specs.Steps.{polled, RestsIn, FlowsIn}
 use Rattle.fdc_core.specs.declared.controller.Fdc.{Fdc}
-use Rattle.fdc_phases.specs.declared.phases.Phase.{Phase}
-use Rattle.fdc_phases.specs.declared.phases.Phase.TheVariants as phase
 use Rattle.pc_bus.specs.Boards.{Board, controller_of, memory_of, channel_of, lines_of}
 use Rattle.pc_bus.specs.Ports.{Outputs}
 use Rattle.pc_bus.specs.Steps.{Runs}
@@ -18,7 +14,7 @@ use Rattle.machine_laws.specs.OnReads.Scenes.{Scene}
 use Rattle.machine_laws.specs.OnReads.Underway.{IsMoved}
 use Rattle.machine_laws.proofs.OnReads.Accesses.{none_moved}
 use Rattle.machine_laws.proofs.OnReads.Results.{stays_outside}
-use Rattle.machine_laws.proofs.OnReads.Steps.{polled_phase, polled_asking, asks_busy}
+use Rattle.machine_laws.proofs.OnReads.Steps.{same_given, still_quiet}
 use Rattle.machine_laws.specs.OnSteps.Steady.{Steady, Moving}
 use Rattle.machine_laws.proofs.OnSteps.Runs.{outputs, runs}
 use Rattle.machine_laws.proofs.OnSteps.Transfers.{after_moves}
@@ -26,19 +22,9 @@ use Rattle.machine_laws.proofs.OnSteps.Words.{controller}
 use Rattle.machine_laws.specs.OnOrders.Outside.{Fetches, IsFetching, CanFetch}
 use Rattle.machine_laws.specs.OnOrders.Orders.{Read}
 use Rattle.machine_laws.proofs.OnOrders.Beginning.{begun}
-use Rattle.machine_laws.proofs.OnOrders.Fetching.{fetched, first_true, second_true}
+use Rattle.machine_laws.proofs.OnOrders.Fetching.{fetched, must_ask}
 
 -- ---- the word time
-
-same_given : (executes index : Bool) (word : ℕ) (past : Past) (P : List ℕ → Bool → Type 0) → P past.given past.counted → P (past_after executes index word past).given (past_after executes index word past).counted
-same_given true index word past P was = was
-same_given false index word past P was = was
-
-still_quiet : (p : Phase) (track0 : Bool) (old between : Fdc) → (polled old).phase ≡ p → (old.asking ≡ true → is_executing p ≡ true) → RestsIn p track0 (polled old) between → FlowsIn p old.asking between
-    → between.asking ≡ true → is_executing between.phase ≡ true
-still_quiet phase.Command track0 old between is quiet rests flows up = absurd (false≢true (quiet (sym (ap (λ fdc. fdc.asking) rests ∙ polled_asking old) ∙ up)))
-still_quiet (phase.Result answer) track0 old between is quiet rests flows up = absurd (false≢true (quiet (sym (ap (λ fdc. fdc.asking) rests ∙ polled_asking old) ∙ up)))
-still_quiet (phase.Execute execution) track0 old between is quiet rests flows up = asks_busy between.phase old.asking between.fifo (sym flows ∙ up)
 
 word : (scene : Scene) (chips : Chips) (between : Fdc) (index track0 : Bool) (value : ℕ) → Fetches scene chips → Follows chips.controller.phase (polled chips.controller) index value chips.controller between
     → RestsIn (polled chips.controller).phase track0 (polled chips.controller) between → FlowsIn chips.controller.phase chips.controller.asking between → Fetches scene (record chips { controller = between })
@@ -55,8 +41,7 @@ transfers : (scene : Scene) → scene.address + scene.size ≤ length scene.memo
 transfers scene fits = record {
   one = λ chips can was.
       let is = fetched scene fits was.past chips can was.may was.quiet was.moved in
-      let up = second_true (is_gated chips.controller) chips.controller.asking (first_true (asks chips.controller) (grants chips.channel) can) in
-      record { past = record was.past { given = is.given; counted = is.counted }; may = is.may; quiet = λ _. is.busy ∙ was.quiet up; moved = is.moved };
+      record { past = record was.past { given = is.given; counted = is.counted }; may = is.may; quiet = λ _. is.busy ∙ was.quiet (must_ask chips can); moved = is.moved };
   held = λ chips holding was. record { past = was.past; may = was.may; quiet = was.quiet; moved = was.moved };
 }
 

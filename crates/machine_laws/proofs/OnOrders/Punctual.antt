@@ -1,5 +1,6 @@
 -- A command that writes begins on time.
-use Rattle.std.proofs.Common.{◌≡◌, ◌⊎◌, inl, inr, ℕ, ◌%◌, [], Bool, true, false, refl, sym, ◌∙◌, ap, subst, arith}
+use Rattle.std.proofs.Common.{◌≡◌, ◌⊎◌, inl, inr, ℕ, ◌%◌, [], Bool, true, refl, sym, ◌∙◌, ap, subst, arith}
+use Rattle.machine_laws.proofs.Facts.{shown_stalls}
 use Rattle.flop_base.specs.Counts.{Rose}
 use Rattle.fdc_fifo.specs.Fifo.{emptied}
 use Rattle.fdc_core.specs.State.{dor_of, is_gated}
@@ -7,7 +8,6 @@ use Rattle.fdc_core.specs.declared.controller.Fdc.{Fdc}
 use Rattle.fdc_phases.specs.declared.phases.Task.{Task}
 use Rattle.fdc_phases.specs.declared.phases.Task.TheVariants.{Write, Format}
 use Rattle.machine_pace.specs.Entries.{next_entry}
-use Rattle.machine_pace.specs.Holds.{Holds, shown}
 use Rattle.machine_pace.specs.declared.holding.Request.TheVariants.{Low}
 use Rattle.machine_laws.specs.OnReads.Timely.{Stalled}
 use Rattle.pc_bus.specs.Boards.{Board, controller_of, holds_of, selected_of}
@@ -37,22 +37,18 @@ filling_task (Track numbers) scene past head_drive _ asking fifo may = absurd ma
 granting : (laid : Laid) (scene : Scene) (channel : Channel) → IsSetFor (order.Write laid) scene channel → grants channel ≡ true
 granting laid scene channel (left, size, set) = set.granting
 
-same_stalls : (line : Bool) (holding : Holds) → (shown line holding).stalls ≡ holding.stalls
-same_stalls true holding = refl
-same_stalls false holding = refl
-
 pub begins_on_time : (laid : Laid) (scene : Scene) (byte : ℕ) (old new : Board) → Outputs 0x3F5 byte old new → CanBegin (order.Write laid) scene byte old
     → (controller_of old).fifo.on ≡ true → (controller_of old).fifo.threshold ≡ 8 → is_gated (controller_of old) ≡ true
     → (holds_of old).request ≡ Low → IsOnTime new ⊎ Stalled old new
 begins_on_time laid scene byte old new access can on threshold gated low =
-    let (has, at) = begun_at (order.Write laid) scene byte old access.between access.writes can in
+    let (has, at) = begun_at (order.Write laid) scene byte old access.between access.writes can.last in
     let from : Fdc = record (controller_of old) { command = [] } in
     let may = subst (order.May (order.Write laid) scene new_past) has.after has.may in
     let fills = filling_task laid scene new_past scene.sent.head_drive has.task _ (emptied from.fifo.on from.fifo.threshold) may in
     let punctual : IsPunctual access.between.bus.chips = subst IsPunctual (sym at)
     (subst (λ c. IsPunctual (shown_again (record old.bus.chips { controller = c }))) (sym has.after)
     (begun_punctual old.bus.chips scene.sent.head_drive has.task from fills has.waits on threshold gated (granting laid scene old.bus.chips.channel can.channel) low)) in
-    let same : (holds_of access.between).stalls ≡ (holds_of old).stalls = ap (λ chips. chips.holding.stalls) at ∙ same_stalls _ old.bus.chips.holding in
+    let same : (holds_of access.between).stalls ≡ (holds_of old).stalls = ap (λ chips. chips.holding.stalls) at ∙ shown_stalls _ old.bus.chips.holding in
     let dor : dor_of (controller_of access.between) ≡ scene.dor = ap dor_of has.after ∙ can.dor in
     let selected : selected_of access.between ≡ scene.bay = ap (λ byte. byte % 4) dor ∙ can.scene_is.selects in
     let small = can.scene_is.bay in

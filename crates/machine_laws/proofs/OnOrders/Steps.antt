@@ -1,6 +1,7 @@
 -- A device step of a data command.
 use Rattle.std.proofs.Common.{◌≡◌, ℕ, ◌+◌, ◌%◌, ◌≤◌, ◌==◌, Bool, true, false, List, length, [], ◌∷◌, ◌++◌, if◌then◌else◌, refl, sym, ◌∙◌, ap, subst}
 use Rattle.std.proofs.lemmas.Bool.{false≢true}
+use Rattle.machine_laws.proofs.Facts.{told_busy}
 use Rattle.drive_model.specs.Drive.{DriveState}
 use Rattle.dma_8237.specs.Channel.{grants, after_transfer}
 use Rattle.fdc_stages.specs.History.{Past}
@@ -10,7 +11,7 @@ use Rattle.fdc_phases.specs.Dma.{phase_told}
 use Rattle.fdc_phases.specs.Heard.{told_in}
 use Rattle.fdc_core.specs.Listening.{is_executing}
 use Rattle.fdc_phases.specs.Phases.{is_read, is_reading}
-use Rattle.fdc_core.specs.State.{asks, is_gated}
+use Rattle.fdc_core.specs.State.{asks}
 use Rattle.fdc_phases.specs.Written.{took}
 use Rattle.fdc_core.specs.declared.controller.Fdc.{Fdc}
 use Rattle.fdc_phases.specs.declared.phases.Phase.{Phase}
@@ -26,18 +27,18 @@ use Rattle.pc_bus.specs.Transfers.{can_move, moved, moved_to_memory, moved_from_
 use Rattle.pc_bus.specs.declared.chips.Chips.{Chips}
 use Rattle.machine_laws.specs.OnReads.Scenes.{Scene}
 use Rattle.machine_laws.specs.OnQuiet.Quiet.{StandsStill}
-use Rattle.machine_laws.specs.OnReads.Underway.{IsHearing}
 use Rattle.machine_laws.proofs.OnReads.Steps as reads
 use Rattle.machine_laws.specs.OnWrites.Underway.{IsTaken, refuses}
 use Rattle.machine_laws.proofs.OnWrites.Bytes as taking_bytes
 use Rattle.machine_laws.proofs.OnWrites.Drives.{drive_less}
-use Rattle.machine_laws.specs.OnSteps.Steady.{regapped, Steady, Moving}
+use Rattle.machine_laws.specs.OnSteps.Steady.{Steady, Moving}
 use Rattle.machine_laws.proofs.OnSteps.Transfers.{after_moves}
 use Rattle.machine_laws.proofs.OnSteps.Words.{selected}
-use Rattle.machine_laws.specs.OnOrders.Orders.{Laid, Window, Track, Order, Identify, Read, Write, MayLayIn, MayLay, LaysOn, AtDrive, IsDoneBy, Underway}
-use Rattle.machine_laws.proofs.OnOrders.Behind.{IsBehind, laid_on}
-use Rattle.machine_laws.proofs.OnOrders.Fetching.{fetched, first_true, second_true, told_busy}
+use Rattle.machine_laws.specs.OnOrders.Orders.{GoesOn, Laid, Window, Track, Order, Identify, Read, Write, MayLayIn, MayLay, AtDrive, IsDoneBy, Underway}
+use Rattle.machine_laws.proofs.OnOrders.Behind.{KeepsOn, laid_on, IsDoing, IsOfWords}
+use Rattle.machine_laws.proofs.OnOrders.Fetching.{fetched, must_ask, second_true}
 use Rattle.machine_laws.proofs.OnOrders.Words.{word_time, no_command}
+use Rattle.machine_laws.proofs.OnReads.Accesses.{hearing_less}
 
 -- ---- one transfer
 
@@ -79,36 +80,30 @@ taking laid scene past (phase.Result answer) asking fifo up may = absurd (false�
 taking laid scene past (phase.Execute execution) asking fifo up may =
     record { busy = refl; from_memory = taking_task laid scene past execution.head_drive execution.steps execution.task asking fifo may }
 
--- the drive is as it was, whatever bytes were taken
 abbrev retaken : Past → List ℕ → Bool → Past
 retaken past taken counted = record past { taken = taken; counted = counted }
 
-laid_retaken : (laid : Laid) (scene : Scene) (past : Past) (executes : Bool) (drive : DriveState) (bytes : List ℕ) (counted : Bool) → LaysOn laid scene past executes drive → LaysOn laid scene (retaken past bytes counted) executes drive
-laid_retaken laid scene past executes drive bytes counted was =
-    laid_on laid scene past (retaken past bytes counted) executes executes drive drive (drive_less scene past executes executes drive bytes counted (λ busy. busy)) refl refl was
-
 -- to memory
-read_moved : (scene : Scene) (drive : DriveState) → scene.address + scene.size ≤ length scene.memory → (chips : Chips) → can_move chips ≡ true → IsBehind Read scene chips drive → IsBehind Read scene (moved chips) drive
-read_moved scene drive fits chips can was =
+read_moved : (scene : Scene) (P : Past → Bool → Type 0) → IsOfWords P → scene.address + scene.size ≤ length scene.memory → (chips : Chips) → can_move chips ≡ true → IsDoing Read scene P chips
+    → IsDoing Read scene P (moved chips)
+read_moved scene P words fits chips can was =
     let is = fetched scene fits was.past chips can was.known.may was.known.shows was.known.moves in
-    let now : Past = record was.past { given = is.given; counted = is.counted } in
-    let up = second_true (is_gated chips.controller) chips.controller.asking (first_true (asks chips.controller) (grants chips.channel) can) in
     record {
-      past = now;
+      past = record was.past { given = is.given; counted = is.counted };
       known = record {
         may = is.may;
-        shows = λ _. is.busy ∙ was.known.shows up;
+        shows = λ _. is.busy ∙ was.known.shows (must_ask chips can);
         dor = ap (λ dor. dor.0) is.dor ∙ was.known.dor;
         rate = is.rate ∙ was.known.rate;
         moves = is.moved;
       };
-      at = subst (λ b. IsHearing scene now b drive) (sym is.busy) (reads.hearing_same scene was.past now (is_executing chips.controller.phase) drive (record { turns = refl; seen = refl }) was.at);
+      at = subst (P (record was.past { given = is.given; counted = is.counted })) (sym is.busy) (words.bytes was.past is.given was.past.taken is.counted (is_executing chips.controller.phase) was.at);
     }
 
 -- from memory
-laid_moved : (laid : Laid) (scene : Scene) (drive : DriveState) → scene.address + scene.size ≤ length scene.memory → (chips : Chips) → chips.controller.asking ≡ true → grants chips.channel ≡ true
-    → (was : IsBehind (Write laid) scene chips drive) → is_executing chips.controller.phase ≡ true → IsBehind (Write laid) scene (moved_from_memory chips) drive
-laid_moved laid scene drive fits chips up granting was busy =
+laid_moved : (laid : Laid) (scene : Scene) (P : Past → Bool → Type 0) → IsOfWords P → scene.address + scene.size ≤ length scene.memory → (chips : Chips) → chips.controller.asking ≡ true → grants chips.channel ≡ true
+    → (was : IsDoing (Write laid) scene P chips) → is_executing chips.controller.phase ≡ true → IsDoing (Write laid) scene P (moved_from_memory chips)
+laid_moved laid scene P words fits chips up granting was busy =
     by_count (taking_bytes.still_uncounted scene was.past.taken was.past.counted chips.memory chips.channel was.known.moves granting) (chips.channel.count == 0) refl
   where
     byte : ℕ
@@ -121,12 +116,12 @@ laid_moved laid scene drive fits chips up granting was busy =
     into = in_may laid scene was.past chips.controller byte up was.known.may
 
     by_count : was.past.counted ≡ false → (last : Bool) → (chips.channel.count == 0) ≡ last
-        → IsBehind (Write laid) scene (record chips { controller = told_if last fdc; channel = after_transfer chips.channel }) drive
+        → IsDoing (Write laid) scene P (record chips { controller = told_if last fdc; channel = after_transfer chips.channel })
     by_count uncounted last is = by_last last (taking_bytes.taken_more scene was.past.taken chips.memory chips.channel fits
         (subst (λ c. IsTaken scene was.past.taken c chips.memory chips.channel) uncounted was.known.moves) last is)
       where
         by_last : (last : Bool) → IsTaken scene (was.past.taken ++ byte ∷ []) last chips.memory (after_transfer chips.channel)
-            → IsBehind (Write laid) scene (record chips { controller = told_if last fdc; channel = after_transfer chips.channel }) drive
+            → IsDoing (Write laid) scene P (record chips { controller = told_if last fdc; channel = after_transfer chips.channel })
         by_last true moves = record {
           past = retaken was.past (was.past.taken ++ byte ∷ []) true;
           known = record {
@@ -136,60 +131,85 @@ laid_moved laid scene drive fits chips up granting was busy =
             rate = was.known.rate;
             moves = moves;
           };
-          at = subst (λ b. LaysOn laid scene (retaken was.past (was.past.taken ++ byte ∷ []) true) b drive) (sym (told_busy fdc.phase)) (laid_retaken laid scene was.past (is_executing fdc.phase) drive (was.past.taken ++ byte ∷ []) true was.at);
+          at = subst (P (retaken was.past (was.past.taken ++ byte ∷ []) true)) (sym (told_busy fdc.phase)) (words.bytes was.past was.past.given (was.past.taken ++ byte ∷ []) true (is_executing fdc.phase) was.at);
         }
         by_last false moves = record {
           past = retaken was.past (was.past.taken ++ byte ∷ []) was.past.counted;
           known = record { may = into; shows = was.known.shows; dor = was.known.dor; rate = was.known.rate; moves = subst (λ c. IsTaken scene (was.past.taken ++ byte ∷ []) c chips.memory (after_transfer chips.channel)) (sym uncounted) moves };
-          at = laid_retaken laid scene was.past (is_executing fdc.phase) drive (was.past.taken ++ byte ∷ []) was.past.counted was.at;
+          at = words.bytes was.past was.past.given (was.past.taken ++ byte ∷ []) was.past.counted (is_executing fdc.phase) was.at;
         }
 
-laid_one : (laid : Laid) (scene : Scene) (drive : DriveState) → scene.address + scene.size ≤ length scene.memory → (chips : Chips) → can_move chips ≡ true → IsBehind (Write laid) scene chips drive → IsBehind (Write laid) scene (moved chips) drive
+laid_one : (laid : Laid) (scene : Scene) (P : Past → Bool → Type 0) → IsOfWords P → scene.address + scene.size ≤ length scene.memory → (chips : Chips) → can_move chips ≡ true → IsDoing (Write laid) scene P chips
+    → IsDoing (Write laid) scene P (moved chips)
 unfolding moved
-laid_one laid scene drive fits chips can was =
+laid_one laid scene P words fits chips can was =
     let granting = second_true (asks chips.controller) (grants chips.channel) can in
-    let up = second_true (is_gated chips.controller) chips.controller.asking (first_true (asks chips.controller) (grants chips.channel) can) in
-    let is = taking laid scene was.past chips.controller.phase chips.controller.asking chips.controller.fifo up was.known.may in
-    subst (λ b. IsBehind (Write laid) scene (if b then moved_to_memory chips else moved_from_memory chips) drive) (sym is.from_memory) (laid_moved laid scene drive fits chips up granting was is.busy)
+    let is = taking laid scene was.past chips.controller.phase chips.controller.asking chips.controller.fifo (must_ask chips can) was.known.may in
+    subst (λ b. IsDoing (Write laid) scene P (if b then moved_to_memory chips else moved_from_memory chips)) (sym is.from_memory) (laid_moved laid scene P words fits chips (must_ask chips can) granting was is.busy)
 
-one : (order : Order) (scene : Scene) (drive : DriveState) → scene.address + scene.size ≤ length scene.memory → (chips : Chips) → can_move chips ≡ true → IsBehind order scene chips drive → IsBehind order scene (moved chips) drive
-one Identify scene drive fits chips can was =
-    absurd (false≢true (sym was.known.shows.0 ∙ second_true (is_gated chips.controller) chips.controller.asking (first_true (asks chips.controller) (grants chips.channel) can)))
-one Read scene drive fits chips can was = read_moved scene drive fits chips can was
-one (Write laid) scene drive fits chips can was = laid_one laid scene drive fits chips can was
+one : (order : Order) (scene : Scene) (P : Past → Bool → Type 0) → IsOfWords P → scene.address + scene.size ≤ length scene.memory → (chips : Chips) → can_move chips ≡ true → IsDoing order scene P chips → IsDoing order scene P (moved chips)
+one Identify scene P words fits chips can was = absurd (false≢true (sym was.known.shows.0 ∙ must_ask chips can))
+one Read scene P words fits chips can was = read_moved scene P words fits chips can was
+one (Write laid) scene P words fits chips can was = laid_one laid scene P words fits chips can was
 
 -- ---- the device step
 
-transfers : (order : Order) (scene : Scene) (drive : DriveState) → scene.address + scene.size ≤ length scene.memory → Moving (λ chips. IsBehind order scene chips drive)
-transfers order scene drive fits = record {
-  one = one order scene drive fits;
+pub transfers : (order : Order) (scene : Scene) (P : Past → Bool → Type 0) → IsOfWords P → scene.address + scene.size ≤ length scene.memory → Moving (IsDoing order scene P)
+transfers order scene P words fits = record {
+  one = one order scene P words fits;
   held = λ chips holding was. record { past = was.past; known = record { may = was.known.may; shows = was.known.shows; dor = was.known.dor; rate = was.known.rate; moves = was.known.moves }; at = was.at };
 }
 
-pub step_keeps : (order : Order) (scene : Scene) (old new : Board) → Step old new → Underway order scene old → Underway order scene new
-step_keeps order scene old new step (past, was) =
-    let whole = was.scene_is in
-    let works = selected scene.bay whole.bay old new (ap (λ byte. byte % 4) was.chips.dor ∙ whole.selects) step in
-    let then_is = after_moves (λ chips. IsBehind order scene chips (drive_in new scene.bay)) (transfers order scene (drive_in new scene.bay) whole.fits) old new step
-    (word_time order scene past old.bus.chips (drive_in old scene.bay) step.between (drive_in new scene.bay) whole was.chips was.drive works) in
-    (then_is.past, record { scene_is = whole; chips = then_is.known; drive = then_is.at })
+-- of the drive
+pub at_bytes : (order : Order) (scene : Scene) (drive : DriveState) → IsOfWords (λ past executes. AtDrive order scene past executes drive)
+at_bytes (Write laid) scene drive = record {
+  bytes = λ past given taken counted executes was. laid_on laid scene past (record past { given = given; taken = taken; counted = counted }) executes executes drive drive
+      (drive_less scene past executes executes drive given taken counted (λ busy. busy)) refl refl was;
+}
+at_bytes Identify scene drive = record {
+  bytes = λ past given taken counted executes was. reads.hearing_same scene past (record past { given = given; taken = taken; counted = counted }) executes drive (record { turns = refl; seen = refl }) was;
+}
+at_bytes Read scene drive = record {
+  bytes = λ past given taken counted executes was. reads.hearing_same scene past (record past { given = given; taken = taken; counted = counted }) executes drive (record { turns = refl; seen = refl }) was;
+}
 
--- a call that leaves chips and drives
-idle_keeps : (order : Order) (scene : Scene) (old : Board) (gaps : List ℕ) (fresh : Bool) → Underway order scene old → Underway order scene (regapped gaps fresh old)
-idle_keeps order scene old gaps fresh (past, was) = (past, record { scene_is = was.scene_is; chips = was.chips; drive = was.drive })
+pub drive_on : (order : Order) (scene : Scene) (past : Past) (before now : Bool) (drive : DriveState) → (now ≡ true → before ≡ true) → AtDrive order scene past before drive → AtDrive order scene past now drive
+drive_on (Write laid) scene past before now drive less was =
+    laid_on laid scene past past before now drive drive (drive_less scene past before now drive past.given past.taken past.counted less) refl refl was
+drive_on Identify scene past before now drive less was = hearing_less scene past before now drive less was
+drive_on Read scene past before now drive less was = hearing_less scene past before now drive less was
 
--- and one that takes the latch
-pub still_keeps : (order : Order) (scene : Scene) (old new : Board) → StandsStill old new → Underway order scene old → Underway order scene new
-still_keeps order scene old new still (past, was) = (
-  past,
-  record {
-    scene_is = was.scene_is;
-    chips = subst (IsDoneBy order scene past) (sym still.chips) was.chips;
-    drive = subst (λ chips. AtDrive order scene past (is_executing chips.controller.phase) (drive_in new scene.bay)) (sym still.chips)
-        (subst (AtDrive order scene past (is_executing (controller_of old).phase))
-        (sym (reads.same_drive old.first old.second new.first new.second still.first still.second (scene.bay == 0))) was.drive);
-  },
-)
+pub at_drive : (order : Order) (scene : Scene) → KeepsOn order scene (AtDrive order scene)
+at_drive order scene = record { word_time = word_time order scene; bytes = at_bytes order scene; less = drive_on order scene }
+
+module _ (order : Order) (scene : Scene) (On : Past → Bool → DriveState → Type 0) (keeps : KeepsOn order scene On) where
+  step_goes : (old new : Board) → Step old new → GoesOn On order scene old → GoesOn On order scene new
+  step_goes old new step (past, was) =
+      let whole = was.scene_is in
+      let works = selected scene.bay whole.bay old new (ap (λ byte. byte % 4) was.chips.dor ∙ whole.selects) step in
+      let then_is = after_moves (IsDoing order scene (λ past executes. On past executes (drive_in new scene.bay)))
+      (transfers order scene (λ past executes. On past executes (drive_in new scene.bay)) (keeps.bytes (drive_in new scene.bay)) whole.fits) old new step
+      (keeps.word_time past old.bus.chips (drive_in old scene.bay) step.between (drive_in new scene.bay) whole was.chips was.drive works) in
+      (then_is.past, record { scene_is = whole; chips = then_is.known; drive = then_is.at })
+
+  -- a call that leaves chips and drives is idle
+  pub goes_on : Steady (GoesOn On order scene)
+  goes_on = record { step = step_goes; idle = λ old gaps fresh (past, was). (past, record { scene_is = was.scene_is; chips = was.chips; drive = was.drive }) }
+
+  -- and one that takes the latch
+  pub still_goes : (old new : Board) → StandsStill old new → GoesOn On order scene old → GoesOn On order scene new
+  still_goes old new still (past, was) = (
+    past,
+    record {
+      scene_is = was.scene_is;
+      chips = subst (IsDoneBy order scene past) (sym still.chips) was.chips;
+      drive = subst (λ chips. On past (is_executing chips.controller.phase) (drive_in new scene.bay)) (sym still.chips)
+          (subst (On past (is_executing (controller_of old).phase)) (sym (reads.same_drive old.first old.second new.first new.second still.first still.second (scene.bay == 0))) was.drive);
+    },
+  )
 
 pub underway : (order : Order) (scene : Scene) → Steady (Underway order scene)
-underway order scene = record { step = step_keeps order scene; idle = idle_keeps order scene }
+underway order scene = goes_on order scene (AtDrive order scene) (at_drive order scene)
+
+pub still_keeps : (order : Order) (scene : Scene) (old new : Board) → StandsStill old new → Underway order scene old → Underway order scene new
+still_keeps order scene = still_goes order scene (AtDrive order scene) (at_drive order scene)

@@ -1,14 +1,14 @@
 -- What a poll and transfers leave of the controller.
-use Rattle.std.proofs.Common.{◌≡◌, ℕ, ◌==◌, ◌&&◌, not, bit_and, Bool, true, false, List, if◌then◌else◌, refl, ◌∙◌, ap}
+use Rattle.std.proofs.Common.{◌≡◌, ℕ, ◌==◌, bit_and, Bool, true, false, List, if◌then◌else◌, refl, ◌∙◌, ap}
+use Rattle.machine_laws.proofs.Facts.{polled_keeps, told_busy}
 use Rattle.fdc_fifo.specs.Fifo.{Fifo}
 use Rattle.fdc_registers.specs.Dor.{gate}
 use Rattle.fdc_registers.specs.declared.drive_lines.Dor.{Dor}
-use Rattle.fdc_seek.specs.Seeking.{with_polls}
-use Rattle.fdc_core.specs.Dma.{fifo_told, taken_in, taken_out, to_memory_of, told_count}
+use Rattle.fdc_core.specs.Dma.{taken_in, taken_out, to_memory_of, told_count}
 use Rattle.fdc_phases.specs.Dma.{phase_told, task_told}
 use Rattle.fdc_core.specs.Listening.{is_executing}
 use Rattle.fdc_phases.specs.Phases.{is_overrun, is_read, is_reading}
-use Rattle.fdc_core.specs.State.{is_gated, is_held}
+use Rattle.fdc_core.specs.State.{is_gated}
 use Rattle.fdc_core.specs.Steps.{polled}
 use Rattle.fdc_core.specs.declared.controller.Fdc.{Fdc}
 use Rattle.fdc_phases.specs.declared.phases.Phase.{Phase}
@@ -21,20 +21,6 @@ use Rattle.machine_laws.specs.OnSteps.Steady.{Transferred}
 use Rattle.machine_laws.proofs.OnSteps.Transfers.{served}
 
 -- ---- a poll
-
-polled_keeps : {V : Type 0} (F : Fdc → V) (old : Fdc) → F (record old { poll_due = false; interrupt = true; seeks = with_polls old.seeks }) ≡ F old
-    → F (polled old) ≡ F old
-polled_keeps F old same = by_poll (old.poll_due && not (is_held old))
-  where
-    by_poll : (b : Bool) → F (if b then record old { poll_due = false; interrupt = true; seeks = with_polls old.seeks } else old) ≡ F old
-    by_poll true = same
-    by_poll false = refl
-
-pub polled_phase : (old : Fdc) → (polled old).phase ≡ old.phase
-polled_phase old = polled_keeps (λ fdc. fdc.phase) old refl
-
-pub polled_asking : (old : Fdc) → (polled old).asking ≡ old.asking
-polled_asking old = polled_keeps (λ fdc. fdc.asking) old refl
 
 pub polled_fifo : (old : Fdc) → (polled old).fifo ≡ old.fifo
 polled_fifo old = polled_keeps (λ fdc. fdc.fifo) old refl
@@ -91,11 +77,6 @@ controller_dma F told out into chips =
 
 -- ---- phases behind TC
 
-pub told_executing : (phase : Phase) → is_executing (phase_told phase) ≡ is_executing phase
-told_executing Command = refl
-told_executing (Result answer) = refl
-told_executing (Execute execution) = refl
-
 told_overrun : (phase : Phase) → is_overrun (phase_told phase) ≡ is_overrun phase
 told_overrun Command = refl
 told_overrun (Result answer) = refl
@@ -113,20 +94,12 @@ told_reading (Execute execution) = in_task execution.task
     in_task (Format formatting) = refl
 
 pub dma_executing : (value : Bool) (chips : Chips) → is_executing chips.controller.phase ≡ value → is_executing (dma_stepped chips).controller.phase ≡ value
-dma_executing value chips was = phase_dma is_executing told_executing chips ∙ was
+dma_executing value chips was = phase_dma is_executing told_busy chips ∙ was
 
 pub dma_overrun : (value : Bool) (chips : Chips) → is_overrun chips.controller.phase ≡ value → is_overrun (dma_stepped chips).controller.phase ≡ value
 dma_overrun value chips was = phase_dma is_overrun told_overrun chips ∙ was
 
 -- ---- the mode of the FIFO behind TC and behind a byte
-
-pub told_on : (b : Bool) (fifo : Fifo) → (fifo_told b fifo).on ≡ fifo.on
-told_on true fifo = refl
-told_on false fifo = refl
-
-pub told_threshold : (b : Bool) (fifo : Fifo) → (fifo_told b fifo).threshold ≡ fifo.threshold
-told_threshold true fifo = refl
-told_threshold false fifo = refl
 
 pub byte_on : (full : Bool) (fifo : Fifo) (bytes : List ℕ) → (if full then fifo else record fifo { bytes = bytes }).on ≡ fifo.on
 byte_on true fifo bytes = refl

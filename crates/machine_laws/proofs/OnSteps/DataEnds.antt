@@ -29,8 +29,8 @@ use Rattle.pc_bus.specs.Steps.{Step}
 use Rattle.pc_bus.specs.Transfers.{moved, moved_to_memory, moved_from_memory, byte_read, told_if}
 use Rattle.pc_bus.specs.declared.chips.Chips.{Chips}
 use Rattle.machine_laws.specs.OnSteps.Ends.{Elapses, IsOver, Meets}
-use Rattle.machine_laws.specs.OnSteps.Steady.{Marching}
 use Rattle.machine_laws.specs.OnSteps.Moves.{Goes, Lasting}
+use Rattle.machine_laws.specs.OnSteps.Steady.{Marching}
 use Rattle.machine_laws.proofs.OnSteps.Acts.{Touches, at_controller}
 use Rattle.machine_laws.proofs.OnSteps.Controllers.{polled_phase}
 use Rattle.machine_laws.proofs.OnSteps.Moves.{lasts, meets_behind}
@@ -103,7 +103,7 @@ pub step_ends : (old new : Board) → Step old new → steps_left (controller_of
 step_ends old new step = (step_ticks old new step).falls.steps
 
 pub ending : (start : Board) → Marching (λ n board. steps_left (controller_of board).phase ≤ steps_left (controller_of start).phase - n)
-ending start = record { step = λ n old new step was. let fewer = step_ends old new step in omega arith; idle = λ n old gaps fresh was. was }
+ending start = record { step = λ n old new step was. (let fewer = step_ends old new step in omega arith); idle = λ n old gaps fresh was. was }
 
 -- ---- the acts
 

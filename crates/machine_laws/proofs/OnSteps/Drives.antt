@@ -1,6 +1,7 @@
 -- The word time of a device step, at both drives: what holds of a drive over a word that passes behind a pulse or without one, and over
 -- a word time of a command that records.
 use Rattle.std.proofs.Common.{ℕ, ◌/◌, ◌%◌, Bool, Option, None, subst}
+use Rattle.machine_laws.proofs.Facts.{polled_phase}
 use Rattle.drive_model.specs.Drive.{DriveState}
 use Rattle.fdc_fifo.specs.Fifo.{Fifo}
 use Rattle.fdc_phases.specs.Phases.{is_listening}
@@ -15,7 +16,6 @@ use Rattle.fdc_phases.specs.declared.phases.Task.TheVariants.{ReadId, Read, Writ
 use Rattle.fdc_phases.specs.declared.rates.DataRate.{DataRate}
 use Rattle.pc_bus.specs.Boards.{Board, controller_of}
 use Rattle.pc_bus.specs.Steps.{Works, Step}
-use Rattle.machine_laws.proofs.OnSteps.Controllers.{polled_phase}
 use Rattle.machine_laws.proofs.OnSteps.Words.{drives}
 
 module _ (D : DriveState → DriveState → Type 0) (moved : (pulse : Option Bool) (before after : DriveState) → Moves pulse before after → D before after)

@@ -1,5 +1,6 @@
 -- What holds until a stall is counted.
 use Rattle.std.proofs.Common.{◌≡◌, ◌⊎◌, inl, inr, ℕ, nat_lt, Bool, true, false, if◌then◌else◌, refl, sym, ◌∙◌, ap, subst, arith}
+use Rattle.machine_laws.proofs.Facts.{if_both, shown_stalls}
 use Rattle.fdc_core.specs.Dma.{to_memory_of}
 use Rattle.machine_pace.specs.Entries.{next_entry}
 use Rattle.machine_pace.specs.Holds.{Holds, looked, waited, shown, counted}
@@ -18,18 +19,10 @@ use Rattle.machine_laws.proofs.OnSteps.Transfers.{by_request, up_to}
 -- no transfer changes the holds
 holding_moved : (holding : Holds) (chips : Chips) → chips.holding ≡ holding → (moved chips).holding ≡ holding
 unfolding moved
-holding_moved holding chips is = by_way (to_memory_of chips.controller)
-  where
-    by_way : (b : Bool) → (if b then moved_to_memory chips else moved_from_memory chips).holding ≡ holding
-    by_way true = is
-    by_way false = is
+holding_moved holding chips is = if_both (to_memory_of chips.controller) (moved_to_memory chips) (moved_from_memory chips) (λ z. z.holding ≡ holding) is is
 
 pub up_to_holding : (n : ℕ) (chips : Chips) → (moved_up_to n chips).holding ≡ chips.holding
 up_to_holding n chips = up_to (λ c. c.holding ≡ chips.holding) (holding_moved chips.holding) n chips refl
-
-pub shown_stalls : (line : Bool) (holding : Holds) → (shown line holding).stalls ≡ holding.stalls
-shown_stalls true holding = refl
-shown_stalls false holding = refl
 
 -- a request that is low stays so
 pub shown_low : (line : Bool) (holding : Holds) → holding.request ≡ Low → (shown line holding).request ≡ Low

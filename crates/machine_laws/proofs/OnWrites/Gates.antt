@@ -1,6 +1,7 @@
 -- The write gates, step by step.
 use Rattle.std.proofs.Common.{◌≡◌, ◌⊎◌, inl, inr, ℕ, ◌+◌, ◌<◌, ◌/◌, ◌%◌, ◌&&◌, not, Bool, true, false, Option, Some, None, if◌then◌else◌, refl, sym, ◌∙◌, ap, subst}
 use Rattle.std.proofs.lemmas.Bool.{and_parts, false≢true}
+use Rattle.machine_laws.proofs.Facts.{polled_phase}
 use Rattle.drive_model.specs.Drive.{DriveState, Writes, at_speed, can_write, rewritten}
 use Rattle.fdc_fifo.specs.Fifo.{Fifo}
 use Rattle.fdc_writing.specs.declared.formatting.FormatNext.{FormatNext}
@@ -30,7 +31,6 @@ use Rattle.machine_laws.proofs.OnQuiet.Steps.{listens_told}
 use Rattle.machine_laws.proofs.OnWrites.Guards.{closes_same, moves_same, opens_same, step_leaves}
 use Rattle.machine_laws.proofs.OnWrites.Kept.{dma_controller}
 use Rattle.machine_laws.specs.OnSteps.Steady.{Marching}
-use Rattle.machine_laws.proofs.OnSteps.Controllers.{polled_phase}
 use Rattle.machine_laws.proofs.OnSteps.Words.{bays}
 
 -- ---- a drive

@@ -41,7 +41,7 @@ use Rattle.pc_bus.specs.Steps.{Works, Step}
 use Rattle.pc_bus.specs.Transfers.{can_move, moved_up_to, looked_at, shown_again, dma_stepped}
 use Rattle.pc_bus.specs.declared.chips.Chips.{Chips}
 use Rattle.machine_laws.specs.OnWrites.Timely.{fills, fills_task, IsFilling, IsTimely, IsPunctual, IsOnTime}
-use Rattle.machine_laws.proofs.OnWrites.Filling.{counted_waits, filling_held, filling_low, filling_moved, not_reading, rule_again, ruled_by}
+use Rattle.machine_laws.proofs.OnWrites.Filling.{counted_waits, filling_held, filling_low, filling_moved, not_reading, ruled_by}
 use Rattle.machine_laws.proofs.OnWrites.Guards.{step_leaves}
 use Rattle.machine_laws.specs.OnSteps.Stalls.{Keeping, Stalled}
 use Rattle.machine_laws.proofs.OnSteps.Words.{some_drive}
@@ -49,7 +49,7 @@ use Rattle.machine_laws.proofs.OnSteps.Transfers.{by_request, up_to}
 use Rattle.machine_laws.proofs.OnSteps.Controllers.{dma_executing, dma_overrun, gated_same, polled_fifo}
 use Rattle.machine_laws.proofs.OnSteps.Stalls.{dma_stalls, shown_low}
 use Rattle.machine_laws.proofs.OnQuiet.Standing.{rested}
-use Rattle.machine_laws.proofs.OnReads.Served.{served}
+use Rattle.machine_laws.proofs.OnReads.Served.{phase_again, served}
 use Rattle.machine_laws.proofs.OnReads.Timely.{first_low, flows_in, not_due, ready_low, ready_one}
 
 -- ---- the word time
@@ -237,7 +237,7 @@ module _ (chips : Chips) (drive : DriveState) (between : Fdc) (after : DriveStat
             threshold = works.stays.threshold ∙ filling.threshold;
             gated = gated_same between chips.controller works.stays.dor filling.gated;
             fills_it = fills_now;
-            rule = ruled_by between.phase chips.controller.asking between.asking between.fifo fills_now flows;
+            rule = ruled_by between.phase chips.controller.asking between.asking between.fifo flows;
             room = omega arith;
             granting = λ uncounted. filling.granting (lasts.uncounted uncounted);
             waits = lasts.waits;
@@ -300,7 +300,7 @@ begun_punctual chips head_drive task old is waits on threshold gated granting lo
           threshold = threshold;
           gated = gated;
           fills_it = is;
-          rule = sym (rule_again (begun head_drive task old).phase false fifo is);
+          rule = sym (phase_again (begun head_drive task old).phase false fifo);
           room = omega arith;
           granting = λ _. granting;
           waits = waits fifo refl on;

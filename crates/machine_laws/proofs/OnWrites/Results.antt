@@ -215,7 +215,7 @@ among_between turns seen between first is = inr (subst (λ t. IsAmong t between)
 
 module _ (scene : Scene) (deleted executes : Bool) (past : Past) (drive : DriveState) (memory : List ℕ) (channel : Channel) (whole : IsScene scene) (was : IsAtWindow scene past executes drive)
     (taken : IsTaken scene past.taken past.counted memory channel) (size : scene.size ≡ content_size scene.sent.key.n) where
-  done_ends : (handed : List ℕ) → IsContent past.counted past.taken handed → (p : ℕ) → IsWhole past.seen past.words scene.sent.key deleted handed p → ChangesWhole scene deleted drive
+  pub done_ends : (handed : List ℕ) → IsContent past.counted past.taken handed → (p : ℕ) → IsWhole past.seen past.words scene.sent.key deleted handed p → ChangesWhole scene deleted drive
   done_ends handed content p is =
       let long = is.size in
       let all : handed ≡ range_of scene = handed_all scene past.taken past.counted memory channel whole taken handed content (omega arith) in

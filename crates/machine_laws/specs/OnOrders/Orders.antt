@@ -83,15 +83,18 @@ pub record IsDoneBy (order : Order) (scene : Scene) (past : Past) (chips : Chips
   pub rate : chips.controller.rate ≡ scene.rate
   pub moves : Moves order scene past chips.memory chips.channel
 
--- a command of this order that began in this scene heard, moved and wrote this
-pub record IsDone (order : Order) (scene : Scene) (past : Past) (board : Board) : Type 0 where
+-- a command of this order that began in this scene heard, moved and wrote this; `On` is what is known of the drive
+pub record IsDoneOn (On : Past → Bool → DriveState → Type 0) (order : Order) (scene : Scene) (past : Past) (board : Board) : Type 0 where
   pub scene_is : IsScene scene
   pub chips : IsDoneBy order scene past board.bus.chips
-  pub drive : AtDrive order scene past (is_executing (controller_of board).phase) (drive_in board scene.bay)
+  pub drive : On past (is_executing (controller_of board).phase) (drive_in board scene.bay)
+
+abbrev pub GoesOn : (Past → Bool → DriveState → Type 0) → Order → Scene → Board → Type 0
+GoesOn On order scene board = (past : Past) × IsDoneOn On order scene past board
 
 -- it is in execution, or gives its results
 abbrev pub Underway : Order → Scene → Board → Type 0
-Underway order scene board = (past : Past) × IsDone order scene past board
+Underway order scene board = GoesOn (AtDrive order scene) order scene board
 
 -- ---- how it begins
 
@@ -108,14 +111,17 @@ IsSetFor Read scene channel = (left : ℕ) × (left + 1 ≡ scene.size) × IsSet
 IsSetFor _ scene channel = (left : ℕ) × (left + 1 ≡ scene.size) × IsReadSet channel scene.address left
 
 -- all stands as in the scene, and the last byte of the command is written
-pub record CanBegin (order : Order) (scene : Scene) (byte : ℕ) (board : Board) : Type 0 where
+pub record CanBeginAt (At : Scene → DriveState → Type 0) (order : Order) (scene : Scene) (byte : ℕ) (board : Board) : Type 0 where
   pub scene_is : IsScene scene
   pub dor : dor_of (controller_of board) ≡ scene.dor
   pub rate : (controller_of board).rate ≡ scene.rate
-  pub drive : IsDriveOf scene (drive_in board scene.bay)
+  pub drive : At scene (drive_in board scene.bay)
   pub memory : memory_of board ≡ scene.memory
   pub channel : IsSetFor order scene (channel_of board)
   pub last : IsLast order scene byte (controller_of board)
+
+abbrev pub CanBegin : Order → Scene → ℕ → Board → Type 0
+CanBegin order scene byte board = CanBeginAt IsDriveOf order scene byte board
 
 -- ---- what leaves it as it is
 
