@@ -32,7 +32,7 @@ use Rattle.machine_laws.specs.OnSteps.Ends.{Elapses, IsOver, Meets}
 use Rattle.machine_laws.specs.OnSteps.Moves.{Goes, Lasting}
 use Rattle.machine_laws.specs.OnSteps.Steady.{Marching}
 use Rattle.machine_laws.proofs.OnSteps.Acts.{Touches, at_controller}
-use Rattle.machine_laws.proofs.OnSteps.Controllers.{polled_phase}
+use Rattle.machine_laws.proofs.Facts.{polled_phase}
 use Rattle.machine_laws.proofs.OnSteps.Moves.{lasts, meets_behind}
 use Rattle.machine_laws.proofs.OnSteps.Transfers.{after_step}
 use Rattle.machine_laws.proofs.OnSteps.Words.{controller}
