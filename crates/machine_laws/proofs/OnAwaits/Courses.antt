@@ -8,7 +8,6 @@ use Rattle.fdc_core.specs.Ports.{takes_in}
 use Rattle.fdc_core.specs.State.{asks, data_commands_of, is_held}
 use Rattle.fdc_phases.specs.declared.phases.Phase.{Phase}
 use Rattle.fdc_phases.specs.declared.phases.Phase.TheVariants.{Command, Execute, Result}
-use Rattle.fdc_core.proofs.Feeding.{low_waits}
 use Rattle.machine_laws.specs.OnCounts.Counts.{CountsGoOn}
 use Rattle.machine_laws.proofs.OnCounts.Counting.{counting, input_counts, output_counts}
 use Rattle.machine_laws.specs.OnQuiet.Quiet.{GoesQuietly, HoldsOn, Turned, only_listens}
@@ -41,6 +40,7 @@ use Rattle.pc_bus.specs.Handling.{irq_taken}
 use Rattle.pc_bus.specs.Ports.{Inputs, Outputs}
 use Rattle.pc_bus.specs.Steps.{Runs, Waits, stirred}
 use Rattle.pc_bus.specs.declared.chips.Chips.{Chips}
+use Rattle.machine_laws.proofs.OnWrites.Filling.{filling_held, filling_low}
 
 -- ---- the counts
 
@@ -78,35 +78,9 @@ kept_up a b c most one two = omega arith
 
 -- while MSR is read
 shown_ready : (chips : Chips) → IsTimely chips → (line : Bool) → asks chips.controller ≡ line → IsTimely (record chips { holding = shown line chips.holding })
-shown_ready chips was true is = record {
-  slack = was.slack;
-  filling = record {
-    on = was.filling.on;
-    threshold = was.filling.threshold;
-    gated = was.filling.gated;
-    fills_it = was.filling.fills_it;
-    rule = was.filling.rule;
-    room = was.filling.room;
-    granting = was.filling.granting;
-    waits = was.filling.waits;
-  };
-  ready = was.ready;
-}
-shown_ready chips was false is = record {
-  slack = 9;
-  filling = record {
-    on = was.filling.on;
-    threshold = was.filling.threshold;
-    gated = was.filling.gated;
-    fills_it = was.filling.fills_it;
-    rule = was.filling.rule;
-    room = was.filling.room;
-    granting = was.filling.granting;
-    waits = low_waits was.slack chips.controller
-        (record { before = chips.controller.asking; asks = was.filling.rule; gated = was.filling.gated; on = was.filling.on; threshold = was.filling.threshold }) was.filling.waits is;
-  };
-  ready = λ _. omega arith;
-}
+shown_ready chips was true is = record { slack = was.slack; filling = filling_held was.slack chips (shown true chips.holding) was.filling; ready = was.ready }
+shown_ready chips was false is =
+    record { slack = 9; filling = filling_held 9 chips (shown false chips.holding) (filling_low was.slack chips was.filling is); ready = λ _. omega arith }
 
 status_in_time : (order : Order) (scene : Scene) (value : ℕ) (old new : Board) → Inputs 0x3F4 old value new → ((controller_of new).phase ≡ Command → ⊥) → InTime order scene old
     → InTime order scene new ⊎ Stalled old new

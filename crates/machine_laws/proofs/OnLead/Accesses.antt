@@ -3,10 +3,10 @@ use Rattle.std.proofs.Common.{◌≡◌, ◌⊎◌, inl, inr, ℕ, Bool, refl, a
 use Rattle.drive_model.specs.Drive.{DriveState}
 use Rattle.fdc_stages.specs.History.{begun as new_past}
 use Rattle.fdc_phases.specs.declared.phases.Phase.TheVariants as phase
-use Rattle.pc_bus.specs.Boards.{Board, controller_of}
+use Rattle.pc_bus.specs.Boards.{drive_in, Board, controller_of}
 use Rattle.pc_bus.specs.Ports.{Inputs, Outputs}
 use Rattle.machine_laws.specs.OnLead.Leads.{IsTurningIn, IsGuarded, IsLed, WarmsUp, CanWarm}
-use Rattle.machine_laws.proofs.OnLead.Spinning.{slow_or_fast, nothing_heard}
+use Rattle.machine_laws.proofs.OnLead.Spinning.{slow_or_fast, nothing_heard, turning_of}
 use Rattle.machine_laws.proofs.OnLead.Steps.{led_keeps}
 use Rattle.machine_laws.specs.OnOrders.Orders.{Order, Identify, Read, Write, CanBegin, Leaves}
 use Rattle.machine_laws.proofs.OnOrders.Accesses.{inputs_go, begins_on}
@@ -56,14 +56,7 @@ can_warm order scene byte board can = record {
   scene_is = can.scene_is;
   dor = can.dor;
   rate = can.rate;
-  drive = record {
-    medium = can.drive.medium;
-    cylinder = can.drive.cylinder;
-    motor = can.drive.motor;
-    place = can.drive.place;
-    inside = can.drive.inside;
-    never_falls = let same = can.drive.faults in omega arith;
-  };
+  drive = turning_of scene (drive_in board scene.bay) can.drive;
   memory = can.memory;
   channel = can.channel;
   last = can.last;

@@ -1,6 +1,6 @@
 -- Commands that write, whatever the drive's speed was when they began.
 use Rattle.std.proofs.Common.{◌≡◌, ◌⊎◌, inl, inr, ℕ, zero, suc, ◌+◌, ◌*◌, ◌≤◌, Bool, true, false, List, [], ◌∷◌, length, refl, sym, ◌∙◌, ap, subst, arith}
-use Rattle.std.proofs.lemmas.Bool.{false≢true}
+use Rattle.std.proofs.lemmas.Bool.{false_from_ne_true, false≢true}
 use Rattle.flop_base.specs.declared.key.Chrn.{Chrn}
 use Rattle.drive_model.specs.Drive.{DriveState, Becomes, is_protected}
 use Rattle.fdc_fifo.specs.Fifo.{Fifo}
@@ -100,13 +100,7 @@ unprotected_spun : (scene : Scene) (lead : ℕ) (late : Past) (drive : DriveStat
     → IsSpinning scene lead drive → (1 ≤ lead → scene.disk.protected ≡ false)
     → late.steps + lead ≡ steps → (steps ≡ 0 → is_protected drive.medium ≡ true → time ≡ Stopped) → (time ≡ Stopped → ⊥) → scene.disk.protected ≡ false
 unprotected_spun scene (suc lead) late drive steps time none spins guarded steps_are guards goes = guarded (omega arith)
-unprotected_spun scene zero late drive steps time none spins guarded steps_are guards goes = by_bit scene.disk.protected refl
-  where
-    by_bit : (b : Bool) → scene.disk.protected ≡ b → b ≡ false
-    by_bit true covered =
-        let first = ap (λ (p : Past). p.steps) none in
-        absurd (goes (guards (omega arith) (ap is_protected spins.turning.medium ∙ covered)))
-    by_bit false covered = refl
+unprotected_spun scene zero late drive steps time none spins guarded steps_are guards goes = false_from_ne_true scene.disk.protected (λ covered. let first = ap (λ (p : Past). p.steps) none in goes (guards (omega arith) (ap is_protected spins.turning.medium ∙ covered)))
 
 -- ---- of a window
 

@@ -3,13 +3,14 @@ use Rattle.std.proofs.Common.{◌≡◌, ◌⊎◌, inl, inr, ℕ, ◌+◌, ◌<
 use Rattle.std.proofs.lemmas.Bool.{false≢true}
 use Rattle.std.proofs.lemmas.Bool.Decides.{nat_tests}
 use Rattle.machine_laws.proofs.Facts.{lt_true}
-use Rattle.drive_model.specs.Drive.{DriveState, Becomes, at_index, at_speed, word_under, rate_of}
-use Rattle.fdc_stages.specs.History.{Past}
+use Rattle.drive_model.specs.Drive.{DriveState, Becomes, at_index, word_under, rate_of}
+use Rattle.fdc_stages.specs.History.{Past, begun as new_past}
 use Rattle.fdc_core.specs.Listening.{SeesUnder}
 use Rattle.fdc_phases.specs.Rates.{rate_fits, seen_of}
 use Rattle.fdc_core.specs.Steps.{let_pass}
 use Rattle.machine_laws.specs.OnLead.Leads.{IsTurningIn, IsSpinning, unheard, IsUnheard}
 use Rattle.machine_laws.specs.OnOrders.Orders.{Window, Track, Order, Identify, Read, Write, AtDrive}
+use Rattle.machine_laws.specs.OnReads.Begins.{IsDriveOf}
 use Rattle.machine_laws.specs.OnReads.Scenes.{Scene, IsScene, head_sent}
 use Rattle.machine_laws.specs.OnReads.Underway.{IsHearing}
 use Rattle.machine_laws.proofs.OnReads.Words.{length-met}
@@ -24,9 +25,6 @@ slow_or_fast n = grind (arith, nat_tests)
 -- ---- a word time
 
 module _ (scene : Scene) (lead : ℕ) (drive : DriveState) (spins : IsSpinning scene lead drive) where
-  pub no_speed : at_speed drive ≡ false
-  no_speed = rw (spins.turning.medium, spins.turning.motor, not_le 6250 drive.spin spins.slow) refl
-
   pub no_index : at_index drive ≡ false
   no_index = rw (spins.turning.medium, spins.turning.motor, not_le 6250 drive.spin spins.slow) refl
 
@@ -122,3 +120,11 @@ pub nothing_heard : (order : Order) (scene : Scene) (late : Past) (executes : Bo
     → (executes ≡ true → 6250 ≤ drive.spin) → AtDrive order scene late executes drive
 nothing_heard order scene late executes drive whole none is fast =
     subst (λ past. AtDrive order scene past executes drive) (sym none) (at_none order scene late executes drive whole is fast)
+
+-- a drive at speed, as a command finds it
+pub turning_of : (scene : Scene) (drive : DriveState) → IsDriveOf scene drive → IsTurningIn scene drive
+turning_of scene drive is =
+    record { medium = is.medium; cylinder = is.cylinder; motor = is.motor; place = is.place; inside = is.inside; never_falls = let same = is.faults in omega arith }
+
+pub none_heard : (order : Order) (scene : Scene) (executes : Bool) (drive : DriveState) → IsScene scene → IsDriveOf scene drive → AtDrive order scene new_past executes drive
+none_heard order scene executes drive whole is = nothing_heard order scene new_past executes drive whole refl (turning_of scene drive is) (λ _. is.speed)

@@ -26,7 +26,8 @@ use Rattle.machine_laws.specs.OnSteps.Moves.{read_from}
 use Rattle.machine_laws.proofs.OnSteps.Runs.{gap, outputs}
 use Rattle.machine_laws.specs.OnOrders.Orders.{CanBeginAt, GoesOn, Window, Track, Order, Identify, Read, Write, MayIn, Shows, Moves, AtDrive, IsDoneBy, Underway, CanBegin}
 use Rattle.machine_laws.proofs.OnOrders.Behind.{KeepsOn}
-use Rattle.machine_laws.proofs.OnOrders.Beginning.{begun_at, begun_by, none_heard}
+use Rattle.machine_laws.proofs.OnLead.Spinning.{none_heard}
+use Rattle.machine_laws.proofs.OnOrders.Beginning.{begun_at, begun_by}
 use Rattle.machine_laws.proofs.OnOrders.Steps.{goes_on, at_drive}
 use Rattle.machine_laws.specs.OnReads.Begins.{IsDriveOf}
 

@@ -1,7 +1,6 @@
 -- The controller behind the byte that begins a data command.
-use Rattle.std.proofs.Common.{◌≡◌, ℕ, Bool, true, false, List, [], ◌∷◌, ◌++◌, refl, sym, ◌∙◌, ap, subst, arith}
+use Rattle.std.proofs.Common.{◌≡◌, ℕ, Bool, true, false, List, [], ◌∷◌, ◌++◌, refl, sym, ◌∙◌, ap, subst}
 use Rattle.std.proofs.lemmas.Bool.{false≢true}
-use Rattle.drive_model.specs.Drive.{DriveState}
 use Rattle.dma_8237.specs.Channel.{Channel}
 use Rattle.fdc_commands.specs.Table.{answer, kept}
 use Rattle.fdc_commands.specs.declared.bytes.Accepted.TheVariants.{Ready}
@@ -24,15 +23,13 @@ use Rattle.pc_bus.specs.Boards.{Board, controller_of, lines_of}
 use Rattle.pc_bus.specs.Ports.{WritesPort}
 use Rattle.pc_bus.specs.Transfers.{shown_again}
 use Rattle.pc_bus.specs.declared.chips.Chips.{Chips}
-use Rattle.machine_laws.specs.OnReads.Begins.{IsDriveOf}
 use Rattle.machine_laws.specs.OnReads.Late.{is_late}
-use Rattle.machine_laws.specs.OnReads.Scenes.{Scene, IsScene}
+use Rattle.machine_laws.specs.OnReads.Scenes.{Scene}
 use Rattle.machine_laws.proofs.OnReads.Accesses as reads
 use Rattle.machine_laws.specs.OnWrites.Begins.{write_of}
 use Rattle.machine_laws.specs.OnWrites.Underway.{refuses}
 use Rattle.machine_laws.proofs.OnWrites.Bytes.{none_taken}
-use Rattle.machine_laws.proofs.OnWrites.Drives as writes
-use Rattle.machine_laws.specs.OnOrders.Orders.{Window, Track, Order, Identify, Read, Write, May, Shows, Moves, AtDrive, IsDoneBy, IsLast, IsSetFor}
+use Rattle.machine_laws.specs.OnOrders.Orders.{Window, Track, Order, Identify, Read, Write, May, Shows, Moves, IsDoneBy, IsLast, IsSetFor}
 
 -- a command that writes asks for bytes at once
 abbrev pub first_line : Order → Fdc → Bool
@@ -121,13 +118,6 @@ pub none_moved : (order : Order) (scene : Scene) (memory : List ℕ) (channel : 
 none_moved Identify scene memory channel same set = same
 none_moved Read scene memory channel same (left, size, set) = reads.none_moved scene memory channel left same size set
 none_moved (Write laid) scene memory channel same (left, size, set) = none_taken scene memory channel left same size set
-
-pub none_heard : (order : Order) (scene : Scene) (executes : Bool) (drive : DriveState) → IsScene scene → IsDriveOf scene drive → AtDrive order scene new_past executes drive
-none_heard (Write (Window deleted)) scene executes drive whole is =
-    record { at = writes.none_heard scene executes drive whole is; there = λ some. absurd (omega arith); unbarred = refl }
-none_heard (Write (Track numbers)) scene executes drive whole is = writes.none_heard scene executes drive whole is
-none_heard Identify scene executes drive whole is = reads.none_heard scene executes drive whole is
-none_heard Read scene executes drive whole is = reads.none_heard scene executes drive whole is
 
 pub begun_by : (order : Order) (scene : Scene) (old : Chips) (new : Fdc) → dor_of old.controller ≡ scene.dor → old.controller.rate ≡ scene.rate → old.memory ≡ scene.memory
     → IsSetFor order scene old.channel → HasBegun order scene old.controller new → IsDoneBy order scene new_past (shown_again (record old { controller = new }))

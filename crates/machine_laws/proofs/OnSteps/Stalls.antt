@@ -8,12 +8,12 @@ use Rattle.machine_pace.specs.declared.holding.Request.{Request}
 use Rattle.machine_pace.specs.declared.holding.Request.TheVariants.{Low, High}
 use Rattle.pc_bus.specs.Boards.{Board, holds_of}
 use Rattle.pc_bus.specs.Ports.{RunsGap}
-use Rattle.pc_bus.specs.Steps.{Step, Runs, Waits}
+use Rattle.pc_bus.specs.Steps.{Step, Runs}
 use Rattle.pc_bus.specs.Transfers.{moved, moved_to_memory, moved_from_memory, moved_up_to, looked_at, dma_stepped}
 use Rattle.pc_bus.specs.declared.chips.Chips.{Chips}
 use Rattle.machine_laws.specs.OnSteps.Steady.{Steady}
 use Rattle.machine_laws.specs.OnSteps.Stalls.{Stalled, Grows, UntilStalled, Keeping}
-use Rattle.machine_laws.proofs.OnSteps.Runs.{runs, waits, gap}
+use Rattle.machine_laws.proofs.OnSteps.Runs.{runs, gap}
 use Rattle.machine_laws.proofs.OnSteps.Transfers.{by_request, up_to}
 
 -- no transfer changes the holds
@@ -68,9 +68,6 @@ begins P start was = record { grows = omega arith; holds = inl was }
 
 pub runs_until : (P : Board → Type 0) → Keeping P → (n : ℕ) (old new : Board) → Runs n old new → P old → P new ⊎ Stalled old new
 runs_until P keeps n old new ran was = (runs (UntilStalled P old) (until_stalled P keeps old) n old new ran (begins P old was)).holds
-
-pub waits_until : (P : Board → Type 0) → Keeping P → (most : ℕ) (set : Bool) (old new : Board) → Waits most old set new → P old → P new ⊎ Stalled old new
-waits_until P keeps most set old new ran was = (waits (UntilStalled P old) (until_stalled P keeps old) most set old new ran (begins P old was)).holds
 
 pub gap_until : (P : Board → Type 0) → Keeping P → (between new : Board) → RunsGap between new → P between → P new ⊎ Stalled between new
 gap_until P keeps between new ran was = (gap (UntilStalled P between) (until_stalled P keeps between) between new ran (begins P between was)).holds

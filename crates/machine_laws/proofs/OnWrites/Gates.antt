@@ -12,7 +12,7 @@ use Rattle.fdc_core.specs.Formatting.{FormatDoes, after_laid}
 use Rattle.fdc_phases.specs.Formatting as laying
 use Rattle.fdc_phases.specs.Phases.{is_listening}
 use Rattle.fdc_core.specs.Steps.{polled, Moves, MovesIn, MovesTask}
-use Rattle.fdc_core.specs.Times.{WordTime, Saw, KeptOut, Wrote, Stopped, IsTime, Closes, Opens}
+use Rattle.fdc_core.specs.Times.{WordTime, Saw, KeptOut, Wrote, Stopped, IsTime, Closes}
 use Rattle.fdc_core.specs.Writes.{WritesIn, WritesTask}
 use Rattle.fdc_core.specs.Writing.{WriteDoes, after_next}
 use Rattle.fdc_phases.specs.Writing.{is_ended}
@@ -26,7 +26,7 @@ use Rattle.fdc_phases.specs.declared.transfers.Formatting.{Formatting}
 use Rattle.fdc_phases.specs.declared.transfers.Writing.{Writing}
 use Rattle.pc_bus.specs.Boards.{Board, controller_of, selected_of}
 use Rattle.pc_bus.specs.Steps.{Works, Step}
-use Rattle.machine_laws.specs.OnWrites.Guards.{GatesDrives, HoldsGates, IsGated, IsGateOf, IsGivenWord, MakesTask, MakesTime, PassesClosed, is_recording}
+use Rattle.machine_laws.specs.OnWrites.Guards.{GatesDrives, HoldsGates, IsGated, IsGateOf, IsGivenIn, MakesTask, MakesTime, PassesClosed, is_recording}
 use Rattle.machine_laws.proofs.OnQuiet.Steps.{listens_told}
 use Rattle.machine_laws.proofs.OnWrites.Guards.{closes_same, moves_same, opens_same, step_leaves}
 use Rattle.machine_laws.proofs.OnWrites.Kept.{dma_controller}
@@ -60,21 +60,6 @@ writes_gated from mid head word (inl wrote) =
 writes_gated from mid head word (inr (can, becomes, rose)) = inl (ap (λ s. s.medium) becomes.becomes)
 
 -- ---- the word time of a command that records
-
--- a drive is given a word in a word time that a command makes
-record IsGivenIn (Makes : WordTime → Type 0) (before after : DriveState) : Type 0 where
-  head : ℕ
-  opened : Bool
-  closed : Bool
-  index : Bool
-  word : ℕ
-  makes : Makes (Wrote opened closed index word)
-  from : DriveState
-  mid : DriveState
-  opens : Opens opened before from
-  writes : Writes head word from mid
-  closes : Closes closed mid after
-  gate : (after.medium ≡ before.medium) ⊎ (from.gate ≡ true)
 
 time_gates : (Makes : WordTime → Type 0) (time : WordTime) (rate : DataRate) (head : ℕ) (before after : DriveState) → IsTime time rate head before after → Makes time
     → PassesClosed before after ⊎ IsGivenIn Makes before after
@@ -175,28 +160,11 @@ works_gate old before new after works =
 
 -- ---- the device step
 
-given_word : (old new : Fdc) (before after : DriveState) → IsGivenIn (λ time. MakesTime old.phase time (polled old) before new) before after → IsGivenWord old before after
-given_word old new before after given = record {
-  head = given.head;
-  opened = given.opened;
-  closed = given.closed;
-  index = given.index;
-  word = given.word;
-  new = new;
-  makes = given.makes;
-  from = given.from;
-  mid = given.mid;
-  opens = given.opens;
-  writes = given.writes;
-  closes = given.closes;
-  gate = given.gate;
-}
-
 selected_gated : (old : Board) (new : Fdc) (bay : ℕ) (before after : DriveState) → selected_of old ≡ bay → Works (controller_of old) before new after
     → IsGated old bay before after
 selected_gated old new bay before after at works = elim (works_gate (controller_of old) before new after works).time [
   | inl closed ↦ inl closed
-  | inr (records, given) ↦ inr (at, records, given_word (controller_of old) new before after given)
+  | inr (records, given) ↦ inr (at, records, (new, given))
 ]
 
 pub step_gates : (old new : Board) → Step old new → GatesDrives old new

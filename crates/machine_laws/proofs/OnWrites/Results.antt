@@ -20,7 +20,7 @@ use Rattle.drive_model.specs.Drive.{DriveState}
 use Rattle.fdc_fifo.specs.Fifo.{Fifo}
 use Rattle.fdc_writing.specs.Windows.{words_behind}
 use Rattle.fdc_stages.specs.History.{Past, IsTurnIn, IsAmong}
-use Rattle.fdc_stages.specs.Searches.{HasNoClear, IsBetween, IsMissed}
+use Rattle.fdc_stages.specs.Searches.{HasNoClear, IsMissed}
 use Rattle.fdc_stages.specs.declared.ending.Ending.{Ending}
 use Rattle.fdc_stages.specs.declared.ending.Ending.TheVariants.{Done, NoMark, NoSector, NoField, BadCheck, Overrun, NoCount, Protected, Late}
 use Rattle.fdc_writing.specs.Writings.{HasBegun, HasNoWindow, HasWritten, IsFirstOf, IsWhole, IsWriting}
@@ -35,8 +35,8 @@ use Rattle.fdc_phases.specs.declared.phases.Phase.TheVariants.{Command, Execute,
 use Rattle.fdc_phases.specs.declared.phases.Task.{Task}
 use Rattle.fdc_phases.specs.declared.phases.Task.TheVariants.{Write}
 use Rattle.fdc_core.proofs.MayWrite.{content_of}
-use Rattle.machine_laws.specs.OnHeard.Heard.{start_of, IsHeard, AreHeard, AreHeardWhole, IsHeardFrom, IsWholeFrom}
-use Rattle.machine_laws.proofs.OnHeard.Fields.{address_heard, mark_heard, turn_is}
+use Rattle.machine_laws.specs.OnHeard.Heard.{start_of, IsHeard, AreHeard, IsHeardFrom}
+use Rattle.machine_laws.proofs.OnHeard.Fields.{address_heard, mark_heard}
 use Rattle.machine_laws.specs.OnWritten.Written.{IsCalm}
 use Rattle.machine_laws.specs.OnReads.Scenes.{Scene, IsScene, head_sent, track_met}
 use Rattle.machine_laws.proofs.OnReads.Words.{length-met}
@@ -45,6 +45,7 @@ use Rattle.machine_laws.specs.OnWrites.Drives.{IsAtWindow}
 use Rattle.machine_laws.specs.OnWrites.Underway.{IsTaken, range_of, refuses, refuses_as}
 use Rattle.machine_laws.proofs.OnWrites.Content.{handed_all, handed_rest, not_all}
 use Rattle.machine_laws.proofs.OnWrites.Words.{heard_met}
+use Rattle.machine_laws.proofs.OnReads.Results.{between_is}
 
 -- ---- the words
 
@@ -198,15 +199,6 @@ turn_heard track from turns seen turn heard among = elim among [
   | inl is ↦ (start_of from turns, subst (IsHeard track (start_of from turns)) (sym is) heard.now)
   | inr earlier ↦ among_heard track from turns turn heard.over earlier
 ]
-
--- between two indexes, heard whole, it is the track
-pub between_is : (track : List ℕ) (from : ℕ) (past : Past) (between : List ℕ) → IsHeardFrom track from past.turns past.seen → IsWholeFrom track from past.turns past.seen → IsBetween past between
-    → between ≡ track
-between_is track from past between heard whole is =
-    let over : AreHeard track from (between ∷ is.first ∷ []) = subst (AreHeard track from) is.turns heard.over in
-    let all : AreHeardWhole track from (between ∷ is.first ∷ []) = subst (AreHeardWhole track from) is.turns whole.over in
-    let end = over.1 in
-    turn_is track between all.0 (omega arith)
 
 among_between : (turns : List (List ℕ)) (seen between first : List ℕ) → turns ≡ between ∷ first ∷ [] → IsTurnIn turns seen between
 among_between turns seen between first is = inr (subst (λ t. IsAmong t between) (sym is) (inl refl))

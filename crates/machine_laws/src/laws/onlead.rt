@@ -25,6 +25,7 @@ ghost use Rattle.track_model.specs.Fields.{IsSizeCode, content_size};
 /// results say IC 00, they mean what they mean at speed: a sector of the key is on the track and in memory, the key is that of an
 /// address field, the whole window stands, or the turn is laid. At any time a READ DATA changes memory in its range alone, and a
 /// command that writes leaves the medium, or the first words of what it writes stand there.
+#[tactic(auto, using(crate::proofs::OnLead::Steps::warming, crate::proofs::OnLead::Ends::read_outside, crate::proofs::OnLead::Written::only, crate::proofs::OnLead::Accesses::still_keeps, crate::proofs::OnLead::Accesses::can_warm, crate::proofs::OnLead::Ends::id_memory))]
 pub fn a_command_begun_before_speed()
     ensures steady { (order : Order) (scene : Scene) → Steady (WarmsUp order scene) }
     ensures stands { (order : Order) (scene : Scene) (old new : Board) → StandsStill old new → WarmsUp order scene old → WarmsUp order scene new }

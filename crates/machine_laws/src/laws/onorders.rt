@@ -18,6 +18,7 @@ ghost use Rattle.pc_bus.specs.Steps.{Runs};
 /// write that completes its bytes begins it, and moves no heads. A read of a port keeps what is known of it until the last result
 /// byte was read; and so does a write that leaves DOR, the rate and the channel, as a byte to the data port, or one that clears the
 /// channel's flip-flop.
+#[tactic(auto, using(crate::proofs::OnOrders::Steps::underway, crate::proofs::OnOrders::Steps::still_keeps, crate::proofs::OnOrders::Outputs::leaves_data))]
 pub fn a_data_command_goes_on()
     ensures steady { (order : Order) (scene : Scene) → Steady (Underway order scene) }
     ensures stands { (order : Order) (scene : Scene) (old new : Board) → StandsStill old new → Underway order scene old → Underway order scene new }
@@ -34,6 +35,7 @@ pub fn a_data_command_goes_on()
 
 /// Whatever the drive is, absent, empty, spinning up, or another one selected: from the write that begins a READ DATA on no device
 /// step changes a byte outside the range that the channel was set to.
+#[tactic(auto, using(crate::proofs::OnOrders::Outside::fetching, crate::proofs::OnOrders::Outside::outside))]
 pub fn a_read_moves_bytes_of_its_range_alone()
     ensures outside { (scene : Scene) (byte n : ℕ) (old between new : Board) → CanFetch scene byte old → Outputs 0x3F5 byte old between → Runs n between new
         → StaysOutside scene (memory_of new) }

@@ -11,6 +11,7 @@ ghost use Rattle.pc_bus.specs.Ports.{Outputs};
 
 /// A WRITE DATA, WRITE DELETED or FORMAT TRACK on time stays so, and doesn't end with OR, or a stall is counted: in each device
 /// step one or the other.
+#[tactic(auto, using(crate::proofs::OnWrites::OnTime::on_time))]
 pub fn device_steps_are_on_time()
     ensures { Keeping IsOnTime }
 {}

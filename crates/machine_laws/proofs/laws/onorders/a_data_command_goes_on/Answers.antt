@@ -1,14 +1,7 @@
 use Rattle.machine_laws.proofs.OnOrders.Accesses.{begins, inputs_keep}
 use Rattle.machine_laws.proofs.OnOrders.Heads.{begin_leaves, begin_still}
-use Rattle.machine_laws.proofs.OnOrders.Outputs.{leaves_clear, leaves_data, outputs_keep}
-use Rattle.machine_laws.proofs.OnOrders.Steps.{still_keeps, underway}
+use Rattle.machine_laws.proofs.OnOrders.Outputs.{leaves_clear, outputs_keep}
 use Rattle.machine_laws.proofs.laws.onorders.a_data_command_goes_on.Goals as goal
-
-pub returns-clause-steady : goal.returns-clause-steady
-returns-clause-steady c = underway
-
-pub returns-clause-stands : goal.returns-clause-stands
-returns-clause-stands c = still_keeps
 
 pub returns-clause-begins : goal.returns-clause-begins
 returns-clause-begins c = begins
@@ -24,9 +17,6 @@ returns-clause-reads c = inputs_keep
 
 pub returns-clause-writes : goal.returns-clause-writes
 returns-clause-writes c = outputs_keep
-
-pub returns-clause-ignores : goal.returns-clause-ignores
-returns-clause-ignores c = leaves_data
 
 pub returns-clause-flips : goal.returns-clause-flips
 returns-clause-flips c = leaves_clear

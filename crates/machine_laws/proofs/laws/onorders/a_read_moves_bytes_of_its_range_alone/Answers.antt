@@ -1,4 +1,4 @@
-use Rattle.machine_laws.proofs.OnOrders.Outside.{begins, fetching, outside, runs_outside}
+use Rattle.machine_laws.proofs.OnOrders.Outside.{begins, runs_outside}
 use Rattle.machine_laws.proofs.laws.onorders.a_read_moves_bytes_of_its_range_alone.Goals as goal
 
 pub returns-clause-outside : goal.returns-clause-outside
@@ -6,9 +6,3 @@ returns-clause-outside c = runs_outside
 
 pub returns-clause-begins : goal.returns-clause-begins
 returns-clause-begins c = begins
-
-pub returns-clause-steady : goal.returns-clause-steady
-returns-clause-steady c = fetching
-
-pub returns-clause-ranges : goal.returns-clause-ranges
-returns-clause-ranges c = outside

@@ -1,15 +1,8 @@
-use Rattle.machine_laws.proofs.OnReads.EndCalls.{begins_prompt, still_prompt, inputs_prompt}
-use Rattle.machine_laws.proofs.OnReads.EndSteps.{prompting}
+use Rattle.machine_laws.proofs.OnReads.EndCalls.{begins_prompt, inputs_prompt}
 use Rattle.machine_laws.proofs.laws.onreads.ending.a_read_is_prompt_until_a_stall.Goals as goal
 
 pub returns-clause-begins : goal.returns-clause-begins
 returns-clause-begins c = begins_prompt
-
-pub returns-clause-keeping : goal.returns-clause-keeping
-returns-clause-keeping c = prompting
-
-pub returns-clause-still : goal.returns-clause-still
-returns-clause-still c = still_prompt
 
 pub returns-clause-read : goal.returns-clause-read
 returns-clause-read c = inputs_prompt

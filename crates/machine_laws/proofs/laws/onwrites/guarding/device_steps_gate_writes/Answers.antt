@@ -1,8 +1,5 @@
-use Rattle.machine_laws.proofs.OnWrites.Gates.{gating, step_gates}
+use Rattle.machine_laws.proofs.OnWrites.Gates.{step_gates}
 use Rattle.machine_laws.proofs.laws.onwrites.guarding.device_steps_gate_writes.Goals as goal
 
 pub returns-clause-step : goal.returns-clause-step
 returns-clause-step c = step_gates
-
-pub returns-clause-holds : goal.returns-clause-holds
-returns-clause-holds c = gating
