@@ -1,31 +1,10 @@
 -- What many lemmas cite: of numbers, truth values, phases and the latch.
-use Rattle.dma_8237.specs.Channel.{Channel, grants, after_transfer}
-use Rattle.fdc_commands.specs.Table.{answer}
-use Rattle.fdc_phases.specs.Answers.{after_byte}
-use Rattle.fdc_phases.specs.Commands.{IsReadingData}
-use Rattle.fdc_core.specs.Dma.{fifo_told}
-use Rattle.fdc_phases.specs.Dma.{phase_told, task_asks}
-use Rattle.fdc_phases.specs.Heard.{Sent}
-use Rattle.fdc_core.specs.Listening.{is_executing}
-use Rattle.fdc_core.specs.State.{is_held}
-use Rattle.fdc_core.specs.Steps.{polled}
-use Rattle.fdc_phases.specs.declared.answers.Answer.TheVariants.{Short, Long}
-use Rattle.fdc_phases.specs.declared.answers.Answer.{Answer}
-use Rattle.fdc_core.specs.declared.controller.Fdc.{Fdc}
-use Rattle.fdc_phases.specs.declared.phases.Phase.TheVariants.{Command, Execute, Result}
-use Rattle.fdc_phases.specs.declared.phases.Phase.{Phase}
+use Rattle.dma_8237.specs.Channel.{grants}
 use Rattle.fdc_phases.specs.declared.phases.Task.TheVariants.{Read}
-use Rattle.fdc_phases.specs.declared.phases.Task.{Task}
-use Rattle.fdc_fifo.specs.Fifo.{Fifo}
-use Rattle.fdc_seek.specs.Seeking.{with_polls}
 use Rattle.irq_events.specs.Latch.{Latch}
-use Rattle.machine_pace.specs.Holds.{Holds, shown}
-use Rattle.pc_bus.specs.Steps.{strayed_if, lined}
 use Rattle.std.proofs.Common.{◌∙◌, Option, ◌⊎◌, inl, inr, ◌≡◌, ◌+◌, ◌≤◌, ◌<◌, ◌==◌, ◌||◌, ◌&&◌, ◌∷◌, ◌++◌, if◌then◌else◌, Bool, true, false, refl, ℕ, nat_le, arith, List, [], length, length-append, Some, None, not, nat_lt}
 use Rattle.std.proofs.lemmas.Bool.Decides.{nat_tests}
-use Rattle.fdc_core.specs.Ports.{phase_after}
-use Rattle.fdc_stages.specs.declared.ending.Ending.{Ending}
-use Rattle.fdc_commands.specs.declared.results.Results.{Results}
+use Rattle.machine_laws.proofs.Common.{Channel, after_transfer, answer, after_byte, IsReadingData, fifo_told, phase_told, task_asks, Sent, is_executing, is_held, polled, Short, Long, Answer, Fdc, Command, Execute, Result, Phase, Task, Fifo, with_polls, Holds, shown, strayed_if, lined, phase_after, Ending, Results}
 
 pub if_both : {A : Type 0} (b : Bool) (x y : A) (P : A → Type 0) → P x → P y → P (if b then x else y)
 if_both true x y P px py = px

@@ -1,45 +1,25 @@
 -- A data command, from its beginning until its end is told: through device steps, waits, strays that are taken and reads of MSR.
 use Rattle.std.proofs.Common.{◌≡◌, ◌⊎◌, inl, inr, ℕ, ◌+◌, ◌≤◌, Bool, true, false, min, if◌then◌else◌, refl, sym, ◌∙◌, ap, subst, arith}
 use Rattle.std.proofs.lemmas.Bool.{false≢true}
+use Rattle.machine_laws.proofs.Common.{last_count, Rose, is_executing, takes_in, asks, data_commands_of, is_held, Phase, Command, Execute, Result, CountsGoOn, GoesQuietly, HoldsOn, Turned, only_listens, Scene, AreShort, Holds, counted, shown, LeavesOthers, IsTimely, IsOnTime, read_from, Stalled, Keeping, regapped, Steady, Order, Identify, Read, Write, CanBegin, IsAwaited, is_unread, Board, controller_of, holds_of, irq_taken, Inputs, Outputs, Waits, stirred, Chips}
 use Rattle.machine_laws.proofs.Facts.{shown_stalls}
-use Rattle.flop_base.specs.Counts.{last_count, Rose}
-use Rattle.fdc_core.specs.Listening.{is_executing}
-use Rattle.fdc_core.specs.Ports.{takes_in}
-use Rattle.fdc_core.specs.State.{asks, data_commands_of, is_held}
-use Rattle.fdc_phases.specs.declared.phases.Phase.{Phase}
-use Rattle.fdc_phases.specs.declared.phases.Phase.TheVariants.{Command, Execute, Result}
-use Rattle.machine_laws.specs.OnCounts.Counts.{CountsGoOn}
 use Rattle.machine_laws.proofs.OnCounts.Counting.{counting, input_counts, output_counts}
-use Rattle.machine_laws.specs.OnQuiet.Quiet.{GoesQuietly, HoldsOn, Turned, only_listens}
 use Rattle.machine_laws.proofs.OnQuiet.Steps.{quietly, starts_quietly}
 use Rattle.machine_laws.proofs.OnReads.Beginnings.{begins_quietly}
-use Rattle.machine_laws.specs.OnReads.Scenes.{Scene}
 use Rattle.machine_laws.proofs.OnReads.EndCalls.{begins_prompt, begins_soon, inputs_prompt, inputs_soon}
-use Rattle.machine_pace.specs.Holds.{AreShort, Holds, counted, shown}
-use Rattle.machine_laws.specs.OnWrites.Guards.{LeavesOthers}
-use Rattle.machine_laws.specs.OnWrites.Timely.{IsTimely, IsOnTime}
 use Rattle.machine_laws.proofs.OnReads.EndSteps.{prompting, soon_over}
 use Rattle.machine_laws.proofs.OnWrites.Guards.{leaving}
 use Rattle.machine_laws.proofs.OnWrites.OnTime.{on_time}
 use Rattle.machine_laws.proofs.OnOrders.Heads.{begin_leaves}
 use Rattle.machine_laws.proofs.OnOrders.Punctual.{begins_on_time}
-use Rattle.machine_laws.specs.OnSteps.Moves.{read_from}
-use Rattle.machine_laws.specs.OnSteps.Stalls.{Stalled, Keeping}
-use Rattle.machine_laws.specs.OnSteps.Steady.{regapped, Steady}
 use Rattle.machine_laws.proofs.OnSteps.Runs.{from_start, inputs, wait, waits}
 use Rattle.machine_laws.proofs.OnSteps.Stalls.{gap_until, until_stalled}
-use Rattle.machine_laws.specs.OnOrders.Orders.{Order, Identify, Read, Write, CanBegin}
 use Rattle.machine_laws.proofs.OnOrders.Accesses.{begins, inputs_keep}
 use Rattle.machine_laws.proofs.OnOrders.Steps.{underway}
-use Rattle.machine_laws.specs.OnAwaits.Awaits.{IsAwaited, is_unread}
 use Rattle.machine_laws.specs.OnAwaits.Goes.{CountsOn, EndsSoon, GoesOn, InTime, Listens, StandsReady, with_one}
 use Rattle.machine_laws.proofs.OnAwaits.Awaiting.{awaiting}
 use Rattle.machine_laws.proofs.OnAwaits.Accesses.{begins_awaited, input_awaits, stray_awaits}
-use Rattle.pc_bus.specs.Boards.{Board, controller_of, holds_of}
-use Rattle.pc_bus.specs.Handling.{irq_taken}
-use Rattle.pc_bus.specs.Ports.{Inputs, Outputs}
-use Rattle.pc_bus.specs.Steps.{Runs, Waits, stirred}
-use Rattle.pc_bus.specs.declared.chips.Chips.{Chips}
+use Rattle.pc_bus.specs.Steps.{Runs}
 use Rattle.machine_laws.proofs.OnWrites.Filling.{filling_held, filling_low}
 
 -- ---- the counts

@@ -1,18 +1,13 @@
 -- Port accesses of a data command, whatever the drive's speed was when it began.
 use Rattle.std.proofs.Common.{◌≡◌, ◌⊎◌, inl, inr, ℕ, Bool, refl, arith}
-use Rattle.drive_model.specs.Drive.{DriveState}
+use Rattle.machine_laws.proofs.Common.{DriveState, drive_in, Board, controller_of, Inputs, Outputs, IsTurningIn, IsGuarded, IsLed, WarmsUp, Order, Identify, Read, Write, CanBegin, Leaves, StandsStill, Scene, IsScene}
 use Rattle.fdc_stages.specs.History.{begun as new_past}
 use Rattle.fdc_phases.specs.declared.phases.Phase.TheVariants as phase
-use Rattle.pc_bus.specs.Boards.{drive_in, Board, controller_of}
-use Rattle.pc_bus.specs.Ports.{Inputs, Outputs}
-use Rattle.machine_laws.specs.OnLead.Leads.{IsTurningIn, IsGuarded, IsLed, WarmsUp, CanWarm}
+use Rattle.machine_laws.specs.OnLead.Leads.{CanWarm}
 use Rattle.machine_laws.proofs.OnLead.Spinning.{slow_or_fast, nothing_heard, turning_of}
 use Rattle.machine_laws.proofs.OnLead.Steps.{led_keeps}
-use Rattle.machine_laws.specs.OnOrders.Orders.{Order, Identify, Read, Write, CanBegin, Leaves}
 use Rattle.machine_laws.proofs.OnOrders.Accesses.{inputs_go, begins_on}
 use Rattle.machine_laws.proofs.OnOrders.Outputs.{outputs_go}
-use Rattle.machine_laws.specs.OnQuiet.Quiet.{StandsStill}
-use Rattle.machine_laws.specs.OnReads.Scenes.{Scene, IsScene}
 use Rattle.machine_laws.proofs.OnOrders.Steps.{still_goes}
 
 pub inputs_keep : (order : Order) (scene : Scene) (port value : ℕ) (old new : Board) → Inputs port old value new → WarmsUp order scene old

@@ -1,26 +1,10 @@
 -- What IC 00 says, whatever the drive's speed was when the command began.
 use Rattle.std.proofs.Common.{◌≡◌, ℕ, Bool, true, sym, ◌∙◌, ap, subst, arith}
-use Rattle.track_model.specs.Fields.{IsSizeCode, content_size}
-use Rattle.fdc_commands.specs.declared.results.Results.{Results}
-use Rattle.fdc_stages.specs.Findings.{HasAddress, FindsSector}
-use Rattle.fdc_stages.specs.History.{Past}
-use Rattle.fdc_stages.specs.declared.ending.Ending.TheVariants.{Done}
-use Rattle.fdc_core.proofs.Meanings.{read_tells, id_tells}
-use Rattle.fdc_core.specs.Listening.{is_executing}
-use Rattle.fdc_core.specs.Meaning.{ReadMeansIn, IdMeansIn}
-use Rattle.fdc_phases.specs.declared.answers.Answer.TheVariants.{Long}
-use Rattle.fdc_phases.specs.declared.phases.Phase.TheVariants.{Result}
-use Rattle.pc_bus.specs.Boards.{Board, controller_of, memory_of, channel_of, drive_in}
-use Rattle.machine_laws.specs.OnLead.Leads.{WarmsUp}
+use Rattle.machine_laws.proofs.Common.{IsSizeCode, content_size, Results, HasAddress, FindsSector, Past, Done, read_tells, id_tells, is_executing, ReadMeansIn, IdMeansIn, Long, Result, Board, controller_of, memory_of, channel_of, drive_in, WarmsUp, Identify, Read, IdEnded, IdEndedIn, ReadEnded, EndedIn, StaysOutside, Scene, IsMoved}
 use Rattle.machine_laws.proofs.OnLead.Fields.{address_late, found_late}
 use Rattle.machine_laws.proofs.OnLead.Listening.{led_over}
-use Rattle.machine_laws.specs.OnOrders.Orders.{Identify, Read}
-use Rattle.machine_laws.specs.OnReads.Ids.{IdEnded, IdEndedIn}
 use Rattle.machine_laws.proofs.OnReads.IdResults as ids
-use Rattle.machine_laws.specs.OnReads.Results.{ReadEnded, EndedIn, StaysOutside}
 use Rattle.machine_laws.proofs.OnReads.Results as reads
-use Rattle.machine_laws.specs.OnReads.Scenes.{Scene}
-use Rattle.machine_laws.specs.OnReads.Underway.{IsMoved}
 
 -- ---- READ DATA
 

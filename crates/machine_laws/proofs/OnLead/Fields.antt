@@ -3,17 +3,9 @@ use Rattle.std.proofs.Common.{◌≡◌, inl, inr, ℕ, ◌+◌, ◌-◌, ◌*�
 use Rattle.std.proofs.Math.ListN.{get_or-append}
 use Rattle.std.proofs.lemmas.Bool.{cases_lt}
 use Rattle.std.proofs.lemmas.List.{get_or-append_right, get_or-replicate, length-replicate}
-use Rattle.flop_base.specs.declared.key.Chrn.{Chrn}
-use Rattle.track_model.specs.declared.Look.TheVariants.{Found}
-use Rattle.track_model.specs.Marks.{IsSound}
-use Rattle.track_model.specs.Fields.{IsAddressAt, content_size, content_at, data_cells}
-use Rattle.track_model.specs.Looks.{HasDataField, IsIntact, LookAt}
-use Rattle.fdc_stages.specs.Findings.{IsFoundAt, HasAddress, FindsSector}
-use Rattle.fdc_stages.specs.History.{Past, IsTurnIn}
-use Rattle.machine_laws.specs.OnHeard.Heard.{IsHeardWhole}
+use Rattle.machine_laws.proofs.Common.{Chrn, Found, IsSound, IsAddressAt, content_size, content_at, data_cells, HasDataField, IsIntact, LookAt, IsFoundAt, HasAddress, FindsSector, Past, IsTurnIn, IsHeardWhole, turn_led, led}
 use Rattle.machine_laws.proofs.OnHeard.Fields.{whole_back, data_mark_on, data_mark_back, intact_back}
 use Rattle.machine_laws.proofs.OnHeard.Shifted.{shifted_address_at, shifted_bytes_at}
-use Rattle.machine_laws.specs.OnLead.Leads.{turn_led, led}
 use Rattle.machine_laws.proofs.OnLead.Late.{length_front, turn_of_led}
 
 -- ---- words behind others

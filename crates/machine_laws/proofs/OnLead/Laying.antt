@@ -1,41 +1,16 @@
 -- Commands that write, whatever the drive's speed was when they began.
 use Rattle.std.proofs.Common.{◌≡◌, ◌⊎◌, inl, inr, ℕ, zero, suc, ◌+◌, ◌*◌, ◌≤◌, Bool, true, false, List, [], ◌∷◌, length, refl, sym, ◌∙◌, ap, subst, arith}
 use Rattle.std.proofs.lemmas.Bool.{false_from_ne_true, false≢true}
-use Rattle.flop_base.specs.declared.key.Chrn.{Chrn}
-use Rattle.drive_model.specs.Drive.{DriveState, Becomes, is_protected}
-use Rattle.fdc_fifo.specs.Fifo.{Fifo}
-use Rattle.fdc_stages.specs.History.{Past, heard}
-use Rattle.fdc_writing.specs.Formats.{Numbers, is_first, is_next, IsAtPart}
-use Rattle.fdc_writing.specs.Writings.{is_due, IsWriting}
-use Rattle.fdc_writing.specs.declared.formatting.FormatPart.{FormatPart}
-use Rattle.fdc_writing.specs.declared.formatting.FormatPart.TheVariants.{Await, Due, Lay, Barred}
-use Rattle.fdc_writing.specs.declared.writing.WriteStage.{WriteStage}
-use Rattle.fdc_core.specs.Formatting.{FormatDoes}
-use Rattle.fdc_phases.specs.Heard.{stepped}
-use Rattle.fdc_core.specs.Listening.{is_executing}
-use Rattle.fdc_core.specs.Steps.{let_pass}
-use Rattle.fdc_core.specs.Times.{WordTime, Saw, KeptOut, Wrote, Stopped, IsTime, after_time}
-use Rattle.fdc_core.specs.Writes.{WritesIn, WritesTask}
-use Rattle.fdc_core.specs.Writing.{WriteDoes}
-use Rattle.fdc_phases.specs.Written.{MayWriteTask, MayFormatTask}
-use Rattle.fdc_core.specs.declared.controller.Fdc.{Fdc}
-use Rattle.fdc_phases.specs.declared.phases.Execution.{Execution}
-use Rattle.fdc_phases.specs.declared.phases.Phase.TheVariants.{Execute}
-use Rattle.fdc_phases.specs.declared.phases.Task.{Task}
+use Rattle.machine_laws.proofs.Common.{Chrn, DriveState, Becomes, is_protected, Fifo, Past, heard, Numbers, is_first, is_next, IsAtPart, IsWriting, FormatPart, Await, Due, Lay, Barred, WriteStage, FormatDoes, stepped, is_executing, let_pass, WordTime, Saw, KeptOut, Wrote, Stopped, IsTime, after_time, WritesIn, WritesTask, WriteDoes, MayWriteTask, MayFormatTask, Fdc, Execution, Execute, Task, Formatting, Writing, turns_led, turn_led, led, IsSpinning, IsUnheard, IsLed, Laid, Window, Track, Write, MayLayIn, LaysOn, Scene, IsScene, head_sent, IsAtDrive}
+use Rattle.fdc_writing.specs.Writings.{is_due}
 use Rattle.fdc_phases.specs.declared.phases.Task.TheVariants as task
-use Rattle.fdc_phases.specs.declared.transfers.Formatting.{Formatting}
-use Rattle.fdc_phases.specs.declared.transfers.Writing.{Writing}
-use Rattle.machine_laws.specs.OnLead.Leads.{turns_led, turn_led, led, IsSpinning, IsUnheard, IsLed}
 use Rattle.machine_laws.proofs.OnLead.Fields.{address_in}
 use Rattle.machine_laws.proofs.OnLead.Late.{few_led, time_led}
 use Rattle.machine_laws.proofs.OnLead.Listening.{led_over, spun}
 use Rattle.machine_laws.proofs.OnLead.Spinning.{no_index, hears_none, turning_on, nothing_heard}
 use Rattle.machine_laws.proofs.OnFormats.Covered as formats
-use Rattle.machine_laws.specs.OnOrders.Orders.{Laid, Window, Track, Write, MayLayIn, LaysOn}
 use Rattle.machine_laws.proofs.OnOrders.Behind.{IsTimed, Laying, laid_on}
 use Rattle.machine_laws.proofs.OnOrders.Words.{laying, timed_led}
-use Rattle.machine_laws.specs.OnReads.Scenes.{Scene, IsScene, head_sent}
-use Rattle.machine_laws.specs.OnWrites.Drives.{IsAtDrive}
 use Rattle.machine_laws.proofs.OnWrites.Covered as writes
 use Rattle.machine_laws.proofs.OnWrites.Steps.{is_stopped, due_now, opens_due, time_here}
 

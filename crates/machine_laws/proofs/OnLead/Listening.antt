@@ -1,19 +1,12 @@
 -- READ ID and READ DATA, whatever the drive's speed was when they began.
 use Rattle.std.proofs.Common.{◌≡◌, inl, inr, ℕ, ◌+◌, ◌≤◌, Bool, true, false, length, refl, sym, ◌∙◌, ap, subst, arith}
 use Rattle.std.proofs.lemmas.Bool.{false≢true}
-use Rattle.drive_model.specs.Drive.{DriveState, Becomes, at_index}
-use Rattle.fdc_stages.specs.History.{Past, heard, words_heard}
-use Rattle.fdc_phases.specs.Heard.{stepped}
-use Rattle.fdc_core.specs.Listening.{SeesUnder}
-use Rattle.fdc_core.specs.Steps.{let_pass}
-use Rattle.machine_laws.specs.OnLead.Leads.{led, IsSpinning, IsUnheard, IsGuarded, IsLed}
+use Rattle.machine_laws.proofs.Common.{DriveState, Becomes, at_index, Past, heard, words_heard, stepped, SeesUnder, let_pass, led, IsSpinning, IsUnheard, IsGuarded, IsLed, Order, Identify, Read, Write, AtDrive, Scene, IsScene, head_sent, track_met}
 use Rattle.machine_laws.proofs.OnLead.Late.{heard_led, longer_led, passed_by, still_unheard, few_led, words_led}
 use Rattle.machine_laws.proofs.OnLead.Spinning.{slow_or_fast, no_index, hears_none, turning_on, spin_on, nothing_heard}
-use Rattle.machine_laws.specs.OnOrders.Orders.{Order, Identify, Read, Write, AtDrive}
 use Rattle.machine_laws.proofs.OnOrders.Steps.{drive_on}
 use Rattle.machine_laws.proofs.OnOrders.Behind.{IsOfWords, Listening}
 use Rattle.machine_laws.proofs.OnOrders.Steps.{at_bytes}
-use Rattle.machine_laws.specs.OnReads.Scenes.{Scene, IsScene, head_sent, track_met}
 use Rattle.machine_laws.proofs.OnReads.Beginnings.{Listens}
 use Rattle.machine_laws.proofs.OnReads.EndWords.{words_few}
 use Rattle.machine_laws.proofs.OnReads.IdWords.{IsBrief}

@@ -2,19 +2,10 @@
 use Rattle.std.proofs.Common.{◌≡◌, ◌⊎◌, inl, inr, ℕ, ◌+◌, ◌<◌, ◌≤◌, nat_le, Bool, true, false, refl, sym, ◌∙◌, ap, subst, arith}
 use Rattle.std.proofs.lemmas.Bool.{false≢true}
 use Rattle.std.proofs.lemmas.Bool.Decides.{nat_tests}
+use Rattle.machine_laws.proofs.Common.{DriveState, Becomes, at_index, word_under, rate_of, Past, SeesUnder, rate_fits, seen_of, let_pass, IsTurningIn, IsSpinning, unheard, IsUnheard, Window, Track, Order, Identify, Read, Write, AtDrive, IsDriveOf, Scene, IsScene, head_sent, IsHearing, IsAtDrive}
 use Rattle.machine_laws.proofs.Facts.{lt_true}
-use Rattle.drive_model.specs.Drive.{DriveState, Becomes, at_index, word_under, rate_of}
-use Rattle.fdc_stages.specs.History.{Past, begun as new_past}
-use Rattle.fdc_core.specs.Listening.{SeesUnder}
-use Rattle.fdc_phases.specs.Rates.{rate_fits, seen_of}
-use Rattle.fdc_core.specs.Steps.{let_pass}
-use Rattle.machine_laws.specs.OnLead.Leads.{IsTurningIn, IsSpinning, unheard, IsUnheard}
-use Rattle.machine_laws.specs.OnOrders.Orders.{Window, Track, Order, Identify, Read, Write, AtDrive}
-use Rattle.machine_laws.specs.OnReads.Begins.{IsDriveOf}
-use Rattle.machine_laws.specs.OnReads.Scenes.{Scene, IsScene, head_sent}
-use Rattle.machine_laws.specs.OnReads.Underway.{IsHearing}
+use Rattle.fdc_stages.specs.History.{begun as new_past}
 use Rattle.machine_laws.proofs.OnReads.Words.{length-met}
-use Rattle.machine_laws.specs.OnWrites.Drives.{IsAtDrive}
 
 not_le : (a b : ℕ) → b < a → nat_le a b ≡ false
 not_le a b h = grind (arith, nat_tests)

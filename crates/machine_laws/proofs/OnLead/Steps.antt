@@ -1,21 +1,12 @@
 -- A device step of a data command, whatever the drive's speed was when it began.
-use Rattle.drive_model.specs.Drive.{DriveState}
-use Rattle.fdc_stages.specs.History.{Past}
-use Rattle.fdc_core.specs.Listening.{is_executing}
-use Rattle.fdc_core.specs.declared.controller.Fdc.{Fdc}
-use Rattle.pc_bus.specs.Steps.{Works}
-use Rattle.pc_bus.specs.declared.chips.Chips.{Chips}
-use Rattle.machine_laws.specs.OnLead.Leads.{IsLed, WarmsUp}
+use Rattle.machine_laws.proofs.Common.{DriveState, Past, is_executing, Fdc, Works, Chips, IsLed, WarmsUp, Order, Identify, Read, Write, IsDoneBy, Scene, IsScene, Steady}
 use Rattle.machine_laws.proofs.OnLead.Laying.{laying_led}
 use Rattle.machine_laws.proofs.OnOrders.Words.{laid_timed}
 use Rattle.machine_laws.proofs.OnLead.Listening.{led_less, brief_led, led_bytes, listening_led}
-use Rattle.machine_laws.specs.OnOrders.Orders.{Order, Identify, Read, Write, IsDoneBy}
 use Rattle.machine_laws.proofs.OnOrders.Behind.{KeepsOn, IsDoing}
 use Rattle.machine_laws.proofs.OnOrders.Steps.{goes_on}
 use Rattle.machine_laws.proofs.OnReads.IdWords as ids
-use Rattle.machine_laws.specs.OnReads.Scenes.{Scene, IsScene}
 use Rattle.machine_laws.proofs.OnReads.Steps as reads
-use Rattle.machine_laws.specs.OnSteps.Steady.{Steady}
 
 word_time : (order : Order) (scene : Scene) (past : Past) (chips : Chips) (drive : DriveState) (between : Fdc) (after : DriveState) → IsScene scene
     → IsDoneBy order scene past chips

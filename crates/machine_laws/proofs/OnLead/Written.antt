@@ -1,33 +1,17 @@
 -- What a command that writes leaves, and IC 00 of it, whatever the drive's speed was when it began.
 use Rattle.std.proofs.Common.{◌≡◌, ◌⊎◌, inl, inr, ℕ, ◌*◌, Bool, false, List, [], ◌∷◌, length, refl, sym, ap, subst, arith}
-use Rattle.flop_base.specs.declared.key.Chrn.{Chrn}
-use Rattle.track_model.specs.Fields.{content_size}
-use Rattle.fdc_commands.specs.declared.results.Results.{Results}
-use Rattle.fdc_stages.specs.History.{Past}
-use Rattle.fdc_stages.specs.declared.ending.Ending.TheVariants.{Done}
-use Rattle.fdc_writing.specs.Formats.{Numbers, HasLaid, IsBehindFirst, IsWholeTurn}
-use Rattle.fdc_writing.specs.Writings.{IsWhole}
-use Rattle.fdc_core.specs.Listening.{is_executing}
-use Rattle.fdc_phases.specs.Written.{MayWriteIn, MayFormatIn}
-use Rattle.fdc_phases.specs.declared.answers.Answer.TheVariants.{Long}
-use Rattle.fdc_core.specs.declared.controller.Fdc.{Fdc}
-use Rattle.fdc_phases.specs.declared.phases.Phase.TheVariants.{Result}
-use Rattle.pc_bus.specs.Boards.{Board, controller_of, memory_of, channel_of, drive_in}
+use Rattle.machine_laws.proofs.Common.{Chrn, content_size, Results, Past, Done, Numbers, HasLaid, IsBehindFirst, IsWholeTurn, IsWhole, is_executing, MayWriteIn, MayFormatIn, Long, Fdc, Result, Board, controller_of, memory_of, channel_of, drive_in, AreKeysOf, turn_led, turns_led, led, IsLed, WarmsUp, Laid, Window, Track, Write, LaysOn, IsFor, Only, Scene, IsTaken}
 use Rattle.machine_laws.specs.OnFormats.Results as format_says
-use Rattle.machine_laws.specs.OnFormats.Results.{AreKeysOf, FormatEnded, FormatsOnly}
+use Rattle.machine_laws.specs.OnFormats.Results.{FormatEnded, FormatsOnly}
 use Rattle.machine_laws.proofs.OnFormats.Results as formats
-use Rattle.machine_laws.specs.OnLead.Leads.{turn_led, turns_led, led, IsLed, WarmsUp}
 use Rattle.machine_laws.proofs.OnLead.Fields.{address_in}
 use Rattle.machine_laws.proofs.OnLead.Late.{few_led}
 use Rattle.machine_laws.proofs.OnLead.Listening.{led_over}
-use Rattle.machine_laws.specs.OnOrders.Orders.{IsDoneOn, Laid, Window, Track, Write, LaysOn}
-use Rattle.machine_laws.specs.OnOrders.Results.{IsFor, Only}
-use Rattle.machine_laws.specs.OnReads.Scenes.{Scene}
+use Rattle.machine_laws.specs.OnOrders.Orders.{IsDoneOn}
 use Rattle.machine_laws.specs.OnWrites.Results as write_says
 use Rattle.machine_laws.specs.OnWrites.Results.{WriteEnded, WritesOnly}
 use Rattle.machine_laws.proofs.OnWrites.Results as writes
 use Rattle.machine_laws.proofs.OnWrites.Results.{IsOfWindow}
-use Rattle.machine_laws.specs.OnWrites.Underway.{IsTaken}
 
 -- ---- without the words 0000
 

@@ -1,23 +1,16 @@
 -- Change lines of empty drives, call by call.
 use Rattle.std.proofs.Common.{◌≡◌, inl, inr, ℕ, zero, suc, ◌≤◌, Bool, true, false, Option, Some, None, is_some, if◌then◌else◌, refl, sym, ◌∙◌, ap, subst, arith}
-use Rattle.raw_image.specs.Disk.{Disk}
-use Rattle.drive_model.specs.Drive.{DriveState, Becomes, Pulses, loaded, unloaded}
-use Rattle.fdc_core.specs.Steps.{Moves}
-use Rattle.fdc_core.specs.declared.controller.Fdc.{Fdc}
+use Rattle.machine_laws.proofs.Common.{Disk, DriveState, Becomes, Pulses, Moves, Fdc, Board, controller_of, drive_in, irq_taken, FollowsWrite, Inputs, Outputs, WritesPort, Step, write_leaves, TurnsOn, regapped, Steady, read_from}
+use Rattle.drive_model.specs.Drive.{loaded, unloaded}
 use Rattle.irq_events.specs.declared.pace.Pace.{Pace}
-use Rattle.pc_bus.specs.Boards.{AreSetIfEmpty, Board, IsEmpty, IsNew, IsSetIfEmpty, controller_of, drive_in}
+use Rattle.pc_bus.specs.Boards.{AreSetIfEmpty, IsEmpty, IsNew, IsSetIfEmpty}
 use Rattle.pc_bus.specs.Calls.{AreCalled, IsCalled, ByEject, ByExchange, ByInb, ByInsert, ByOutb, ByRamSet, ByRefusal, ByTakeIrq, ByWait, ByWaitIrq}
-use Rattle.pc_bus.specs.Handling.{Touches, byte_set, irq_taken}
-use Rattle.pc_bus.specs.Ports.{FollowsMotor, FollowsWrite, Inputs, Outputs, WritesPort}
-use Rattle.pc_bus.specs.Steps.{Step}
+use Rattle.pc_bus.specs.Handling.{Touches, byte_set}
+use Rattle.pc_bus.specs.Ports.{FollowsMotor}
 use Rattle.pc_bus.specs.declared.bus.Bus.{Bus}
-use Rattle.pc_bus.proofs.Lines.{write_leaves}
-use Rattle.machine_laws.specs.OnAwaits.Awaits.{TurnsOn}
 use Rattle.machine_laws.proofs.OnAwaits.Turning.{on_let, on_time}
-use Rattle.machine_laws.specs.OnSteps.Steady.{regapped, Steady}
 use Rattle.machine_laws.proofs.OnSteps.Runs.{inputs, outputs, wait, waits}
 use Rattle.machine_laws.proofs.OnSteps.Drives.{both}
-use Rattle.machine_laws.specs.OnSteps.Moves.{read_from}
 
 -- ---- a drive
 

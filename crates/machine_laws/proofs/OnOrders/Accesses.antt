@@ -1,35 +1,19 @@
 -- Port accesses of a data command: the write that begins it, and reads.
 use Rattle.std.proofs.Common.{◌≡◌, ◌⊎◌, inl, inr, ℕ, ◌+◌, ◌==◌, ◌||◌, nat_le, Bool, true, false, not, Option, List, if◌then◌else◌, refl, sym, ◌∙◌, subst}
-use Rattle.drive_model.specs.Drive.{DriveState}
-use Rattle.dma_8237.specs.Channel.{Channel, grants, after_read}
-use Rattle.fdc_fifo.specs.Fifo.{Fifo}
-use Rattle.fdc_stages.specs.History.{Past, begun as new_past}
-use Rattle.fdc_stages.specs.declared.ending.Ending.{Ending}
-use Rattle.fdc_commands.specs.declared.results.Results.{Results}
-use Rattle.fdc_core.specs.Listening.{is_executing}
-use Rattle.fdc_core.specs.Ports.{given, phase_after}
-use Rattle.fdc_phases.specs.declared.answers.Answer.TheVariants.{Short, Long}
-use Rattle.fdc_core.specs.declared.controller.Fdc.{Fdc}
-use Rattle.fdc_phases.specs.declared.phases.Phase.{Phase}
+use Rattle.machine_laws.proofs.Common.{DriveState, Channel, Fifo, Past, Ending, Results, is_executing, given, phase_after, Short, Long, Fdc, Phase, Board, controller_of, drive_in, is_controllers, port_read, WritesPort, Inputs, Outputs, shown_again, Chips, drive_stays, IsScene, Scene, read_from, GoesOn, Window, Track, Order, Identify, Read, Write, MayIn, Shows, AtDrive, IsDoneBy, Underway, CanBegin, IsDriveOf}
+use Rattle.dma_8237.specs.Channel.{grants, after_read}
+use Rattle.fdc_stages.specs.History.{begun as new_past}
 use Rattle.fdc_phases.specs.declared.phases.Phase.TheVariants as phase
-use Rattle.pc_bus.specs.Boards.{Board, controller_of, drive_in}
-use Rattle.pc_bus.specs.Ports.{is_controllers, port_read, WritesPort, Inputs, Outputs}
-use Rattle.pc_bus.specs.Transfers.{shown_again}
-use Rattle.pc_bus.specs.declared.chips.Chips.{Chips}
-use Rattle.pc_bus.proofs.Lines.{drive_stays}
-use Rattle.machine_laws.specs.OnReads.Scenes.{IsScene, Scene}
 use Rattle.machine_laws.proofs.OnReads.Accesses.{busy_before, still_busy, calm_read}
 use Rattle.machine_laws.proofs.OnReads.Commands.{step_command}
 use Rattle.machine_laws.proofs.OnReads.Steps.{same_drive}
 use Rattle.machine_laws.proofs.OnWrites.Covered.{read_refuses}
-use Rattle.machine_laws.specs.OnSteps.Moves.{read_from}
 use Rattle.machine_laws.proofs.OnSteps.Runs.{gap, outputs}
-use Rattle.machine_laws.specs.OnOrders.Orders.{CanBeginAt, GoesOn, Window, Track, Order, Identify, Read, Write, MayIn, Shows, Moves, AtDrive, IsDoneBy, Underway, CanBegin}
+use Rattle.machine_laws.specs.OnOrders.Orders.{CanBeginAt, Moves}
 use Rattle.machine_laws.proofs.OnOrders.Behind.{KeepsOn}
 use Rattle.machine_laws.proofs.OnLead.Spinning.{none_heard}
 use Rattle.machine_laws.proofs.OnOrders.Beginning.{begun_at, begun_by}
 use Rattle.machine_laws.proofs.OnOrders.Steps.{goes_on, at_drive}
-use Rattle.machine_laws.specs.OnReads.Begins.{IsDriveOf}
 
 -- ---- a read of the data port
 

@@ -1,35 +1,16 @@
 -- The controller behind the byte that begins a data command.
 use Rattle.std.proofs.Common.{◌≡◌, ℕ, Bool, true, false, List, [], ◌∷◌, ◌++◌, refl, sym, ◌∙◌, ap, subst}
 use Rattle.std.proofs.lemmas.Bool.{false≢true}
-use Rattle.dma_8237.specs.Channel.{Channel}
-use Rattle.fdc_commands.specs.Table.{answer, kept}
-use Rattle.fdc_commands.specs.declared.bytes.Accepted.TheVariants.{Ready}
+use Rattle.machine_laws.proofs.Common.{Channel, answer, kept, Ready, ReadData, FormatTrack, emptied, seek_bits, Obeys, TakesAs, WaitsAtFirst, asked, Sent, is_executing, is_taking, dor_of, Fdc, Lines, Task, Board, controller_of, lines_of, WritesPort, shown_again, Chips, is_late, Scene, write_of, refuses, Window, Track, Order, Identify, Read, Write, May, Shows, IsDoneBy, IsLast, IsSetFor}
 use Rattle.fdc_commands.specs.declared.command.Command.{Command}
-use Rattle.fdc_commands.specs.declared.command.Command.TheVariants.{ReadId, ReadData, FormatTrack}
-use Rattle.fdc_fifo.specs.Fifo.{emptied}
-use Rattle.fdc_seek.specs.Seeking.{seek_bits}
+use Rattle.fdc_commands.specs.declared.command.Command.TheVariants.{ReadId}
 use Rattle.fdc_stages.specs.History.{begun as new_past}
-use Rattle.fdc_core.specs.Commands.{Obeys, TakesAs, BeginsAsking, begun as begun_with}
-use Rattle.fdc_phases.specs.Commands.{IsWritingData, WaitsAtFirst}
-use Rattle.fdc_core.specs.Dma.{asked}
-use Rattle.fdc_phases.specs.Heard.{Sent}
-use Rattle.fdc_core.specs.Listening.{is_executing}
-use Rattle.fdc_core.specs.Ports.{Writes, is_taking}
-use Rattle.fdc_core.specs.State.{dor_of}
-use Rattle.fdc_core.specs.declared.controller.Fdc.{Fdc}
-use Rattle.fdc_core.specs.declared.controller.Lines.{Lines}
-use Rattle.fdc_phases.specs.declared.phases.Task.{Task}
-use Rattle.pc_bus.specs.Boards.{Board, controller_of, lines_of}
-use Rattle.pc_bus.specs.Ports.{WritesPort}
-use Rattle.pc_bus.specs.Transfers.{shown_again}
-use Rattle.pc_bus.specs.declared.chips.Chips.{Chips}
-use Rattle.machine_laws.specs.OnReads.Late.{is_late}
-use Rattle.machine_laws.specs.OnReads.Scenes.{Scene}
+use Rattle.fdc_core.specs.Commands.{BeginsAsking, begun as begun_with}
+use Rattle.fdc_phases.specs.Commands.{IsWritingData}
+use Rattle.fdc_core.specs.Ports.{Writes}
 use Rattle.machine_laws.proofs.OnReads.Accesses as reads
-use Rattle.machine_laws.specs.OnWrites.Begins.{write_of}
-use Rattle.machine_laws.specs.OnWrites.Underway.{refuses}
 use Rattle.machine_laws.proofs.OnWrites.Bytes.{none_taken}
-use Rattle.machine_laws.specs.OnOrders.Orders.{Window, Track, Order, Identify, Read, Write, May, Shows, Moves, IsDoneBy, IsLast, IsSetFor}
+use Rattle.machine_laws.specs.OnOrders.Orders.{Moves}
 
 -- a command that writes asks for bytes at once
 abbrev pub first_line : Order → Fdc → Bool

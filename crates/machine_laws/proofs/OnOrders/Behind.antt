@@ -1,23 +1,6 @@
 -- What is known behind a word time, and in the transfers that follow it.
 use Rattle.std.proofs.Common.{◌≡◌, ◌≤◌, Bool, true, length, ◌∙◌, subst, ℕ, false, List}
-use Rattle.drive_model.specs.Drive.{DriveState, Becomes, at_index}
-use Rattle.fdc_stages.specs.History.{Past, heard}
-use Rattle.fdc_core.specs.Listening.{is_executing, SeesUnder}
-use Rattle.fdc_phases.specs.Heard.{stepped}
-use Rattle.fdc_core.specs.Steps.{let_pass}
-use Rattle.fdc_core.specs.Times.{WordTime, after_time}
-use Rattle.fdc_core.specs.Writes.{WritesIn}
-use Rattle.fdc_core.specs.declared.controller.Fdc.{Fdc}
-use Rattle.fdc_phases.specs.declared.phases.Execution.{Execution}
-use Rattle.fdc_phases.specs.declared.phases.Phase.TheVariants.{Execute}
-use Rattle.fdc_fifo.specs.Fifo.{Fifo}
-use Rattle.pc_bus.specs.Steps.{Works}
-use Rattle.pc_bus.specs.declared.chips.Chips.{Chips}
-use Rattle.machine_laws.specs.OnLead.Leads.{led}
-use Rattle.machine_laws.specs.OnReads.Scenes.{Scene, IsScene, head_sent}
-use Rattle.machine_laws.specs.OnWrites.Drives.{IsAtDrive}
-use Rattle.machine_laws.specs.OnWrites.Underway.{refuses}
-use Rattle.machine_laws.specs.OnOrders.Orders.{Laid, Window, Track, Order, MayLayIn, MayLay, LaysOn, AtDrive, IsDoneBy}
+use Rattle.machine_laws.proofs.Common.{DriveState, Becomes, at_index, Past, heard, is_executing, SeesUnder, stepped, let_pass, WordTime, after_time, WritesIn, Fdc, Execution, Execute, Fifo, Works, Chips, led, Scene, IsScene, head_sent, IsAtDrive, refuses, Laid, Window, Track, Order, MayLayIn, MayLay, LaysOn, AtDrive, IsDoneBy}
 
 -- of the chips, and a property of the past and of whether the command is in execution, as the drive's
 pub record IsDoing (order : Order) (scene : Scene) (P : Past → Bool → Type 0) (chips : Chips) : Type 0 where

@@ -1,20 +1,11 @@
 -- What a data command leaves, and what its results say.
 use Rattle.std.proofs.Common.{◌≡◌, false, List, ◌∙◌, arith}
-use Rattle.flop_base.specs.declared.key.Chrn.{Chrn}
-use Rattle.track_model.specs.Fields.{IsSizeCode, content_size}
-use Rattle.fdc_core.proofs.Meanings.{read_tells, id_tells}
-use Rattle.fdc_core.specs.Listening.{is_executing}
-use Rattle.fdc_core.specs.declared.controller.Fdc.{Fdc}
-use Rattle.pc_bus.specs.Boards.{Board, controller_of, memory_of, channel_of, drive_in}
-use Rattle.machine_laws.specs.OnReads.Ids.{IdEnded}
-use Rattle.machine_laws.specs.OnReads.Results.{ReadEnded, StaysOutside}
-use Rattle.machine_laws.specs.OnReads.Scenes.{Scene}
+use Rattle.machine_laws.proofs.Common.{Chrn, IsSizeCode, content_size, read_tells, id_tells, is_executing, Fdc, Board, controller_of, memory_of, channel_of, drive_in, IdEnded, ReadEnded, StaysOutside, Scene, Laid, Window, Track, Identify, Read, Write, Underway, IsFor, Only}
 use Rattle.machine_laws.proofs.OnReads.IdResults as ids
 use Rattle.machine_laws.proofs.OnReads.Results as reads
 use Rattle.machine_laws.proofs.OnWrites.Results as writes
 use Rattle.machine_laws.proofs.OnFormats.Results as formats
-use Rattle.machine_laws.specs.OnOrders.Orders.{Laid, Window, Track, Identify, Read, Write, Underway}
-use Rattle.machine_laws.specs.OnOrders.Results.{IsFor, Only, Ended}
+use Rattle.machine_laws.specs.OnOrders.Results.{Ended}
 
 pub only : (laid : Laid) (scene : Scene) (keys : List Chrn) (board : Board) → IsFor laid scene keys → Underway (Write laid) scene board → Only laid scene keys board
 only (Window deleted) scene keys board size (past, was) =

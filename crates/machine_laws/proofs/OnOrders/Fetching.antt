@@ -1,18 +1,13 @@
 -- A byte of a READ DATA goes to memory.
 use Rattle.std.proofs.Common.{◌≡◌, ℕ, ◌+◌, ◌≤◌, ◌==◌, ◌&&◌, Bool, true, false, List, length, [], ◌∷◌, ◌++◌, if◌then◌else◌, refl, sym, subst}
+use Rattle.machine_laws.proofs.Common.{after_transfer, Past, taken_out, told_count, told_in, is_executing, asks, is_gated, can_move, moved_to_memory, moved_from_memory, told_if, Chips, Scene, IsMoved}
 use Rattle.machine_laws.proofs.Facts.{told_busy}
-use Rattle.dma_8237.specs.Channel.{grants, after_transfer}
-use Rattle.fdc_stages.specs.History.{Past}
+use Rattle.dma_8237.specs.Channel.{grants}
 use Rattle.fdc_core.proofs.MayRead.{out_reads, told_reads}
-use Rattle.fdc_core.specs.Dma.{taken_out, told_count, byte_out}
+use Rattle.fdc_core.specs.Dma.{byte_out}
 use Rattle.fdc_core.specs.Heard.{MayRead}
-use Rattle.fdc_phases.specs.Heard.{gave, told_in}
-use Rattle.fdc_core.specs.Listening.{is_executing}
-use Rattle.fdc_core.specs.State.{asks, is_gated}
-use Rattle.pc_bus.specs.Transfers.{can_move, moved, moved_to_memory, moved_from_memory, memory_after, told_if}
-use Rattle.pc_bus.specs.declared.chips.Chips.{Chips}
-use Rattle.machine_laws.specs.OnReads.Scenes.{Scene}
-use Rattle.machine_laws.specs.OnReads.Underway.{IsMoved}
+use Rattle.fdc_phases.specs.Heard.{gave}
+use Rattle.pc_bus.specs.Transfers.{moved, memory_after}
 use Rattle.machine_laws.proofs.OnReads.Bytes as moving
 use Rattle.machine_laws.proofs.OnReads.Steps.{reads_there}
 

@@ -1,16 +1,7 @@
 -- What the port write that begins a data command leaves of the drives.
 use Rattle.std.proofs.Common.{◌≡◌, ℕ, ◌%◌, refl, ◌∙◌, ap, arith}
-use Rattle.fdc_seek.specs.Seeking.{Seeking, seek_bits}
-use Rattle.fdc_core.specs.declared.controller.Fdc.{Fdc}
-use Rattle.machine_pace.specs.Entries.{next_entry}
-use Rattle.pc_bus.specs.Boards.{Board, controller_of, selected_of}
-use Rattle.pc_bus.specs.Ports.{Outputs}
-use Rattle.pc_bus.proofs.Lines.{drive_stays}
-use Rattle.machine_laws.specs.OnReads.Scenes.{Scene}
+use Rattle.machine_laws.proofs.Common.{Seeking, seek_bits, Fdc, next_entry, Board, controller_of, selected_of, Outputs, drive_stays, Scene, LeavesOthers, HasNoSeek, StaysStill, Window, Track, Order, Identify, Read, Write, IsLast, CanBegin}
 use Rattle.machine_laws.proofs.OnReads.Accesses.{gapped}
-use Rattle.machine_laws.specs.OnWrites.Guards.{LeavesOthers}
-use Rattle.machine_laws.specs.OnWrites.Heads.{HasNoSeek, StaysStill}
-use Rattle.machine_laws.specs.OnOrders.Orders.{Window, Track, Order, Identify, Read, Write, IsLast, CanBegin}
 use Rattle.machine_laws.proofs.OnOrders.Beginning.{begun_at}
 use Rattle.machine_laws.proofs.OnWrites.Guards.{leaves_on, leaving}
 use Rattle.machine_laws.proofs.OnWrites.Stillness.{no_bits, stilling, still_same}

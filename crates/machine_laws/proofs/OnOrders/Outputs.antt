@@ -2,27 +2,16 @@
 -- where nothing answers.
 use Rattle.std.proofs.Common.{inl, inr, ◌≡◌, ℕ, ◌==◌, Bool, true, false, refl, sym, ◌∙◌, ap, subst}
 use Rattle.std.proofs.lemmas.Bool.{false≢true}
+use Rattle.machine_laws.proofs.Common.{Channel, Past, is_executing, takes_in, is_held, Fdc, Phase, Board, controller_of, channel_of, drive_in, lines_of, is_controllers, sets_lines, WritesPort, Outputs, shown_again, drive_stays, Scene, GoesOn, Order, Identify, Read, Write, MayIn, May, AtDrive, IsDoneBy, Underway, Leaves, DriveState}
 use Rattle.machine_laws.proofs.Facts.{either_is, number_is}
-use Rattle.dma_8237.specs.Channel.{Channel, after_write}
-use Rattle.fdc_stages.specs.History.{Past}
-use Rattle.fdc_core.specs.Listening.{is_executing}
-use Rattle.fdc_core.specs.Ports.{Writes, takes_in}
-use Rattle.fdc_core.specs.State.{is_held}
-use Rattle.fdc_core.specs.declared.controller.Fdc.{Fdc}
-use Rattle.fdc_phases.specs.declared.phases.Phase.{Phase}
+use Rattle.dma_8237.specs.Channel.{after_write}
+use Rattle.fdc_core.specs.Ports.{Writes}
 use Rattle.fdc_phases.specs.declared.phases.Phase.TheVariants as phase
-use Rattle.pc_bus.specs.Boards.{Board, controller_of, channel_of, drive_in, lines_of}
-use Rattle.pc_bus.specs.Ports.{is_controllers, sets_lines, WritesPort, Outputs}
-use Rattle.pc_bus.specs.Transfers.{shown_again}
-use Rattle.pc_bus.proofs.Lines.{drive_stays}
-use Rattle.machine_laws.specs.OnReads.Scenes.{Scene}
 use Rattle.machine_laws.proofs.OnReads.Steps.{same_drive}
 use Rattle.machine_laws.proofs.OnSteps.Runs.{outputs}
-use Rattle.machine_laws.specs.OnOrders.Orders.{GoesOn, Order, Identify, Read, Write, MayIn, May, AtDrive, IsDoneBy, Underway, Leaves}
 use Rattle.machine_laws.proofs.OnOrders.Accesses.{moves_flipped}
 use Rattle.machine_laws.proofs.OnOrders.Words.{no_command}
 use Rattle.machine_laws.proofs.OnOrders.Steps.{goes_on, goes_on, at_drive}
-use Rattle.drive_model.specs.Drive.{DriveState}
 use Rattle.machine_laws.proofs.OnOrders.Behind.{KeepsOn}
 
 -- the data port takes no byte

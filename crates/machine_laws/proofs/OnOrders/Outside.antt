@@ -1,26 +1,17 @@
 -- A READ DATA puts bytes into its range alone, whatever the drive is.
 use Rattle.std.proofs.Common.{ℕ, ◌+◌, ◌≤◌, ◌==◌, Bool, false, length, refl, sym, ◌∙◌, ap, subst}
+use Rattle.machine_laws.proofs.Common.{is_executing, polled, RestsIn, FlowsIn, Fdc, Board, controller_of, memory_of, channel_of, lines_of, Outputs, Chips, StaysOutside, Scene, IsMoved, Steady, Moving, Read}
 use Rattle.machine_laws.proofs.Facts.{polled_phase}
 use Rattle.fdc_stages.specs.History.{begun as new_past}
-use Rattle.fdc_core.specs.Listening.{is_executing, after_step as past_after, Follows}
-use Rattle.fdc_core.specs.Steps.{polled, RestsIn, FlowsIn}
-use Rattle.fdc_core.specs.declared.controller.Fdc.{Fdc}
-use Rattle.pc_bus.specs.Boards.{Board, controller_of, memory_of, channel_of, lines_of}
-use Rattle.pc_bus.specs.Ports.{Outputs}
+use Rattle.fdc_core.specs.Listening.{after_step as past_after, Follows}
 use Rattle.pc_bus.specs.Steps.{Runs}
-use Rattle.pc_bus.specs.declared.chips.Chips.{Chips}
-use Rattle.machine_laws.specs.OnReads.Results.{StaysOutside}
-use Rattle.machine_laws.specs.OnReads.Scenes.{Scene}
-use Rattle.machine_laws.specs.OnReads.Underway.{IsMoved}
 use Rattle.machine_laws.proofs.OnReads.Accesses.{none_moved}
 use Rattle.machine_laws.proofs.OnReads.Results.{stays_outside}
 use Rattle.machine_laws.proofs.OnReads.Steps.{same_given, still_quiet}
-use Rattle.machine_laws.specs.OnSteps.Steady.{Steady, Moving}
 use Rattle.machine_laws.proofs.OnSteps.Runs.{outputs, runs}
 use Rattle.machine_laws.proofs.OnSteps.Transfers.{after_moves}
 use Rattle.machine_laws.proofs.OnSteps.Words.{controller}
 use Rattle.machine_laws.specs.OnOrders.Outside.{Fetches, IsFetching, CanFetch}
-use Rattle.machine_laws.specs.OnOrders.Orders.{Read}
 use Rattle.machine_laws.proofs.OnOrders.Beginning.{begun}
 use Rattle.machine_laws.proofs.OnOrders.Fetching.{fetched, must_ask}
 

@@ -1,29 +1,16 @@
 -- A command that writes begins on time.
 use Rattle.std.proofs.Common.{◌≡◌, ◌⊎◌, inl, inr, ℕ, ◌%◌, [], Bool, true, refl, sym, ◌∙◌, ap, subst, arith}
+use Rattle.machine_laws.proofs.Common.{Rose, emptied, dor_of, is_gated, Fdc, Task, Format, next_entry, Low, Board, controller_of, holds_of, selected_of, Outputs, shown_again, Scene, fills_task, IsOnTime, Laid, Window, Track, MayLayIn, IsSetFor, CanBegin, Channel, Fifo, Past, Execute}
 use Rattle.machine_laws.proofs.Facts.{shown_stalls}
-use Rattle.flop_base.specs.Counts.{Rose}
-use Rattle.fdc_fifo.specs.Fifo.{emptied}
-use Rattle.fdc_core.specs.State.{dor_of, is_gated}
-use Rattle.fdc_core.specs.declared.controller.Fdc.{Fdc}
-use Rattle.fdc_phases.specs.declared.phases.Task.{Task}
-use Rattle.fdc_phases.specs.declared.phases.Task.TheVariants.{Write, Format}
-use Rattle.machine_pace.specs.Entries.{next_entry}
-use Rattle.machine_pace.specs.declared.holding.Request.TheVariants.{Low}
+use Rattle.fdc_phases.specs.declared.phases.Task.TheVariants.{Write}
 use Rattle.machine_laws.specs.OnReads.Timely.{Stalled}
-use Rattle.pc_bus.specs.Boards.{Board, controller_of, holds_of, selected_of}
-use Rattle.pc_bus.specs.Ports.{Outputs}
-use Rattle.pc_bus.specs.Transfers.{shown_again}
-use Rattle.machine_laws.specs.OnReads.Scenes.{Scene}
 use Rattle.machine_laws.proofs.OnReads.Accesses.{gapped}
-use Rattle.machine_laws.specs.OnWrites.Timely.{fills_task, IsOnTime, IsPunctual}
+use Rattle.machine_laws.specs.OnWrites.Timely.{IsPunctual}
 use Rattle.machine_laws.proofs.OnWrites.OnTime.{begun_punctual, on_time}
-use Rattle.machine_laws.specs.OnOrders.Orders.{Laid, Window, Track, MayLayIn, IsSetFor, CanBegin}
 use Rattle.machine_laws.specs.OnOrders.Orders as order
 use Rattle.machine_laws.proofs.OnOrders.Beginning.{begun_at}
-use Rattle.dma_8237.specs.Channel.{Channel, grants}
-use Rattle.fdc_fifo.specs.Fifo.{Fifo}
-use Rattle.fdc_stages.specs.History.{Past, begun as new_past}
-use Rattle.fdc_phases.specs.declared.phases.Phase.TheVariants.{Execute}
+use Rattle.dma_8237.specs.Channel.{grants}
+use Rattle.fdc_stages.specs.History.{begun as new_past}
 use Rattle.machine_laws.proofs.OnSteps.Stalls.{runs_until}
 
 -- it fills its FIFO from memory

@@ -1,40 +1,19 @@
 -- A device step of a data command.
 use Rattle.std.proofs.Common.{◌≡◌, ℕ, ◌+◌, ◌%◌, ◌≤◌, ◌==◌, Bool, true, false, List, length, [], ◌∷◌, ◌++◌, if◌then◌else◌, refl, sym, ◌∙◌, ap, subst}
 use Rattle.std.proofs.lemmas.Bool.{false≢true}
+use Rattle.machine_laws.proofs.Common.{DriveState, after_transfer, Past, taken_in, told_count, phase_told, told_in, is_executing, is_read, is_reading, asks, Fdc, Phase, Task, Answer, Short, Long, Fifo, Board, controller_of, drive_in, Step, can_move, moved_to_memory, moved_from_memory, byte_read, told_if, Chips, Scene, StandsStill, IsTaken, refuses, Steady, Moving, GoesOn, Laid, Window, Track, Order, Identify, Read, Write, MayLayIn, MayLay, AtDrive, IsDoneBy, Underway}
 use Rattle.machine_laws.proofs.Facts.{told_busy}
-use Rattle.drive_model.specs.Drive.{DriveState}
-use Rattle.dma_8237.specs.Channel.{grants, after_transfer}
-use Rattle.fdc_stages.specs.History.{Past}
+use Rattle.dma_8237.specs.Channel.{grants}
 use Rattle.fdc_core.proofs.MayWrite.{in_writes, in_formats, told_writes, told_formats}
-use Rattle.fdc_core.specs.Dma.{taken_in, told_count}
-use Rattle.fdc_phases.specs.Dma.{phase_told}
-use Rattle.fdc_phases.specs.Heard.{told_in}
-use Rattle.fdc_core.specs.Listening.{is_executing}
-use Rattle.fdc_phases.specs.Phases.{is_read, is_reading}
-use Rattle.fdc_core.specs.State.{asks}
 use Rattle.fdc_phases.specs.Written.{took}
-use Rattle.fdc_core.specs.declared.controller.Fdc.{Fdc}
-use Rattle.fdc_phases.specs.declared.phases.Phase.{Phase}
 use Rattle.fdc_phases.specs.declared.phases.Phase.TheVariants as phase
-use Rattle.fdc_phases.specs.declared.phases.Task.{Task}
 use Rattle.fdc_phases.specs.declared.phases.Task.TheVariants as task
-use Rattle.fdc_phases.specs.declared.answers.Answer.{Answer}
-use Rattle.fdc_phases.specs.declared.answers.Answer.TheVariants.{Short, Long}
-use Rattle.fdc_fifo.specs.Fifo.{Fifo}
-use Rattle.pc_bus.specs.Boards.{Board, controller_of, drive_in}
-use Rattle.pc_bus.specs.Steps.{Step}
-use Rattle.pc_bus.specs.Transfers.{can_move, moved, moved_to_memory, moved_from_memory, byte_read, told_if}
-use Rattle.pc_bus.specs.declared.chips.Chips.{Chips}
-use Rattle.machine_laws.specs.OnReads.Scenes.{Scene}
-use Rattle.machine_laws.specs.OnQuiet.Quiet.{StandsStill}
+use Rattle.pc_bus.specs.Transfers.{moved}
 use Rattle.machine_laws.proofs.OnReads.Steps as reads
-use Rattle.machine_laws.specs.OnWrites.Underway.{IsTaken, refuses}
 use Rattle.machine_laws.proofs.OnWrites.Bytes as taking_bytes
 use Rattle.machine_laws.proofs.OnWrites.Drives.{drive_less}
-use Rattle.machine_laws.specs.OnSteps.Steady.{Steady, Moving}
 use Rattle.machine_laws.proofs.OnSteps.Transfers.{after_moves}
 use Rattle.machine_laws.proofs.OnSteps.Words.{selected}
-use Rattle.machine_laws.specs.OnOrders.Orders.{GoesOn, Laid, Window, Track, Order, Identify, Read, Write, MayLayIn, MayLay, AtDrive, IsDoneBy, Underway}
 use Rattle.machine_laws.proofs.OnOrders.Behind.{KeepsOn, laid_on, IsDoing, IsOfWords}
 use Rattle.machine_laws.proofs.OnOrders.Fetching.{fetched, must_ask, second_true}
 use Rattle.machine_laws.proofs.OnOrders.Words.{word_time, no_command}

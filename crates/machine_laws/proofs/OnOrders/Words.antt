@@ -1,32 +1,15 @@
 -- The word time of a data command.
 use Rattle.std.proofs.Common.{◌≡◌, ℕ, ◌==◌, ◌&&◌, not, Bool, true, false, List, refl, sym, ◌∙◌, ap, subst, arith}
+use Rattle.machine_laws.proofs.Common.{DriveState, Fifo, with_polls, Past, is_executing, is_held, polled, RestsIn, MovesIn, WordTime, Saw, KeptOut, Wrote, Stopped, after_time, WritesIn, Fdc, Execution, Phase, Command, Execute, Result, Works, Chips, Scene, IsScene, IsTaken, refuses, Laid, Window, Track, Order, Identify, Read, Write, MayLayIn, MayLay, LaysOn, AtDrive, IsDoneBy, led, IsGuarded}
 use Rattle.machine_laws.proofs.Facts.{if_both, polled_phase}
-use Rattle.drive_model.specs.Drive.{DriveState}
-use Rattle.fdc_fifo.specs.Fifo.{Fifo}
-use Rattle.fdc_seek.specs.Seeking.{with_polls}
-use Rattle.fdc_stages.specs.History.{Past}
-use Rattle.fdc_core.specs.Listening.{is_executing}
-use Rattle.fdc_core.specs.State.{is_held}
-use Rattle.fdc_core.specs.Steps.{polled, RestsIn, MovesIn}
-use Rattle.fdc_core.specs.Times.{WordTime, Saw, KeptOut, Wrote, Stopped, after_time}
-use Rattle.fdc_core.specs.Writes.{WritesIn, RestsWritten}
-use Rattle.fdc_core.specs.declared.controller.Fdc.{Fdc}
-use Rattle.fdc_phases.specs.declared.phases.Execution.{Execution}
-use Rattle.fdc_phases.specs.declared.phases.Phase.{Phase}
-use Rattle.fdc_phases.specs.declared.phases.Phase.TheVariants.{Command, Execute, Result}
-use Rattle.pc_bus.specs.Steps.{Works}
-use Rattle.pc_bus.specs.declared.chips.Chips.{Chips}
-use Rattle.machine_laws.specs.OnReads.Scenes.{Scene, IsScene}
+use Rattle.fdc_core.specs.Writes.{RestsWritten}
 use Rattle.machine_laws.proofs.OnReads.IdWords as ids
 use Rattle.machine_laws.proofs.OnReads.Steps as reads
 use Rattle.machine_laws.proofs.OnReads.Steps.{moves_faults}
-use Rattle.machine_laws.specs.OnWrites.Underway.{IsTaken, refuses}
 use Rattle.machine_laws.proofs.OnWrites.Drives.{rests_on}
 use Rattle.machine_laws.proofs.OnWrites.Guards.{moves_same}
 use Rattle.machine_laws.proofs.OnWrites.Steps as writes
 use Rattle.machine_laws.proofs.OnFormats.Steps as formats
-use Rattle.machine_laws.specs.OnOrders.Orders.{Laid, Window, Track, Order, Identify, Read, Write, MayLayIn, MayLay, LaysOn, AtDrive, IsDoneBy}
-use Rattle.machine_laws.specs.OnLead.Leads.{led, IsGuarded}
 use Rattle.machine_laws.proofs.OnLead.Late.{led_none}
 use Rattle.machine_laws.proofs.OnOrders.Behind.{IsDoing, IsBehind, IsTimed, IsTimedLed, Laying, laid_on}
 

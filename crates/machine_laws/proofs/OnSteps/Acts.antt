@@ -1,11 +1,7 @@
 -- What is done in no device step, at the controller.
 use Rattle.std.proofs.Common.{◌≡◌, ℕ, ◌==◌, Bool, true, false, refl, sym, ◌∙◌, ap, subst}
-use Rattle.fdc_core.specs.Ports.{Writes, given}
-use Rattle.fdc_core.specs.declared.controller.Fdc.{Fdc}
-use Rattle.fdc_core.specs.declared.controller.Lines.{Lines}
-use Rattle.pc_bus.specs.Boards.{Board, controller_of, lines_of}
-use Rattle.pc_bus.specs.Ports.{WritesPort, is_controllers, port_read}
-use Rattle.machine_laws.specs.OnSteps.Moves.{Acts}
+use Rattle.machine_laws.proofs.Common.{given, Fdc, Lines, Board, controller_of, lines_of, WritesPort, is_controllers, port_read, Acts}
+use Rattle.fdc_core.specs.Ports.{Writes}
 
 -- nothing, a read of the data port, or a write
 pub data Touches (old : Fdc) : Fdc → Type 0 where

@@ -1,23 +1,9 @@
 -- What a poll and transfers leave of the controller.
 use Rattle.std.proofs.Common.{◌≡◌, ℕ, ◌==◌, bit_and, Bool, true, false, List, if◌then◌else◌, refl, ◌∙◌, ap}
+use Rattle.machine_laws.proofs.Common.{Fifo, gate, Dor, taken_in, taken_out, to_memory_of, told_count, phase_told, task_told, is_executing, is_overrun, is_read, is_reading, is_gated, polled, Fdc, Phase, Command, Execute, Result, Task, ReadId, Format, moved_to_memory, moved_from_memory, byte_read, told_if, Chips, Transferred}
 use Rattle.machine_laws.proofs.Facts.{polled_keeps, told_busy}
-use Rattle.fdc_fifo.specs.Fifo.{Fifo}
-use Rattle.fdc_registers.specs.Dor.{gate}
-use Rattle.fdc_registers.specs.declared.drive_lines.Dor.{Dor}
-use Rattle.fdc_core.specs.Dma.{taken_in, taken_out, to_memory_of, told_count}
-use Rattle.fdc_phases.specs.Dma.{phase_told, task_told}
-use Rattle.fdc_core.specs.Listening.{is_executing}
-use Rattle.fdc_phases.specs.Phases.{is_overrun, is_read, is_reading}
-use Rattle.fdc_core.specs.State.{is_gated}
-use Rattle.fdc_core.specs.Steps.{polled}
-use Rattle.fdc_core.specs.declared.controller.Fdc.{Fdc}
-use Rattle.fdc_phases.specs.declared.phases.Phase.{Phase}
-use Rattle.fdc_phases.specs.declared.phases.Phase.TheVariants.{Command, Execute, Result}
-use Rattle.fdc_phases.specs.declared.phases.Task.{Task}
-use Rattle.fdc_phases.specs.declared.phases.Task.TheVariants.{ReadId, Read, Write, Format}
-use Rattle.pc_bus.specs.Transfers.{moved, moved_to_memory, moved_from_memory, byte_read, told_if, dma_stepped}
-use Rattle.pc_bus.specs.declared.chips.Chips.{Chips}
-use Rattle.machine_laws.specs.OnSteps.Steady.{Transferred}
+use Rattle.fdc_phases.specs.declared.phases.Task.TheVariants.{Read, Write}
+use Rattle.pc_bus.specs.Transfers.{moved, dma_stepped}
 use Rattle.machine_laws.proofs.OnSteps.Transfers.{served}
 
 -- ---- a poll

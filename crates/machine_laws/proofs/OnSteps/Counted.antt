@@ -1,9 +1,7 @@
 -- Device steps are counted.
 use Rattle.std.proofs.Common.{◌≡◌, ℕ, ◌+◌, min, refl, ap, arith}
-use Rattle.flop_base.specs.Counts.{last_count}
-use Rattle.pc_bus.specs.Boards.{Board}
+use Rattle.machine_laws.proofs.Common.{last_count, Board, Acts, Goes, Lasting}
 use Rattle.machine_laws.specs.OnSteps.Ends.{Counts}
-use Rattle.machine_laws.specs.OnSteps.Moves.{Acts, Goes, Lasting}
 use Rattle.machine_laws.proofs.OnSteps.Moves.{lasts}
 
 -- no act counts as one

@@ -2,35 +2,15 @@
 use Rattle.std.proofs.Common.{◌≡◌, ◌⊎◌, inl, inr, ℕ, suc, ◌+◌, ◌-◌, ◌≤◌, ◌==◌, nat_le, min, Bool, true, false, Option, Some, None, List, [], ◌∷◌, ◌++◌, if◌then◌else◌, refl, sym, ◌∙◌, ap, subst, arith}
 use Rattle.std.proofs.lemmas.Bool.{false≢true}
 use Rattle.std.proofs.lemmas.Bool.Decides.{nat_tests}
-use Rattle.flop_base.specs.Counts.{last_count}
-use Rattle.fdc_seek.specs.Seeking.{sensed, seek_bits}
-use Rattle.fdc_commands.specs.Table.{answer, kept}
-use Rattle.fdc_commands.specs.declared.bytes.Accepted.{Accepted}
-use Rattle.fdc_commands.specs.declared.bytes.Accepted.TheVariants.{More, Ready, Invalid}
+use Rattle.machine_laws.proofs.Common.{last_count, sensed, seek_bits, answer, kept, Accepted, More, Ready, Invalid, after_byte, Obeys, TakesAs, sensing_by, answered, taken_out, taken_in, to_memory_of, phase_told, is_executing, dsr_resets, phase_after, is_taking, rate_chosen, reset, polled, RestsIn, Answer, Short, Long, Fdc, Lines, Phase, Board, controller_of, Step, moved_to_memory, moved_from_memory, byte_read, told_if, Chips, Meets, Goes, Lasting, Marching}
 use Rattle.fdc_commands.specs.declared.command.Command.{Command}
 use Rattle.fdc_commands.specs.declared.command.Command.TheVariants as command
-use Rattle.fdc_phases.specs.Answers.{after_byte}
-use Rattle.fdc_core.specs.Commands.{BeginsData, Begins, Obeys, ObeysAtRest, TakesAs, sensing_by, answered}
-use Rattle.fdc_core.specs.Dma.{taken_out, taken_in, to_memory_of}
-use Rattle.fdc_phases.specs.Dma.{phase_told}
-use Rattle.fdc_core.specs.Listening.{is_executing}
-use Rattle.fdc_core.specs.Ports.{Writes, dsr_resets, phase_after, is_taking}
-use Rattle.fdc_phases.specs.Rates.{rate_chosen}
-use Rattle.fdc_core.specs.State.{reset}
-use Rattle.fdc_core.specs.Steps.{polled, steps_left, EndsIn, IsCounted, RestsIn}
-use Rattle.fdc_phases.specs.declared.answers.Answer.{Answer}
-use Rattle.fdc_phases.specs.declared.answers.Answer.TheVariants.{Short, Long}
-use Rattle.fdc_core.specs.declared.controller.Fdc.{Fdc}
-use Rattle.fdc_core.specs.declared.controller.Lines.{Lines}
-use Rattle.fdc_phases.specs.declared.phases.Phase.{Phase}
+use Rattle.fdc_core.specs.Commands.{BeginsData, Begins, ObeysAtRest}
+use Rattle.fdc_core.specs.Ports.{Writes}
+use Rattle.fdc_core.specs.Steps.{steps_left, EndsIn, IsCounted}
 use Rattle.fdc_phases.specs.declared.phases.Phase.TheVariants as phase
-use Rattle.pc_bus.specs.Boards.{Board, controller_of}
-use Rattle.pc_bus.specs.Steps.{Step}
-use Rattle.pc_bus.specs.Transfers.{moved, moved_to_memory, moved_from_memory, byte_read, told_if}
-use Rattle.pc_bus.specs.declared.chips.Chips.{Chips}
-use Rattle.machine_laws.specs.OnSteps.Ends.{Elapses, IsOver, Meets}
-use Rattle.machine_laws.specs.OnSteps.Moves.{Goes, Lasting}
-use Rattle.machine_laws.specs.OnSteps.Steady.{Marching}
+use Rattle.pc_bus.specs.Transfers.{moved}
+use Rattle.machine_laws.specs.OnSteps.Ends.{Elapses, IsOver}
 use Rattle.machine_laws.proofs.OnSteps.Acts.{Touches, at_controller}
 use Rattle.machine_laws.proofs.Facts.{polled_phase}
 use Rattle.machine_laws.proofs.OnSteps.Moves.{lasts, meets_behind}

@@ -1,21 +1,9 @@
 -- The word time of a device step, at both drives: what holds of a drive over a word that passes behind a pulse or without one, and over
 -- a word time of a command that records.
 use Rattle.std.proofs.Common.{ℕ, ◌/◌, ◌%◌, Bool, Option, None, subst}
+use Rattle.machine_laws.proofs.Common.{DriveState, Fifo, is_listening, polled, Moves, MovesIn, MovesTask, WordTime, IsTime, WritesIn, WritesTask, Fdc, Phase, Command, Execute, Result, Task, ReadId, Format, DataRate, Board, controller_of, Works, Step}
 use Rattle.machine_laws.proofs.Facts.{polled_phase}
-use Rattle.drive_model.specs.Drive.{DriveState}
-use Rattle.fdc_fifo.specs.Fifo.{Fifo}
-use Rattle.fdc_phases.specs.Phases.{is_listening}
-use Rattle.fdc_core.specs.Steps.{polled, Moves, MovesIn, MovesTask}
-use Rattle.fdc_core.specs.Times.{WordTime, IsTime}
-use Rattle.fdc_core.specs.Writes.{WritesIn, WritesTask}
-use Rattle.fdc_core.specs.declared.controller.Fdc.{Fdc}
-use Rattle.fdc_phases.specs.declared.phases.Phase.{Phase}
-use Rattle.fdc_phases.specs.declared.phases.Phase.TheVariants.{Command, Execute, Result}
-use Rattle.fdc_phases.specs.declared.phases.Task.{Task}
-use Rattle.fdc_phases.specs.declared.phases.Task.TheVariants.{ReadId, Read, Write, Format}
-use Rattle.fdc_phases.specs.declared.rates.DataRate.{DataRate}
-use Rattle.pc_bus.specs.Boards.{Board, controller_of}
-use Rattle.pc_bus.specs.Steps.{Works, Step}
+use Rattle.fdc_phases.specs.declared.phases.Task.TheVariants.{Read, Write}
 use Rattle.machine_laws.proofs.OnSteps.Words.{drives}
 
 module _ (D : DriveState → DriveState → Type 0) (moved : (pulse : Option Bool) (before after : DriveState) → Moves pulse before after → D before after)

@@ -1,13 +1,8 @@
 -- Every call is a course, and what each step and each act carries on holds at the end of every course.
 use Rattle.std.proofs.Common.{◌≡◌, inl, inr, ℕ, suc, ◌+◌, ◌≤◌, Bool, List, sym, ap, subst, arith}
 use Rattle.std.proofs.lemmas.Bool.{cases_lt}
-use Rattle.machine_pace.specs.Entries.{next_entry}
-use Rattle.pc_bus.specs.Boards.{Board}
-use Rattle.pc_bus.specs.Ports.{Inputs, Outputs}
-use Rattle.pc_bus.specs.Steps.{Runs, RunsUnset, Step, Waits, stirred}
-use Rattle.machine_laws.specs.OnSteps.Steady.{regapped, Marching}
-use Rattle.machine_laws.specs.OnSteps.Ends.{Meets}
-use Rattle.machine_laws.specs.OnSteps.Moves.{read_from, Acts, Goes, Lasting}
+use Rattle.machine_laws.proofs.Common.{next_entry, Board, Inputs, Outputs, Step, Waits, stirred, regapped, Marching, Meets, read_from, Acts, Goes, Lasting}
+use Rattle.pc_bus.specs.Steps.{Runs, RunsUnset}
 use Rattle.machine_laws.proofs.OnSteps.Runs.{unset_runs, march_wait, march_gap}
 
 -- the only induction

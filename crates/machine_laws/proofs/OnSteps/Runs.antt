@@ -1,11 +1,8 @@
 -- Runs, waits and the gaps of port accesses keep what each device step keeps.
 use Rattle.std.proofs.Common.{ℕ, zero, suc, Bool, false, sym, subst}
-use Rattle.machine_pace.specs.Entries.{next_entry, rest_of}
-use Rattle.pc_bus.specs.Boards.{Board}
-use Rattle.pc_bus.specs.Ports.{WritesPort, RunsGap, Inputs, Outputs}
-use Rattle.pc_bus.specs.Steps.{Runs, RunsUnset, Waits, stirred}
+use Rattle.machine_laws.proofs.Common.{next_entry, rest_of, Board, WritesPort, RunsGap, Inputs, Outputs, Waits, stirred, regapped, Marching, Steady, Progress}
+use Rattle.pc_bus.specs.Steps.{Runs, RunsUnset}
 pub use Rattle.machine_laws.specs.OnSteps.Moves.{read_from}
-use Rattle.machine_laws.specs.OnSteps.Steady.{regapped, Marching, Steady, Progress}
 
 -- ---- the two inductions
 

@@ -3,33 +3,17 @@ use Rattle.std.proofs.Common.{◌≡◌, ℕ, zero, suc, ◌+◌, ◌-◌, ◌^�
 use Rattle.std.specs.Option.{ForSome, option_map_or}
 use Rattle.std.proofs.lemmas.Bool.{false≢true}
 use Rattle.std.proofs.lemmas.Bool.Decides.{nat_tests}
-use Rattle.fdc_seek.specs.Seeking.{Seeking, IsMotion, with_polls, with_motion, ended, recalibrated, sought, neighbour, stepped, stepped_seek, has_ended, is_seeking, sensed, first_pending, without_result, released, seek_bits}
+use Rattle.machine_laws.proofs.Common.{Seeking, with_polls, is_seeking, sensed, seek_bits, Seek, answer, kept, Accepted, More, Ready, Invalid, Obeys, TakesAs, sensing_by, answered, taken_out, taken_in, to_memory_of, phase_told, is_executing, dsr_resets, phase_after, is_taking, rate_chosen, reset, polled, RestsIn, seek_stepped, Fdc, Lines, Phase, Board, controller_of, Step, moved_to_memory, moved_from_memory, byte_read, told_if, Chips, Meets, Acts, Goes}
+use Rattle.fdc_seek.specs.Seeking.{IsMotion, with_motion, ended, recalibrated, sought, neighbour, stepped, stepped_seek, has_ended, first_pending, without_result, released}
 use Rattle.fdc_seek.specs.declared.motion.Motion.{Motion}
 use Rattle.fdc_seek.specs.declared.motion.Motion.TheVariants.{Outward, Toward, Ended}
-use Rattle.fdc_seek.specs.declared.motion.Seek.{Seek}
-use Rattle.fdc_commands.specs.Table.{answer, kept}
-use Rattle.fdc_commands.specs.declared.bytes.Accepted.{Accepted}
-use Rattle.fdc_commands.specs.declared.bytes.Accepted.TheVariants.{More, Ready, Invalid}
 use Rattle.fdc_commands.specs.declared.command.Command.{Command}
 use Rattle.fdc_commands.specs.declared.command.Command.TheVariants as command
-use Rattle.fdc_core.specs.Commands.{Obeys, TakesAs, sensing_by, answered}
-use Rattle.fdc_core.specs.Dma.{taken_out, taken_in, to_memory_of}
-use Rattle.fdc_phases.specs.Dma.{phase_told}
-use Rattle.fdc_core.specs.Listening.{is_executing}
-use Rattle.fdc_core.specs.Ports.{Writes, dsr_resets, phase_after, is_taking}
-use Rattle.fdc_phases.specs.Rates.{rate_chosen}
-use Rattle.fdc_core.specs.State.{reset}
-use Rattle.fdc_core.specs.Steps.{polled, RestsIn, seek_stepped}
-use Rattle.fdc_core.specs.declared.controller.Fdc.{Fdc}
-use Rattle.fdc_core.specs.declared.controller.Lines.{Lines}
-use Rattle.fdc_phases.specs.declared.phases.Phase.{Phase}
+use Rattle.fdc_core.specs.Ports.{Writes}
 use Rattle.fdc_phases.specs.declared.phases.Phase.TheVariants as phase
-use Rattle.pc_bus.specs.Boards.{Board, IsInRange, controller_of}
-use Rattle.pc_bus.specs.Steps.{Step}
-use Rattle.pc_bus.specs.Transfers.{moved, moved_to_memory, moved_from_memory, byte_read, told_if}
-use Rattle.pc_bus.specs.declared.chips.Chips.{Chips}
-use Rattle.machine_laws.specs.OnSteps.Ends.{motion_left, seek_left, pulses_left, seeks, HasNoSeek, Meets, Recalibrates}
-use Rattle.machine_laws.specs.OnSteps.Moves.{Acts, Goes}
+use Rattle.pc_bus.specs.Boards.{IsInRange}
+use Rattle.pc_bus.specs.Transfers.{moved}
+use Rattle.machine_laws.specs.OnSteps.Ends.{motion_left, seek_left, pulses_left, seeks, HasNoSeek, Recalibrates}
 use Rattle.machine_laws.proofs.OnSteps.Acts.{Touches, at_controller}
 use Rattle.machine_laws.proofs.OnSteps.DataEnds.{idle_answer, port_is, zero_of}
 use Rattle.machine_laws.proofs.OnSteps.Moves.{lasts, meets_act, meets_here, meets_step, meets_within}

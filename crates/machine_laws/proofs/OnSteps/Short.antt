@@ -1,15 +1,9 @@
 -- Holds stay bytes.
 use Rattle.std.proofs.Common.{ℕ, suc, ◌≤◌, Bool, true, false, List, [], ◌∷◌, if◌then◌else◌, sym, ap, subst, arith}
 use Rattle.std.specs.List.{All}
+use Rattle.machine_laws.proofs.Common.{next_entry, rest_of, Holds, AreShort, IsShort, is_due, looked, shown, waited, Request, Low, High, holds_of, looked_at, shown_again, Chips, Steady}
 use Rattle.dma_8237.specs.Channel.{grants}
-use Rattle.machine_pace.specs.Entries.{next_entry, rest_of}
-use Rattle.machine_pace.specs.Holds.{Holds, AreShort, IsShort, is_due, looked, shown, waited}
-use Rattle.machine_pace.specs.declared.holding.Request.{Request}
-use Rattle.machine_pace.specs.declared.holding.Request.TheVariants.{Low, High}
-use Rattle.pc_bus.specs.Boards.{holds_of}
-use Rattle.pc_bus.specs.Transfers.{moved_up_to, looked_at, shown_again, dma_stepped, granted}
-use Rattle.pc_bus.specs.declared.chips.Chips.{Chips}
-use Rattle.machine_laws.specs.OnSteps.Steady.{Steady}
+use Rattle.pc_bus.specs.Transfers.{moved_up_to, dma_stepped, granted}
 use Rattle.machine_laws.proofs.OnSteps.Stalls.{up_to_holding}
 
 next_short : (entries : List ℕ) → All (λ entry. entry ≤ 255) entries → next_entry entries ≤ 255

@@ -1,18 +1,10 @@
 -- What holds until a stall is counted.
 use Rattle.std.proofs.Common.{◌≡◌, ◌⊎◌, inl, inr, ℕ, nat_lt, Bool, true, false, if◌then◌else◌, refl, sym, ◌∙◌, ap, subst, arith}
+use Rattle.machine_laws.proofs.Common.{to_memory_of, next_entry, Holds, looked, waited, shown, counted, Request, Low, High, Board, holds_of, RunsGap, Step, moved_to_memory, moved_from_memory, looked_at, Chips, Steady, Stalled, Keeping}
 use Rattle.machine_laws.proofs.Facts.{if_both, shown_stalls}
-use Rattle.fdc_core.specs.Dma.{to_memory_of}
-use Rattle.machine_pace.specs.Entries.{next_entry}
-use Rattle.machine_pace.specs.Holds.{Holds, looked, waited, shown, counted}
-use Rattle.machine_pace.specs.declared.holding.Request.{Request}
-use Rattle.machine_pace.specs.declared.holding.Request.TheVariants.{Low, High}
-use Rattle.pc_bus.specs.Boards.{Board, holds_of}
-use Rattle.pc_bus.specs.Ports.{RunsGap}
-use Rattle.pc_bus.specs.Steps.{Step, Runs}
-use Rattle.pc_bus.specs.Transfers.{moved, moved_to_memory, moved_from_memory, moved_up_to, looked_at, dma_stepped}
-use Rattle.pc_bus.specs.declared.chips.Chips.{Chips}
-use Rattle.machine_laws.specs.OnSteps.Steady.{Steady}
-use Rattle.machine_laws.specs.OnSteps.Stalls.{Stalled, Grows, UntilStalled, Keeping}
+use Rattle.pc_bus.specs.Steps.{Runs}
+use Rattle.pc_bus.specs.Transfers.{moved, moved_up_to, dma_stepped}
+use Rattle.machine_laws.specs.OnSteps.Stalls.{Grows, UntilStalled}
 use Rattle.machine_laws.proofs.OnSteps.Runs.{runs, gap}
 use Rattle.machine_laws.proofs.OnSteps.Transfers.{by_request, up_to}
 

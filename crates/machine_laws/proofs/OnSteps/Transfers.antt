@@ -1,12 +1,8 @@
 -- What transfers keep.
 use Rattle.std.proofs.Common.{◌≡◌, ℕ, zero, suc, Bool, true, false, if◌then◌else◌, refl, sym, ap, subst}
+use Rattle.machine_laws.proofs.Common.{is_due, Board, Step, can_move, looked_at, shown_again, Chips, Transferred, Moving}
 use Rattle.dma_8237.specs.Channel.{grants}
-use Rattle.machine_pace.specs.Holds.{is_due}
-use Rattle.pc_bus.specs.Boards.{Board}
-use Rattle.pc_bus.specs.Steps.{Step}
-use Rattle.pc_bus.specs.Transfers.{can_move, moved, moved_up_to, looked_at, shown_again, granted, dma_stepped}
-use Rattle.pc_bus.specs.declared.chips.Chips.{Chips}
-use Rattle.machine_laws.specs.OnSteps.Steady.{Transferred, Moving}
+use Rattle.pc_bus.specs.Transfers.{moved, moved_up_to, granted, dma_stepped}
 
 up_to_if : (P : Chips → Type 0) (n : ℕ) (chips : Chips) → P chips → (can : Bool) → (can ≡ true → P (moved_up_to n (moved chips))) → P (if can then moved_up_to n (moved chips) else chips)
 up_to_if P n chips was true on = on refl

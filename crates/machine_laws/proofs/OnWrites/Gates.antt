@@ -1,36 +1,16 @@
 -- The write gates, step by step.
 use Rattle.std.proofs.Common.{◌≡◌, ◌⊎◌, inl, inr, ℕ, ◌+◌, ◌<◌, ◌/◌, ◌%◌, ◌&&◌, not, Bool, true, false, Option, Some, None, if◌then◌else◌, refl, sym, ◌∙◌, ap, subst}
 use Rattle.std.proofs.lemmas.Bool.{and_parts, false≢true}
+use Rattle.machine_laws.proofs.Common.{DriveState, Writes, at_speed, can_write, rewritten, Fifo, FormatNext, WriteNext, FormatDoes, after_laid, is_listening, polled, Moves, MovesIn, MovesTask, WordTime, Saw, KeptOut, Wrote, Stopped, IsTime, Closes, WritesIn, WritesTask, WriteDoes, after_next, is_ended, Fdc, Phase, Command, Execute, Result, Task, ReadId, Format, DataRate, Formatting, Writing, Board, controller_of, selected_of, Works, Step, Marching}
 use Rattle.machine_laws.proofs.Facts.{polled_phase}
-use Rattle.drive_model.specs.Drive.{DriveState, Writes, at_speed, can_write, rewritten}
-use Rattle.fdc_fifo.specs.Fifo.{Fifo}
-use Rattle.fdc_writing.specs.declared.formatting.FormatNext.{FormatNext}
 use Rattle.fdc_writing.specs.declared.formatting.FormatNext.TheVariants as format_next
-use Rattle.fdc_writing.specs.declared.writing.WriteNext.{WriteNext}
 use Rattle.fdc_writing.specs.declared.writing.WriteNext.TheVariants as write_next
-use Rattle.fdc_core.specs.Formatting.{FormatDoes, after_laid}
 use Rattle.fdc_phases.specs.Formatting as laying
-use Rattle.fdc_phases.specs.Phases.{is_listening}
-use Rattle.fdc_core.specs.Steps.{polled, Moves, MovesIn, MovesTask}
-use Rattle.fdc_core.specs.Times.{WordTime, Saw, KeptOut, Wrote, Stopped, IsTime, Closes}
-use Rattle.fdc_core.specs.Writes.{WritesIn, WritesTask}
-use Rattle.fdc_core.specs.Writing.{WriteDoes, after_next}
-use Rattle.fdc_phases.specs.Writing.{is_ended}
-use Rattle.fdc_core.specs.declared.controller.Fdc.{Fdc}
-use Rattle.fdc_phases.specs.declared.phases.Phase.{Phase}
-use Rattle.fdc_phases.specs.declared.phases.Phase.TheVariants.{Command, Execute, Result}
-use Rattle.fdc_phases.specs.declared.phases.Task.{Task}
-use Rattle.fdc_phases.specs.declared.phases.Task.TheVariants.{ReadId, Read, Write, Format}
-use Rattle.fdc_phases.specs.declared.rates.DataRate.{DataRate}
-use Rattle.fdc_phases.specs.declared.transfers.Formatting.{Formatting}
-use Rattle.fdc_phases.specs.declared.transfers.Writing.{Writing}
-use Rattle.pc_bus.specs.Boards.{Board, controller_of, selected_of}
-use Rattle.pc_bus.specs.Steps.{Works, Step}
+use Rattle.fdc_phases.specs.declared.phases.Task.TheVariants.{Read, Write}
 use Rattle.machine_laws.specs.OnWrites.Guards.{GatesDrives, HoldsGates, IsGated, IsGateOf, IsGivenIn, MakesTask, MakesTime, PassesClosed, is_recording}
 use Rattle.machine_laws.proofs.OnQuiet.Steps.{listens_told}
 use Rattle.machine_laws.proofs.OnWrites.Guards.{closes_same, moves_same, opens_same, step_leaves}
 use Rattle.machine_laws.proofs.OnWrites.Kept.{dma_controller}
-use Rattle.machine_laws.specs.OnSteps.Steady.{Marching}
 use Rattle.machine_laws.proofs.OnSteps.Words.{bays}
 
 -- ---- a drive

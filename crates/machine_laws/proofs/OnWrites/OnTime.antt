@@ -2,48 +2,16 @@
 use Rattle.std.proofs.Common.{◌≡◌, ◌⊎◌, inl, inr, ℕ, ◌+◌, ◌-◌, ◌%◌, ◌≤◌, ◌==◌, Bool, true, false, length, if◌then◌else◌, refl, sym, ◌∙◌, ap, subst, arith}
 use Rattle.std.proofs.lemmas.Bool.{false≢true}
 use Rattle.std.proofs.lemmas.List.{length-drop}
-use Rattle.flop_base.specs.Counts.{Rose}
-use Rattle.drive_model.specs.Drive.{DriveState}
+use Rattle.machine_laws.proofs.Common.{Rose, DriveState, Fifo, emptied, room_of, FormatNext, WriteNext, begun, WaitsAtFirst, asked, FormatDoes, after_laid, is_executing, is_overrun, is_reading, asks, is_gated, polled, WordTime, Saw, KeptOut, Wrote, Stopped, PhaseWaits, phase_counted, WritesIn, WritesTask, WriteDoes, after_next, without_byte, Fdc, Phase, Command, Execute, Result, Task, ReadId, Format, Formatting, Writing, IsInTime, IsReady, looked, Request, Low, in_time, IsRuled, Stalled, drive_in, Board, selected_of, Works, Step, can_move, looked_at, shown_again, Chips, fills, fills_task, IsFilling, IsTimely, IsOnTime, Keeping, Stalled}
 use Rattle.dma_8237.specs.Channel.{grants}
-use Rattle.fdc_fifo.specs.Fifo.{Fifo, emptied, room_of}
-use Rattle.fdc_writing.specs.declared.formatting.FormatNext.{FormatNext}
 use Rattle.fdc_writing.specs.declared.formatting.FormatNext.TheVariants as format_next
-use Rattle.fdc_writing.specs.declared.writing.WriteNext.{WriteNext}
 use Rattle.fdc_writing.specs.declared.writing.WriteNext.TheVariants as write_next
-use Rattle.fdc_core.specs.Commands.{begun}
-use Rattle.fdc_phases.specs.Commands.{WaitsAtFirst}
-use Rattle.fdc_core.specs.Dma.{asked}
-use Rattle.fdc_core.specs.Formatting.{FormatDoes, after_laid}
-use Rattle.fdc_core.specs.Listening.{is_executing}
-use Rattle.fdc_phases.specs.Phases.{is_overrun, is_reading}
-use Rattle.fdc_core.specs.State.{asks, is_gated}
-use Rattle.fdc_core.specs.Steps.{polled}
-use Rattle.fdc_core.specs.Times.{WordTime, Saw, KeptOut, Wrote, Stopped}
 use Rattle.fdc_core.specs.Waiting.{Lasts, LastsIn}
-use Rattle.fdc_phases.specs.Waiting.{PhaseWaits, phase_counted}
-use Rattle.fdc_core.specs.Writes.{WritesIn, WritesTask}
-use Rattle.fdc_core.specs.Writing.{WriteDoes, after_next, without_byte}
-use Rattle.fdc_core.specs.declared.controller.Fdc.{Fdc}
-use Rattle.fdc_phases.specs.declared.phases.Phase.{Phase}
-use Rattle.fdc_phases.specs.declared.phases.Phase.TheVariants.{Command, Execute, Result}
-use Rattle.fdc_phases.specs.declared.phases.Task.{Task}
-use Rattle.fdc_phases.specs.declared.phases.Task.TheVariants.{ReadId, Read, Write, Format}
-use Rattle.fdc_phases.specs.declared.transfers.Formatting.{Formatting}
-use Rattle.fdc_phases.specs.declared.transfers.Writing.{Writing}
-use Rattle.machine_pace.specs.Holds.{IsInTime, IsReady, looked}
-use Rattle.machine_pace.specs.declared.holding.Request.{Request}
-use Rattle.machine_pace.specs.declared.holding.Request.TheVariants.{Low}
-use Rattle.machine_pace.proofs.InTime.{in_time}
-use Rattle.machine_laws.specs.OnReads.Served.{IsRuled}
-use Rattle.machine_laws.specs.OnSteps.Stalls.{Stalled}
-use Rattle.pc_bus.specs.Boards.{drive_in, Board, selected_of}
-use Rattle.pc_bus.specs.Steps.{Works, Step}
-use Rattle.pc_bus.specs.Transfers.{can_move, moved_up_to, looked_at, shown_again, dma_stepped}
-use Rattle.pc_bus.specs.declared.chips.Chips.{Chips}
-use Rattle.machine_laws.specs.OnWrites.Timely.{fills, fills_task, IsFilling, IsTimely, IsPunctual, IsOnTime}
+use Rattle.fdc_phases.specs.declared.phases.Task.TheVariants.{Read, Write}
+use Rattle.pc_bus.specs.Transfers.{moved_up_to, dma_stepped}
+use Rattle.machine_laws.specs.OnWrites.Timely.{IsPunctual}
 use Rattle.machine_laws.proofs.OnWrites.Filling.{counted_waits, filling_held, filling_low, filling_moved, not_reading, ruled_by}
 use Rattle.machine_laws.proofs.OnWrites.Guards.{step_leaves}
-use Rattle.machine_laws.specs.OnSteps.Stalls.{Keeping, Stalled}
 use Rattle.machine_laws.proofs.OnSteps.Words.{some_drive}
 use Rattle.machine_laws.proofs.OnSteps.Transfers.{by_request, up_to}
 use Rattle.machine_laws.proofs.OnSteps.Controllers.{dma_executing, dma_overrun, gated_same, polled_fifo}

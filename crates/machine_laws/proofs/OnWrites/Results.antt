@@ -3,46 +3,23 @@ use Rattle.std.proofs.Common.{true, false, ◌≡◌, ◌⊎◌, inl, inr, ℕ, 
 use Rattle.std.proofs.Math.ListN.{get_or-append}
 use Rattle.std.proofs.lemmas.Bool.{false≢true}
 use Rattle.std.proofs.lemmas.List.{append-nil, ext_get_or, get_or-take, length-take}
-use Rattle.raw_image.specs.Disk.{Disk, HasTrack, IsWithTrack, track_of}
-use Rattle.flop_base.specs.declared.key.Chrn.{Chrn}
-use Rattle.track_model.specs.Fields.{IsAddressAt, content_size}
-use Rattle.track_model.specs.Looks.{HasAddressMark}
+use Rattle.machine_laws.proofs.Common.{Disk, HasTrack, IsWithTrack, track_of, Chrn, IsAddressAt, content_size, HasAddressMark, length-track_of, Channel, DriveState, Fifo, Past, IsTurnIn, IsAmong, HasNoClear, Ending, Done, NoMark, NoSector, NoField, BadCheck, Overrun, NoCount, Protected, Late, IsFirstOf, IsWhole, IsWriting, WriteStage, Results, is_overrun, IsContent, MayWriteIn, MayWriteTask, Short, Long, Phase, Command, Execute, Result, Task, content_of, start_of, IsHeard, AreHeard, IsHeardFrom, IsCalm, Scene, IsScene, head_sent, track_met, IsAtWindow, IsTaken, range_of, refuses, refuses_as}
 use Rattle.flop_base.specs.Lists.{with_items}
 use Rattle.track_model.specs.Windows.{IsCuttable, cut_of, window_word}
 use Rattle.track_model.specs.Writing.{window}
 use Rattle.track_model.proofs.Frames.{same_address_at}
 use Rattle.track_model.proofs.Splices.{same_before}
 use Rattle.track_model.proofs.Written.{length-window}
-use Rattle.sector_map.proofs.RegularTracks.{length-track_of}
 use Rattle.sector_map.specs.Changes.{Change, IsChange}
-use Rattle.dma_8237.specs.Channel.{Channel}
-use Rattle.drive_model.specs.Drive.{DriveState}
-use Rattle.fdc_fifo.specs.Fifo.{Fifo}
 use Rattle.fdc_writing.specs.Windows.{words_behind}
-use Rattle.fdc_stages.specs.History.{Past, IsTurnIn, IsAmong}
-use Rattle.fdc_stages.specs.Searches.{HasNoClear, IsMissed}
-use Rattle.fdc_stages.specs.declared.ending.Ending.{Ending}
-use Rattle.fdc_stages.specs.declared.ending.Ending.TheVariants.{Done, NoMark, NoSector, NoField, BadCheck, Overrun, NoCount, Protected, Late}
-use Rattle.fdc_writing.specs.Writings.{HasBegun, HasNoWindow, HasWritten, IsFirstOf, IsWhole, IsWriting}
-use Rattle.fdc_writing.specs.declared.writing.WriteStage.{WriteStage}
+use Rattle.fdc_stages.specs.Searches.{IsMissed}
+use Rattle.fdc_writing.specs.Writings.{HasBegun, HasNoWindow, HasWritten}
 use Rattle.fdc_writing.specs.declared.writing.WriteStage.TheVariants as stage
-use Rattle.fdc_commands.specs.declared.results.Results.{Results}
-use Rattle.fdc_phases.specs.Phases.{is_overrun, overran}
-use Rattle.fdc_phases.specs.Written.{IsContent, MayWriteIn, MayWriteTask}
-use Rattle.fdc_phases.specs.declared.answers.Answer.TheVariants.{Short, Long}
-use Rattle.fdc_phases.specs.declared.phases.Phase.{Phase}
-use Rattle.fdc_phases.specs.declared.phases.Phase.TheVariants.{Command, Execute, Result}
-use Rattle.fdc_phases.specs.declared.phases.Task.{Task}
+use Rattle.fdc_phases.specs.Phases.{overran}
 use Rattle.fdc_phases.specs.declared.phases.Task.TheVariants.{Write}
-use Rattle.fdc_core.proofs.MayWrite.{content_of}
-use Rattle.machine_laws.specs.OnHeard.Heard.{start_of, IsHeard, AreHeard, IsHeardFrom}
 use Rattle.machine_laws.proofs.OnHeard.Fields.{address_heard, mark_heard}
-use Rattle.machine_laws.specs.OnWritten.Written.{IsCalm}
-use Rattle.machine_laws.specs.OnReads.Scenes.{Scene, IsScene, head_sent, track_met}
 use Rattle.machine_laws.proofs.OnReads.Words.{length-met}
 use Rattle.machine_laws.specs.OnWrites.Results.{ChangesTo, ChangesWhole, EndedIn, EndsAs, HasChanged, IsUnchanged, WritesWell, window_in, written_in}
-use Rattle.machine_laws.specs.OnWrites.Drives.{IsAtWindow}
-use Rattle.machine_laws.specs.OnWrites.Underway.{IsTaken, range_of, refuses, refuses_as}
 use Rattle.machine_laws.proofs.OnWrites.Content.{handed_all, handed_rest, not_all}
 use Rattle.machine_laws.proofs.OnWrites.Words.{heard_met}
 use Rattle.machine_laws.proofs.OnReads.Results.{between_is}
