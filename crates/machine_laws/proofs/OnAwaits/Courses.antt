@@ -1,7 +1,7 @@
 -- A data command, from its beginning until its end is told: through device steps, waits, strays that are taken and reads of MSR.
 use Rattle.std.proofs.Common.{◌≡◌, ◌⊎◌, inl, inr, ℕ, ◌+◌, ◌≤◌, Bool, true, false, min, if◌then◌else◌, refl, sym, ◌∙◌, ap, subst, arith}
 use Rattle.std.proofs.lemmas.Bool.{false≢true}
-use Rattle.machine_laws.proofs.Common.{last_count, Rose, is_executing, takes_in, asks, data_commands_of, is_held, Phase, Command, Execute, Result, CountsGoOn, GoesQuietly, HoldsOn, Turned, only_listens, Scene, AreShort, Holds, counted, shown, LeavesOthers, IsTimely, IsOnTime, read_from, Stalled, Keeping, regapped, Steady, Order, Identify, Read, Write, CanBegin, IsAwaited, is_unread, Board, controller_of, holds_of, irq_taken, Inputs, Outputs, Waits, stirred, Chips}
+use Rattle.machine_laws.proofs.Common.{last_count, Rose, is_executing, takes_in, asks, data_commands_of, is_held, Phase, Command, Execute, Result, CountsGoOn, GoesQuietly, HoldsOn, Turned, only_listens, Scene, AreShort, counted, shown, LeavesOthers, IsTimely, IsOnTime, read_from, Stalled, Keeping, regapped, Steady, Order, Identify, Read, Write, CanBegin, IsAwaited, is_unread, Board, controller_of, holds_of, irq_taken, Inputs, Outputs, Waits, stirred, Chips}
 use Rattle.machine_laws.proofs.Facts.{shown_stalls}
 use Rattle.machine_laws.proofs.OnCounts.Counting.{counting, input_counts, output_counts}
 use Rattle.machine_laws.proofs.OnQuiet.Steps.{quietly, starts_quietly}
