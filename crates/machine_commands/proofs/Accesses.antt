@@ -1,7 +1,6 @@
 -- Port accesses behind which the controller rests.
 use Rattle.std.proofs.Common.{◌≡◌, ℕ, ◌==◌, Bool, true, false, if◌then◌else◌, refl, sym, ◌∙◌, ap, subst, arith}
 use Rattle.drive_model.specs.Drive.{DriveState}
-use Rattle.dma_8237.specs.Channel.{after_read}
 use Rattle.fdc_phases.specs.Answers.{is_fresh}
 use Rattle.fdc_core.specs.Ports.{Writes, after_read as controller_after, given, interrupt_after}
 use Rattle.fdc_core.specs.State.{asks}
@@ -14,7 +13,6 @@ use Rattle.pc_bus.specs.Boards.{Board, controller_of, lines_of}
 use Rattle.pc_bus.specs.Ports.{is_controllers, port_read, Inputs, Outputs, RunsGap, sets_lines}
 use Rattle.pc_bus.specs.Transfers.{shown_again}
 use Rattle.pc_bus.specs.declared.bus.Bus.{Bus}
-use Rattle.pc_bus.specs.declared.chips.Chips.{Chips}
 use Rattle.pc_bus.proofs.Lines.{drive_stays}
 use Rattle.machine_commands.proofs.Idling.{IsResting, KeepsDrive, KeepsSpeed, KeepsAll, Idles}
 use Rattle.machine_commands.proofs.Steps.{drive_none, speed_none, idles_none, idles_then, idling}
@@ -81,15 +79,9 @@ pub access_idles : (fdc : Fdc) (old between new : Board) → between.bus ≡ acc
 access_idles fdc old between new bus first second quiet gap rest =
     let one = accessed_idles fdc old between bus first second quiet in
     let two = gap_idles between new gap (subst IsResting (sym one.controller_is) rest) in
-    idles_then old between new fdc fdc one (subst (λ c. Idles c between new) one.controller_is two)
+    idles_then one (subst (λ c. Idles c between new) one.controller_is two)
 
 -- ---- reading
-
-read_by : (port : ℕ) (chips : Chips) (b : Bool) → b ≡ true
-    → (if b then shown_again (record chips { controller = controller_after port chips.controller }) else record chips { channel = after_read port chips.channel })
-    ≡ shown_again (record chips { controller = controller_after port chips.controller })
-read_by port chips true _ = refl
-read_by port chips false wrong = absurd cc
 
 quiet_answer : (fresh interrupt : Bool) → interrupt ≡ false → (if fresh then false else interrupt) ≡ false
 quiet_answer true interrupt low = refl
@@ -110,7 +102,7 @@ pub input_idles : (port value : ℕ) (old new : Board) → Inputs port old value
 input_idles port value old new access its rest =
     let fdc = controller_after port (controller_of old) in
     let between : Board = record old { bus = record old.bus { chips = port_read port old.bus.chips; fresh = false } } in
-    let bus : between.bus ≡ accessed fdc old.bus = ap (λ chips. let b : Bus = record old.bus { chips = chips; fresh = false } in b) (read_by port old.bus.chips (is_controllers port) its) in
+    let bus : between.bus ≡ accessed fdc old.bus = rw its refl in
     access_idles fdc old between new bus refl refl (quiet_read (port == 0x3F5) (controller_of old)) access.gap rest
 
 -- ---- writing

@@ -1,7 +1,6 @@
 -- What a data command does at the ports.
-use Rattle.std.proofs.Common.{◌≡◌, inl, inr, ℕ, suc, ◌+◌, ◌*◌, ◌==◌, not, Bool, true, false, [], ◌∷◌, Result, Ok, Err, if◌then◌else◌, refl, sym, ap, subst, arith}
+use Rattle.std.proofs.Common.{◌≡◌, inl, inr, ℕ, suc, ◌+◌, ◌*◌, ◌==◌, Bool, true, false, [], ◌∷◌, Result, Ok, Err, refl, subst, arith}
 use Rattle.std.specs.Prelude.{bit_and}
-use Rattle.std.proofs.lemmas.Bool.{false≢true}
 use Rattle.std.proofs.lemmas.Bool.Decides.{nat_tests}
 use Rattle.flop_base.specs.Standard.{read_gap_at}
 use Rattle.flop_base.specs.declared.key.Chrn.{Chrn}
@@ -26,14 +25,7 @@ sends_as command bay key rate gap old new same sends =
     subst (λ value. Sends (command ∷ (key.h * 4 + bay) ∷ key.c ∷ key.h ∷ key.r ∷ key.n ∷ key.r ∷ value ∷ 0xFF ∷ []) old new) same sends
 
 pub fails : (st0 st1 st2 : ℕ) (key : Chrn) (code : Code) → (bit_and st0 0xC0 ≡ 0 → ⊥) → code ≡ refusal_of st1 → (let r : Result Done Code = Err code in r) ≡ outcome_of st0 st1 st2 key
-fails st0 st1 st2 key code set is = by_set (bit_and st0 0xC0 == 0) (unlike (bit_and st0 0xC0) set)
-  where
-    unlike : (n : ℕ) → (n ≡ 0 → ⊥) → (n == 0) ≡ false
-    unlike n set = grind (arith, nat_tests)
-
-    by_set : (b : Bool) → b ≡ false → (let r : Result Done Code = Err code in r) ≡ (if not b then Err (refusal_of st1) else Ok (record { deleted = has_set st2 0x40; key = key }))
-    by_set false _ = ap Err is
-    by_set true wrong = absurd (false≢true (sym wrong))
+fails st0 st1 st2 key code set is = let failed : (bit_and st0 0xC0 == 0) ≡ false = grind (arith, nat_tests) in rw (failed, is) refl
 
 pub succeeds : (st0 st1 st2 : ℕ) (key : Chrn) → bit_and st0 0xC0 ≡ 0 → (let r : Result Done Code = Ok (record { deleted = has_set st2 0x40; key = key }) in r) ≡ outcome_of st0 st1 st2 key
 succeeds st0 st1 st2 key clear = rw clear refl
@@ -41,10 +33,9 @@ succeeds st0 st1 st2 key clear = rw clear refl
 -- ---- watches
 
 pub watches_next : (n : ℕ) (ready : Bool) (old between new : Board) → Watches n old between → ready ≡ false → Watch between ready new → Watches (n + 1) old new
-watches_next n ready old between new watches not_yet watch = subst (λ k. Watches k old new) (more n) (between, watches, subst (λ b. Watch between b new) not_yet watch)
-  where
-    more : (n : ℕ) → suc n ≡ n + 1
-    more n = omega arith
+watches_next n ready old between new watches not_yet watch =
+    let more : suc n ≡ n + 1 = omega arith in
+    subst (λ k. Watches k old new) more (between, watches, subst (λ b. Watch between b new) not_yet watch)
 
 pub awaited_now : (n : ℕ) (ready : Bool) (old between new : Board) → Watches n old between → ready ≡ true → Watch between ready new → AwaitsResults old new
 awaited_now n ready old between new watches is watch = inl (n, between, watches, subst (λ b. Watch between b new) is watch)

@@ -1,11 +1,12 @@
 -- What holds of both drives holds of the drive in a bay, and so it is shown.
-use Rattle.std.proofs.Common.{◌≡◌, ℕ, ◌==◌, Bool, true, false, if◌then◌else◌, refl}
-use Rattle.bay_model.specs.Bays.{in_bay}
+use Rattle.std.proofs.Common.{◌≡◌, ℕ, zero, suc, ◌-◌, ◌≤◌, ◌==◌, Bool, true, false, if◌then◌else◌, refl, arith}
+use Rattle.bay_model.specs.Bays.{Two, in_bay, with_bay}
 use Rattle.bay_model.specs.Counters.{faults_of}
 use Rattle.drive_model.specs.Drive.{DriveState}
 use Rattle.pc_bus.specs.Boards.{Board, drive_in}
-use Rattle.machine_commands.specs.Shown.{counters_of, is_spun, rig_of}
+use Rattle.machine_commands.specs.Shown.{counters_of, is_spun, number_of, rig_of}
 use Rattle.machine_commands.proofs.Idling.{KeepsAll, KeepsDrive, KeepsSpeed, StaysIdle}
+use Rattle.machine_commands.proofs.Showing.{two_same}
 
 pub kept_in : (R : DriveState → DriveState → Type 0) (bay : ℕ) (old new : Board) → R old.first new.first → R old.second new.second → R (drive_in old bay) (drive_in new bay)
 kept_in R bay old new first second = by_bay (bay == 0)
@@ -21,7 +22,8 @@ pub speed_kept : (old new : Board) (bay : ℕ) → StaysIdle old new → KeepsSp
 speed_kept old new bay stays = kept_in KeepsSpeed bay old new stays.first stays.second
 
 -- what is shown of a drive
-shown_in : {T : Type 0} (part : DriveState → T) (bay : ℕ) (board : Board) → part (drive_in board bay) ≡ (if bay == 0 then part board.first else part board.second)
+pub shown_in : {T : Type 0} (part : DriveState → T) (bay : ℕ) (board : Board)
+    → part (drive_in board bay) ≡ (if bay == 0 then part board.first else part board.second)
 shown_in part bay board = by_bay (bay == 0)
   where
     by_bay : (b : Bool) → part (if b then board.first else board.second) ≡ (if b then part board.first else part board.second)
@@ -46,3 +48,31 @@ faults_in bay board = by_bay (bay == 0)
     by_bay : (b : Bool) → (if b then board.first else board.second).faults ≡ (if b then (counters_of board).drives.first else (counters_of board).drives.second).faults
     by_bay true = refl
     by_bay false = refl
+
+pub number_in : (bay : ℕ) (board : Board) → bay ≤ 1 → number_of board bay ≡ in_bay (rig_of board).numbers bay
+number_in zero board small = refl
+number_in (suc zero) board small = refl
+number_in (suc (suc bay)) board small = absurd (omega arith)
+
+-- ---- both drives, by the one in a bay and the other
+
+pub both_in : (R : DriveState → DriveState → Type 0) (bay : ℕ) (old new : Board) → bay ≤ 1
+    → R (drive_in old bay) (drive_in new bay) → R (drive_in old (1 - bay)) (drive_in new (1 - bay)) → R old.first new.first × R old.second new.second
+both_in R zero old new small here there = (here, there)
+both_in R (suc zero) old new small here there = (there, here)
+both_in R (suc (suc bay)) old new small here there = absurd (omega arith)
+
+abbrev pub parts_of : {T : Type 0} → (DriveState → T) → Board → Two T
+parts_of part board = record { first = part board.first; second = part board.second }
+
+pub parts_same : {T : Type 0} (part : DriveState → T) (bay : ℕ) (old new : Board) → bay ≤ 1 → part (drive_in new bay) ≡ part (drive_in old bay)
+    → part (drive_in new (1 - bay)) ≡ part (drive_in old (1 - bay)) → parts_of part new ≡ parts_of part old
+parts_same part bay old new small here there =
+    let (first, second) = both_in (λ a b. part b ≡ part a) bay old new small here there in
+    two_same (part new.first) (part new.second) (part old.first) (part old.second) first second
+
+pub parts_with : {T : Type 0} (part : DriveState → T) (value : T) (bay : ℕ) (old new : Board) → bay ≤ 1 → part (drive_in new bay) ≡ value
+    → part (drive_in new (1 - bay)) ≡ part (drive_in old (1 - bay)) → parts_of part new ≡ with_bay (parts_of part old) bay value
+parts_with part value zero old new small here there = two_same (part new.first) (part new.second) value (part old.second) here there
+parts_with part value (suc zero) old new small here there = two_same (part new.first) (part new.second) (part old.first) value there here
+parts_with part value (suc (suc bay)) old new small here there = absurd (omega arith)

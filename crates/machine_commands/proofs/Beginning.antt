@@ -99,7 +99,7 @@ bytes_sent first next byte set sent listens none more whole sends =
     let two = byte_more next (first ++ next ∷ []) before start here (ap (λ b. b ++ next ∷ []) command) whole second in
     record {
       start = start;
-      idles = idles_then set before start (with_bytes first fdc) (with_bytes (first ++ next ∷ []) fdc) idles
+      idles = idles_then idles
           (subst (λ f. Idles (with_bytes (first ++ next ∷ []) f) before start) idles.controller_is two);
       request = byte_low next before start here (ap (λ b. answer (b ++ next ∷ [])) command ∙ whole) second;
       last = subst (Outputs 0x3F5 byte start) (sym same) third;

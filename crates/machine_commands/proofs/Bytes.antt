@@ -1,7 +1,7 @@
 -- Bytes of commands, while the controller rests.
-use Rattle.std.proofs.Common.{◌≡◌, ℕ, ◌%◌, ◌==◌, not, Bool, true, false, List, [], ◌∷◌, ◌++◌, if◌then◌else◌, refl, sym, ◌∙◌, ap, subst, append_assoc}
+use Rattle.std.proofs.Common.{◌≡◌, ℕ, not, true, false, List, [], ◌∷◌, ◌++◌, refl, sym, ◌∙◌, ap, subst, append_assoc}
 use Rattle.std.proofs.lemmas.List.{append-nil}
-use Rattle.drive_model.specs.Drive.{DriveState, is_protected}
+use Rattle.drive_model.specs.Drive.{DriveState}
 use Rattle.fdc_commands.specs.Table.{answer, kept}
 use Rattle.fdc_commands.specs.declared.bytes.Accepted.TheVariants.{More, Ready}
 use Rattle.fdc_commands.specs.declared.command.Command.{Command}
@@ -10,9 +10,8 @@ use Rattle.fdc_core.specs.Ports.{Writes, takes_in, is_taking}
 use Rattle.fdc_core.specs.State.{is_held, dor_of}
 use Rattle.fdc_core.specs.declared.controller.Fdc.{Fdc}
 use Rattle.fdc_core.specs.declared.controller.Lines.{Lines}
-use Rattle.fdc_phases.specs.declared.phases.Phase.{Phase}
 use Rattle.fdc_phases.specs.declared.phases.Phase.TheVariants as phase
-use Rattle.pc_bus.specs.Boards.{Board, controller_of, lines_of, lines_of_drive, absent_lines}
+use Rattle.pc_bus.specs.Boards.{Board, controller_of, lines_of, lines_of_drive}
 use Rattle.pc_bus.specs.Ports.{Outputs}
 use Rattle.machine_commands.proofs.Idling.{IsResting, KeepsDrive, KeepsAll, Idles}
 use Rattle.machine_commands.specs.Sending.{Sends}
@@ -25,11 +24,8 @@ pub record IsListening (fdc : Fdc) : Type 0 where
   pub phase_is : fdc.phase ≡ phase.Command
   pub not_held : is_held fdc ≡ false
 
-taking_in : (p : Phase) (held : Bool) → p ≡ phase.Command → held ≡ false → takes_in p held ≡ true
-taking_in p held command free = ap (λ q. takes_in q held) command ∙ ap not free
-
 taking : (fdc : Fdc) → IsListening fdc → is_taking fdc ≡ true
-taking fdc listens = taking_in fdc.phase (is_held fdc) listens.phase_is listens.not_held
+taking fdc listens = ap (λ q. takes_in q (is_held fdc)) listens.phase_is ∙ ap not listens.not_held
 
 -- the same with other bytes of a command
 abbrev pub with_bytes : List ℕ → Fdc → Fdc
@@ -77,19 +73,7 @@ first_bytes done (byte ∷ rest) old new begun listens (more, others) (between, 
     let same : with_bytes (next ++ rest) (controller_of between) ≡ with_bytes (done ++ byte ∷ rest) fdc =
     ap (λ c. with_bytes (next ++ rest) c) one.controller_is ∙ ap (λ bytes. with_bytes bytes fdc) (append_assoc done (byte ∷ []) rest) in
     idles_as old new (with_bytes (next ++ rest) (controller_of between)) (with_bytes (done ++ byte ∷ rest) fdc) same
-    (idles_then old between new (with_bytes next fdc) (with_bytes (next ++ rest) (controller_of between)) one two)
-
--- the last byte comes, and the command is obeyed
-pub byte_last : (byte : ℕ) (command : Command) (old new : Board) → IsListening (controller_of old) → answer ((controller_of old).command ++ byte ∷ []) ≡ Ready command
-    → (fdc : Fdc) → ((controller : Fdc) → Obeys command (lines_of old) (with_bytes [] (controller_of old)) controller → controller ≡ fdc)
-    → Quiets (controller_of old) fdc → IsResting fdc → Outputs 0x3F5 byte old new → Idles fdc old new
-byte_last byte command old new listens whole fdc obeys quiet rest access = output_idles 0x3F5 byte old new access refl refl fdc only quiet rest
-  where
-    only : (controller : Fdc) → Writes 0x3F5 byte (lines_of old) (controller_of old) controller → controller ≡ fdc
-    only controller writes =
-        let takes = (writes.bytes refl).0 (taking (controller_of old) listens) in
-        let bytes = (controller_of old).command ++ byte ∷ [] in
-        obeys controller (subst (λ a. TakesAs a (lines_of old) (record (controller_of old) { command = kept a bytes }) controller) whole takes)
+    (idles_then one two)
 
 -- a controller that was given the last byte
 pub last_written : (byte : ℕ) (command : Command) (fdc controller : Fdc) (lines : Lines) → IsListening fdc → answer (fdc.command ++ byte ∷ []) ≡ Ready command
@@ -99,6 +83,14 @@ last_written byte command fdc controller lines listens whole writes =
     let bytes = fdc.command ++ byte ∷ [] in
     subst (λ a. TakesAs a lines (record fdc { command = kept a bytes }) controller) whole takes
 
+-- the last byte comes, and the command is obeyed
+pub byte_last : (byte : ℕ) (command : Command) (old new : Board) → IsListening (controller_of old) → answer ((controller_of old).command ++ byte ∷ []) ≡ Ready command
+    → (fdc : Fdc) → ((controller : Fdc) → Obeys command (lines_of old) (with_bytes [] (controller_of old)) controller → controller ≡ fdc)
+    → Quiets (controller_of old) fdc → IsResting fdc → Outputs 0x3F5 byte old new → Idles fdc old new
+byte_last byte command old new listens whole fdc obeys quiet rest access =
+    output_idles 0x3F5 byte old new access refl refl fdc
+    (λ controller writes. obeys controller (last_written byte command (controller_of old) controller (lines_of old) listens whole writes)) quiet rest
+
 -- ---- a whole command
 
 -- the bytes sent in two parts
@@ -107,23 +99,15 @@ sends_parts [] rest old new sends = (old, refl, sends)
 sends_parts (byte ∷ first) rest old new (next, access, sends) =
     let (between, one, two) = sends_parts first rest next new sends in (between, (next, access, one), two)
 
-lines_by : (n : ℕ) (a b c : Lines) (x y : Lines) → a ≡ x → b ≡ y → (if n == 0 then a else (if n == 1 then b else c)) ≡ (if n == 0 then x else (if n == 1 then y else c))
-lines_by n a b c x y one two = ap (λ first. if n == 0 then first else (if n == 1 then b else c)) one ∙ ap (λ second. if n == 0 then x else (if n == 1 then second else c)) two
-
 pub lines_kept : (old new : DriveState) → KeepsDrive old new → lines_of_drive new ≡ lines_of_drive old
-lines_kept old new keeps =
-    ap (λ cylinder. let l : Lines = record { track0 = cylinder == 0; protected = is_protected new.medium; changed = new.change } in l) keeps.cylinder
-    ∙ (ap (λ medium. let l : Lines = record { track0 = old.cylinder == 0; protected = is_protected medium; changed = new.change } in l) keeps.medium
-    ∙ ap (λ change. let l : Lines = record { track0 = old.cylinder == 0; protected = is_protected old.medium; changed = change } in l) keeps.change)
+lines_kept old new keeps = rw (keeps.cylinder, keeps.medium, keeps.change) refl
 
 -- the selected drive has the same lines
 pub same_lines : (old new : Board) → KeepsAll old new → dor_of (controller_of new) ≡ dor_of (controller_of old) → lines_of new ≡ lines_of old
 same_lines old new keeps dor =
-    let a = lines_of_drive new.first in
-    let b = lines_of_drive new.second in
-    ap (λ d. if d % 4 == 0 then a else (if d % 4 == 1 then b else absent_lines)) dor
-    ∙ lines_by (dor_of (controller_of old) % 4) a b absent_lines (lines_of_drive old.first) (lines_of_drive old.second)
-    (lines_kept old.first new.first keeps.first) (lines_kept old.second new.second keeps.second)
+    let first = keeps.first in
+    let second = keeps.second in
+    rw (dor, first.cylinder, first.medium, first.change, second.cylinder, second.medium, second.change) refl
 
 -- a command whose bytes are sent is obeyed by a controller that listens
 pub whole_command : (first : List ℕ) (byte : ℕ) (command : Command) (old new : Board) → IsListening (controller_of old) → (controller_of old).command ≡ []
@@ -143,7 +127,7 @@ whole_command first byte command old new listens none more whole fdc obeys quiet
     let at : answer ((controller_of between).command ++ byte ∷ []) ≡ Ready command = ap (λ f. answer (f.command ++ byte ∷ [])) before.controller_is ∙ whole in
     let quiets : Quiets (controller_of between) fdc = λ low. quiet (sym (ap (λ f. f.interrupt) before.controller_is) ∙ low) in
     let after = byte_last byte command between last here at fdc obeyed quiets rest access in
-    subst (λ board. Idles fdc old board) (sym same) (idles_then old between last (with_bytes first c) fdc before after)
+    subst (λ board. Idles fdc old board) (sym same) (idles_then before after)
 
 -- the same of a controller that is known
 pub whole_at : (first : List ℕ) (byte : ℕ) (command : Command) (old new : Board) (fdc : Fdc) → controller_of old ≡ fdc → IsListening fdc → fdc.command ≡ []

@@ -2,7 +2,7 @@
 use Rattle.std.proofs.Common.{◌≡◌, inl, inr, ℕ, zero, suc, ◌+◌, ◌-◌, ◌≤◌, ◌==◌, ◌&&◌, not, Bool, true, false, None, if◌then◌else◌, refl, sym, ◌∙◌, ap, subst, arith}
 use Rattle.std.specs.Int.RustNames.{bit_or}
 use Rattle.std.specs.Option.{option_map_or}
-use Rattle.std.proofs.lemmas.Bool.{false≢true}
+use Rattle.std.proofs.lemmas.Bool.{false_from_ne_true, true_from_ne_false, false≢true}
 use Rattle.fdc_registers.specs.declared.drive_lines.Dor.{Dor}
 use Rattle.fdc_commands.specs.Table.{is_begun}
 use Rattle.fdc_seek.specs.Seeking.{Seeking, seek_bits, has_ended}
@@ -112,18 +112,12 @@ module _ (order : Order) (scene : Scene) (start : Board) (free : is_held (contro
     busy_unready busy = told ∙ busy_by (is_held fdc) (is_begun fdc.command) fdc.phase fdc.seeks at_wait.awaited.calm.no_seek busy
 
     ready_ends : ready ≡ true → EndsAt order scene start new
-    ready_ends is = record { at = watch.waited; goes = at_wait; idle = by_busy (is_executing fdc.phase) refl; value = watch.value; reads = watch.reads }
-      where
-        by_busy : (b : Bool) → is_executing fdc.phase ≡ b → b ≡ false
-        by_busy true busy = absurd (false≢true (sym (busy_unready busy) ∙ is))
-        by_busy false idle = refl
+    ready_ends is =
+        let idle : is_executing fdc.phase ≡ false = false_from_ne_true (is_executing fdc.phase) (λ busy. false≢true (sym (busy_unready busy) ∙ is)) in
+        record { at = watch.waited; goes = at_wait; idle = idle; value = watch.value; reads = watch.reads }
 
     still_busy : ready ≡ false → is_executing fdc.phase ≡ true
-    still_busy no_results = by_busy (is_executing fdc.phase) refl
-      where
-        by_busy : (b : Bool) → is_executing fdc.phase ≡ b → b ≡ true
-        by_busy true busy = refl
-        by_busy false idle = absurd (false≢true (sym no_results ∙ ended_ready idle))
+    still_busy no_results = true_from_ne_false (is_executing fdc.phase) (λ idle. false≢true (sym no_results ∙ ended_ready idle))
 
     -- what has ended stays so
     ended_stays : is_executing (controller_of old).phase ≡ false → is_executing fdc.phase ≡ false
@@ -134,11 +128,8 @@ module _ (order : Order) (scene : Scene) (start : Board) (free : is_held (contro
         ap (λ f. is_executing f.phase) (waits idles (idling old rest) 65536 watch.set watch.stepped watch.waited watch.waits one).controller_is ∙ idle
 
     busy_before : ready ≡ false → is_executing (controller_of old).phase ≡ true
-    busy_before no_results = by_busy (is_executing (controller_of old).phase) refl
-      where
-        by_busy : (b : Bool) → is_executing (controller_of old).phase ≡ b → b ≡ true
-        by_busy true busy = refl
-        by_busy false idle = absurd (false≢true (sym (ended_stays idle) ∙ still_busy no_results))
+    busy_before no_results =
+        true_from_ne_false (is_executing (controller_of old).phase) (λ idle. false≢true (sym (ended_stays idle) ∙ still_busy no_results))
 
     fails_goes : ready ≡ false → GoesOn order scene start new
     fails_goes no_results = goes_status order scene start watch.value (latch_taken watch.waited) new watch.reads (goes_stray order scene start watch.waited (still_busy no_results) at_wait)

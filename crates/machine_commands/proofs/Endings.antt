@@ -46,10 +46,9 @@ unread_results Command unread = absurd (false≢true unread)
 unread_results (Execute execution) unread = absurd (false≢true unread)
 unread_results (Result (Short next more)) unread = absurd (false≢true unread)
 unread_results (Result (Long ending results taken)) unread =
-    record { ending = ending; results = results; is = ap (λ n. Result (Long ending results n)) (none_taken taken unread) }
-  where
-    none_taken : (n : ℕ) → (n == 0) ≡ true → n ≡ 0
-    none_taken n is = grind (arith, nat_tests)
+    let first : (taken == 0) ≡ true = unread in
+    let none : taken ≡ 0 = grind (arith, nat_tests) in
+    record { ending = ending; results = results; is = ap (λ n. Result (Long ending results n)) none }
 
 -- ---- the bytes
 
@@ -110,13 +109,10 @@ has_taken outcome ending results old new fdc at phase rest takes =
     let five = gives_byte takes.key.h takes.keys.after_c takes.keys.after_h (giving fdc ending results 4) (giving fdc ending results 5) four.idles.controller_is refl (r 5) takes.keys.h in
     let six = gives_byte takes.key.r takes.keys.after_h takes.keys.after_r (giving fdc ending results 5) (giving fdc ending results 6) five.idles.controller_is refl (r 6) takes.keys.r in
     let seven = gives_byte takes.key.n takes.keys.after_r new (giving fdc ending results 6) (done_at fdc) six.idles.controller_is refl (rests_done fdc rest) takes.keys.n in
-    let to_two = idles_then old takes.after_st0 takes.after_st1 (giving fdc ending results 1) (giving fdc ending results 2) one.idles two.idles in
-    let to_three = idles_then old takes.after_st1 takes.after_st2 (giving fdc ending results 2) (giving fdc ending results 3) to_two three.idles in
-    let to_four = idles_then old takes.after_st2 takes.keys.after_c (giving fdc ending results 3) (giving fdc ending results 4) to_three four.idles in
-    let to_five = idles_then old takes.keys.after_c takes.keys.after_h (giving fdc ending results 4) (giving fdc ending results 5) to_four five.idles in
-    let to_six = idles_then old takes.keys.after_h takes.keys.after_r (giving fdc ending results 5) (giving fdc ending results 6) to_five six.idles in
+    let to_status = idles_then (idles_then one.idles two.idles) three.idles in
+    let to_key = idles_then (idles_then (idles_then to_status four.idles) five.idles) six.idles in
     record {
-      idles = idles_then old takes.keys.after_r new (giving fdc ending results 6) (done_at fdc) to_six seven.idles;
+      idles = idles_then to_key seven.idles;
       outcome_is = takes.is ∙ same_outcome takes.st0 takes.st1 takes.st2 results.st0.0 results.st1.0 results.st2.0 takes.key results.key
           (one.byte_is ∙ ap result_byte phase) two.byte_is three.byte_is (same_key takes.key results.key four.byte_is five.byte_is six.byte_is seven.byte_is);
     }
@@ -145,7 +141,7 @@ has_finished order scene start free outcome sent new was finishes =
     let results = unread_results fdc.phase (told.goes.awaited.ended told.idle).unread in
     let status = input_idles 0x3F4 told.value (latch_taken at) finishes.awaited told.reads refl rest in
     let taken = has_taken outcome results.ending results.results finishes.awaited finishes.taken fdc status.controller_is results.is rest finishes.takes in
-    let all = idles_then (latch_taken at) finishes.awaited finishes.taken fdc (done_at fdc) status taken.idles in
+    let all = idles_then status taken.idles in
     let calm = rests_done fdc rest in
     let settled = settles_to finishes.taken new (done_at fdc) finishes.settles (ap polled all.controller_is ∙ unpolled (done_at fdc) calm.no_poll) calm in
     record {

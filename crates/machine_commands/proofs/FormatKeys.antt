@@ -1,5 +1,5 @@
 -- The keys of a format, put into the driver's page.
-use Rattle.std.proofs.Common.{◌≡◌, ◌≢◌, ◌⊎◌, inl, inr, ℕ, zero, suc, ◌+◌, ◌*◌, ◌<◌, ◌≤◌, true, false, List, [], ◌∷◌, length, take, drop, map, get_or, slice_index, nat_lt, Option, Some, None, Result, Ok, Err, if◌then◌else◌, refl, sym, ◌∙◌, ap, subst, arith}
+use Rattle.std.proofs.Common.{◌≡◌, ◌≢◌, ◌⊎◌, inl, inr, ℕ, zero, suc, ◌+◌, ◌*◌, ◌<◌, ◌≤◌, true, false, List, [], ◌∷◌, length, take, drop, map, slice_index, nat_lt, Option, Some, None, Result, Ok, Err, if◌then◌else◌, refl, sym, ◌∙◌, ap, subst, arith}
 use Rattle.std.specs.Prelude.{slice_set, MatchOption, IfErr}
 use Rattle.std.specs.List.{flat_map, range_with_len}
 use Rattle.std.proofs.lemmas.Bool.Decides.{nat_tests}
@@ -17,24 +17,21 @@ use Rattle.track_format.specs.Keys.{key_bytes}
 use Rattle.machine_commands.specs.WriteSent.{IsKeyAt, OnlyMemory, PutsByte, PutsKey, PutsKeys, keys_at}
 use Rattle.std.specs.Option.{option_map_or}
 use Rattle.bay_model.specs.Bays.{in_bay}
-use Rattle.drive_model.specs.Drive.{DriveState, InRange}
-use Rattle.fdc_core.specs.State.{data_commands_of, dor_of}
-use Rattle.fdc_core.specs.declared.controller.Fdc.{Fdc}
+use Rattle.drive_model.specs.Drive.{InRange}
 use Rattle.flop_base.specs.declared.answers.Code.{Code}
-use Rattle.machine_pace.specs.Holds.{Holds}
-use Rattle.pc_bus.specs.Boards.{holds_of}
 use Rattle.raw_image.specs.Disk.{Disk}
 use Rattle.sector_map.specs.Layings.{Laying}
 use Rattle.single_commands.specs.Rigs.{Rig}
 use Rattle.single_commands.specs.Writing.{FormatsTrack, HasTrackUnder, IsFormatMiss, LaysMedium}
-use Rattle.machine_commands.specs.Ready.{IsIdle, IsReady}
+use Rattle.machine_commands.specs.Ready.{IsIdle}
 use Rattle.machine_commands.specs.Sending.{Sends}
-use Rattle.machine_laws.specs.OnCounts.Counts.{counts_of}
-use Rattle.machine_commands.specs.Shown.{is_spun, page_part, rig_of, stalls_left, user_part}
+use Rattle.machine_commands.specs.Shown.{page_part, rig_of, user_part}
 use Rattle.machine_commands.specs.WriteSent.{SendsFormatBytes, told_of}
 use Rattle.machine_commands.specs.declared.motors.Motors.{Motors}
 use Rattle.machine_commands.specs.declared.results.Done.{Done}
 use Rattle.machine_commands.proofs.Landing.{user_same}
+use Rattle.machine_commands.proofs.PastDriver.{still_idle}
+use Rattle.std.proofs.Math.Seq.{drop-cons}
 use Rattle.machine_commands.proofs.FormatDone.{HasKeys, IsFormatted, format_done}
 
 -- ---- one byte
@@ -118,109 +115,51 @@ puts_key address c h r old one two three new inside first second third fourth =
 
 -- ---- all of them, as a list
 
-drop_one : (memory : List ℕ) (a : ℕ) → a < length memory → drop a memory ≡ slice_index memory a ∷ drop (a + 1) memory
-drop_one [] a none = absurd (omega arith)
-drop_one (first ∷ rest) zero inside = refl
-drop_one (first ∷ rest) (suc a) inside = let next : suc a + 1 ≡ suc (a + 1) = omega arith in drop_one rest a (omega arith) ∙ ap (λ n. get_or rest a 0 ∷ drop n (first ∷ rest)) (sym next)
+drop_next : (memory : List ℕ) (i j v : ℕ) → j ≡ i + 1 → i < length memory → slice_index memory i ≡ v → drop i memory ≡ v ∷ drop j memory
+drop_next memory i j v next low is =
+    let here : suc i ≡ j = omega arith in
+    drop-cons memory i 0 low ∙ (ap (λ b. b ∷ drop (suc i) memory) is ∙ ap (λ n. v ∷ drop n memory) here)
 
 four_dropped : (memory : List ℕ) (a c h r : ℕ) → a + 4 ≤ length memory → IsKeyAt memory a c h r → drop a memory ≡ c ∷ h ∷ r ∷ standard_code ∷ drop (a + 4) memory
 four_dropped memory a c h r inside key =
-    let one = drop_one memory a (omega arith) in
-    let two = drop_one memory (a + 1) (omega arith) in
-    let three = drop_one memory (a + 2) (omega arith) in
-    let four = drop_one memory (a + 3) (omega arith) in
-    let e2 : a + 1 + 1 ≡ a + 2 = omega arith in
-    let e3 : a + 2 + 1 ≡ a + 3 = omega arith in
-    let e4 : a + 3 + 1 ≡ a + 4 = omega arith in
-    one ∙ (ap (λ b. b ∷ drop (a + 1) memory) key.first
-    ∙ (ap (λ l. c ∷ l) (two ∙ (ap (λ b. b ∷ drop (a + 1 + 1) memory) key.second ∙ ap (λ n. h ∷ drop n memory) e2))
-    ∙ (ap (λ l. c ∷ h ∷ l) (three ∙ (ap (λ b. b ∷ drop (a + 2 + 1) memory) key.third ∙ ap (λ n. r ∷ drop n memory) e3))
-    ∙ ap (λ l. c ∷ h ∷ r ∷ l) (four ∙ (ap (λ b. b ∷ drop (a + 3 + 1) memory) key.fourth ∙ ap (λ n. standard_code ∷ drop n memory) e4)))))
+    drop_next memory a (a + 1) c (omega arith) (omega arith) key.first
+    ∙ (ap (λ l. c ∷ l) (drop_next memory (a + 1) (a + 2) h (omega arith) (omega arith) key.second)
+    ∙ (ap (λ l. c ∷ h ∷ l) (drop_next memory (a + 2) (a + 3) r (omega arith) (omega arith) key.third)
+    ∙ ap (λ l. c ∷ h ∷ r ∷ l) (drop_next memory (a + 3) (a + 4) standard_code (omega arith) (omega arith) key.fourth)))
 
 keys_from : (n r a c h : ℕ) (memory : List ℕ) → a + n * 4 ≤ length memory → ((k : ℕ) → k < n → IsKeyAt memory (a + k * 4) c h (r + k))
     → flat_map key_bytes (map (key_of c h) (range_with_len r n)) ≡ take (4 * n) (drop a memory)
 keys_from zero r a c h memory inside keys = refl
 keys_from (suc n) r a c h memory inside keys =
-    let first : IsKeyAt memory a c h r = subst (λ p. IsKeyAt memory p c h r) (at_zero a) (subst (λ q. IsKeyAt memory (a + 0 * 4) c h q) (plus_zero r) (keys 0 (omega arith))) in
-    let rest = keys_from n (r + 1) (a + 4) c h memory (omega arith)
-    (λ k few. subst (λ p. IsKeyAt memory p c h (r + 1 + k)) (next_place a k) (subst (λ q. IsKeyAt memory (a + (k + 1) * 4) c h q) (next_record r k) (keys (k + 1) (omega arith)))) in
+    let at : a + 0 * 4 ≡ a = omega arith in
+    let one : r + 0 ≡ r = omega arith in
+    let first : IsKeyAt memory a c h r = subst (λ p. IsKeyAt memory p c h r) at (subst (λ q. IsKeyAt memory (a + 0 * 4) c h q) one (keys 0 (omega arith))) in
+    let rest = keys_from n (r + 1) (a + 4) c h memory (omega arith) (λ k few.
+    let place : a + (k + 1) * 4 ≡ a + 4 + k * 4 = omega arith in
+    let next : r + (k + 1) ≡ r + 1 + k = omega arith in
+    subst (λ p. IsKeyAt memory p c h (r + 1 + k)) place (subst (λ q. IsKeyAt memory (a + (k + 1) * 4) c h q) next (keys (k + 1) (omega arith)))) in
     let four : 4 * suc n ≡ suc (suc (suc (suc (4 * n)))) = omega arith in
     flat_map-cons key_bytes (key_of c h r) (map (key_of c h) (range_with_len (r + 1) n))
     ∙ (ap (λ l. c ∷ h ∷ r ∷ standard_code ∷ l) rest
     ∙ (ap (λ l. take (suc (suc (suc (suc (4 * n))))) l) (sym (four_dropped memory a c h r (omega arith) first)) ∙ ap (λ m. take m (drop a memory)) (sym four)))
-  where
-    at_zero : (a : ℕ) → a + 0 * 4 ≡ a
-    at_zero a = omega arith
-
-    plus_zero : (r : ℕ) → r + 0 ≡ r
-    plus_zero r = omega arith
-
-    next_place : (a k : ℕ) → a + (k + 1) * 4 ≡ a + 4 + k * 4
-    next_place a k = omega arith
-
-    next_record : (r k : ℕ) → r + (k + 1) ≡ r + 1 + k
-    next_record r k = omega arith
 
 pub keys_stand : (asked : Format) (old new : Board) → length (memory_of old) ≡ 1048576 → sectors_at asked.rate ≤ 18 → PutsKeys asked.c asked.h (sectors_at asked.rate) old new → HasKeys asked new
 unfolding track_keys
 keys_stand asked old new bytes few puts = record {
   many = length-map-range_with_len (key_of asked.c asked.h) 1 (sectors_at asked.rate);
   bytes = keys_from (sectors_at asked.rate) 1 keys_at asked.c asked.h (memory_of new) (let same = puts.size in omega arith)
-      (λ k less. let key = puts.keys k less in subst (λ r. IsKeyAt (memory_of new) (keys_at + k * 4) asked.c asked.h r) (one_more k) key);
+      (λ k less. let next : k + 1 ≡ 1 + k = omega arith in subst (λ r. IsKeyAt (memory_of new) (keys_at + k * 4) asked.c asked.h r) next (puts.keys k less));
 }
-  where
-    one_more : (k : ℕ) → k + 1 ≡ 1 + k
-    one_more k = omega arith
 
 -- ---- the driver's view
 
 pub idle_kept : (motors : Motors) (old new : Board) → OnlyMemory old new → IsIdle motors old → IsIdle motors new
-idle_kept motors old new only was = record {
-  ready = subst IsReady (sym only.controller) was.ready;
-  motors_are = record {
-    bay = was.motors_are.bay;
-    bay_in = was.motors_are.bay_in;
-    dor = ap dor_of only.controller ∙ was.motors_are.dor;
-    first = ap (λ d. d.motor) only.first ∙ was.motors_are.first;
-    second = ap (λ d. d.motor) only.second ∙ was.motors_are.second;
-  };
-  low = ap (λ l. l.level) only.latch ∙ was.low;
-  first = subst InRange (sym only.first) was.first;
-  second = subst InRange (sym only.second) was.second;
-}
-
--- what is shown of these parts of a board
-rig_from : DriveState → DriveState → Fdc → Holds → ℕ → ℕ → List ℕ → List ℕ → Rig
-rig_from first second fdc holds taken direct memory page = record {
-  media = record { first = first.medium; second = second.medium };
-  cylinders = record { first = first.cylinder; second = second.cylinder };
-  numbers = record { first = slice_index fdc.seeks.cylinders 0; second = slice_index fdc.seeks.cylinders 1 };
-  changes = record { first = first.change; second = second.change };
-  spun = record { first = is_spun first; second = is_spun second };
-  memory = memory;
-  page = page;
-  counters = record {
-    drives = record { first = counts_of first; second = counts_of second };
-    spares = [];
-    stalls = holds.stalls;
-    stalls_left = stalls_left holds.entries;
-    data_commands = data_commands_of fdc;
-    taken = taken;
-    direct = direct;
-  };
-}
+idle_kept motors old new only was =
+    still_idle motors old new only.controller (ap (λ l. l.level) only.latch) (ap (λ d. d.motor) only.first ∙ was.motors_are.first)
+    (ap (λ d. d.motor) only.second ∙ was.motors_are.second) (subst InRange (sym only.first) was.first) (subst InRange (sym only.second) was.second) was
 
 pub rig_kept : (old new : Board) → OnlyMemory old new → user_part (memory_of new) ≡ user_part (memory_of old) → rig_of new ≡ record (rig_of old) { page = page_part (memory_of new) }
-unfolding rig_from
-rig_kept old new only same =
-    let page = page_part (memory_of new) in
-    ap (λ d. rig_from d new.second (controller_of new) (holds_of new) new.bus.taken new.bus.direct (user_part (memory_of new)) page) only.first
-    ∙ (ap (λ d. rig_from old.first d (controller_of new) (holds_of new) new.bus.taken new.bus.direct (user_part (memory_of new)) page) only.second
-    ∙ (ap (λ c. rig_from old.first old.second c (holds_of new) new.bus.taken new.bus.direct (user_part (memory_of new)) page) only.controller
-    ∙ (ap (λ h. rig_from old.first old.second (controller_of old) h new.bus.taken new.bus.direct (user_part (memory_of new)) page) only.holding
-    ∙ (ap (λ n. rig_from old.first old.second (controller_of old) (holds_of old) n new.bus.direct (user_part (memory_of new)) page) only.taken
-    ∙ (ap (λ n. rig_from old.first old.second (controller_of old) (holds_of old) old.bus.taken n (user_part (memory_of new)) page) only.direct
-    ∙ ap (λ m. rig_from old.first old.second (controller_of old) (holds_of old) old.bus.taken old.bus.direct m page) same)))))
+rig_kept old new only same = rw (only.first, only.second, only.controller, only.holding, only.taken, only.direct, same) refl
 
 -- user memory is below the page
 user_stays : (old new : List ℕ) → length old ≡ 1048576 → length new ≡ length old → ((k : ℕ) → k < user_bytes → slice_index new k ≡ slice_index old k) → user_part new ≡ user_part old

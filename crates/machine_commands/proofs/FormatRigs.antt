@@ -153,6 +153,21 @@ module _ {numbers : Numbers} {scene : Scene} {motors : Motors} {format : Format}
   none_overrun : (reason : Code) → (reason ≡ code.Overrun → ⊥) → reason ≡ code.Overrun → RoseBy 1 (counters_of old).stalls (counters_of new).stalls
   none_overrun reason other is = absurd (other is)
 
+  -- a refusal where a turn can't have been undisturbed, but on tracks that aren't there
+  refuses : (laying : Option Laying) (reason : Code)
+      → MatchOption laying ((rig_of new).media ≡ (rig_of old).media) (λ one. LaysMedium scene.bay format one (rig_of old) (rig_of new))
+      → (IsUndisturbed scene.bay (counters_of old) (counters_of new) → (disk : Disk) → HasTrackUnder (rig_of old) scene.bay format disk → ⊥)
+      → IsFormatMiss scene.bay format (rig_of old) reason (rig_of new) → (laying : Option Laying) × ShowsFormat laying (Err reason)
+  refuses laying reason does never missed = (
+    laying,
+    record {
+      does = does;
+      turn = λ none disk under. elim none [ inl calm ↦ absurd (never calm disk under) | inr (ok, few) ↦ absurd (false≢true ok) ];
+      fits = λ ok none disk under. absurd (false≢true ok);
+      refused = missed;
+    },
+  )
+
   -- the ways it ends
   shows_as : (key : Chrn) (over : Ending) → EndsAs scene numbers keys (drive_in now scene.bay) over → (over ≡ ending.Overrun → Stalled start now) → (laying : Option Laying) × ShowsFormat laying (told_of (told_as over key))
   shows_as key (ending.Done marked) (turn, fits) stalls = turned (Ok tt) turn (λ ok. fits) tt
@@ -161,19 +176,11 @@ module _ {numbers : Numbers} {scene : Scene} {motors : Motors} {format : Format}
     reason = λ none. (refl, λ (disk, under, fits). out (fits_back disk under fits));
     overrun = none_overrun code.NoMark (λ e. absurd cc);
   })
-  shows_as key ending.NoMark (is, other) stalls = (
-    None,
-    record {
-      does = unchanged is;
-      turn = λ none disk under. absurd (other_rate other disk under);
-      fits = λ ok none disk under. absurd (false≢true ok);
-      refused = record {
-        coded = tt;
-        reason = λ none. (refl, λ (disk, under, fits). other_rate other disk under);
-        overrun = none_overrun code.NoMark (λ e. absurd cc);
-      };
-    },
-  )
+  shows_as key ending.NoMark (is, other) stalls = refuses None code.NoMark (unchanged is) (λ none. other_rate other) (record {
+    coded = tt;
+    reason = λ none. (refl, λ (disk, under, fits). other_rate other disk under);
+    overrun = none_overrun code.NoMark (λ e. absurd cc);
+  })
   shows_as key ending.Overrun wrote stalls = by_way wrote
     where
       stalled : Stalled start now
@@ -186,13 +193,9 @@ module _ {numbers : Numbers} {scene : Scene} {motors : Motors} {format : Format}
         overrun = λ same_code. stall_counts run stalled;
       }
 
-      not_calm : {T : Type 0} → (IsUndisturbed scene.bay (counters_of old) (counters_of new) ⊎ ((false ≡ true) × IsFaultless scene.bay (counters_of old) (counters_of new))) → T
-      not_calm (inl none) = absurd (unstalled run none stalled)
-      not_calm (inr (ok, none)) = absurd (false≢true ok)
-
       by_way : (IsUnchanged scene (drive_in now scene.bay) ⊎ HasLaying scene numbers keys (drive_in now scene.bay)) → (laying : Option Laying) × ShowsFormat laying (Err code.Overrun)
-      by_way (inl is) = (None, record { does = unchanged is; turn = λ none disk under. not_calm none; fits = λ ok none disk under. absurd (false≢true ok); refused = missed })
-      by_way (inr has) = (Some has.laying, record { does = laid has; turn = λ none disk under. not_calm none; fits = λ ok none disk under. absurd (false≢true ok); refused = missed })
+      by_way (inl is) = refuses None code.Overrun (unchanged is) (λ none disk under. unstalled run none stalled) missed
+      by_way (inr has) = refuses (Some has.laying) code.Overrun (laid has) (λ none disk under. unstalled run none stalled) missed
   shows_as key ending.Protected (is, protected) stalls = absurd (false≢true (sym on.unprotected ∙ protected))
   shows_as key ending.NoSector none stalls = absurd none
   shows_as key ending.BadCheck none stalls = absurd none

@@ -1,5 +1,6 @@
 -- Bytes that a read puts into memory, as a driver sees them.
-use Rattle.std.proofs.Common.{◌≡◌, ◌⊎◌, inl, inr, ℕ, zero, suc, ◌+◌, ◌-◌, ◌^◌, ◌<◌, ◌≤◌, List, length, get_or, slice_index, sym, ◌∙◌, ap, subst, arith}
+use Rattle.std.proofs.Common.{◌≡◌, ◌⊎◌, inl, inr, ℕ, ◌+◌, ◌-◌, ◌^◌, ◌<◌, ◌≤◌, List, length, get_or, slice_index, sym, ◌∙◌, ap, subst, arith}
+use Rattle.std.proofs.lemmas.Bool.{cases_lt}
 use Rattle.std.proofs.lemmas.List.{ext_get_or, get_or_past, get_or-take, get_or-drop, length-take, length-drop}
 use Rattle.flop_base.specs.Lists.{with_items}
 use Rattle.bay_model.specs.Memory.{user_bytes, SameOutside}
@@ -11,17 +12,6 @@ use Rattle.single_commands.specs.Rigs.{IsSound}
 use Rattle.machine_commands.specs.Shown.{rig_of, user_part, page_part}
 
 -- ---- both parts
-
-past : (list : List ℕ) (k : ℕ) → length list ≤ k → get_or list k 0 ≡ 0
-past list k beyond = get_or_past list k 0 beyond
-
-within_or : (k n : ℕ) → (k < n) ⊎ (n ≤ k)
-within_or k zero = inr (omega arith)
-within_or zero (suc n) = inl (omega arith)
-within_or (suc k) (suc n) = elim (within_or k n) [
-  | inl below ↦ inl (omega arith)
-  | inr above ↦ inr (omega arith)
-]
 
 pub user_length : (memory : List ℕ) → length memory ≡ 1048576 → length (user_part memory) ≡ user_bytes
 unfolding user_part
@@ -62,9 +52,9 @@ user_outside old new address size long but =
     let two = user_length new (but.lengths ∙ long) in
     record {
       length = two ∙ sym one;
-      others = λ k outside. elim (within_or k user_bytes) [
+      others = λ k outside. elim (cases_lt k user_bytes) [
         | inl below ↦ user_at new k below ∙ (but.others k outside ∙ sym (user_at old k below))
-        | inr above ↦ past (user_part new) k (omega arith) ∙ sym (past (user_part old) k (omega arith))
+        | inr above ↦ get_or_past (user_part new) k 0 (omega arith) ∙ sym (get_or_past (user_part old) k 0 (omega arith))
       ];
     }
 
@@ -81,9 +71,9 @@ user_with old new address bytes long has fits =
     (λ k within. (let below : k < user_bytes = omega arith in user_at new k below ∙ at k below inside))
   where
     at : (k : ℕ) → k < user_bytes → address + length bytes ≤ length (user_part old) → get_or new k 0 ≡ get_or (with_items (user_part old) address bytes) k 0
-    at k below inside = elim (within_or k address) [
+    at k below inside = elim (cases_lt k address) [
       | inl before ↦ has.others k (inl before) ∙ (sym (user_at old k below) ∙ sym (with_items_before (user_part old) address bytes inside k before))
-      | inr behind ↦ elim (within_or k (address + length bytes)) [
+      | inr behind ↦ elim (cases_lt k (address + length bytes)) [
         | inl there ↦ put k (k - address) (omega arith) (omega arith) inside
         | inr beyond ↦ has.others k (inr beyond) ∙ (sym (user_at old k below) ∙ sym (with_items_behind (user_part old) address bytes inside k beyond))
       ]
@@ -102,7 +92,7 @@ page_with old new bytes long has fits =
     ext_get_or 0 (page_part new) (with_items (page_part old) 0 bytes) (two ∙ sym (three ∙ one)) (λ k within. page_at new k ∙ at k inside)
   where
     at : (k : ℕ) → 0 + length bytes ≤ length (page_part old) → get_or new (user_bytes + k) 0 ≡ get_or (with_items (page_part old) 0 bytes) k 0
-    at k inside = elim (within_or k (length bytes)) [
+    at k inside = elim (cases_lt k (length bytes)) [
       | inl there ↦ has.put k there ∙ sym (with_items_at (page_part old) 0 bytes inside k k (omega arith) there)
       | inr beyond ↦ has.others (user_bytes + k) (inr (omega arith)) ∙ (sym (page_at old k) ∙ sym (with_items_behind (page_part old) 0 bytes inside k (omega arith)))
     ]
@@ -112,9 +102,9 @@ page_with old new bytes long has fits =
 user_bytes_in : (memory : List ℕ) → length memory ≡ 1048576 → ((k : ℕ) → slice_index memory k < 2 ^ 8) → (k : ℕ) → slice_index (user_part memory) k < 2 ^ 8
 user_bytes_in memory long bytes k =
     let all = user_length memory long in
-    elim (within_or k user_bytes) [
+    elim (cases_lt k user_bytes) [
       | inl below ↦ subst (λ n. n < 2 ^ 8) (sym (user_at memory k below)) (bytes k)
-      | inr above ↦ subst (λ n. n < 2 ^ 8) (sym (past (user_part memory) k (omega arith))) (omega arith)
+      | inr above ↦ subst (λ n. n < 2 ^ 8) (sym (get_or_past (user_part memory) k 0 (omega arith))) (omega arith)
     ]
 
 pub sound_of : (board : Board) → InRange board.first → InRange board.second → length (memory_of board) ≡ 1048576 → ((k : ℕ) → slice_index (memory_of board) k < 2 ^ 8) → IsSound (rig_of board)

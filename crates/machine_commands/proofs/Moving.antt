@@ -1,6 +1,6 @@
 -- What the pulses of RECALIBRATE and SEEK make of a drive.
 use Rattle.std.proofs.Common.{◌≡◌, ◌≢◌, ◌⊎◌, inl, inr, ℕ, zero, suc, ◌+◌, ◌-◌, ◌<◌, ◌≤◌, ◌==◌, ◌||◌, Bool, true, false, Some, None, min, nat_lt, if◌then◌else◌, is_some, refl, sym, ◌∙◌, ap, subst, arith}
-use Rattle.std.proofs.lemmas.Bool.{false≢true}
+use Rattle.std.proofs.lemmas.Bool.{or_parts}
 use Rattle.std.proofs.lemmas.Bool.Decides.{nat_tests}
 use Rattle.flop_base.specs.Counts.{RoseBy, RoseLess, Rose, Spends}
 use Rattle.bay_model.proofs.Counted.{spends_twice}
@@ -115,8 +115,8 @@ pub record OutwardOver (bay : ℕ) (old : DriveState) (number status : ℕ) (new
   pub lost : reached ≡ false → RoseBy (new.cylinder + 79 - old.cylinder) old.faults new.faults
   pub moves : MovesDrive old new
 
-number_of : (n : ℕ) → (n == 0) ≡ true → n ≡ 0
-number_of n h = grind (arith, nat_tests)
+equal_by : (a b : ℕ) → (a == b) ≡ true → a ≡ b
+equal_by a b h = grind (arith, nat_tests)
 
 counts : (n : ℕ) → (n == 0) ≡ false → 1 ≤ n
 counts n h = grind (arith, nat_tests)
@@ -125,62 +125,46 @@ outward_steps : (bay : ℕ) (old : DriveState) (n : ℕ) (motion : Motion) (driv
     → EndsNow bay motion drive (OutwardOver bay old) ⊎ GivesPulse bay n motion drive (OutwardWay old)
 outward_steps bay old n Ended drive runs way = absurd way
 outward_steps bay old n (Toward cylinder target) drive runs way = absurd way
-outward_steps bay old n (Outward pulses) drive runs (left, was) = by_tests (drive.cylinder == 0) refl (pulses == 0) refl
+outward_steps bay old n (Outward pulses) drive runs (left, was) = by_over ((drive.cylinder == 0) || (pulses == 0)) refl
   where
-    by_tests : (t : Bool) → (drive.cylinder == 0) ≡ t → (z : Bool) → (pulses == 0) ≡ z
+    by_over : (over : Bool) → ((drive.cylinder == 0) || (pulses == 0)) ≡ over
         → EndsNow bay (Outward pulses) drive (OutwardOver bay old) ⊎ GivesPulse bay n (Outward pulses) drive (OutwardWay old)
-    by_tests true at z none = inl (record {
+    by_over true over = inl (record {
       number = 0;
-      status = recalibrated bay true;
-      no_pulse = ap (λ b. if b || (pulses == 0) then None else Some false) at;
-      ends = λ seeks. ap (λ b. if b || (pulses == 0) then ended seeks bay 0 (recalibrated bay b) else with_motion seeks bay (Outward (pulses - 1))) at;
-      leaves = λ after becomes.
-          let turned = gate_turns drive after becomes in
-          record {
-            number_is = refl;
-            reached = true;
-            status_is = refl;
-            arrives = λ _. turned.keeps.cylinder ∙ number_of drive.cylinder at;
-            away = λ wrong. absurd (false≢true (sym wrong));
-            lost = λ wrong. absurd (false≢true (sym wrong));
-            moves = moves_then old drive after was.moves (turns_move drive after turned.keeps turned.speed);
-          };
-    })
-    by_tests false at true none = inl (record {
-      number = 0;
-      status = recalibrated bay false;
-      no_pulse = ap (λ b. if b || (pulses == 0) then None else Some false) at ∙ ap (λ b. if b then None else Some false) none;
-      ends = λ seeks. ap (λ b. if b || (pulses == 0) then ended seeks bay 0 (recalibrated bay b) else with_motion seeks bay (Outward (pulses - 1))) at
-          ∙ ap (λ b. if b then ended seeks bay 0 (recalibrated bay false) else with_motion seeks bay (Outward (pulses - 1))) none;
+      status = recalibrated bay (drive.cylinder == 0);
+      no_pulse = ap (λ b. if b then None else Some false) over;
+      ends = λ seeks. ap (λ b. if b then ended seeks bay 0 (recalibrated bay (drive.cylinder == 0)) else with_motion seeks bay (Outward (pulses - 1))) over;
       leaves = λ after becomes.
           let turned = gate_turns drive after becomes in
           let same = turned.keeps.cylinder in
           let more = turned.keeps.never_falls in
-          let here = counts drive.cylinder at in
-          let over = number_of pulses none in
           let far = was.far in
           let rose = was.rose in
           record {
             number_is = refl;
-            reached = false;
+            reached = drive.cylinder == 0;
             status_is = refl;
-            arrives = λ wrong. absurd (false≢true wrong);
-            away = λ _. omega arith;
-            lost = λ _. let all : after.cylinder + 79 - old.cylinder ≡ was.lost = omega arith in subst (λ k. RoseBy k old.faults after.faults) (sym all) (omega arith);
+            arrives = λ at. same ∙ equal_by drive.cylinder 0 at;
+            away = λ short. let here = counts drive.cylinder short in omega arith;
+            lost = λ short.
+                let none = equal_by pulses 0 (sym (ap (λ b. b || (pulses == 0)) short) ∙ over) in
+                let here = counts drive.cylinder short in
+                let all : after.cylinder + 79 - old.cylinder ≡ was.lost = omega arith in
+                subst (λ k. RoseBy k old.faults after.faults) (sym all) (omega arith);
             moves = moves_then old drive after was.moves (turns_move drive after turned.keeps turned.speed);
           };
     })
-    by_tests false at false more_left = inr (record {
+    by_over false on = inr (record {
       inward = false;
       next = Outward (pulses - 1);
       runs = refl;
-      pulse = ap (λ b. if b || (pulses == 0) then None else Some false) at ∙ ap (λ b. if b then None else Some false) more_left;
-      goes = λ seeks. ap (λ b. if b || (pulses == 0) then ended seeks bay 0 (recalibrated bay b) else with_motion seeks bay (Outward (pulses - 1))) at
-          ∙ ap (λ b. if b then ended seeks bay 0 (recalibrated bay false) else with_motion seeks bay (Outward (pulses - 1))) more_left;
+      pulse = ap (λ b. if b then None else Some false) on;
+      goes = λ seeks. ap (λ b. if b then ended seeks bay 0 (recalibrated bay (drive.cylinder == 0)) else with_motion seeks bay (Outward (pulses - 1))) on;
       leaves = λ after moved_on.
           let is = pulsed false drive after moved_on in
-          let here = counts drive.cylinder at in
-          let some = counts pulses more_left in
+          let (apart, left_over) = or_parts (drive.cylinder == 0) (pulses == 0) on in
+          let here = counts drive.cylinder apart in
+          let some = counts pulses left_over in
           let far = was.far in
           let rose = was.rose in
           let moves = moves_then old drive after was.moves is.moves in (
@@ -231,9 +215,6 @@ pub record TowardOver (bay : ℕ) (old : DriveState) (from target number status 
   pub clears : from ≢ target → is_some old.medium ≡ true → (new.change ≡ false) ⊎ Rose old.faults new.faults
   pub moves : MovesDrive old new
 
-equal_by : (a b : ℕ) → (a == b) ≡ true → a ≡ b
-equal_by a b h = grind (arith, nat_tests)
-
 less_by : (a b : ℕ) → nat_lt a b ≡ true → a < b
 less_by a b h = grind (arith, nat_tests)
 
@@ -262,6 +243,10 @@ lost_is_counted old before after more rose (few, below) = absurd (omega arith)
 some_steps : (k : ℕ) → (k ≡ 0 → ⊥) → 1 ≤ k
 some_steps zero none = absurd (none refl)
 some_steps (suc k) none = omega arith
+
+-- the cylinder beside it
+abbrev next_to : Bool → ℕ → ℕ
+next_to inward cylinder = if inward then cylinder + 1 else cylinder - 1
 
 toward_steps : (bay : ℕ) (old : DriveState) (from target n : ℕ) (motion : Motion) (drive : DriveState) → target ≤ 79 → from ≤ 79 → has_ended motion ≡ false → TowardWay old from target n motion drive
     → EndsNow bay motion drive (TowardOver bay old from target) ⊎ GivesPulse bay n motion drive (TowardWay old from target)
@@ -294,60 +279,46 @@ toward_steps bay old from target n (Toward cylinder to) drive small near runs (a
           | inl (up, below) ↦ some_steps n (λ none. apart (omega arith))
           | inr (down, above) ↦ some_steps n (λ none. apart (omega arith))
         ]
-    by_tests false at true less = inr (record {
-      inward = true;
-      next = Toward (cylinder + 1) to;
+    by_tests false at inward less = inr (record {
+      inward = inward;
+      next = Toward (next_to inward cylinder) to;
       runs = refl;
       pulse = ap (λ b. if b then None else Some (nat_lt cylinder to)) at ∙ ap (λ b. Some b) less;
       goes = λ seeks. ap (λ b. if b then ended seeks bay to (sought bay) else with_motion seeks bay (Toward (neighbour cylinder to) to)) at
-          ∙ ap (λ b. with_motion seeks bay (Toward (if b then cylinder + 1 else cylinder - 1) to)) less;
+          ∙ ap (λ b. with_motion seeks bay (Toward (next_to b cylinder) to)) less;
       leaves = λ after moved_on.
-          let is = pulsed true drive after moved_on in
-          let below = less_by cylinder to less in
+          let is = pulsed inward drive after moved_on in
           let falls = was.moves.never_falls in
           let more = is.moves.never_falls in (
             aim,
             record {
-              way = elim was.way [
-                | inl (up, low) ↦ inl (omega arith, omega arith)
-                | inr (down, high) ↦ absurd (omega arith)
-              ];
+              way = nearer inward less;
               follows = λ known calm. let here = was.follows known (let (few, least) = calm in (omega arith, omega arith)) in elim is.either [
-                | inl (on, cleared) ↦ on ∙ (let m : min (drive.cylinder + 1) 82 ≡ cylinder + 1 = omega arith in m)
+                | inl (on, cleared) ↦ on ∙ moved_there inward less here
                 | inr (stays, rose) ↦ absurd (lost_is_counted old.faults drive.faults after.faults falls rose calm)
               ];
-              clears = λ _ some. pulse_clears old drive after true falls was.moves.medium is some;
+              clears = λ _ some. pulse_clears old drive after inward falls was.moves.medium is some;
               moves = moves_then old drive after was.moves is.moves;
             },
           );
     })
-    by_tests false at false less = inr (record {
-      inward = false;
-      next = Toward (cylinder - 1) to;
-      runs = refl;
-      pulse = ap (λ b. if b then None else Some (nat_lt cylinder to)) at ∙ ap (λ b. Some b) less;
-      goes = λ seeks. ap (λ b. if b then ended seeks bay to (sought bay) else with_motion seeks bay (Toward (neighbour cylinder to) to)) at
-          ∙ ap (λ b. with_motion seeks bay (Toward (if b then cylinder + 1 else cylinder - 1) to)) less;
-      leaves = λ after moved_on.
-          let is = pulsed false drive after moved_on in
-          let above = more_by cylinder to at less in
-          let falls = was.moves.never_falls in
-          let more = is.moves.never_falls in (
-            aim,
-            record {
-              way = elim was.way [
-                | inl (up, low) ↦ absurd (omega arith)
-                | inr (down, high) ↦ inr (omega arith, omega arith)
-              ];
-              follows = λ known calm. let here = was.follows known (let (few, least) = calm in (omega arith, omega arith)) in elim is.either [
-                | inl (on, cleared) ↦ on ∙ (let m : drive.cylinder - 1 ≡ cylinder - 1 = omega arith in m)
-                | inr (stays, rose) ↦ absurd (lost_is_counted old.faults drive.faults after.faults falls rose calm)
-              ];
-              clears = λ _ some. pulse_clears old drive after false falls was.moves.medium is some;
-              moves = moves_then old drive after was.moves is.moves;
-            },
-          );
-    })
+      where
+        nearer : (inward : Bool) → nat_lt cylinder to ≡ inward
+            → ((from + (n + 1) ≡ next_to inward cylinder) × (next_to inward cylinder ≤ target))
+            ⊎ ((next_to inward cylinder + (n + 1) ≡ from) × (target ≤ next_to inward cylinder))
+        nearer true less = let below = less_by cylinder to less in elim was.way [
+          | inl (up, low) ↦ inl (omega arith, omega arith)
+          | inr (down, high) ↦ absurd (omega arith)
+        ]
+        nearer false less = let above = more_by cylinder to at less in elim was.way [
+          | inl (up, low) ↦ absurd (omega arith)
+          | inr (down, high) ↦ inr (omega arith, omega arith)
+        ]
+
+        moved_there : (inward : Bool) → nat_lt cylinder to ≡ inward → drive.cylinder ≡ cylinder
+            → (if inward then min (drive.cylinder + 1) 82 else drive.cylinder - 1) ≡ next_to inward cylinder
+        moved_there true less here = let below = less_by cylinder to less in omega arith
+        moved_there false less here = omega arith
 
 toward_stays : (bay : ℕ) (old : DriveState) (from target number status : ℕ) (before after : DriveState) → KeepsDrive before after → KeepsSpeed before after
     → TowardOver bay old from target number status before → TowardOver bay old from target number status after

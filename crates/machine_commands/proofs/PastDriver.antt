@@ -1,5 +1,5 @@
 -- Calls past the driver, as a driver sees them.
-use Rattle.std.proofs.Common.{◌≡◌, ◌↔◌, ℕ, zero, suc, ◌+◌, ◌-◌, ◌<◌, ◌≤◌, ◌==◌, Bool, true, false, Option, Some, None, is_some, IsSome, IsErr, OnOk, IfErr, if◌then◌else◌, nat_lt, Result, Ok, Err, IsTrue, refl, sym, ◌∙◌, ap, subst, arith}
+use Rattle.std.proofs.Common.{◌≡◌, ◌↔◌, ℕ, zero, suc, ◌+◌, ◌-◌, ◌<◌, ◌≤◌, Bool, true, false, Option, Some, None, is_some, IsSome, IsErr, OnOk, IfErr, if◌then◌else◌, nat_lt, Result, Ok, Err, IsTrue, refl, sym, ◌∙◌, ap, subst, arith}
 use Rattle.std.specs.Int.{IsBitSet}
 use Rattle.std.specs.Prelude.{slice_set}
 use Rattle.std.proofs.lemmas.Bool.{false≢true}
@@ -8,7 +8,6 @@ use Rattle.std.proofs.Math.Seq.{take-set-lt}
 use Rattle.std.specs.Prelude.{List}
 use Rattle.flop_base.specs.Counts.{last_count}
 use Rattle.raw_image.specs.Disk.{Disk}
-use Rattle.bay_model.specs.Bays.{in_bay, with_bay}
 use Rattle.bay_model.specs.Counters.{DriveGoesOn, GoesOn, IsPastDriver}
 use Rattle.bay_model.proofs.Counted.{drive_same}
 use Rattle.bay_model.specs.Memory.{user_bytes}
@@ -25,8 +24,8 @@ use Rattle.machine_laws.specs.OnCounts.Counts.{counts_of}
 use Rattle.machine_commands.specs.Shown.{counters_of, is_spun, page_part, rig_of, stalls_left, user_part}
 use Rattle.machine_commands.specs.declared.motors.Motors.{Motors}
 use Rattle.machine_commands.proofs.Selecting.{is_dor, switched}
-use Rattle.machine_commands.proofs.Bays.{medium_in}
-use Rattle.machine_commands.proofs.Showing.{two_same}
+use Rattle.machine_commands.proofs.Bays.{both_in, cylinder_in, medium_in, parts_same, parts_with, shown_in, spun_in}
+use Rattle.machine_commands.proofs.Showing.{counts_go}
 
 -- ---- counts
 
@@ -51,20 +50,9 @@ touched_leaves old new few is =
 
 counts_on : (old new : Board) → LeavesCounts old new → DriveGoesOn (counts_of old.first) (counts_of new.first) → DriveGoesOn (counts_of old.second) (counts_of new.second) → GoesOn (counters_of old) (counters_of new)
 counts_on old new leaves first second =
-    let stalls : (holds_of new).stalls ≡ (holds_of old).stalls = ap (λ (h : Holds). h.stalls) leaves.holding in
-    let left : stalls_left (holds_of new).entries ≡ stalls_left (holds_of old).entries = ap (λ (h : Holds). stalls_left h.entries) leaves.holding in
-    let sent = leaves.sent in
     let taken = leaves.taken in
-    record {
-      first = first;
-      second = second;
-      spares = refl;
-      stalls = omega arith;
-      stalls_spent = omega arith;
-      data_commands = omega arith;
-      taken = omega arith;
-      direct = leaves.never_falls;
-    }
+    counts_go old new first second (ap (λ (h : Holds). h.entries) leaves.holding) (ap (λ (h : Holds). h.stalls) leaves.holding)
+    leaves.never_falls (omega arith) leaves.sent
 
 past_driver : (old new : Board) → LeavesCounts old new → IsPastDriver 1 (counters_of old) (counters_of new)
 past_driver old new leaves = record { accesses = leaves.most; no_commands = leaves.sent }
@@ -127,59 +115,42 @@ unloaded_empty s none =
 
 -- ---- the rig
 
-untouched_by : (old new : Board) → old.bus.direct ≤ last_count → new.bus ≡ touched old.bus → SameDrive old.first new.first → SameDrive old.second new.second → Untouched (rig_of old) (rig_of new)
-untouched_by old new few bus first second =
-    let leaves = touched_leaves old new few bus in
+untouched : (old new : Board) (bay : ℕ) → bay ≤ 1 → old.bus.direct ≤ last_count → Touches bay old new → Becomes (drive_in old bay) (drive_in old bay) (drive_in new bay) → Untouched (rig_of old) (rig_of new)
+untouched old new bay small few touches becomes =
+    let leaves = touched_leaves old new few touches.bus in
+    let here = becomes_same (drive_in old bay) (drive_in new bay) becomes in
+    let other = same_drive (drive_in old (1 - bay)) (drive_in new (1 - bay)) touches.other in
+    let (first, second) = both_in SameDrive bay old new small here other in
     record {
-      media = two_same new.first.medium new.second.medium old.first.medium old.second.medium first.medium second.medium;
-      changes = two_same new.first.change new.second.change old.first.change old.second.change first.change second.change;
-      spun = two_same (is_spun new.first) (is_spun new.second) (is_spun old.first) (is_spun old.second) first.spun second.spun;
-      cylinders = two_same new.first.cylinder new.second.cylinder old.first.cylinder old.second.cylinder first.cylinder second.cylinder;
-      numbers = ap (λ (b : Bus). (rig_of (record old { bus = b })).numbers) bus;
-      memory = ap (λ (b : Bus). user_part b.chips.memory) bus;
-      page = ap (λ (b : Bus). page_part b.chips.memory) bus;
+      media = parts_same (λ (d : DriveState). d.medium) bay old new small here.medium other.medium;
+      changes = parts_same (λ (d : DriveState). d.change) bay old new small here.change other.change;
+      spun = parts_same is_spun bay old new small here.spun other.spun;
+      cylinders = parts_same (λ (d : DriveState). d.cylinder) bay old new small here.cylinder other.cylinder;
+      numbers = ap (λ (b : Bus). (rig_of (record old { bus = b })).numbers) touches.bus;
+      memory = ap (λ (b : Bus). user_part b.chips.memory) touches.bus;
+      page = ap (λ (b : Bus). page_part b.chips.memory) touches.bus;
       counts = counts_on old new leaves first.counts second.counts;
       past_driver = past_driver old new leaves;
       taken = leaves.taken;
     }
 
-untouched : (old new : Board) (bay : ℕ) → bay ≤ 1 → old.bus.direct ≤ last_count → Touches bay old new → Becomes (drive_in old bay) (drive_in old bay) (drive_in new bay) → Untouched (rig_of old) (rig_of new)
-untouched old new zero small few touches becomes = untouched_by old new few touches.bus (becomes_same old.first new.first becomes) (same_drive old.second new.second touches.other)
-untouched old new (suc zero) small few touches becomes = untouched_by old new few touches.bus (same_drive old.first new.first touches.other) (becomes_same old.second new.second becomes)
-untouched old new (suc (suc bay)) small few touches becomes = absurd (omega arith)
-
 exchanged : (old new : Board) (bay : ℕ) (medium : Option Disk) → bay ≤ 1 → old.bus.direct ≤ last_count → Touches bay old new → Swapped medium (drive_in old bay) (drive_in new bay) → Exchanged bay medium (rig_of old) (rig_of new)
-exchanged old new zero medium small few touches swapped =
+exchanged old new bay medium small few touches swapped =
     let leaves = touched_leaves old new few touches.bus in
-    let other = same_drive old.second new.second touches.other in
+    let other = same_drive (drive_in old (1 - bay)) (drive_in new (1 - bay)) touches.other in
+    let (first, second) = both_in (λ a b. DriveGoesOn (counts_of a) (counts_of b)) bay old new small swapped.counts other.counts in
     record {
-      media = two_same new.first.medium new.second.medium medium old.second.medium swapped.is other.medium;
-      changes = two_same new.first.change new.second.change true old.second.change swapped.change other.change;
-      other_spun = other.spun;
-      cylinders = two_same new.first.cylinder new.second.cylinder old.first.cylinder old.second.cylinder swapped.cylinder other.cylinder;
+      media = parts_with (λ (d : DriveState). d.medium) medium bay old new small swapped.is other.medium;
+      changes = parts_with (λ (d : DriveState). d.change) true bay old new small swapped.change other.change;
+      other_spun = sym (spun_in (1 - bay) new) ∙ (other.spun ∙ spun_in (1 - bay) old);
+      cylinders = parts_same (λ (d : DriveState). d.cylinder) bay old new small swapped.cylinder other.cylinder;
       numbers = ap (λ (b : Bus). (rig_of (record old { bus = b })).numbers) touches.bus;
       memory = ap (λ (b : Bus). user_part b.chips.memory) touches.bus;
       page = ap (λ (b : Bus). page_part b.chips.memory) touches.bus;
-      counts = counts_on old new leaves swapped.counts other.counts;
+      counts = counts_on old new leaves first second;
       past_driver = past_driver old new leaves;
       taken = leaves.taken;
     }
-exchanged old new (suc zero) medium small few touches swapped =
-    let leaves = touched_leaves old new few touches.bus in
-    let other = same_drive old.first new.first touches.other in
-    record {
-      media = two_same new.first.medium new.second.medium old.first.medium medium other.medium swapped.is;
-      changes = two_same new.first.change new.second.change old.first.change true other.change swapped.change;
-      other_spun = other.spun;
-      cylinders = two_same new.first.cylinder new.second.cylinder old.first.cylinder old.second.cylinder other.cylinder swapped.cylinder;
-      numbers = ap (λ (b : Bus). (rig_of (record old { bus = b })).numbers) touches.bus;
-      memory = ap (λ (b : Bus). user_part b.chips.memory) touches.bus;
-      page = ap (λ (b : Bus). page_part b.chips.memory) touches.bus;
-      counts = counts_on old new leaves other.counts swapped.counts;
-      past_driver = past_driver old new leaves;
-      taken = leaves.taken;
-    }
-exchanged old new (suc (suc bay)) medium small few touches swapped = absurd (omega arith)
 
 -- ---- media
 
@@ -208,11 +179,11 @@ takes_out old new bay answer small few touches is becomes = record {
 
 -- ---- drives
 
-takes_drive : (old new : Board) (bay : ℕ) (drive : DriveState) → bay ≤ 1 → LeavesCounts old new → drive_in new (1 - bay) ≡ drive_in old (1 - bay) → DriveGoesOn (counts_of drive) (counts_of (drive_in new bay))
-    → TakesDrive bay (counts_of drive) (counters_of old) (counters_of new)
-takes_drive old new zero drive small leaves other goes = record {
-  drive = goes;
-  other = ap counts_of other;
+takes_drive : (old new : Board) (bay : ℕ) (drive : DriveState) → LeavesCounts old new → drive_in new (1 - bay) ≡ drive_in old (1 - bay)
+    → DriveGoesOn (counts_of drive) (counts_of (drive_in new bay)) → TakesDrive bay (counts_of drive) (counters_of old) (counters_of new)
+takes_drive old new bay drive leaves other goes = record {
+  drive = subst (DriveGoesOn (counts_of drive)) (shown_in counts_of bay new) goes;
+  other = sym (shown_in counts_of (1 - bay) new) ∙ (ap counts_of other ∙ shown_in counts_of (1 - bay) old);
   spares = refl;
   stalls = ap (λ (h : Holds). h.stalls) leaves.holding;
   stalls_left = ap (λ (h : Holds). stalls_left h.entries) leaves.holding;
@@ -221,58 +192,23 @@ takes_drive old new zero drive small leaves other goes = record {
   direct = leaves.never_falls;
   past_driver = past_driver old new leaves;
 }
-takes_drive old new (suc zero) drive small leaves other goes = record {
-  drive = goes;
-  other = ap counts_of other;
-  spares = refl;
-  stalls = ap (λ (h : Holds). h.stalls) leaves.holding;
-  stalls_left = ap (λ (h : Holds). stalls_left h.entries) leaves.holding;
-  taken = leaves.taken;
-  data_commands = leaves.sent;
-  direct = leaves.never_falls;
-  past_driver = past_driver old new leaves;
-}
-takes_drive old new (suc (suc bay)) drive small leaves other goes = absurd (omega arith)
-
--- a drive with no medium and its change line set took the place of the one in a bay
-record Replaced (old : Board) (bay : ℕ) (new : Board) : Type 0 where
-  media : (rig_of new).media ≡ with_bay (rig_of old).media bay None
-  changes : (rig_of new).changes ≡ with_bay (rig_of old).changes bay true
-  other_spun : in_bay (rig_of new).spun (1 - bay) ≡ in_bay (rig_of old).spun (1 - bay)
-  other_cylinder : in_bay (rig_of new).cylinders (1 - bay) ≡ in_bay (rig_of old).cylinders (1 - bay)
-
-replaced : (old new : Board) (bay : ℕ) → bay ≤ 1 → drive_in new (1 - bay) ≡ drive_in old (1 - bay) → (drive_in new bay).medium ≡ None → (drive_in new bay).change ≡ true → Replaced old bay new
-replaced old new zero small same none set =
-    let other = same_drive old.second new.second same in
-    record {
-      media = two_same new.first.medium new.second.medium None old.second.medium none other.medium;
-      changes = two_same new.first.change new.second.change true old.second.change set other.change;
-      other_spun = other.spun;
-      other_cylinder = other.cylinder;
-    }
-replaced old new (suc zero) small same none set =
-    let other = same_drive old.first new.first same in
-    record {
-      media = two_same new.first.medium new.second.medium old.first.medium None other.medium none;
-      changes = two_same new.first.change new.second.change old.first.change true other.change set;
-      other_spun = other.spun;
-      other_cylinder = other.cylinder;
-    }
-replaced old new (suc (suc bay)) small same none set = absurd (omega arith)
 
 pub exchanges : (old new : Board) (bay : ℕ) (drive : DriveState) → bay ≤ 1 → old.bus.direct ≤ last_count → Touches bay old new → IsEmpty drive
     → FollowsMotor bay (controller_of old) drive (drive_in new bay) → ExchangesDrive bay (counts_of drive) (rig_of old) (rig_of new)
 exchanges old new bay drive small few touches empty (on, lines, becomes) =
-    let is = replaced old new bay small touches.other (ap (λ (d : DriveState). d.medium) becomes.becomes ∙ empty.medium) (ap (λ (d : DriveState). d.change) becomes.becomes ∙ empty.change) in
+    let other = same_drive (drive_in old (1 - bay)) (drive_in new (1 - bay)) touches.other in
+    let medium = ap (λ (d : DriveState). d.medium) becomes.becomes ∙ empty.medium in
+    let change = ap (λ (d : DriveState). d.change) becomes.becomes ∙ empty.change in
+    let goes : DriveGoesOn (counts_of drive) (counts_of (drive_in new bay)) = record { never_falls = becomes.never_falls; spends = becomes.spends } in
     record {
-      media = is.media;
-      changes = is.changes;
-      other_spun = is.other_spun;
-      other_cylinder = is.other_cylinder;
+      media = parts_with (λ (d : DriveState). d.medium) None bay old new small medium other.medium;
+      changes = parts_with (λ (d : DriveState). d.change) true bay old new small change other.change;
+      other_spun = sym (spun_in (1 - bay) new) ∙ (other.spun ∙ spun_in (1 - bay) old);
+      other_cylinder = sym (cylinder_in (1 - bay) new) ∙ (other.cylinder ∙ cylinder_in (1 - bay) old);
       numbers = ap (λ (b : Bus). (rig_of (record old { bus = b })).numbers) touches.bus;
       memory = ap (λ (b : Bus). user_part b.chips.memory) touches.bus;
       page = ap (λ (b : Bus). page_part b.chips.memory) touches.bus;
-      counters = takes_drive old new bay drive small (touched_leaves old new few touches.bus) touches.other (record { never_falls = becomes.never_falls; spends = becomes.spends });
+      counters = takes_drive old new bay drive (touched_leaves old new few touches.bus) touches.other goes;
     }
 
 -- ---- memory
@@ -285,7 +221,7 @@ page_set : (memory : List ℕ) (address byte : ℕ) → address < user_bytes →
 unfolding page_part
 page_set memory address byte below = drop-set-lt user_bytes memory address byte below
 
-counted_if : (b : Bool) (n : ℕ) → n ≤ last_count → (n ≤ (if b then counted n else n)) × ((if b then counted n else n) ≤ n + 1)
+pub counted_if : (b : Bool) (n : ℕ) → n ≤ last_count → (n ≤ (if b then counted n else n)) × ((if b then counted n else n) ≤ n + 1)
 counted_if true n few = (omega arith, omega arith)
 counted_if false n few = (omega arith, omega arith)
 
@@ -322,7 +258,7 @@ puts_memory address byte old new below few is =
 
 -- ---- the machine stays idle
 
-still_idle : (motors : Motors) (old new : Board) → controller_of new ≡ controller_of old → is_up new ≡ is_up old → new.first.motor ≡ motors.first → new.second.motor ≡ motors.second
+pub still_idle : (motors : Motors) (old new : Board) → controller_of new ≡ controller_of old → is_up new ≡ is_up old → new.first.motor ≡ motors.first → new.second.motor ≡ motors.second
     → InRange new.first → InRange new.second → IsIdle motors old → IsIdle motors new
 still_idle motors old new controller up first second first_in second_in was = record {
   ready = subst IsReady (sym controller) was.ready;
@@ -343,13 +279,10 @@ memory_idle motors address byte old new is first second was =
     still_idle motors old new (ap controller_of is) (ap is_up is) (ap (λ (b : Board). b.first.motor) is ∙ was.motors_are.first) (ap (λ (b : Board). b.second.motor) is ∙ was.motors_are.second) first second was
 
 touched_idle : (motors : Motors) (old new : Board) (bay : ℕ) → bay ≤ 1 → Touches bay old new → (drive_in new bay).motor ≡ (drive_in old bay).motor → InRange new.first → InRange new.second → IsIdle motors old → IsIdle motors new
-touched_idle motors old new zero small touches motor first second was =
-    still_idle motors old new (ap (λ (b : Bus). b.chips.controller) touches.bus) (ap (λ (b : Bus). b.latch.level) touches.bus) (motor ∙ was.motors_are.first)
-    (ap (λ (d : DriveState). d.motor) touches.other ∙ was.motors_are.second) first second was
-touched_idle motors old new (suc zero) small touches motor first second was =
-    still_idle motors old new (ap (λ (b : Bus). b.chips.controller) touches.bus) (ap (λ (b : Bus). b.latch.level) touches.bus)
-    (ap (λ (d : DriveState). d.motor) touches.other ∙ was.motors_are.first) (motor ∙ was.motors_are.second) first second was
-touched_idle motors old new (suc (suc bay)) small touches motor first second was = absurd (omega arith)
+touched_idle motors old new bay small touches motor first second was =
+    let (one, two) = both_in (λ a b. b.motor ≡ a.motor) bay old new small motor (ap (λ (d : DriveState). d.motor) touches.other) in
+    still_idle motors old new (ap (λ (b : Bus). b.chips.controller) touches.bus) (ap (λ (b : Bus). b.latch.level) touches.bus) (one ∙ was.motors_are.first)
+    (two ∙ was.motors_are.second) first second was
 
 put_motor : (old new : DriveState) (medium : Disk) (answer : Result (Unit {0}) Disk) → OnOk answer (Becomes (loaded medium old) old new)
     → IfErr answer (λ back. (back ≡ medium) × Becomes old old new) → new.motor ≡ old.motor
@@ -367,21 +300,18 @@ taken_idle motors old new bay small touches becomes = touched_idle motors old ne
 
 -- the motor of a drive that takes the place of another goes on as DOR says
 follows : (motors : Motors) (old : Board) (bay : ℕ) (drive after : DriveState) → bay ≤ 1 → IsIdle motors old → FollowsMotor bay (controller_of old) drive after
-    → after.motor ≡ (if bay == 0 then motors.first else motors.second)
+    → after.motor ≡ (drive_in old bay).motor
 follows motors old zero drive after small was moves =
     let has = was.motors_are in
     (switched 4 (dor_of (controller_of old)) motors.first drive after (subst (λ n. IsTrue motors.first ↔ IsBitSet n 4) (sym has.dor) (is_dor motors has.bay has.bay_in).first) moves).motor
+    ∙ sym has.first
 follows motors old (suc zero) drive after small was moves =
     let has = was.motors_are in
     (switched 5 (dor_of (controller_of old)) motors.second drive after (subst (λ n. IsTrue motors.second ↔ IsBitSet n 5) (sym has.dor) (is_dor motors has.bay has.bay_in).second) moves).motor
+    ∙ sym has.second
 follows motors old (suc (suc bay)) drive after small was moves = absurd (omega arith)
 
 pub exchange_idle : (motors : Motors) (old new : Board) (bay : ℕ) (drive : DriveState) → bay ≤ 1 → Touches bay old new → FollowsMotor bay (controller_of old) drive (drive_in new bay)
     → InRange new.first → InRange new.second → IsIdle motors old → IsIdle motors new
-exchange_idle motors old new zero drive small touches moves first second was =
-    still_idle motors old new (ap (λ (b : Bus). b.chips.controller) touches.bus) (ap (λ (b : Bus). b.latch.level) touches.bus) (follows motors old 0 drive new.first small was moves)
-    (ap (λ (d : DriveState). d.motor) touches.other ∙ was.motors_are.second) first second was
-exchange_idle motors old new (suc zero) drive small touches moves first second was =
-    still_idle motors old new (ap (λ (b : Bus). b.chips.controller) touches.bus) (ap (λ (b : Bus). b.latch.level) touches.bus)
-    (ap (λ (d : DriveState). d.motor) touches.other ∙ was.motors_are.first) (follows motors old 1 drive new.second small was moves) first second was
-exchange_idle motors old new (suc (suc bay)) drive small touches moves first second was = absurd (omega arith)
+exchange_idle motors old new bay drive small touches moves first second was =
+    touched_idle motors old new bay small touches (follows motors old bay drive (drive_in new bay) small was moves) first second was

@@ -1,6 +1,6 @@
 -- What is set up before a data command, on an idle machine: all stays but what was set.
 use Rattle.std.proofs.Common.{◌≡◌, ℕ, ◌-◌, ◌/◌, ◌%◌, ◌<◌, ◌≤◌, nat_le, true, false, Option, Some, None, is_some, IfSome, refl, sym, ◌∙◌, ap, subst, arith}
-use Rattle.std.proofs.lemmas.Bool.{false≢true}
+use Rattle.std.proofs.lemmas.Bool.{false≢true, and_parts}
 use Rattle.std.proofs.lemmas.Bool.Decides.{nat_tests}
 use Rattle.dma_8237.specs.Channel.{Channel, after_write}
 use Rattle.dma_8237.specs.SetUp.{set_up}
@@ -21,11 +21,11 @@ use Rattle.machine_commands.specs.Shown.{is_spun, rig_of}
 use Rattle.machine_commands.specs.declared.motors.Motors.{Motors}
 use Rattle.machine_commands.proofs.Idling.{IsResting, StaysIdle}
 use Rattle.machine_commands.proofs.Accesses.{gap_idles, output_idles, same_drive, same_speed}
-use Rattle.machine_commands.proofs.Questions.{ready_rests, ready_with}
+use Rattle.machine_commands.proofs.Questions.{ready_set, ready_rests, ready_with}
 use Rattle.machine_commands.proofs.Selecting.{selects_idle, with_dor}
-use Rattle.machine_commands.proofs.Showing.{both_true, speed_stays}
+use Rattle.machine_commands.proofs.Showing.{speed_stays}
 use Rattle.machine_commands.proofs.Bays.{drive_kept, kept_in, speed_kept, spun_in}
-use Rattle.machine_commands.proofs.Steps.{stays_none, stays_then}
+use Rattle.machine_commands.proofs.Steps.{idles_none, stays_then}
 
 -- ---- the medium in a bay
 
@@ -43,16 +43,14 @@ pub record HasDisk (disk : Disk) (drive : DriveState) : Type 0 where
 
 has_disk : (drive : DriveState) → is_spun drive ≡ true → InRange drive → (disk : Disk) × HasDisk disk drive
 has_disk drive spun range =
-    let (turning, fast) = both_true (turns drive) (nat_le 6250 drive.spin) spun in
-    let (motor, there) = both_true drive.motor (is_some drive.medium) turning in
+    let (turning, fast) = and_parts (turns drive) (nat_le 6250 drive.spin) spun in
+    let (motor, there) = and_parts drive.motor (is_some drive.medium) turning in
     let (disk, medium) = some_of drive.medium there in
     let is : IsDisk disk = subst (λ m. IfSome m IsDisk) medium range.medium in
     let place = subst (λ m. drive.place ≤ track_words m - 1) medium range.place in
     let words = is.words_per_track.0 in
-    (disk, record { medium = medium; disk_is = is; motor = motor; speed = quick drive.spin fast; inside = omega arith })
-  where
-    quick : (n : ℕ) → nat_le 6250 n ≡ true → 6250 ≤ n
-    quick n fast = grind (arith, nat_tests)
+    let quick : 6250 ≤ drive.spin = grind (arith, nat_tests) in
+    (disk, record { medium = medium; disk_is = is; motor = motor; speed = quick; inside = omega arith })
 
 pub disk_stays : (bay : ℕ) (disk : Disk) (old new : Board) → StaysIdle old new → HasDisk disk (drive_in old bay) → HasDisk disk (drive_in new bay)
 disk_stays bay disk old new stays has =
@@ -74,17 +72,7 @@ abbrev pub prepared : Motors → ℕ → Rate → Fdc → Fdc
 prepared motors bay rate fdc = ccr_written (rate_byte rate) (with_dor (dor_with motors bay) fdc)
 
 pub ready_prepared : (motors : Motors) (bay : ℕ) (rate : Rate) (fdc : Fdc) → IsReady fdc → IsReady (prepared motors bay rate fdc)
-ready_prepared motors bay rate fdc ready = record {
-  phase = ready.phase;
-  no_bytes = ready.no_bytes;
-  seeks = ready.seeks;
-  by_dma = ready.by_dma;
-  polled = ready.polled;
-  no_interrupt = ready.no_interrupt;
-  not_asking = ready.not_asking;
-  fifo_on = ready.fifo_on;
-  threshold = ready.threshold;
-}
+ready_prepared motors bay rate fdc ready = ready_set fdc (prepared motors bay rate fdc) ready
 
 -- a machine with a bay selected, in which a medium turns at speed, and a rate set
 pub record IsPrepared (motors : Motors) (bay : ℕ) (rate : Rate) (old ready : Board) : Type 0 where
@@ -164,7 +152,7 @@ set_next port value start old new channel beside other rests was access =
     }
 
 pub none_set : (board : Board) → IsSetTo board (channel_of board) board
-none_set board = record { stays = stays_none board; controller_is = refl; channel_is = refl }
+none_set board = record { stays = (idles_none board).stays; controller_is = refl; channel_is = refl }
 
 pub channel_sets : (mode address last : ℕ) (old new : Board) → IsResting (controller_of old) → SetsChannel mode address last old new
     → IsSetTo old (set_up mode address last (after_write 0x08 0 (channel_of old))) new

@@ -33,8 +33,9 @@ ready_rests fdc ready = record {
   no_poll = ap (λ due. due && not (is_held fdc)) ready.polled;
 }
 
-pub ready_with : (byte : ℕ) (fdc : Fdc) → IsReady fdc → IsReady (with_dor byte fdc)
-ready_with byte fdc ready = record {
+-- whatever DOR and the rate are
+pub ready_set : (fdc other : Fdc) → IsReady fdc → IsReady (record fdc { dor = other.dor; rate = other.rate })
+ready_set fdc other ready = record {
   phase = ready.phase;
   no_bytes = ready.no_bytes;
   seeks = ready.seeks;
@@ -45,6 +46,9 @@ ready_with byte fdc ready = record {
   fifo_on = ready.fifo_on;
   threshold = ready.threshold;
 }
+
+pub ready_with : (byte : ℕ) (fdc : Fdc) → IsReady fdc → IsReady (with_dor byte fdc)
+ready_with byte fdc ready = ready_set fdc (with_dor byte fdc) ready
 
 pub not_held : (motors : Motors) (bay : ℕ) (fdc : Fdc) → bay ≤ 1 → dor_of fdc ≡ dor_with motors bay → is_held fdc ≡ false
 not_held motors bay fdc small dor =
@@ -109,7 +113,7 @@ reads_line motors bay changed old new idle small reads =
     let two = input_idles 0x3F7 reads.value reads.selected new reads.reads refl (subst IsResting (sym one.controller_is) rests) in
     let lines = selected_lines motors bay reads.selected small (ap dor_of one.controller_is) in
     let kept = drive_kept old reads.selected bay one.stays.keeps in record {
-      idles = idles_then old reads.selected new fdc fdc one (subst (λ c. Idles c reads.selected new) one.controller_is two);
+      idles = idles_then one (subst (λ c. Idles c reads.selected new) one.controller_is two);
       line = reads.answer ∙ (ap (λ v. v == 0x80) (reads.reads.value_is ∙ ap line_bits lines) ∙ (line_told (drive_in reads.selected bay).change ∙ (kept.change ∙ change_in bay old)));
     }
 

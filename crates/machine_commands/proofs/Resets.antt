@@ -96,16 +96,16 @@ record Goes (old : Board) (fdc : Fdc) (new : Board) : Type 0 where
   pub second : KeepsSpeed old.second new.second
   pub controller_is : controller_of new ≡ fdc
 
-goes_then : (a b c : Board) (one two : Fdc) → Goes a one b → Goes b two c → Goes a two c
-goes_then a b c one two first second = record {
+goes_then : {a b c : Board} {one two : Fdc} → Goes a one b → Goes b two c → Goes a two c
+goes_then {a} {b} {c} first second = record {
   keeps = keeps_then a b c first.keeps second.keeps;
   first = speed_then a.first b.first c.first first.first second.first;
   second = speed_then a.second b.second c.second first.second second.second;
   controller_is = second.controller_is;
 }
 
-idles_go : (old new : Board) (fdc : Fdc) → Idles fdc old new → Goes old fdc new
-idles_go old new fdc idles = record { keeps = idles.stays.keeps; first = idles.stays.first; second = idles.stays.second; controller_is = idles.controller_is }
+idles_go : {old new : Board} {fdc : Fdc} → Idles fdc old new → Goes old fdc new
+idles_go idles = record { keeps = idles.stays.keeps; first = idles.stays.first; second = idles.stays.second; controller_is = idles.controller_is }
 
 -- the reset pulse
 record Held (old : Board) (new : Board) : Type 0 where
@@ -158,10 +158,7 @@ polls old new resets =
     let two = (senses_pending p.status_1 p.one p.two (sensed_to (polled_at c)) 0xC1 0 one.controller_is (listens_one c) refl refl refl refl p.second).1 in
     let three = (senses_pending p.status_2 p.two p.three (sensed_to (sensed_to (polled_at c))) 0xC2 0 two.controller_is (listens_two c) refl refl refl refl p.third).1 in
     let four = (senses_pending p.status_3 p.three resets.polled (sensed_to (sensed_to (sensed_to (polled_at c)))) 0xC3 0 three.controller_is (listens_three c) refl refl refl refl p.fourth).1 in
-    let so_far = goes_then resets.released p.polled p.one (polled_at c) (sensed_to (polled_at c)) start (idles_go p.polled p.one (sensed_to (polled_at c)) one) in
-    let more = goes_then resets.released p.one p.two (sensed_to (polled_at c)) (sensed_to (sensed_to (polled_at c))) so_far (idles_go p.one p.two (sensed_to (sensed_to (polled_at c))) two) in
-    let most = goes_then resets.released p.two p.three (sensed_to (sensed_to (polled_at c))) (sensed_to (sensed_to (sensed_to (polled_at c)))) more (idles_go p.two p.three (sensed_to (sensed_to (sensed_to (polled_at c)))) three) in
-    goes_then resets.released p.three resets.polled (sensed_to (sensed_to (sensed_to (polled_at c)))) (sensed_at c) most (idles_go p.three resets.polled (sensed_at c) four)
+    goes_then (goes_then (goes_then (goes_then start (idles_go one)) (idles_go two)) (idles_go three)) (idles_go four)
 
 -- ---- SPECIFY and CONFIGURE
 
@@ -216,16 +213,11 @@ sets_up old new resets =
     let c = controller_of old in
     let held = holds old new resets in
     let released = releases old new resets in
-    let polled_on = polls old new resets in
-    let specified_on = idles_go resets.polled resets.specified (specified_at c) (specifies old new resets) in
-    let configured_on = idles_go resets.specified resets.configured (configured_at c) (configures old new resets) in
-    let rated_on = idles_go resets.configured resets.rated (set_up_at c) (rates old new resets) in
+    let rated_on = rates old new resets in
     let settled = settles_to resets.rated new (set_up_at c) resets.settles (ap polled rated_on.controller_is) (rests_set_up c) in
     let last : Goes resets.rated (set_up_at c) new = record { keeps = settled.keeps; first = settled.first; second = settled.second; controller_is = settled.controller_is } in
-    let one = goes_then resets.released resets.polled resets.specified (sensed_at c) (specified_at c) polled_on specified_on in
-    let two = goes_then resets.released resets.specified resets.configured (specified_at c) (configured_at c) one configured_on in
-    let three = goes_then resets.released resets.configured resets.rated (configured_at c) (set_up_at c) two rated_on in
-    let all = goes_then resets.released resets.rated new (set_up_at c) (set_up_at c) three last in
+    let set_to = goes_then (goes_then (polls old new resets) (idles_go (specifies old new resets))) (idles_go (configures old new resets)) in
+    let all = goes_then (goes_then set_to (idles_go rated_on)) last in
     record {
       keeps = keeps_then old resets.held new held.keeps (keeps_then resets.held resets.released new released.keeps all.keeps);
       first_off = all.first.motor ∙ released.first_off;

@@ -1,11 +1,12 @@
 -- Bytes that are sent one by one.
-use Rattle.std.proofs.Common.{◌≡◌, ℕ, ◌+◌, ◌<◌, ◌≤◌, List, [], ◌∷◌, ◌++◌, length, take, get_or, zero, suc, Bool, true, false, if◌then◌else◌, refl, sym, ◌∙◌, ap, subst, arith}
-use Rattle.std.proofs.lemmas.List.{take_more, take_all}
+use Rattle.std.proofs.Common.{◌≡◌, ℕ, ◌+◌, ◌<◌, ◌≤◌, List, [], ◌∷◌, ◌++◌, length, take, get_or, zero, suc, if◌then◌else◌, refl, sym, ◌∙◌, ap, subst, arith}
+use Rattle.std.proofs.lemmas.List.{take_more}
 use Rattle.pc_bus.specs.Boards.{Board}
 use Rattle.pc_bus.specs.Ports.{Outputs}
 use Rattle.pc_bus.specs.Steps.{Runs, stirred}
 use Rattle.flop_base.specs.Counts.{last_count}
 use Rattle.machine_pace.specs.Holds.{counted}
+use Rattle.machine_commands.proofs.PastDriver.{counted_if}
 use Rattle.machine_commands.specs.Sending.{Sends, Settles, latch_taken}
 
 -- one byte more
@@ -19,9 +20,6 @@ sends_next bytes i byte old between new below is sends access =
     let all : take (i + 1) bytes ≡ take i bytes ++ byte ∷ [] = take_more bytes i 0 below ∙ ap (λ b. take i bytes ++ b ∷ []) is in
     subst (λ list. Sends list old new) (sym all) (sends_more (take i bytes) byte old between new sends access)
 
-pub all_taken : (bytes : List ℕ) (n : ℕ) → length bytes ≤ n → take n bytes ≡ bytes
-all_taken bytes n all = take_all n bytes all
-
 -- ---- interrupts that are taken
 
 -- no device step takes the latch
@@ -30,15 +28,11 @@ unfolding Runs
 runs_taken zero old new same = ap (λ b. b.bus.taken) same
 runs_taken (suc n) old new (between, runs, step) = ap (λ bus. bus.taken) step.bus ∙ runs_taken n old between runs
 
-counted_if : (b : Bool) (count : ℕ) → count ≤ last_count → count ≤ (if b then counted count else count)
-counted_if true count small = omega arith
-counted_if false count small = omega arith
-
 pub settles_by : (old between new : Board) → Runs 1 (stirred old) between → new ≡ latch_taken between → old.bus.taken ≤ last_count → Settles old new
 settles_by old between new runs taken small =
     let same : between.bus.taken ≡ old.bus.taken = runs_taken 1 (stirred old) between runs in
     let after = ap (λ b. b.bus.taken) taken in
-    let counts = counted_if between.bus.latch.is_set between.bus.taken (omega arith) in
+    let (counts, most) = counted_if between.bus.latch.is_set between.bus.taken (omega arith) in
     record {
       between = between;
       runs = runs;

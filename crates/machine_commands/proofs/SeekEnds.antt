@@ -1,5 +1,5 @@
 -- A seek from its first byte to the end of its result.
-use Rattle.std.proofs.Common.{◌≡◌, inl, inr, ℕ, zero, suc, ◌+◌, ◌-◌, ◌≤◌, ◌==◌, false, List, [], ◌∷◌, ◌++◌, Some, None, slice_index, slice_set, refl, sym, ◌∙◌, ap, subst, arith}
+use Rattle.std.proofs.Common.{◌≡◌, inl, inr, ℕ, zero, suc, ◌+◌, ◌≤◌, ◌==◌, false, List, [], ◌∷◌, ◌++◌, Some, None, slice_index, slice_set, refl, sym, ◌∙◌, ap, subst, arith}
 use Rattle.drive_model.specs.Drive.{DriveState}
 use Rattle.fdc_commands.specs.Table.{answer}
 use Rattle.fdc_commands.specs.declared.bytes.Accepted.TheVariants.{Ready}
@@ -12,68 +12,24 @@ use Rattle.fdc_core.specs.Steps.{polled}
 use Rattle.fdc_core.specs.declared.controller.Fdc.{Fdc}
 use Rattle.fdc_core.specs.declared.controller.Lines.{Lines}
 use Rattle.machine_pace.specs.Entries.{next_entry}
-use Rattle.pc_bus.specs.Boards.{Board, controller_of, memory_of, holds_of, drive_in, lines_of}
+use Rattle.pc_bus.specs.Boards.{Board, controller_of, drive_in, lines_of}
 use Rattle.pc_bus.specs.Ports.{Outputs, RunsGap}
 use Rattle.pc_bus.specs.declared.bus.Bus.{Bus}
 use Rattle.pc_bus.proofs.Lines.{drive_stays}
 use Rattle.machine_commands.specs.Asked.{EndsSeek}
-use Rattle.machine_commands.proofs.Idling.{IsResting, KeepsDrive, KeepsSpeed, KeepsAll, Idles}
+use Rattle.machine_commands.proofs.Idling.{IsResting, KeepsDrive, KeepsSpeed, Idles}
 use Rattle.machine_commands.specs.Ready.{dor_with, none_pending, IsIdle, is_up}
 use Rattle.machine_commands.specs.Sending.{Sends}
 use Rattle.machine_commands.specs.declared.motors.Motors.{Motors}
 use Rattle.machine_commands.proofs.Accesses.{accessed, accessed_keeps, same_drive, same_speed}
 use Rattle.machine_commands.proofs.Bytes.{IsListening, AreMore, with_bytes, listens_with, first_bytes, sends_parts, last_written}
 use Rattle.machine_commands.proofs.Questions.{ready_rests, ready_with, not_held}
-use Rattle.machine_commands.proofs.Seeking.{CanSeek, IsRule, IsOnWay, IsOver, Beside, Sought, on_way, at_end, gap_seeks, wait_seeks}
+use Rattle.machine_commands.proofs.Seeking.{CanSeek, IsRule, IsOnWay, IsOver, Leaves, Sought, all_leave, on_way, at_end, gap_seeks, idles_leave, leaves_then, wait_seeks}
 use Rattle.machine_commands.proofs.Selecting.{with_dor, is_dor, selects_idle}
 use Rattle.machine_commands.proofs.Senses.{sensed_to, senses_pending}
 use Rattle.machine_commands.proofs.Settling.{settles_to}
 use Rattle.machine_commands.proofs.Bays.{drive_kept, kept_in}
-use Rattle.machine_commands.proofs.Steps.{keeps_then, speed_then, drive_then, idles_then, unpolled, low_line}
-
--- ---- what a seek leaves, but for its drive
-
-pub record Leaves (bay : ℕ) (old new : Board) : Type 0 where
-  pub memory : memory_of new ≡ memory_of old
-  pub entries : (holds_of new).entries ≡ (holds_of old).entries
-  pub stalls : (holds_of new).stalls ≡ (holds_of old).stalls
-  pub direct : new.bus.direct ≡ old.bus.direct
-  pub taken : old.bus.taken ≤ new.bus.taken
-  pub keeps : KeepsDrive (drive_in old (1 - bay)) (drive_in new (1 - bay))
-  pub speed : KeepsSpeed (drive_in old (1 - bay)) (drive_in new (1 - bay))
-
-leaves_then : (bay : ℕ) (a b c : Board) → Leaves bay a b → Leaves bay b c → Leaves bay a c
-leaves_then bay a b c one two = record {
-  memory = two.memory ∙ one.memory;
-  entries = two.entries ∙ one.entries;
-  stalls = two.stalls ∙ one.stalls;
-  direct = two.direct ∙ one.direct;
-  taken = let before = one.taken in let after = two.taken in omega arith;
-  keeps = drive_then (drive_in a (1 - bay)) (drive_in b (1 - bay)) (drive_in c (1 - bay)) one.keeps two.keeps;
-  speed = speed_then (drive_in a (1 - bay)) (drive_in b (1 - bay)) (drive_in c (1 - bay)) one.speed two.speed;
-}
-
-all_leave : (bay : ℕ) (old new : Board) → KeepsAll old new → KeepsSpeed old.first new.first → KeepsSpeed old.second new.second → Leaves bay old new
-all_leave bay old new keeps first second = record {
-  memory = keeps.memory;
-  entries = keeps.entries;
-  stalls = keeps.stalls;
-  direct = keeps.direct;
-  taken = keeps.taken;
-  keeps = drive_kept old new (1 - bay) keeps;
-  speed = kept_in KeepsSpeed (1 - bay) old new first second;
-}
-
-beside_leaves : (bay : ℕ) (old new : Board) → Beside bay old new → Leaves bay old new
-beside_leaves bay old new beside = record {
-  memory = beside.carries.memory;
-  entries = beside.carries.entries;
-  stalls = beside.carries.stalls;
-  direct = beside.carries.direct;
-  taken = let same = beside.carries.taken in omega arith;
-  keeps = beside.keeps;
-  speed = beside.speed;
-}
+use Rattle.machine_commands.proofs.Steps.{keeps_then, speed_then, idles_then, unpolled, low_line}
 
 -- ---- the result of a seek
 
@@ -179,16 +135,13 @@ waits bay fdc Way Over status old between sent new small can does begun gap ends
     let n = next_entry between.bus.gaps in
     let one = gap_seeks 0 fdc bay Way Over between small can does.rule (inl begun.on_its_way) sent gap in
     let two = wait_seeks (0 + n) fdc bay Way Over sent small can does.rule one.sought 80 ends.waited ends.runs in
-    let left = leaves_then bay old between sent begun.leaves (beside_leaves bay between sent one.beside) in
+    let left = leaves_then bay old between sent begun.leaves one.leaves in
     record {
       over = never_on fdc bay ((0 + n) + 80) Way Over ends.waited (λ m now. does.ends ((0 + n) + 80) m now (omega arith)) two.sought;
-      leaves = leaves_then bay old sent ends.waited left (beside_leaves bay sent ends.waited two.beside);
+      leaves = leaves_then bay old sent ends.waited left two.leaves;
     }
 
 -- ---- its result
-
-idles_leave : (bay : ℕ) (old new : Board) (fdc : Fdc) → Idles fdc old new → Leaves bay old new
-idles_leave bay old new fdc idles = all_leave bay old new idles.stays.keeps idles.stays.first idles.stays.second
 
 takes_result : (bay : ℕ) (fdc : Fdc) (Way : ℕ → Motion → DriveState → Type 0) (Over : ℕ → ℕ → DriveState → Type 0) (status : ℕ) (old sent new : Board) → bay ≤ 1 → CanSeek bay fdc
     → IsListening fdc → fdc.command ≡ [] → fdc.seeks.pending ≡ none_pending
@@ -241,7 +194,7 @@ seek_done motors bay Way Over status old selected sent new idle small does selec
     let can : CanSeek bay fdc = record { no_command = rests.no_command; not_asking = rests.not_asking; no_poll = rests.no_poll; selects = (is_dor motors bay small).selects } in
     let (mid, before, (last, access, same)) = sends_parts does.first (does.last ∷ []) selected sent sends in
     let sends_first = first_bytes [] does.first selected mid (ap (λ f. f.command) one.controller_is ∙ ready.no_bytes) (subst IsListening (sym one.controller_is) listens) does.more before in
-    let idles : Idles (with_bytes does.first fdc) old mid = idles_then old selected mid fdc (with_bytes does.first fdc) one
+    let idles : Idles (with_bytes does.first fdc) old mid = idles_then one
     (subst (λ f. Idles f selected mid) (ap (λ f. with_bytes does.first f) one.controller_is) sends_first) in
     let begun = begins bay fdc Way Over old mid last does idles listens ready.no_bytes access in
     let here : EndsSeek last status new = subst (λ board. EndsSeek board status new) same ends in

@@ -5,9 +5,9 @@ use Rattle.std.proofs.Math.ListN.{length-set}
 use Rattle.std.proofs.lemmas.List.{get_or-set_other}
 use Rattle.std.proofs.lemmas.Grind.{get_or-set_at}
 use Rattle.std.proofs.lemmas.Bool.{false≢true}
-use Rattle.std.proofs.lemmas.Bool.Decides.{nat_tests}
+use Rattle.std.proofs.lemmas.Bool.Decides.{eqb_tells, nat_tests}
 use Rattle.flop_base.specs.Counts.{RoseBy}
-use Rattle.bay_model.specs.Counters.{DriveGoesOn, GoesOn, IsDriven}
+use Rattle.bay_model.specs.Counters.{DriveGoesOn}
 use Rattle.drive_model.specs.Drive.{DriveState, InRange}
 use Rattle.fdc_commands.specs.Table.{answer}
 use Rattle.fdc_commands.specs.declared.bytes.Accepted.TheVariants.{Ready}
@@ -17,21 +17,22 @@ use Rattle.fdc_seek.specs.declared.motion.Motion.{Motion}
 use Rattle.fdc_seek.specs.declared.motion.Motion.TheVariants.{Outward, Toward, Ended}
 use Rattle.fdc_core.specs.State.{dor_of, data_commands_of}
 use Rattle.fdc_core.specs.declared.controller.Fdc.{Fdc}
-use Rattle.pc_bus.specs.Boards.{Board, controller_of, holds_of, drive_in}
+use Rattle.pc_bus.specs.Boards.{Board, controller_of, drive_in}
 use Rattle.single_commands.specs.Heads.{MovesHeads, Recalibrates, Seeks}
 use Rattle.machine_commands.specs.Asked.{SendsRecalibrate, SendsSeek}
-use Rattle.machine_commands.proofs.Idling.{KeepsDrive, KeepsSpeed}
+use Rattle.machine_commands.proofs.Idling.{KeepsSpeed}
 use Rattle.machine_commands.specs.Ready.{dor_with, IsReady, IsIdle, AreSeeksOver}
-use Rattle.machine_commands.specs.Shown.{user_part, page_part, stalls_left, counters_of, number_of, rig_of}
+use Rattle.machine_commands.specs.Shown.{is_spun, user_part, page_part, number_of, rig_of}
 use Rattle.machine_commands.specs.declared.motors.Motors.{Motors}
 use Rattle.machine_commands.proofs.Bytes.{AreMore}
 use Rattle.machine_laws.specs.OnCounts.Counts.{counts_of}
 use Rattle.machine_commands.proofs.Moving.{MovesDrive, OutwardWay, OutwardOver, TowardWay, TowardOver, turns_move, outward_rule, toward_rule}
-use Rattle.machine_commands.proofs.Seeking.{on_way, at_end}
-use Rattle.machine_commands.proofs.SeekEnds.{Leaves, SeekCommand, SeekDone, after_sense_of, seek_done}
+use Rattle.machine_commands.proofs.Seeking.{Leaves, on_way, at_end}
+use Rattle.machine_commands.proofs.SeekEnds.{SeekCommand, SeekDone, after_sense_of, seek_done}
 use Rattle.machine_commands.proofs.Selecting.{with_dor}
 use Rattle.machine_commands.proofs.Senses.{sensed_to}
-use Rattle.machine_commands.proofs.Showing.{two_same, speed_stays}
+use Rattle.machine_commands.proofs.Showing.{counts_go, drive_goes, drives_on, speed_stays}
+use Rattle.machine_commands.proofs.Bays.{both_in, cylinder_in, medium_in, number_in, parts_same, parts_with}
 use Rattle.machine_commands.proofs.Statuses.{no_bits}
 
 same_drive_number : (bay : ℕ) → bay ≤ 1 → bay % 4 ≡ bay
@@ -166,31 +167,22 @@ seeks_over seeks bay number code small within over =
       no_seek = refl;
       no_result = refl;
       four = length-set seeks.cylinders bay number ∙ over.four;
-      first = first_small bay small;
-      second = second_small bay small;
+      first = small_in 0 over.first;
+      second = small_in 1 over.second;
     })
   where
-    first_small : (b : ℕ) → b ≤ 1 → slice_index (numbers_at seeks.cylinders b number) 0 ≤ 79
-    first_small zero one = let is = number_here seeks.cylinders 0 number one over.four in omega arith
-    first_small (suc zero) one = let is = number_there seeks.cylinders 1 0 number (λ same. absurd (omega arith)) in let was = over.first in omega arith
-    first_small (suc (suc b)) one = absurd (omega arith)
-
-    second_small : (b : ℕ) → b ≤ 1 → slice_index (numbers_at seeks.cylinders b number) 1 ≤ 79
-    second_small zero one = let is = number_there seeks.cylinders 0 1 number (λ same. absurd (omega arith)) in let was = over.second in omega arith
-    second_small (suc zero) one = let is = number_here seeks.cylinders 1 number one over.four in omega arith
-    second_small (suc (suc b)) one = absurd (omega arith)
-
-motors_kept : (old new : Board) (bay : ℕ) → bay ≤ 1 → KeepsSpeed (drive_in old bay) (drive_in new bay) → KeepsSpeed (drive_in old (1 - bay)) (drive_in new (1 - bay))
-    → (new.first.motor ≡ old.first.motor) × (new.second.motor ≡ old.second.motor)
-motors_kept old new zero small here there = (here.motor, there.motor)
-motors_kept old new (suc zero) small here there = (there.motor, here.motor)
-motors_kept old new (suc (suc bay)) small here there = absurd (omega arith)
+    small_in : (k : ℕ) → slice_index seeks.cylinders k ≤ 79 → slice_index (numbers_at seeks.cylinders bay number) k ≤ 79
+    small_in k was = elim (eqb_tells bay k) [
+      | inl (_, same) ↦ let is = number_here seeks.cylinders bay number small over.four in
+          subst (λ n. slice_index (numbers_at seeks.cylinders bay number) n ≤ 79) same (omega arith)
+      | inr (_, apart) ↦ let is = number_there seeks.cylinders bay k number apart in omega arith
+    ]
 
 sought_idle : (motors : Motors) (bay number code : ℕ) (old new : Board) → IsIdle motors old → bay ≤ 1 → number ≤ 79 → MovesDrive (drive_in old bay) (drive_in new bay) → Leaves bay old new
     → controller_of new ≡ sensed_to (at_end (with_dor (dor_with motors bay) (controller_of old)) bay number code) → (new.bus.latch.level ≡ false) → InRange new.first → InRange new.second → IsIdle motors new
 sought_idle motors bay number code old new idle small within moves left at low first second =
     let was = idle.ready in
-    let (one, two) = motors_kept old new bay small moves.speed left.speed in
+    let (one, two) = both_in KeepsSpeed bay old new small moves.speed left.speed in
     let ready : IsReady (sensed_to (at_end (with_dor (dor_with motors bay) (controller_of old)) bay number code)) = record {
       phase = refl;
       no_bytes = refl;
@@ -208,8 +200,8 @@ sought_idle motors bay number code old new idle small within moves left at low f
         bay = bay;
         bay_in = small;
         dor = ap dor_of at;
-        first = one ∙ idle.motors_are.first;
-        second = two ∙ idle.motors_are.second;
+        first = one.motor ∙ idle.motors_are.first;
+        second = two.motor ∙ idle.motors_are.second;
       };
       low = low;
       first = first;
@@ -218,80 +210,40 @@ sought_idle motors bay number code old new idle small within moves left at low f
 
 -- ---- the rig
 
-drive_goes : {old new : DriveState} → KeepsDrive old new → DriveGoesOn (counts_of old) (counts_of new)
-drive_goes keeps = record { never_falls = keeps.never_falls; spends = keeps.spends }
-
 heads_go : {old new : DriveState} → MovesDrive old new → DriveGoesOn (counts_of old) (counts_of new)
 heads_go moves = record { never_falls = moves.never_falls; spends = moves.spends }
-
-counting : (old new : Board) → DriveGoesOn (counts_of old.first) (counts_of new.first) → DriveGoesOn (counts_of old.second) (counts_of new.second) → (holds_of new).entries ≡ (holds_of old).entries
-    → (holds_of new).stalls ≡ (holds_of old).stalls → new.bus.direct ≡ old.bus.direct → old.bus.taken ≤ new.bus.taken
-    → data_commands_of (controller_of new) ≡ data_commands_of (controller_of old) → GoesOn (counters_of old) (counters_of new) × IsDriven 0 (counters_of old) (counters_of new)
-counting old new first second entries stalls direct taken sent =
-    let left : stalls_left (holds_of new).entries ≡ stalls_left (holds_of old).entries = ap stalls_left entries in (
-      record {
-        first = first;
-        second = second;
-        spares = refl;
-        stalls = omega arith;
-        stalls_spent = omega arith;
-        data_commands = omega arith;
-        taken = taken;
-        direct = omega arith;
-      },
-      record { most_commands = omega arith; interrupts = omega arith; past_driver = direct },
-    )
 
 some_or_none : {T : Type 0} (medium : Option T) → is_some medium ≡ true → medium ≡ None → ⊥
 some_or_none medium some none = false≢true (sym (ap is_some none) ∙ some)
 
 moves_heads : (bay : ℕ) (old new : Board) → bay ≤ 1 → MovesDrive (drive_in old bay) (drive_in new bay) → Leaves bay old new → number_of new (1 - bay) ≡ number_of old (1 - bay)
     → data_commands_of (controller_of new) ≡ data_commands_of (controller_of old) → MovesHeads bay (rig_of old) (rig_of new)
-moves_heads zero old new small moves left number sent =
-    let (counts, driven) = counting old new (heads_go moves) (drive_goes left.keeps) left.entries left.stalls left.direct left.taken sent in
-    let same : new.first.change ≡ old.first.change → (rig_of new).changes ≡ (rig_of old).changes =
-    λ is. two_same new.first.change new.second.change old.first.change old.second.change is left.keeps.change in
+moves_heads bay old new small moves left number sent =
+    let other = 1 - bay in
+    let (first, second) = both_in (λ a b. DriveGoesOn (counts_of a) (counts_of b)) bay old new small (heads_go moves) (drive_goes left.keeps) in
+    let (spun_first, spun_second) = both_in (λ a b. is_spun a ≡ true → is_spun b ≡ true) bay old new small
+    (speed_stays (drive_in old bay) (drive_in new bay) moves.medium moves.speed)
+    (speed_stays (drive_in old other) (drive_in new other) left.keeps.medium left.speed) in
+    let same : (drive_in new bay).change ≡ (drive_in old bay).change → (rig_of new).changes ≡ (rig_of old).changes =
+    λ is. parts_same (λ d. d.change) bay old new small is left.keeps.change in
     record {
-      media = two_same new.first.medium new.second.medium old.first.medium old.second.medium moves.medium left.keeps.medium;
+      media = parts_same (λ d. d.medium) bay old new small moves.medium left.keeps.medium;
       memory = ap user_part left.memory;
       page = ap page_part left.memory;
-      spun = record { first = speed_stays old.first new.first moves.medium moves.speed; second = speed_stays old.second new.second left.keeps.medium left.speed };
-      other_cylinder = left.keeps.cylinder;
-      other_number = number;
+      spun = record { first = spun_first; second = spun_second };
+      other_cylinder = sym (cylinder_in other new) ∙ (left.keeps.cylinder ∙ cylinder_in other old);
+      other_number = sym (number_in other new (omega arith)) ∙ (number ∙ number_in other old (omega arith));
       changes = elim moves.change [
         | inl is ↦ inl (same is)
-        | inr (some, cleared) ↦ inr (two_same new.first.change new.second.change false old.second.change cleared left.keeps.change)
+        | inr (some, cleared) ↦ inr (parts_with (λ d. d.change) false bay old new small cleared left.keeps.change)
       ];
       empty = λ none. elim moves.change [
         | inl is ↦ same is
-        | inr (some, cleared) ↦ absurd (some_or_none old.first.medium some none)
+        | inr (some, cleared) ↦ absurd (some_or_none (drive_in old bay).medium some (medium_in bay old ∙ none))
       ];
-      counts = counts;
-      driven = driven;
+      counts = counts_go old new first second left.entries left.stalls (let direct = left.direct in omega arith) left.taken sent;
+      driven = drives_on old new left.direct left.taken sent;
     }
-moves_heads (suc zero) old new small moves left number sent =
-    let (counts, driven) = counting old new (drive_goes left.keeps) (heads_go moves) left.entries left.stalls left.direct left.taken sent in
-    let same : new.second.change ≡ old.second.change → (rig_of new).changes ≡ (rig_of old).changes =
-    λ is. two_same new.first.change new.second.change old.first.change old.second.change left.keeps.change is in
-    record {
-      media = two_same new.first.medium new.second.medium old.first.medium old.second.medium left.keeps.medium moves.medium;
-      memory = ap user_part left.memory;
-      page = ap page_part left.memory;
-      spun = record { first = speed_stays old.first new.first left.keeps.medium left.speed; second = speed_stays old.second new.second moves.medium moves.speed };
-      other_cylinder = left.keeps.cylinder;
-      other_number = number;
-      changes = elim moves.change [
-        | inl is ↦ inl (same is)
-        | inr (some, cleared) ↦ inr (two_same new.first.change new.second.change old.first.change false left.keeps.change cleared)
-      ];
-      empty = λ none. elim moves.change [
-        | inl is ↦ same is
-        | inr (some, cleared) ↦ absurd (some_or_none old.second.medium some none)
-      ];
-      counts = counts;
-      driven = driven;
-    }
-moves_heads (suc (suc bay)) old new small moves left number sent = absurd (omega arith)
 
 -- ---- what is known behind a seek
 
@@ -303,18 +255,13 @@ number_new motors bay number code old new idle small at =
     ∙ (ap (λ s. slice_index s.cylinders bay) (after_sense_of bay number code seeks small idle.ready.seeks.no_result)
     ∙ number_here seeks.cylinders bay number small idle.ready.seeks.four)
 
-other_apart : (bay : ℕ) → bay ≤ 1 → bay ≡ 1 - bay → ⊥
-other_apart zero small same = absurd (omega arith)
-other_apart (suc zero) small same = absurd (omega arith)
-other_apart (suc (suc bay)) small same = absurd (omega arith)
-
 number_other : (motors : Motors) (bay number code : ℕ) (old new : Board) → IsIdle motors old → bay ≤ 1
     → controller_of new ≡ sensed_to (at_end (with_dor (dor_with motors bay) (controller_of old)) bay number code) → number_of new (1 - bay) ≡ number_of old (1 - bay)
 number_other motors bay number code old new idle small at =
     let seeks = (controller_of old).seeks in
     ap (λ c. slice_index c.seeks.cylinders (1 - bay)) at
     ∙ (ap (λ s. slice_index s.cylinders (1 - bay)) (after_sense_of bay number code seeks small idle.ready.seeks.no_result)
-    ∙ number_there seeks.cylinders bay (1 - bay) number (other_apart bay small))
+    ∙ number_there seeks.cylinders bay (1 - bay) number (λ same. absurd (omega arith)))
 
 -- ---- RECALIBRATE
 

@@ -1,5 +1,6 @@
 -- Device steps of a seek, whatever it does.
 use Rattle.std.proofs.Common.{◌≡◌, ◌⊎◌, inl, inr, ℕ, zero, suc, ◌+◌, ◌-◌, ◌%◌, ◌≤◌, ◌==◌, ◌&&◌, ◌||◌, not, List, Bool, true, false, Some, None, refl, sym, ◌∙◌, ap, subst, arith}
+use Rattle.std.proofs.lemmas.Bool.{or_right}
 use Rattle.drive_model.specs.Drive.{DriveState}
 use Rattle.fdc_seek.specs.Seeking.{Seeking, with_motion, ended, stepped_seek, is_seeking, has_ended, pulse_due, pulse_of}
 use Rattle.fdc_seek.specs.declared.motion.Motion.{Motion}
@@ -15,8 +16,42 @@ use Rattle.machine_pace.specs.Entries.{next_entry}
 use Rattle.pc_bus.specs.Ports.{RunsGap}
 use Rattle.pc_bus.specs.Steps.{PassesWordTime, Step, Runs, stirred}
 use Rattle.pc_bus.specs.declared.chips.Chips.{Chips}
-use Rattle.machine_commands.proofs.Idling.{KeepsDrive, KeepsSpeed}
-use Rattle.machine_commands.proofs.Steps.{OnlyTurns, calm_asks, calm_dma, unpolled, rests_in, moves_in, or_false, still_seeks, gate_turns, drive_none, drive_then, speed_none, speed_then}
+use Rattle.machine_commands.proofs.Idling.{Idles, KeepsAll, KeepsDrive, KeepsSpeed}
+use Rattle.machine_commands.proofs.Bays.{drive_kept, kept_in}
+use Rattle.machine_commands.proofs.Steps.{OnlyTurns, calm_asks, calm_dma, unpolled, rests_in, moves_in, or_false, still_seeks, gate_turns, drive_then, idles_none, regapped_idles, speed_then}
+
+-- ---- what a seek leaves, but for its drive
+
+pub record Leaves (bay : ℕ) (old new : Board) : Type 0 where
+  pub memory : memory_of new ≡ memory_of old
+  pub entries : (holds_of new).entries ≡ (holds_of old).entries
+  pub stalls : (holds_of new).stalls ≡ (holds_of old).stalls
+  pub direct : new.bus.direct ≡ old.bus.direct
+  pub taken : old.bus.taken ≤ new.bus.taken
+  pub keeps : KeepsDrive (drive_in old (1 - bay)) (drive_in new (1 - bay))
+  pub speed : KeepsSpeed (drive_in old (1 - bay)) (drive_in new (1 - bay))
+
+pub leaves_then : (bay : ℕ) (a b c : Board) → Leaves bay a b → Leaves bay b c → Leaves bay a c
+leaves_then bay a b c one two = record {
+  memory = two.memory ∙ one.memory;
+  entries = two.entries ∙ one.entries;
+  stalls = two.stalls ∙ one.stalls;
+  direct = two.direct ∙ one.direct;
+  taken = let before = one.taken in let after = two.taken in omega arith;
+  keeps = drive_then (drive_in a (1 - bay)) (drive_in b (1 - bay)) (drive_in c (1 - bay)) one.keeps two.keeps;
+  speed = speed_then (drive_in a (1 - bay)) (drive_in b (1 - bay)) (drive_in c (1 - bay)) one.speed two.speed;
+}
+
+pub all_leave : (bay : ℕ) (old new : Board) → KeepsAll old new → KeepsSpeed old.first new.first → KeepsSpeed old.second new.second → Leaves bay old new
+all_leave bay old new keeps first second = record {
+  memory = keeps.memory;
+  entries = keeps.entries;
+  stalls = keeps.stalls;
+  direct = keeps.direct;
+  taken = keeps.taken;
+  keeps = drive_kept old new (1 - bay) keeps;
+  speed = kept_in KeepsSpeed (1 - bay) old new first second;
+}
 
 -- ---- one device step
 
@@ -27,19 +62,10 @@ pub record CanSeek (bay : ℕ) (fdc : Fdc) : Type 0 where
   pub no_poll : (fdc.poll_due && not (is_held fdc)) ≡ false
   pub selects : dor_of fdc % 4 ≡ bay
 
--- what a seek leaves but for the drive that seeks
-pub record Carries (old new : Board) : Type 0 where
-  pub memory : memory_of new ≡ memory_of old
-  pub entries : (holds_of new).entries ≡ (holds_of old).entries
-  pub stalls : (holds_of new).stalls ≡ (holds_of old).stalls
-  pub direct : new.bus.direct ≡ old.bus.direct
-  pub taken : new.bus.taken ≡ old.bus.taken
-
 pub record SeekStep (bay : ℕ) (old new : Board) : Type 0 where
   pub controller_is : controller_of new ≡ seek_stepped ((drive_in old bay).cylinder == 0) (controller_of old)
   pub moves : Moves (pulse_due (controller_of old).seeks ((drive_in old bay).cylinder == 0)) (drive_in old bay) (drive_in new bay)
-  pub other : OnlyTurns (drive_in old (1 - bay)) (drive_in new (1 - bay))
-  pub carries : Carries old new
+  pub leaves : Leaves bay old new
 
 -- the word time of a step
 record SeekWordTime (bay : ℕ) (old : Board) (between : Fdc) (new : Board) : Type 0 where
@@ -82,13 +108,14 @@ seek_step bay old new small can step =
     record {
       controller_is = ap (λ c. c.controller) chips ∙ turned.controller_is;
       moves = turned.moves;
-      other = turned.other;
-      carries = record {
+      leaves = record {
         memory = ap (λ c. c.memory) chips;
         entries = ap (λ c. c.holding.entries) chips;
         stalls = ap (λ c. c.holding.stalls) chips;
         direct = ap (λ bus. bus.direct) step.bus;
-        taken = ap (λ bus. bus.taken) step.bus;
+        taken = let same : new.bus.taken ≡ old.bus.taken = ap (λ bus. bus.taken) step.bus in omega arith;
+        keeps = turned.other.keeps;
+        speed = turned.other.speed;
       };
     }
 
@@ -138,59 +165,16 @@ pub record IsOver (fdc : Fdc) (bay : ℕ) (Over : ℕ → ℕ → DriveState →
   pub controller_is : controller_of board ≡ at_end fdc bay number status
   pub over : Over number status (drive_in board bay)
 
--- what is left beside
-pub record Beside (bay : ℕ) (old new : Board) : Type 0 where
-  pub carries : Carries old new
-  pub keeps : KeepsDrive (drive_in old (1 - bay)) (drive_in new (1 - bay))
-  pub speed : KeepsSpeed (drive_in old (1 - bay)) (drive_in new (1 - bay))
-
-or_that : (b : Bool) → (b || true) ≡ true
-or_that true = refl
-or_that false = refl
-
-running : (motion : Motion) → has_ended motion ≡ false → not (has_ended motion) ≡ true
-running motion runs = ap not runs
-
 ends_by : (fdc : Fdc) (seeks : Seeking) (bay number status : ℕ) (seeking : Bool) → seeks ≡ ended fdc.seeks bay number status → seeking ≡ true
     → record fdc { seeks = seeks; interrupt = fdc.interrupt || (seeking && not (is_seeking seeks)) } ≡ at_end fdc bay number status
-ends_by fdc seeks bay number status false same on = absurd cc
-ends_by fdc seeks bay number status true same on =
-    ap (λ s. let f : Fdc = record fdc { seeks = s; interrupt = fdc.interrupt || (true && not (is_seeking s)) } in f) same
-    ∙ ap (λ i. let f : Fdc = record fdc { seeks = ended fdc.seeks bay number status; interrupt = i } in f) (or_that fdc.interrupt)
+ends_by fdc seeks bay number status seeking same on = rw (on, same, or_right fdc.interrupt true refl) refl
 
 goes_by : (fdc : Fdc) (seeks : Seeking) (bay : ℕ) (next : Motion) (seeking : Bool) → seeks ≡ with_motion fdc.seeks bay next → has_ended next ≡ false → seeking ≡ true
     → record fdc { seeks = seeks; interrupt = fdc.interrupt || (seeking && not (is_seeking seeks)) } ≡ on_way fdc bay next
-goes_by fdc seeks bay next false same runs on = absurd cc
-goes_by fdc seeks bay next true same runs on =
-    ap (λ s. let f : Fdc = record fdc { seeks = s; interrupt = fdc.interrupt || (true && not (is_seeking s)) } in f) same
-    ∙ (ap (λ b. let f : Fdc = record fdc { seeks = with_motion fdc.seeks bay next; interrupt = fdc.interrupt || not (not b) } in f) runs
-    ∙ ap (λ i. let f : Fdc = record fdc { seeks = with_motion fdc.seeks bay next; interrupt = i } in f) (or_false fdc.interrupt))
+goes_by fdc seeks bay next seeking same runs on = rw (on, same, runs, or_false fdc.interrupt) refl
 
-can_seek_on : (bay : ℕ) (fdc : Fdc) (motion : Motion) → CanSeek bay fdc → CanSeek bay (on_way fdc bay motion)
-can_seek_on bay fdc motion can = record { no_command = can.no_command; not_asking = can.not_asking; no_poll = can.no_poll; selects = can.selects }
-
-pub beside_none : (bay : ℕ) (board : Board) → Beside bay board board
-beside_none bay board = record {
-  carries = record { memory = refl; entries = refl; stalls = refl; direct = refl; taken = refl };
-  keeps = drive_none (drive_in board (1 - bay));
-  speed = speed_none (drive_in board (1 - bay));
-}
-
-pub beside_then : (bay : ℕ) (a b c : Board) → Beside bay a b → Beside bay b c → Beside bay a c
-beside_then bay a b c one two = record {
-  carries = record {
-    memory = two.carries.memory ∙ one.carries.memory;
-    entries = two.carries.entries ∙ one.carries.entries;
-    stalls = two.carries.stalls ∙ one.carries.stalls;
-    direct = two.carries.direct ∙ one.carries.direct;
-    taken = two.carries.taken ∙ one.carries.taken;
-  };
-  keeps = drive_then (drive_in a (1 - bay)) (drive_in b (1 - bay)) (drive_in c (1 - bay)) one.keeps two.keeps;
-  speed = speed_then (drive_in a (1 - bay)) (drive_in b (1 - bay)) (drive_in c (1 - bay)) one.speed two.speed;
-}
-
-step_beside : (bay : ℕ) (old new : Board) → SeekStep bay old new → Beside bay old new
-step_beside bay old new step = record { carries = step.carries; keeps = step.other.keeps; speed = step.other.speed }
+pub idles_leave : (bay : ℕ) (old new : Board) (fdc : Fdc) → Idles fdc old new → Leaves bay old new
+idles_leave bay old new fdc idles = all_leave bay old new idles.stays.keeps idles.stays.first idles.stays.second
 
 -- the seek is on its way after so many steps, or over
 abbrev pub Sought : Fdc → ℕ → (ℕ → Motion → DriveState → Type 0) → (ℕ → ℕ → DriveState → Type 0) → ℕ → Board → Type 0
@@ -240,7 +224,8 @@ over_steps fdc bay Way Over old new rule step was =
 can_seek_now : (fdc : Fdc) (bay n : ℕ) (Way : ℕ → Motion → DriveState → Type 0) (Over : ℕ → ℕ → DriveState → Type 0) (board : Board) → CanSeek bay fdc
     → Sought fdc bay Way Over n board → CanSeek bay (controller_of board)
 can_seek_now fdc bay n Way Over board can sought = elim sought [
-  | inl way ↦ subst (CanSeek bay) (sym way.controller_is) (can_seek_on bay fdc way.motion can)
+  | inl way ↦ subst (CanSeek bay) (sym way.controller_is)
+      (record { no_command = can.no_command; not_asking = can.not_asking; no_poll = can.no_poll; selects = can.selects })
   | inr over ↦ subst (CanSeek bay) (sym over.controller_is) (record { no_command = can.no_command; not_asking = can.not_asking; no_poll = can.no_poll; selects = can.selects })
 ]
 
@@ -254,7 +239,7 @@ one_more fdc bay n Way Over old new rule step sought = elim sought [
 -- a seek over device steps
 pub record RunsSeek (fdc : Fdc) (bay n : ℕ) (Way : ℕ → Motion → DriveState → Type 0) (Over : ℕ → ℕ → DriveState → Type 0) (old new : Board) : Type 0 where
   pub sought : Sought fdc bay Way Over n new
-  pub beside : Beside bay old new
+  pub leaves : Leaves bay old new
 
 -- gaps play no part
 regapped_sought : (fdc : Fdc) (bay n : ℕ) (Way : ℕ → Motion → DriveState → Type 0) (Over : ℕ → ℕ → DriveState → Type 0) (board : Board) (gaps : List ℕ) (fresh : Bool)
@@ -272,22 +257,19 @@ seeking from fdc bay Way Over start small can rule = record {
       let here : (from + n) + 1 ≡ from + suc n = omega arith in
       record {
         sought = subst (λ k. Sought fdc bay Way Over k new) here (one_more fdc bay (from + n) Way Over now new rule stepped was.sought);
-        beside = beside_then bay start now new was.beside (step_beside bay now new stepped);
+        leaves = leaves_then bay start now new was.leaves stepped.leaves;
       });
-  idle = λ n now gaps fresh was. (let beside = was.beside in record {
+  idle = λ n now gaps fresh was. record {
     sought = regapped_sought fdc bay (from + n) Way Over now gaps fresh was.sought;
-    beside = record {
-      carries = record { memory = beside.carries.memory; entries = beside.carries.entries; stalls = beside.carries.stalls; direct = beside.carries.direct; taken = beside.carries.taken };
-      keeps = beside.keeps;
-      speed = beside.speed;
-    };
-  });
+    leaves = leaves_then bay start now (regapped gaps fresh now) was.leaves
+        (idles_leave bay now (regapped gaps fresh now) (controller_of now) (regapped_idles now gaps fresh));
+  };
 }
 
 module _ (from : ℕ) (fdc : Fdc) (bay : ℕ) (Way : ℕ → Motion → DriveState → Type 0) (Over : ℕ → ℕ → DriveState → Type 0) (start : Board) (small : bay ≤ 1) (can : CanSeek bay fdc)
     (rule : IsRule bay Way Over) (sought : Sought fdc bay Way Over from start) where
   begins : RunsSeek fdc bay (from + 0) Way Over start start
-  begins = let here : from ≡ from + 0 = omega arith in record { sought = subst (λ k. Sought fdc bay Way Over k start) here sought; beside = beside_none bay start }
+  begins = let here : from ≡ from + 0 = omega arith in record { sought = subst (λ k. Sought fdc bay Way Over k start) here sought; leaves = idles_leave bay start start (controller_of start) (idles_none start) }
 
   pub gap_seeks : (new : Board) → RunsGap start new → RunsSeek fdc bay (from + next_entry start.bus.gaps) Way Over start new
   gap_seeks new ran = march_gap (λ n now. RunsSeek fdc bay (from + n) Way Over start now) (seeking from fdc bay Way Over start small can rule) start new ran begins

@@ -1,11 +1,11 @@
 -- Writes of DOR: a bay is selected, and motors go on.
-use Rattle.std.proofs.Common.{◌≡◌, ◌≢◌, ◌↔◌, ℕ, zero, suc, ◌%◌, ◌^◌, ◌<◌, ◌≤◌, ◌==◌, not, Bool, true, false, if◌then◌else◌, IsTrue, refl, sym, ◌∙◌, ap, subst, arith}
+use Rattle.std.proofs.Common.{◌≡◌, ◌≢◌, ◌↔◌, ℕ, zero, suc, ◌%◌, ◌^◌, ◌<◌, ◌≤◌, ◌==◌, Bool, true, false, if◌then◌else◌, IsTrue, refl, sym, ◌∙◌, ap, subst, arith}
 use Rattle.std.specs.Int.{IsBitSet}
 use Rattle.std.specs.Prelude.{bit_and}
 use Rattle.std.proofs.lemmas.Bool.{false≢true}
 use Rattle.drive_model.specs.Drive.{DriveState, Becomes, with_motor, track_words}
 use Rattle.fdc_core.specs.Ports.{dor_written, resets}
-use Rattle.fdc_core.specs.State.{dor_of, reset}
+use Rattle.fdc_core.specs.State.{dor_of}
 use Rattle.fdc_core.specs.Times.{Closes}
 use Rattle.fdc_core.specs.declared.controller.Fdc.{Fdc}
 use Rattle.pc_bus.specs.Boards.{Board, controller_of}
@@ -51,16 +51,11 @@ is_dor motors bay small = is_dor_by motors.first motors.second bay small
 
 -- ---- the controller
 
-released_by : (fdc : Fdc) (byte : ℕ) (b : Bool) → b ≡ true
-    → (if not b then reset (record fdc { dor = record { 0 = byte } }) else record fdc { dor = record { 0 = byte } }) ≡ record fdc { dor = record { 0 = byte } }
-released_by fdc byte true _ = refl
-released_by fdc byte false wrong = absurd cc
-
 abbrev pub with_dor : ℕ → Fdc → Fdc
 with_dor byte fdc = record fdc { dor = record { 0 = byte } }
 
 pub dor_is_written : (fdc : Fdc) (byte : ℕ) → (bit_and byte 4 == 4) ≡ true → dor_written byte fdc ≡ with_dor byte fdc
-dor_is_written fdc byte released = released_by fdc byte (bit_and byte 4 == 4) released
+dor_is_written fdc byte released = rw released refl
 
 -- ---- the drives
 
@@ -76,16 +71,20 @@ pub record IsSwitched (on : Bool) (old new : DriveState) : Type 0 where
   pub motor : new.motor ≡ on
   pub spin : on ≡ true → new.spin ≡ old.spin
 
+becomes_keeps : (to before after : DriveState) → to.medium ≡ before.medium → to.cylinder ≡ before.cylinder → to.change ≡ before.change → to.place ≡ before.place
+    → Becomes to before after → KeepsDrive before after
+becomes_keeps to before after medium cylinder change place becomes = record {
+  medium = ap (λ d. d.medium) becomes.becomes ∙ medium;
+  cylinder = ap (λ d. d.cylinder) becomes.becomes ∙ cylinder;
+  change = ap (λ d. d.change) becomes.becomes ∙ change;
+  place = λ inside. subst (λ n. n < track_words before.medium) (sym (ap (λ d. d.place) becomes.becomes ∙ place)) inside;
+  never_falls = becomes.never_falls;
+  spends = becomes.spends;
+}
+
 switched_by : (on : Bool) (before after : DriveState) → Becomes (with_motor on before) before after → IsSwitched on before after
 switched_by on before after becomes = record {
-  keeps = record {
-    medium = ap (λ d. d.medium) becomes.becomes;
-    cylinder = ap (λ d. d.cylinder) becomes.becomes;
-    change = ap (λ d. d.change) becomes.becomes;
-    place = λ inside. subst (λ n. n < track_words before.medium) (sym (ap (λ d. d.place) becomes.becomes)) inside;
-    never_falls = becomes.never_falls;
-    spends = becomes.spends;
-  };
+  keeps = becomes_keeps (with_motor on before) before after refl refl refl refl becomes;
   motor = ap (λ d. d.motor) becomes.becomes;
   spin = λ is. ap (λ d. d.spin) becomes.becomes ∙ ap (λ b. if b then before.spin else 0) is;
 }
@@ -98,14 +97,7 @@ switched k byte want before after is (on, follows, becomes) =
 -- the gate is closed besides, or stays as it is
 switched_closed : (want closed : Bool) (a b c : DriveState) → IsSwitched want a b → Closes closed b c → IsSwitched want a c
 switched_closed want true a b c is becomes = record {
-  keeps = drive_then a b c is.keeps (record {
-    medium = ap (λ d. d.medium) becomes.becomes;
-    cylinder = ap (λ d. d.cylinder) becomes.becomes;
-    change = ap (λ d. d.change) becomes.becomes;
-    place = λ inside. subst (λ n. n < track_words b.medium) (sym (ap (λ d. d.place) becomes.becomes)) inside;
-    never_falls = becomes.never_falls;
-    spends = becomes.spends;
-  });
+  keeps = drive_then a b c is.keeps (becomes_keeps (record b { gate = false }) b c refl refl refl refl becomes);
   motor = ap (λ d. d.motor) becomes.becomes ∙ is.motor;
   spin = λ on. ap (λ d. d.spin) becomes.becomes ∙ is.spin on;
 }
@@ -166,4 +158,4 @@ selects_idle motors bay old new small has rest after access =
       channel = ap (λ b. b.chips.channel) written.bus;
     } in
     let two = gap_idles between new access.gap (subst IsResting (sym one.controller_is) after) in
-    idles_then old between new fdc fdc one (subst (λ c. Idles c between new) one.controller_is two)
+    idles_then one (subst (λ c. Idles c between new) one.controller_is two)

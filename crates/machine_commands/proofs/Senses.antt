@@ -41,7 +41,7 @@ senses_pending status old new fdc code number at listens none pending told over 
     let last_rests : IsResting (given (given target)) = record { no_command = refl; no_seek = over; not_asking = rests.not_asking; no_poll = rests.no_poll } in
     let three = input_idles 0x3F5 n senses.between new access refl (subst IsResting (sym last_is) last_rests) in (
       status_is,
-      idles_then old senses.sent new target (sensed_to fdc) one
-          (idles_then senses.sent senses.between new (given target) (sensed_to fdc) (subst (λ c. Idles c senses.sent senses.between) given_is two)
+      idles_then one
+          (idles_then (subst (λ c. Idles c senses.sent senses.between) given_is two)
           (subst (λ c. Idles c senses.between new) last_is three)),
     )

@@ -11,7 +11,7 @@ use Rattle.pc_bus.specs.Steps.{Step, Runs, stirred}
 use Rattle.machine_commands.proofs.Idling.{IsResting, KeepsDrive, KeepsSpeed, KeepsAll}
 use Rattle.machine_commands.specs.Ready.{is_up}
 use Rattle.machine_commands.specs.Sending.{Settles}
-use Rattle.machine_commands.proofs.Steps.{step_to, unpolled, keeps_none, keeps_then, regapped_idles, speed_none, speed_then}
+use Rattle.machine_commands.proofs.Steps.{idles_none, step_to, unpolled, keeps_then, regapped_idles, speed_none, speed_then}
 
 pub runs_one : (old new : Board) → Runs 1 old new → Step old new
 unfolding Runs
@@ -79,4 +79,4 @@ polling before after old poll rest = record {
 
 pub gap_polled : (before after : Fdc) (old new : Board) → RunsGap old new → controller_of old ≡ before → polled before ≡ after → IsResting after → RunsPolled before after old new
 gap_polled before after old new ran at poll rest = gap (RunsPolled before after old) (polling before after old poll rest) old new ran
-    (record { keeps = keeps_none old; first = speed_none old.first; second = speed_none old.second; controller = inl at })
+    (record { keeps = (idles_none old).stays.keeps; first = speed_none old.first; second = speed_none old.second; controller = inl at })

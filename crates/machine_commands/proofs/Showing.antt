@@ -1,14 +1,15 @@
 -- What a driver sees of a board that keeps all.
-use Rattle.std.proofs.Common.{◌≡◌, ℕ, ◌≤◌, ◌&&◌, Bool, true, false, nat_le, slice_index, is_some, refl, ◌∙◌, ap, arith}
-use Rattle.std.proofs.lemmas.Bool.{false≢true}
+use Rattle.std.proofs.Common.{◌≡◌, ℕ, ◌≤◌, true, nat_le, slice_index, is_some, refl, ◌∙◌, ap, arith}
+use Rattle.std.proofs.lemmas.Bool.{and_parts}
 use Rattle.std.proofs.lemmas.Bool.Decides.{nat_tests}
 use Rattle.bay_model.specs.Bays.{Two}
-use Rattle.bay_model.specs.Counters.{GoesOn, IsDriven}
+use Rattle.bay_model.specs.Counters.{DriveGoesOn, GoesOn, IsDriven}
 use Rattle.drive_model.specs.Drive.{DriveState, turns}
 use Rattle.fdc_core.specs.State.{data_commands_of}
 use Rattle.pc_bus.specs.Boards.{Board, controller_of, holds_of}
 use Rattle.single_commands.specs.Rigs.{IsReset, OnlyAsks}
-use Rattle.machine_commands.proofs.Idling.{KeepsSpeed, KeepsAll}
+use Rattle.machine_commands.proofs.Idling.{KeepsDrive, KeepsSpeed, KeepsAll}
+use Rattle.machine_laws.specs.OnCounts.Counts.{counts_of}
 use Rattle.machine_commands.specs.Shown.{is_spun, user_part, page_part, stalls_left, counters_of, rig_of}
 
 pub two_same : {T : Type 0} (a b c d : T) → a ≡ c → b ≡ d → (let x : Two T = record { first = a; second = b } in x) ≡ (let y : Two T = record { first = c; second = d } in y)
@@ -16,43 +17,48 @@ two_same a b c d one two = ap (λ v. let x : Two _ = record { first = v; second 
 
 -- ---- counts
 
+-- what goes on where drives, stalls and accesses do
+pub counts_go : (old new : Board) → DriveGoesOn (counts_of old.first) (counts_of new.first) → DriveGoesOn (counts_of old.second) (counts_of new.second)
+    → (holds_of new).entries ≡ (holds_of old).entries → (holds_of new).stalls ≡ (holds_of old).stalls → old.bus.direct ≤ new.bus.direct
+    → old.bus.taken ≤ new.bus.taken → data_commands_of (controller_of new) ≡ data_commands_of (controller_of old) → GoesOn (counters_of old) (counters_of new)
+counts_go old new first second entries stalls direct taken sent =
+    let left : stalls_left (holds_of new).entries ≡ stalls_left (holds_of old).entries = ap stalls_left entries in
+    record {
+      first = first;
+      second = second;
+      spares = refl;
+      stalls = omega arith;
+      stalls_spent = omega arith;
+      data_commands = omega arith;
+      taken = taken;
+      direct = direct;
+    }
+
+pub drive_goes : {old new : DriveState} → KeepsDrive old new → DriveGoesOn (counts_of old) (counts_of new)
+drive_goes keeps = record { never_falls = keeps.never_falls; spends = keeps.spends }
+
 pub keeps_counting : (old new : Board) → KeepsAll old new → data_commands_of (controller_of new) ≡ data_commands_of (controller_of old) → GoesOn (counters_of old) (counters_of new)
-keeps_counting old new keeps sent = record {
-  first = record { never_falls = keeps.first.never_falls; spends = keeps.first.spends };
-  second = record { never_falls = keeps.second.never_falls; spends = keeps.second.spends };
-  spares = refl;
-  stalls = let same = keeps.stalls in omega arith;
-  stalls_spent = let same = keeps.stalls in let left : stalls_left (holds_of new).entries ≡ stalls_left (holds_of old).entries = ap stalls_left keeps.entries in omega arith;
-  data_commands = omega arith;
-  taken = keeps.taken;
-  direct = let same = keeps.direct in omega arith;
-}
+keeps_counting old new keeps sent =
+    counts_go old new (drive_goes keeps.first) (drive_goes keeps.second) keeps.entries keeps.stalls (let same = keeps.direct in omega arith) keeps.taken sent
+
+pub drives_on : (old new : Board) → new.bus.direct ≡ old.bus.direct → old.bus.taken ≤ new.bus.taken
+    → data_commands_of (controller_of new) ≡ data_commands_of (controller_of old) → IsDriven 0 (counters_of old) (counters_of new)
+drives_on old new direct taken sent = record { most_commands = omega arith; interrupts = omega arith; past_driver = direct }
 
 pub keeps_driven : (old new : Board) → KeepsAll old new → data_commands_of (controller_of new) ≡ data_commands_of (controller_of old) → IsDriven 0 (counters_of old) (counters_of new)
-keeps_driven old new keeps sent = record {
-  most_commands = omega arith;
-  interrupts = let more = keeps.taken in omega arith;
-  past_driver = keeps.direct;
-}
+keeps_driven old new keeps sent = drives_on old new keeps.direct keeps.taken sent
 
 -- ---- speed
-
-pub both_true : (a b : Bool) → (a && b) ≡ true → (a ≡ true) × (b ≡ true)
-both_true true b is = (refl, is)
-both_true false b is = absurd (false≢true is)
-
-all_true : (a b c : Bool) → a ≡ true → b ≡ true → c ≡ true → ((a && b) && c) ≡ true
-all_true a b c one two three = rw (one, two, three) refl
 
 faster : (old new : ℕ) → nat_le 6250 old ≡ true → old ≤ new → nat_le 6250 new ≡ true
 faster old new fast more = grind (arith, nat_tests)
 
 pub at_speed_on : (old new : DriveState) → is_some new.medium ≡ is_some old.medium → (old.motor ≡ true → (new.motor ≡ true) × (old.spin ≤ new.spin)) → is_spun old ≡ true → is_spun new ≡ true
 at_speed_on old new same on was =
-    let (turning, fast) = both_true (turns old) (nat_le 6250 old.spin) was in
-    let (motor, there) = both_true old.motor (is_some old.medium) turning in
+    let (turning, fast) = and_parts (turns old) (nat_le 6250 old.spin) was in
+    let (motor, there) = and_parts old.motor (is_some old.medium) turning in
     let (still_on, more) = on motor in
-    all_true new.motor (is_some new.medium) (nat_le 6250 new.spin) still_on (same ∙ there) (faster old.spin new.spin fast more)
+    rw (still_on, same ∙ there, faster old.spin new.spin fast more) refl
 
 pub speed_stays : (old new : DriveState) → new.medium ≡ old.medium → KeepsSpeed old new → is_spun old ≡ true → is_spun new ≡ true
 speed_stays old new same speed was = at_speed_on old new (ap is_some same) (λ on. (speed.motor ∙ on, speed.spin on)) was

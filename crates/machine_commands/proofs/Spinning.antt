@@ -1,15 +1,15 @@
 -- A motor that goes on.
-use Rattle.std.proofs.Common.{◌≡◌, ℕ, zero, suc, ◌+◌, ◌≤◌, ◌==◌, ◌&&◌, ◌||◌, Bool, true, false, Option, min, nat_le, IsSome, is_some, refl, sym, ◌∙◌, ap, subst, arith}
+use Rattle.std.proofs.Common.{◌≡◌, ℕ, zero, suc, ◌+◌, ◌≤◌, ◌==◌, ◌&&◌, ◌||◌, Bool, true, false, min, nat_le, IsSome, is_some, refl, sym, ◌∙◌, ap, subst, arith}
+use Rattle.std.proofs.lemmas.Bool.{or_right}
 use Rattle.std.proofs.lemmas.Bool.Decides.{nat_tests}
 use Rattle.bay_model.specs.Bays.{in_bay}
-use Rattle.raw_image.specs.Disk.{Disk}
 use Rattle.drive_model.specs.Drive.{DriveState, InRange, turns}
 use Rattle.fdc_core.specs.State.{dor_of, data_commands_of}
 use Rattle.fdc_core.specs.declared.controller.Fdc.{Fdc}
 use Rattle.pc_bus.specs.Boards.{Board, controller_of}
 use Rattle.single_commands.specs.Rigs.{OnlyAsks}
 use Rattle.machine_commands.specs.Asked.{StartsMotor}
-use Rattle.machine_commands.proofs.Idling.{IsResting, KeepsDrive, KeepsSpeed, KeepsAll, Idles}
+use Rattle.machine_commands.proofs.Idling.{IsResting, KeepsSpeed, KeepsAll, Idles}
 use Rattle.machine_commands.specs.Motored.{with_motor_of}
 use Rattle.machine_commands.specs.Ready.{dor_with, IsReady, IsIdle, is_up}
 use Rattle.machine_commands.specs.Shown.{is_spun, rig_of}
@@ -18,7 +18,7 @@ use Rattle.machine_commands.proofs.Accesses.{accessed_keeps, gap_idles}
 use Rattle.machine_commands.proofs.Questions.{ready_rests, ready_with}
 use Rattle.machine_commands.proofs.Selecting.{IsSwitched, IsDorWritten, is_dor, with_dor, dor_access, dor_is_written}
 use Rattle.machine_commands.proofs.Showing.{keeps_asking, at_speed_on}
-use Rattle.machine_commands.proofs.Steps.{keeps_then, idles_then, waits_spinning}
+use Rattle.machine_commands.proofs.Steps.{same_turning, keeps_then, idles_then, waits_spinning}
 
 -- a call came
 -- the motor is on, behind the write of DOR and behind all
@@ -30,9 +30,6 @@ pub record IsStarted (motors : Motors) (old on new : Board) (fdc : Fdc) : Type 0
 
 spun_for : (from to : ℕ) → min (from + 6250) 6250 ≤ to → 6250 ≤ to
 spun_for from to long = omega arith
-
-turning : (old new : DriveState) → KeepsDrive old new → KeepsSpeed old new → turns old ≡ true → turns new ≡ true
-turning old new keeps speed on = ap (λ m. new.motor && is_some m) keeps.medium ∙ (ap (λ m. m && is_some old.medium) speed.motor ∙ on)
 
 pub starts : (motors : Motors) (bay : ℕ) (old new : Board) → IsIdle motors old → bay ≤ 1 → (start : StartsMotor motors bay old new)
     → IsStarted (with_motor_of bay motors) old start.turns_on.between new (with_dor (dor_with (with_motor_of bay motors) bay) (controller_of old))
@@ -50,13 +47,15 @@ starts motors bay old new idle small start =
     let there : controller_of start.between ≡ fdc = gap.controller_is ∙ here in
     let waiting = subst IsResting (sym there) rests in
     let spun = waits_spinning 6250 start.between new start.runs waiting in
+    let turning_first = same_turning access.between.first start.between.first gap.stays.keeps.first gap.stays.first in
+    let turning_second = same_turning access.between.second start.between.second gap.stays.keeps.second gap.stays.second in
     record {
       written = written;
-      idles = idles_then access.between start.between new fdc fdc (subst (λ c. Idles c access.between start.between) here gap) (subst (λ c. Idles c start.between new) there spun.idles);
+      idles = idles_then (subst (λ c. Idles c access.between start.between) here gap) (subst (λ c. Idles c start.between new) there spun.idles);
       ready = ready;
       spins = (
-        λ up. spun_for start.between.first.spin new.first.spin (spun.first (turning access.between.first start.between.first gap.stays.keeps.first gap.stays.first up)),
-        λ up. spun_for start.between.second.spin new.second.spin (spun.second (turning access.between.second start.between.second gap.stays.keeps.second gap.stays.second up)),
+        λ up. spun_for start.between.first.spin new.first.spin (spun.first (turning_first ∙ up)),
+        λ up. spun_for start.between.second.spin new.second.spin (spun.second (turning_second ∙ up)),
       );
     }
 
@@ -82,21 +81,13 @@ started_idle motors bay old on new fdc low small dor is first second = record {
 
 -- ---- speed
 
-or_on : (a b : Bool) → a ≡ true → (a || b) ≡ true
-or_on true b on = refl
-or_on false b on = absurd cc
-
-or_that : (a : Bool) → (a || true) ≡ true
-or_that true = refl
-or_that false = refl
-
 -- a motor that was on is on still
 stays_on : (want : Bool) (was b : Bool) (old on new : DriveState) → new.medium ≡ old.medium → old.motor ≡ was → want ≡ (was || b) → IsSwitched want old on → KeepsSpeed on new → is_spun old ≡ true → is_spun new ≡ true
 stays_on want was b old on new medium is wants switched speed spun = at_speed_on old new (ap is_some medium) up spun
   where
     up : old.motor ≡ true → (new.motor ≡ true) × (old.spin ≤ new.spin)
     up turned =
-        let wanted : want ≡ true = wants ∙ or_on was b (sym is ∙ turned) in
+        let wanted : want ≡ true = wants ∙ ap (λ a. a || b) (sym is ∙ turned) in
         let same = switched.spin wanted in
         let more = speed.spin (switched.motor ∙ wanted) in
         (speed.motor ∙ (switched.motor ∙ wanted), omega arith)
@@ -118,31 +109,24 @@ start_idle motors bay old new idle small start first second =
     started_idle (with_motor_of bay motors) bay old start.turns_on.between new (with_dor (dor_with (with_motor_of bay motors) bay) (controller_of old)) idle.low small refl is first second
 
 comes_to_speed : (drive : DriveState) → turns drive ≡ true → 6250 ≤ drive.spin → is_spun drive ≡ true
-comes_to_speed drive on fast = by_turning (turns drive) on
-  where
-    by_turning : (b : Bool) → b ≡ true → (b && nat_le 6250 drive.spin) ≡ true
-    by_turning true is = grind (arith, nat_tests)
-    by_turning false is = absurd cc
-
-some_is : (medium : Option Disk) → IsSome medium → is_some medium ≡ true
-some_is medium is = is
+comes_to_speed drive on fast = let quick : nat_le 6250 drive.spin ≡ true = grind (arith, nat_tests) in ap (λ b. b && nat_le 6250 drive.spin) on ∙ quick
 
 comes_up : (old on new : DriveState) → new.medium ≡ old.medium → IsSwitched true old on → KeepsSpeed on new → (turns on ≡ true → 6250 ≤ new.spin) → IsSome old.medium → is_spun new ≡ true
 comes_up old on new same switched speed spins some =
-    let turned : turns on ≡ true = ap (λ m. m && is_some on.medium) switched.motor ∙ (ap is_some switched.keeps.medium ∙ some_is old.medium some) in
-    let still : turns new ≡ true = ap (λ m. m && is_some new.medium) (speed.motor ∙ switched.motor) ∙ (ap is_some same ∙ some_is old.medium some) in
+    let turned : turns on ≡ true = ap (λ m. m && is_some on.medium) switched.motor ∙ (ap is_some switched.keeps.medium ∙ some) in
+    let still : turns new ≡ true = ap (λ m. m && is_some new.medium) (speed.motor ∙ switched.motor) ∙ (ap is_some same ∙ some) in
     comes_to_speed new still (spins turned)
 
 pub starts_spinning : (motors : Motors) (bay : ℕ) (old new : Board) → IsIdle motors old → bay ≤ 1 → StartsMotor motors bay old new
     → IsSome (in_bay (rig_of old).media bay) → in_bay (rig_of new).spun bay ≡ true
 starts_spinning motors zero old new idle small start some =
     let is = starts motors 0 old new idle small start in
-    let on = subst (λ b. IsSwitched b old.first start.turns_on.between.first) (or_that motors.first) is.written.first_is in
+    let on = subst (λ b. IsSwitched b old.first start.turns_on.between.first) (or_right motors.first true refl) is.written.first_is in
     let keeps = started_keeps (with_motor_of 0 motors) old start.turns_on.between new (with_dor (dor_with (with_motor_of 0 motors) 0) (controller_of old)) is in
     comes_up old.first start.turns_on.between.first new.first keeps.first.medium on is.idles.stays.first is.spins.0 some
 starts_spinning motors (suc zero) old new idle small start some =
     let is = starts motors 1 old new idle small start in
-    let on = subst (λ b. IsSwitched b old.second start.turns_on.between.second) (or_that motors.second) is.written.second_is in
+    let on = subst (λ b. IsSwitched b old.second start.turns_on.between.second) (or_right motors.second true refl) is.written.second_is in
     let keeps = started_keeps (with_motor_of 1 motors) old start.turns_on.between new (with_dor (dor_with (with_motor_of 1 motors) 1) (controller_of old)) is in
     comes_up old.second start.turns_on.between.second new.second keeps.second.medium on is.idles.stays.second is.spins.1 some
 starts_spinning motors (suc (suc bay)) old new idle small start some = absurd (omega arith)

@@ -45,10 +45,11 @@ no_bits seeks over = ap (λ seek. option_map_or (λ s. 2 ^ s.drive) seek 0) over
 abbrev pub status_given : Board → ℕ → Fdc
 status_given board bay = answered (status_of_lines (lines_of board) bay) None (with_bytes [] (controller_of board))
 
-pub record SensesDriveIdle (bay status : ℕ) (selected old new : Board) : Type 0 where
+pub record SensesDriveIdle (motors : Motors) (bay status : ℕ) (selected old new : Board) : Type 0 where
   pub idles : Idles (given (status_given selected bay)) old new
   pub ready : IsReady (given (status_given selected bay))
   pub status_is : status ≡ status_of_lines (lines_of_drive (drive_in old bay)) bay
+  pub selected_is : controller_of selected ≡ with_dor (dor_with motors bay) (controller_of old)
 
 rests_answered : (board : Board) (bay : ℕ) → IsResting (controller_of board) → IsResting (status_given board bay)
 rests_answered board bay rests = record { no_command = refl; no_seek = rests.no_seek; not_asking = rests.not_asking; no_poll = rests.no_poll }
@@ -70,7 +71,7 @@ ready_given board bay ready = record {
 }
 
 pub senses_drive : (motors : Motors) (bay status : ℕ) (old new : Board) → IsIdle motors old → bay ≤ 1 → (senses : SensesDrive motors bay old status new)
-    → SensesDriveIdle bay status senses.selected old new
+    → SensesDriveIdle motors bay status senses.selected old new
 senses_drive motors bay status old new idle small senses =
     let byte = dor_with motors bay in
     let fdc = with_dor byte (controller_of old) in
@@ -86,10 +87,11 @@ senses_drive motors bay status old new idle small senses =
     let three = input_idles 0x3F5 status senses.sent new senses.takes refl (subst IsResting (sym at) (rests_given board bay rests)) in
     let lines : lines_of board ≡ lines_of_drive (drive_in old bay) = selected_lines motors bay board small dor ∙ lines_kept (drive_in old bay) (drive_in board bay) (drive_kept old board bay one.stays.keeps) in
     record {
-      idles = idles_then old board new fdc (given target) one
-          (idles_then board senses.sent new target (given target) two (subst (λ c. Idles c senses.sent new) at three));
+      idles = idles_then one
+          (idles_then two (subst (λ c. Idles c senses.sent new) at three));
       ready = ready_given board bay ready;
       status_is = senses.takes.value_is ∙ (ap (λ c. result_byte c.phase) two.controller_is ∙ ap (λ l. status_of_lines l bay) lines);
+      selected_is = one.controller_is;
     }
 
 -- ---- what it says
@@ -123,14 +125,11 @@ pub status_idle : (motors : Motors) (bay status : ℕ) (old new : Board) → IsI
     → InRange new.first → InRange new.second → IsIdle motors new
 status_idle motors bay status old new idle small senses first second =
     let is = senses_drive motors bay status old new idle small senses in
-    let one = selects_idle motors bay old senses.selected small idle.motors_are (ready_rests (controller_of old) idle.ready)
-    (ready_rests (with_dor (dor_with motors bay) (controller_of old)) (ready_with (dor_with motors bay) (controller_of old) idle.ready)) senses.selects in
-    idle_again motors bay old new (given (status_given senses.selected bay)) idle small (ap dor_of one.controller_is) is.ready is.idles first second
+    idle_again motors bay old new (given (status_given senses.selected bay)) idle small (ap dor_of is.selected_is) is.ready is.idles first second
 
 pub status_asks : (motors : Motors) (bay status : ℕ) (old new : Board) → IsIdle motors old → bay ≤ 1 → SensesDrive motors bay old status new
     → OnlyAsks (rig_of old) (rig_of new)
 status_asks motors bay status old new idle small senses =
     let is = senses_drive motors bay status old new idle small senses in
-    let one = selects_idle motors bay old senses.selected small idle.motors_are (ready_rests (controller_of old) idle.ready)
-    (ready_rests (with_dor (dor_with motors bay) (controller_of old)) (ready_with (dor_with motors bay) (controller_of old) idle.ready)) senses.selects in
-    idle_asks old new (given (status_given senses.selected bay)) is.idles (ap (λ c. c.seeks.cylinders) one.controller_is) (ap (λ c. c.data_commands) one.controller_is)
+    idle_asks old new (given (status_given senses.selected bay)) is.idles
+    (ap (λ c. c.seeks.cylinders) is.selected_is) (ap (λ c. c.data_commands) is.selected_is)

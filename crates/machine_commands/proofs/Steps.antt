@@ -1,10 +1,11 @@
 -- Device steps of a controller that rests.
 use Rattle.std.proofs.Common.{◌≡◌, ℕ, ◌+◌, ◌<◌, ◌≤◌, ◌==◌, ◌&&◌, ◌||◌, not, Bool, true, false, List, Option, Some, None, if◌then◌else◌, nat_lt, is_some, min, refl, sym, ◌∙◌, ap, subst, arith}
+use Rattle.std.proofs.lemmas.Bool.{and_right}
 use Rattle.std.specs.Option.{option_map_or}
 use Rattle.std.proofs.lemmas.Bool.Decides.{nat_tests}
 use Rattle.bay_model.proofs.Counted.{spends_itself, spends_twice}
 use Rattle.drive_model.specs.Drive.{DriveState, Becomes, turns, track_words}
-use Rattle.fdc_seek.specs.Seeking.{Seeking, with_polls, stepped, stepped_seek, is_seeking, has_ended, pulse_due, pulse_of}
+use Rattle.fdc_seek.specs.Seeking.{Seeking, stepped_seek, is_seeking, has_ended, pulse_due, pulse_of}
 use Rattle.fdc_seek.specs.declared.motion.Seek.{Seek}
 use Rattle.fdc_seek.specs.declared.motion.Motion.{Motion}
 use Rattle.fdc_seek.specs.declared.motion.Motion.TheVariants.{Outward, Toward, Ended}
@@ -15,44 +16,33 @@ use Rattle.fdc_core.specs.declared.controller.Fdc.{Fdc}
 use Rattle.fdc_phases.specs.declared.phases.Phase.{Phase}
 use Rattle.fdc_phases.specs.declared.phases.Phase.TheVariants.{Command, Execute, Result}
 use Rattle.machine_laws.proofs.OnQuiet.Turning.{turned_let}
-use Rattle.machine_pace.specs.Holds.{looked, is_due}
 use Rattle.machine_pace.specs.declared.holding.Request.TheVariants.{Low}
 use Rattle.pc_bus.specs.Boards.{Board, controller_of, channel_of, holds_of}
 use Rattle.machine_laws.specs.OnSteps.Steady.{regapped, Marching, Steady}
 use Rattle.machine_laws.proofs.OnSteps.Runs.{march_wait}
 use Rattle.machine_laws.proofs.OnSteps.Words.{controller, drives}
 use Rattle.pc_bus.specs.Steps.{Step, Runs, stirred}
-use Rattle.pc_bus.specs.Transfers.{granted, dma_stepped}
+use Rattle.pc_bus.specs.Transfers.{dma_stepped}
 use Rattle.pc_bus.specs.declared.chips.Chips.{Chips}
 use Rattle.machine_commands.proofs.Idling.{IsResting, KeepsDrive, KeepsSpeed, KeepsAll, StaysIdle, Idles}
 use Rattle.machine_commands.specs.Ready.{is_up}
 
 -- ---- requests
 
-and_false : (b : Bool) → (b && false) ≡ false
-and_false true = refl
-and_false false = refl
-
 pub or_false : (b : Bool) → (b || false) ≡ b
 or_false true = refl
 or_false false = refl
 
 -- nothing is moved where nothing is asked for
-calm_by : (chips : Chips) (asked : Bool) → asked ≡ false
-    → (if is_due (looked asked chips.holding).request then granted (record chips { holding = looked asked chips.holding }) else record chips { holding = looked asked chips.holding })
-    ≡ record chips { holding = record chips.holding { request = Low } }
-calm_by chips true wrong = absurd cc
-calm_by chips false _ = refl
-
 pub calm_dma : (chips : Chips) → asks chips.controller ≡ false → dma_stepped chips ≡ record chips { holding = record chips.holding { request = Low } }
 unfolding dma_stepped
-calm_dma chips calm = calm_by chips (asks chips.controller) calm
+calm_dma chips calm = rw calm refl
 
 pub calm_asks : (fdc : Fdc) → fdc.asking ≡ false → asks fdc ≡ false
-calm_asks fdc calm = ap (λ b. is_gated fdc && b) calm ∙ and_false (is_gated fdc)
+calm_asks fdc calm = and_right (is_gated fdc) fdc.asking calm
 
 pub low_line : (fdc : Fdc) → fdc.interrupt ≡ false → interrupts fdc ≡ false
-low_line fdc low = ap (λ b. is_gated fdc && b) low ∙ and_false (is_gated fdc)
+low_line fdc low = and_right (is_gated fdc) fdc.interrupt low
 
 -- ---- seeks
 
@@ -79,24 +69,13 @@ no_pulse_of (Some seek) track0 over = no_motion seek.motion track0 over
 no_pulse : (seeks : Seeking) (track0 : Bool) → is_seeking seeks ≡ false → pulse_due seeks track0 ≡ None
 no_pulse seeks track0 over = no_pulse_of seeks.seek track0 over
 
-still_by : (fdc : Fdc) (seeks : Seeking) (seeking ended : Bool) → seeks ≡ fdc.seeks → seeking ≡ false
-    → record fdc { seeks = seeks; interrupt = fdc.interrupt || (seeking && ended) } ≡ fdc
-still_by fdc seeks true ended same wrong = absurd cc
-still_by fdc seeks false ended same _ =
-    ap (λ s. let f : Fdc = record fdc { seeks = s; interrupt = fdc.interrupt || false } in f) same ∙ ap (λ i. let f : Fdc = record fdc { interrupt = i } in f) (or_false fdc.interrupt)
-
 pub still_seeks : (fdc : Fdc) (track0 : Bool) → is_seeking fdc.seeks ≡ false → seek_stepped track0 fdc ≡ fdc
-still_seeks fdc track0 over =
-    still_by fdc (stepped fdc.seeks track0) (is_seeking fdc.seeks) (not (is_seeking (stepped fdc.seeks track0))) (still_seek fdc.seeks fdc.seeks.seek track0 over) over
+still_seeks fdc track0 over = rw (over, still_seek fdc.seeks fdc.seeks.seek track0 over, or_false fdc.interrupt) refl
 
 -- ---- the controller
 
-unpolled_by : (fdc : Fdc) (due : Bool) → due ≡ false → (if due then record fdc { poll_due = false; interrupt = true; seeks = with_polls fdc.seeks } else fdc) ≡ fdc
-unpolled_by fdc true wrong = absurd cc
-unpolled_by fdc false _ = refl
-
 pub unpolled : (fdc : Fdc) → (fdc.poll_due && not (is_held fdc)) ≡ false → polled fdc ≡ fdc
-unpolled fdc wrong = unpolled_by fdc (fdc.poll_due && not (is_held fdc)) wrong
+unpolled fdc none = rw none refl
 
 pub rests_in : (phase : Phase) (old : Fdc) (track0 : Bool) (new : Fdc) → is_executing phase ≡ false → RestsIn phase track0 old new → new ≡ seek_stepped track0 old
 rests_in Command old track0 new idle is = is
@@ -232,17 +211,6 @@ speed_then a b c one two = record {
   spin = λ on. let first = one.spin on in let second = two.spin (one.motor ∙ on) in omega arith;
 }
 
-pub keeps_none : (board : Board) → KeepsAll board board
-keeps_none board = record {
-  memory = refl;
-  entries = refl;
-  stalls = refl;
-  first = drive_none board.first;
-  second = drive_none board.second;
-  direct = refl;
-  taken = omega arith;
-}
-
 pub keeps_then : (a b c : Board) → KeepsAll a b → KeepsAll b c → KeepsAll a c
 keeps_then a b c one two = record {
   memory = two.memory ∙ one.memory;
@@ -254,15 +222,6 @@ keeps_then a b c one two = record {
   taken = let before = one.taken in let after = two.taken in omega arith;
 }
 
-pub stays_none : (board : Board) → StaysIdle board board
-stays_none board = record {
-  keeps = keeps_none board;
-  first = speed_none board.first;
-  second = speed_none board.second;
-  quiet = λ low. low;
-  low = λ _ low. low;
-}
-
 pub stays_then : (a b c : Board) → StaysIdle a b → StaysIdle b c → StaysIdle a c
 stays_then a b c one two = record {
   keeps = keeps_then a b c one.keeps two.keeps;
@@ -272,15 +231,12 @@ stays_then a b c one two = record {
   low = λ quiet low. two.low (one.quiet quiet) (one.low quiet low);
 }
 
-pub idles_then : (a b c : Board) (one two : Fdc) → Idles one a b → Idles two b c → Idles two a c
-idles_then a b c one two first second = record {
+pub idles_then : {a b c : Board} {one two : Fdc} → Idles one a b → Idles two b c → Idles two a c
+idles_then {a} {b} {c} first second = record {
   stays = stays_then a b c first.stays second.stays;
   controller_is = second.controller_is;
   channel = second.channel ∙ first.channel;
 }
-
-pub idles_none : (board : Board) → Idles (controller_of board) board board
-idles_none board = record { stays = stays_none board; controller_is = refl; channel = refl }
 
 pub idles_as : (old new : Board) (one two : Fdc) → one ≡ two → Idles one old new → Idles two old new
 idles_as old new one two same idles = subst (λ fdc. Idles fdc old new) same idles
@@ -299,9 +255,12 @@ regapped_idles board gaps fresh = record {
   channel = refl;
 }
 
+pub idles_none : (board : Board) → Idles (controller_of board) board board
+idles_none board = regapped_idles board board.bus.gaps board.bus.fresh
+
 -- what holds of a device step holds of all
 idles_on : (old now new : Board) → Idles (controller_of old) old now → Idles (controller_of now) now new → Idles (controller_of old) old new
-idles_on old now new was on = idles_as old new (controller_of now) (controller_of old) was.controller_is (idles_then old now new (controller_of old) (controller_of now) was on)
+idles_on old now new was on = idles_as old new (controller_of now) (controller_of old) was.controller_is (idles_then was on)
 
 pub idling : (old : Board) → IsResting (controller_of old) → Steady (Idles (controller_of old) old)
 idling old rest = record {
@@ -316,7 +275,7 @@ pub step_spins : (old new : Board) → Step old new → IsResting (controller_of
 step_spins old new step rest =
     let to = step_to old new (controller_of old) step (unpolled (controller_of old) rest.no_poll) rest in (to.first.spins, to.second.spins)
 
-same_turning : (old new : DriveState) → KeepsDrive old new → KeepsSpeed old new → turns new ≡ turns old
+pub same_turning : (old new : DriveState) → KeepsDrive old new → KeepsSpeed old new → turns new ≡ turns old
 same_turning old new keeps speed = ap (λ m. new.motor && is_some m) keeps.medium ∙ ap (λ m. m && is_some old.medium) speed.motor
 
 -- each device step brings a medium that turns nearer to its speed

@@ -178,6 +178,14 @@ module _ {deleted : Bool} {scene : Scene} {motors : Motors} {rate : Rate} {start
   none_overrun : (reason : Code) → (reason ≡ code.Overrun → ⊥) → reason ≡ code.Overrun → RoseBy 1 (counters_of old).stalls (counters_of new).stalls
   none_overrun reason other is = absurd (other is)
 
+  -- a refusal shows what was written, and why
+  refuses : (change : Option Change) (reason : Code)
+      → MatchOption change ((rig_of new).media ≡ (rig_of old).media)
+      (λ one. ChangesMedium scene.bay rate (written_in scene deleted) one (rig_of old) (rig_of new))
+      → IsWriteMiss (track_under (rig_of new) scene.bay rate scene.sent.key.h) scene.sent.key scene.bay (counters_of old) reason (counters_of new)
+      → (change : Option Change) × ShowsWrite change (Err reason)
+  refuses change reason does missed = (change, record { does = does; done = λ ok none. absurd (false≢true ok); refused = missed })
+
   -- the ways it ends
   shows_as : (key : Chrn) (over : Ending) → EndsAs scene deleted (drive_in now scene.bay) over → (over ≡ ending.Overrun → Stalled start now) → (change : Option Change) × ShowsWrite change (told_of (told_as over key))
   shows_as key (ending.Done marked) whole stalls = (
@@ -188,34 +196,20 @@ module _ {deleted : Bool} {scene : Scene} {motors : Motors} {rate : Rate} {start
       refused = tt;
     },
   )
-  shows_as key ending.NoMark (is, none) stalls = (
-    None,
-    record {
-      does = unchanged is;
-      done = λ ok faultless. absurd (false≢true ok);
-      refused = record {
-        coded = tt;
-        reason = λ undisturbed. inl (subst HasNoClearMark (met_unchanged is)
-            (nothing_from (track_met scene) (none (calm_drive run (faultless run undisturbed)))).clear_marks);
-        overrun = none_overrun code.NoMark (λ e. absurd cc);
-      };
-    },
-  )
-  shows_as key ending.NoSector (is, marks, none) stalls = (
-    None,
-    record {
-      does = unchanged is;
-      done = λ ok faultless. absurd (false≢true ok);
-      refused = record {
-        coded = tt;
-        reason = λ undisturbed. let no_clear = none (calm_drive run (faultless run undisturbed)) in (
-          subst HasAddressMark (met_unchanged is) marks,
-          λ has. not_clear no_clear (subst (λ track. HasClearAddress track scene.sent.key) (sym (met_unchanged is)) has),
-        );
-        overrun = none_overrun code.NotFound (λ e. absurd cc);
-      };
-    },
-  )
+  shows_as key ending.NoMark (is, none) stalls = refuses None code.NoMark (unchanged is) (record {
+    coded = tt;
+    reason = λ undisturbed. inl (subst HasNoClearMark (met_unchanged is)
+        (nothing_from (track_met scene) (none (calm_drive run (faultless run undisturbed)))).clear_marks);
+    overrun = none_overrun code.NoMark (λ e. absurd cc);
+  })
+  shows_as key ending.NoSector (is, marks, none) stalls = refuses None code.NotFound (unchanged is) (record {
+    coded = tt;
+    reason = λ undisturbed. let no_clear = none (calm_drive run (faultless run undisturbed)) in (
+      subst HasAddressMark (met_unchanged is) marks,
+      λ has. not_clear no_clear (subst (λ track. HasClearAddress track scene.sent.key) (sym (met_unchanged is)) has),
+    );
+    overrun = none_overrun code.NotFound (λ e. absurd cc);
+  })
     where
       not_clear : HasNoClear (Some scene.sent.key) (track_met scene) → HasClearAddress (track_met scene) scene.sent.key → ⊥
       not_clear no_clear (p, has) = no_clear p scene.sent.key refl has.address has.clear.inner
@@ -225,8 +219,8 @@ module _ {deleted : Bool} {scene : Scene} {motors : Motors} {rate : Rate} {start
       missed = record { coded = tt; reason = λ undisturbed. inr (out_after wrote out); overrun = none_overrun code.NoMark (λ e. absurd cc) }
 
       by_way : (IsUnchanged scene (drive_in now scene.bay) ⊎ write.ChangesOut scene deleted (drive_in now scene.bay)) → (change : Option Change) × ShowsWrite change (Err code.NoMark)
-      by_way (inl is) = (None, record { does = unchanged is; done = λ ok faultless. absurd (false≢true ok); refused = missed })
-      by_way (inr it) = (Some it.changed.change, record { does = changes it.changed (λ none inside. absurd (it.out inside)); done = λ ok faultless. absurd (false≢true ok); refused = missed })
+      by_way (inl is) = refuses None code.NoMark (unchanged is) missed
+      by_way (inr it) = refuses (Some it.changed.change) code.NoMark (changes it.changed (λ none inside. absurd (it.out inside))) missed
   shows_as key ending.Overrun wrote stalls = by_way wrote
     where
       stalled : Stalled start now
@@ -240,15 +234,8 @@ module _ {deleted : Bool} {scene : Scene} {motors : Motors} {rate : Rate} {start
       }
 
       by_way : (IsUnchanged scene (drive_in now scene.bay) ⊎ HasChanged scene deleted (drive_in now scene.bay)) → (change : Option Change) × ShowsWrite change (Err code.Overrun)
-      by_way (inl is) = (None, record { does = unchanged is; done = λ ok faultless. absurd (false≢true ok); refused = missed })
-      by_way (inr changed) = (
-        Some changed.change,
-        record {
-          does = changes changed (λ none inside. absurd (unstalled run none stalled));
-          done = λ ok faultless. absurd (false≢true ok);
-          refused = missed;
-        },
-      )
+      by_way (inl is) = refuses None code.Overrun (unchanged is) missed
+      by_way (inr changed) = refuses (Some changed.change) code.Overrun (changes changed (λ none inside. absurd (unstalled run none stalled))) missed
   shows_as key ending.Protected (is, protected) stalls = absurd (false≢true (sym on.unprotected ∙ protected))
   shows_as key ending.BadCheck none stalls = absurd none
   shows_as key ending.NoCount none stalls = absurd none

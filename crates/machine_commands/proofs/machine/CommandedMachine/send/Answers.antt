@@ -1,7 +1,8 @@
 use Rattle.std.proofs.Common.{◌≡◌, take, refl, subst}
 use Rattle.machine_commands.specs.Shown.{board_of}
 use Rattle.machine_commands.specs.Sending.{Sends}
-use Rattle.machine_commands.proofs.Runs.{sends_next, all_taken}
+use Rattle.machine_commands.proofs.Runs.{sends_next}
+use Rattle.std.proofs.lemmas.List.{take_all}
 use Rattle.machine_commands.proofs.machine.CommandedMachine.send.Goals as goal
 
 pub loop-byte-preserved : goal.loop-byte-preserved
@@ -13,7 +14,7 @@ loop-byte-preserved g c = (
 
 pub returns : goal.returns
 returns g c =
-    let all : take c.loop-byte.byte-index c.args.bytes.now ≡ c.args.bytes.now = all_taken c.args.bytes.now c.loop-byte.byte-index c.loop-byte-test.false in
+    let all : take c.loop-byte.byte-index c.args.bytes.now ≡ c.args.bytes.now = take_all c.loop-byte.byte-index c.args.bytes.now c.loop-byte-test.false in
     record {
       sends = subst (λ bytes. Sends bytes (board_of g.D.Drive.state c.args.self.now) (board_of g.D.Drive.state c.loop-byte.self)) all c.loop-byte.invariant.0;
       motors = c.loop-byte.invariant.1;
